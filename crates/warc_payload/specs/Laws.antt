@@ -1,0 +1,35 @@
+-- The laws of the definitions.
+use Rattle.std.specs.Prelude.{◌≡◌, ℕ, List}
+use Rattle.httparse.specs.Grammar.{ResponseHead}
+use Rattle.warc_payload.specs.declared.HeadInfo.{HeadInfo}
+use Rattle.warc_payload.specs.Head.{BeginsWithHead, HasNoHead, IsInfoOf, front_of}
+use Rattle.warc_payload.specs.Payload.{GivesBody, GivesCodedBody}
+
+-- at most one head is at the front of a text, and so are its info and what follows it
+abbrev pub AtMostOneHead : Type 0
+AtMostOneHead = (text : List ℕ) (head other : ResponseHead) (rest more : List ℕ)
+    → BeginsWithHead text head rest → BeginsWithHead text other more → (head ≡ other) × (rest ≡ more)
+
+-- what is told of a text is told once
+abbrev pub AtMostOneInfo : Type 0
+AtMostOneInfo = (text : List ℕ) (info told : HeadInfo) (head other : ResponseHead)
+    → IsInfoOf text info head → IsInfoOf text told other → info ≡ told
+
+-- a block's front tells the head of the whole block
+abbrev pub FrontTellsHead : Type 0
+FrontTellsHead = (block : List ℕ) (info : HeadInfo) (head : ResponseHead)
+    → IsInfoOf (front_of block) info head → IsInfoOf block info head
+
+-- and that it has none
+abbrev pub FrontTellsNoHead : Type 0
+FrontTellsNoHead = (block : List ℕ) → HasNoHead (front_of block) → HasNoHead block
+
+-- a block gives at most one body, under one status
+abbrev pub AtMostOneBody : Type 0
+AtMostOneBody = (block : List ℕ) (status code : ℕ) (body bytes : List ℕ)
+    → GivesBody block status body → GivesBody block code bytes → (status ≡ code) × (body ≡ bytes)
+
+-- a block that gives a body gives no coded one
+abbrev pub NoBodyWhereCoded : Type 0
+NoBodyWhereCoded = (block : List ℕ) (status : ℕ) (body : List ℕ)
+    → GivesBody block status body → ¬ GivesCodedBody block

@@ -1,0 +1,4 @@
+pub mod Coding
+pub mod Head
+pub mod Payload
+pub mod Laws

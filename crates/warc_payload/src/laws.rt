@@ -1,0 +1,34 @@
+//! Laws over the definitions: functions that do nothing, each with a law as its contract.
+
+ghost use Rattle.warc_payload.specs.Laws.{AtMostOneHead, AtMostOneInfo, FrontTellsHead, FrontTellsNoHead, AtMostOneBody, NoBodyWhereCoded};
+
+/// A text begins with at most one head, so the head, what follows it and all that a head tells
+/// are functions of the text's bytes.
+pub fn at_most_one_head()
+    ensures { AtMostOneHead }
+{}
+
+/// Status, length and coded are functions of the text's bytes.
+pub fn at_most_one_info()
+    ensures { AtMostOneInfo }
+{}
+
+/// What is told of a block's front, its first 65,536 bytes, is told of the whole block.
+pub fn front_tells_head()
+    ensures { FrontTellsHead }
+{}
+
+/// A block whose front has no head has none.
+pub fn front_tells_no_head()
+    ensures { FrontTellsNoHead }
+{}
+
+/// A block gives at most one body.
+pub fn at_most_one_body()
+    ensures { AtMostOneBody }
+{}
+
+/// A block never gives both a body and a coded one.
+pub fn no_body_where_coded()
+    ensures { NoBodyWhereCoded }
+{}

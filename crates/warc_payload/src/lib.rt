@@ -1,0 +1,74 @@
+//! Where the body of a stored HTTP response begins.
+#![tactic(auto)]
+
+ghost use Rattle.std.specs.Prelude.{◌≡◌, ◌≤◌, ℕ, List, length, All, IfOk, OnErr};
+ghost use Rattle.std.specs.List.{list_any};
+ghost use Rattle.httparse.specs.Grammar.{ResponseHead};
+ghost use Rattle.httparse.specs.Spans.{IsHeaderWithin, header_bytes};
+ghost use Rattle.warc_payload.specs.Coding.{names_coding};
+ghost use Rattle.warc_payload.specs.Head.{HasNoHead, IsInfoOf};
+
+use httparse::Status;
+use httparse::spans::{EMPTY_HEADER_SPAN, HeaderSpan, parse_response};
+
+pub mod laws;
+
+/// The most bytes of a block in which its HTTP head is looked for.
+pub const MOST_HEAD_BYTES: usize = 65536;
+
+/// The most field lines that an HTTP head may have.
+pub const MOST_FIELD_LINES: usize = 256;
+
+/// What the head of an HTTP response says of the response's body.
+#[derive(Clone, Copy, Debug, PartialEq, Eq)]
+pub struct HeadInfo {
+    /// The number that the three digits of the status code give.
+    pub status: u16,
+    /// The length of the head in bytes, its empty line included: the body begins here.
+    pub head_len: usize,
+    /// Whether a field says that the body is coded.
+    pub coded: bool,
+}
+
+/// No whole head of at most 256 field lines is at the front.
+#[derive(Clone, Copy, Debug, PartialEq, Eq)]
+pub struct BadHead;
+
+/// Whether a field of the text names a coding.
+fn names_coding(text: &[u8], field: &HeaderSpan) -> bool
+    requires { IsHeaderWithin (length text.now) field.now }
+    ensures { result ≡ names_coding (header_bytes text.now field.now) }
+{
+    let name = field.name.of(text);
+    let value = field.value.of(text);
+    let lists_codings = name.eq_ignore_ascii_case(b"transfer-encoding")
+        || name.eq_ignore_ascii_case(b"content-encoding");
+    lists_codings && !value.is_empty() && !value.eq_ignore_ascii_case(b"identity")
+}
+
+/// Whether some of the fields names a coding.
+fn any_names_coding(text: &[u8], fields: &[HeaderSpan]) -> bool
+    requires { All (IsHeaderWithin (length text.now)) fields.now }
+    ensures { result ≡ list_any (λ f. names_coding (header_bytes text.now f)) fields.now }
+{
+    fields.iter().any(|field| names_coding(text, field))
+}
+
+/// The head of an HTTP/1.0 or HTTP/1.1 response at the front of `text`, which is the block's first
+/// 65,536 bytes, or the whole block where that is shorter (RFC 9112, sections 2 to 5). `BadHead`
+/// where no whole head of at most 256 field lines is there. It takes no memory.
+pub fn body_start(text: &[u8]) -> Result<HeadInfo, BadHead>
+    requires { length text.now ≤ MOST_HEAD_BYTES }
+    ensures found { IfOk result (λ info. (head : ResponseHead) × IsInfoOf text.now info head) }
+    ensures none { OnErr result (HasNoHead text.now) }
+{
+    let mut fields = [EMPTY_HEADER_SPAN; MOST_FIELD_LINES];
+    match parse_response(text, &mut fields) {
+        Ok(Status::Complete(head)) => Ok(HeadInfo {
+            status: head.code,
+            head_len: head.len,
+            coded: any_names_coding(text, &fields[..head.headers]),
+        }),
+        _ => Err(BadHead),
+    }
+}
