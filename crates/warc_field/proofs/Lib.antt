@@ -1,0 +1,9 @@
+pub mod LineLemmas
+pub mod NumberLemmas
+pub mod AreaLemmas
+pub mod SpellLemmas
+pub mod WorkedValues
+pub mod TextLemmas
+pub mod CanonLemmas
+pub mod LawLemmas
+pub mod FaultLemmas

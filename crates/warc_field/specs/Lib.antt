@@ -1,0 +1,5 @@
+pub mod Text
+pub mod Lines
+pub mod Area
+pub mod Decimal
+pub mod FaultText

@@ -1,0 +1,16 @@
+//! The named fields of a WARC record's head: names, values, lists of fields, and a field area both ways.
+#![tactic(auto)]
+
+mod area;
+pub mod laws;
+mod lines;
+mod list;
+mod number;
+mod text;
+mod write;
+
+pub use area::{AreaFault, read_area};
+pub use list::Fields;
+pub use number::decimal;
+pub use text::{Name, TextFault, Value, is_name, trim};
+pub use write::{canonical_len, write_area};

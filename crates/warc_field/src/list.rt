@@ -1,0 +1,96 @@
+ghost use Rattle.std.specs.Prelude.{◌≡◌, ◌≤◌, [], ◌∷◌, ◌++◌, OnOk, OnErr, length, IsTrue, ◌↔◌, MatchOption, Some, slice_get};
+ghost use Rattle.std.specs.Option.{option_copied};
+ghost use Rattle.warc_field.specs.Area.{count_of, first_value};
+ghost use Rattle.warc_field.specs.Text.{AreFields};
+
+use crate::text::{Name, Value};
+use std::alloc::{AllocError, Allocator, Global};
+use std::marker::Model;
+
+/// Named fields in order. Contracts see the list of their names and values.
+#[derive(Debug, Drop)]
+pub struct Fields<A: Allocator = Global> {
+    pairs: Vec<(Name<A>, Value<A>), A>,
+}
+
+impl<A: Allocator> Model for Fields<A> {
+    ghost use Rattle.std.specs.Prelude.{List, ℕ};
+    ghost use Rattle.warc_field.specs.Text.{AreFields};
+
+    ghost Value = { List (List ℕ × List ℕ) };
+
+    ghost view = { λ f. f.pairs.items };
+
+    ghost invariant = { λ f. AreFields f.pairs.items };
+}
+
+impl<A: Allocator> Fields<A> {
+    /// No fields yet. It takes no memory.
+    pub fn new(alloc: A) -> Fields<A>
+        ensures { result ≡ [] }
+    {
+        Fields {
+            pairs: Vec::new(alloc),
+        }
+    }
+
+    /// Adds a field at the end. Where memory is refused the fields stay as they were, and the given one is dropped.
+    pub fn push(&mut self, name: Name<A>, value: Value<A>) -> Result<(), AllocError>
+        ensures ok { OnOk result (self.new ≡ self.old ++ (name, value) ∷ []) }
+        ensures err { OnErr result (self.new ≡ self.old) }
+    {
+        let _named = name.bytes();
+        let _valued = value.bytes();
+        self.pairs.push((name, value))?;
+        Ok(())
+    }
+
+    /// How many fields there are.
+    pub fn len(&self) -> usize
+        ensures len { result ≡ length self.now }
+        ensures fields { AreFields self.now }
+    {
+        self.pairs.len()
+    }
+
+    /// Whether there is no field.
+    pub fn is_empty(&self) -> bool
+        ensures { IsTrue result ↔ (self.now ≡ []) }
+    {
+        self.pairs.is_empty()
+    }
+
+    /// The names and values, in order.
+    pub fn as_slice(&self) -> &[(Name<A>, Value<A>)]
+        ensures { result.now ≡ self.now }
+    {
+        &self.pairs
+    }
+
+    /// The field at a place, counted from 0; `None` past the end.
+    pub fn get(&self, place: usize) -> Option<(&Name<A>, &Value<A>)>
+        ensures { MatchOption result (length self.now ≤ place) (λ field. slice_get self.now place ≡ Some (field.0.now, field.1.now)) }
+    {
+        if place < self.pairs.len() {
+            let pair = &self.pairs[place];
+            Some((&pair.0, &pair.1))
+        } else {
+            None
+        }
+    }
+
+    /// The value of the first field of this name: ASCII case doesn't matter.
+    pub fn first(&self, name: &[u8]) -> Option<&Value<A>>
+        ensures { option_copied result ≡ first_value name.now self.now }
+    {
+        let pair = self.pairs.iter().find(|pair| pair.0.is(name))?;
+        Some(&pair.1)
+    }
+
+    /// How many fields have this name: ASCII case doesn't matter.
+    pub fn count(&self, name: &[u8]) -> usize
+        ensures { result ≡ count_of name.now self.now }
+    {
+        self.pairs.iter().filter(|pair| pair.0.is(name)).count()
+    }
+}

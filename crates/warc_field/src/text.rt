@@ -1,0 +1,274 @@
+ghost use Rattle.std.specs.Prelude.{◌≡◌, ◌≤◌, ◌-◌, ◌<◌, ◌↔◌, IsTrue, IfOk, IsErrOf, length, Some, true, false};
+ghost use Rattle.std.specs.List.{list_all, prefix_len, suffix_len};
+ghost use Rattle.warc_field.specs.FaultText.{text_fault_text};
+ghost use Rattle.warc_field.specs.declared.text.TextFault.TheVariants.{Memory};
+ghost use Rattle.warc_field.specs.Text.{is_blank, is_name_byte, is_name, is_value_byte, is_value, trimmed, lower, same};
+
+use std::alloc::{AllocError, Allocator, Global};
+use std::fmt;
+use std::marker::Model;
+use thiserror::Error;
+
+/// A field's name. Contracts see its bytes.
+#[derive(Debug, Drop)]
+pub struct Name<A: Allocator = Global> {
+    token: Vec<u8, A>,
+}
+
+impl<A: Allocator> Model for Name<A> {
+    ghost use Rattle.std.specs.Prelude.{List, ℕ, ◌≡◌, true};
+    ghost use Rattle.warc_field.specs.Text.{is_name};
+
+    ghost Value = { List ℕ };
+
+    ghost view = { λ n. n.token.items };
+
+    ghost invariant = { λ n. is_name n.token.items ≡ true };
+}
+
+/// A field's value. Contracts see its bytes.
+#[derive(Debug, Drop)]
+pub struct Value<A: Allocator = Global> {
+    text: Vec<u8, A>,
+}
+
+impl<A: Allocator> Model for Value<A> {
+    ghost use Rattle.std.specs.Prelude.{List, ℕ, ◌≡◌, true};
+    ghost use Rattle.warc_field.specs.Text.{is_value};
+
+    ghost Value = { List ℕ };
+
+    ghost view = { λ v. v.text.items };
+
+    ghost invariant = { λ v. is_value v.text.items ≡ true };
+}
+
+/// Why a text makes no name or no value.
+#[derive(Clone, Copy, PartialEq, Eq, Debug, Error)]
+pub enum TextFault {
+    /// The text is none.
+    BadText,
+
+    /// A growth of the memory was refused.
+    Memory,
+}
+
+impl fmt::Display for TextFault {
+    ghost output = { λ fault. Some (text_fault_text fault) };
+
+    fn fmt<W: fmt::Write>(&self, f: &mut fmt::Formatter<W>) -> fmt::Result {
+        match self {
+            TextFault::BadText => write!(f, "bad text"),
+            TextFault::Memory => write!(f, "out of memory"),
+        }
+    }
+}
+
+impl From<AllocError> for TextFault {
+    ghost from_gives = { λ _ e. e ≡ Memory };
+
+    fn from(_error: AllocError) -> TextFault {
+        TextFault::Memory
+    }
+}
+
+/// Whether the byte is a space or a tab.
+#[tactic(auto, unfolding(crate::specs::Text::is_blank))]
+pub(crate) fn is_blank_byte(byte: u8) -> bool
+    ensures { result ≡ is_blank byte }
+{
+    byte == b' ' || byte == b'\t'
+}
+
+/// Whether a name may hold the byte.
+#[tactic(auto, unfolding(crate::specs::Text::is_name_byte))]
+fn may_stand_in_name(byte: u8) -> bool
+    ensures { result ≡ is_name_byte byte }
+{
+    match byte {
+        b'('
+        | b')'
+        | b'<'
+        | b'>'
+        | b'@'
+        | b','
+        | b';'
+        | b':'
+        | b'\\'
+        | b'"'
+        | b'/'
+        | b'['
+        | b']'
+        | b'?'
+        | b'='
+        | b'{'
+        | b'}' => false,
+        _ => byte > 32 && byte < 127,
+    }
+}
+
+/// Whether a value may hold the byte.
+#[tactic(auto, unfolding(crate::specs::Text::is_value_byte))]
+fn may_stand_in_value(byte: u8) -> bool
+    ensures { result ≡ is_value_byte byte }
+{
+    byte == b'\t' || byte >= 32 && byte != 127
+}
+
+fn holds_name_bytes(text: &[u8]) -> bool
+    ensures { result ≡ list_all is_name_byte text.now }
+{
+    text.iter().all(|byte| may_stand_in_name(*byte))
+}
+
+/// Whether the text has no control character but tabs.
+pub(crate) fn holds_value_bytes(text: &[u8]) -> bool
+    ensures { result ≡ list_all is_value_byte text.now }
+{
+    text.iter().all(|byte| may_stand_in_value(*byte))
+}
+
+/// Whether the text is a name: at least one byte, each an ASCII character that is no control character, no space and
+/// none of `( ) < > @ , ; : \ " / [ ] ? = { }`.
+#[tactic(auto, unfolding(crate::specs::Text::is_name))]
+pub fn is_name(text: &[u8]) -> bool
+    ensures { result ≡ is_name text.now }
+{
+    !text.is_empty() && holds_name_bytes(text)
+}
+
+/// Whether the text is a value: no control character but tabs, and no space or tab at either end.
+#[tactic(auto, unfolding(crate::specs::Text::is_value))]
+fn is_value_text(text: &[u8]) -> bool
+    ensures { result ≡ is_value text.now }
+{
+    holds_value_bytes(text) && leading_blanks(text) == 0 && trailing_blanks(text) == 0
+}
+
+/// How many spaces and tabs the text begins with.
+pub(crate) fn leading_blanks(text: &[u8]) -> usize
+    ensures count { result ≡ prefix_len is_blank text.now }
+    ensures within { result ≤ length text.now }
+{
+    let mut count = 0;
+    while count < text.len() && is_blank_byte(text[count]) {
+        count += 1;
+    }
+    count
+}
+
+/// How many spaces and tabs the text ends with.
+pub(crate) fn trailing_blanks(text: &[u8]) -> usize
+    ensures count { result ≡ suffix_len is_blank text.now }
+    ensures within { result ≤ length text.now }
+{
+    let mut end = text.len();
+    while end > 0 && is_blank_byte(text[end - 1]) {
+        end -= 1;
+    }
+    text.len() - end
+}
+
+/// The text without the spaces and tabs at its ends.
+#[tactic(auto, unfolding(crate::specs::Text::trimmed))]
+pub fn trim(text: &[u8]) -> &[u8]
+    ensures { result.now ≡ trimmed text.now }
+{
+    let text = &text[leading_blanks(text)..];
+    &text[..text.len() - trailing_blanks(text)]
+}
+
+/// Cuts the spaces and tabs off both ends of a text.
+#[tactic(auto, using(crate::proofs::TextLemmas::rotated), unfolding(crate::specs::Text::trimmed))]
+pub(crate) fn trim_in_place<A: Allocator>(text: &mut Vec<u8, A>)
+    ensures { text.new.items ≡ trimmed text.old.items }
+{
+    let front = leading_blanks(text);
+    text.rotate_left(front);
+    text.truncate(text.len() - front);
+    text.truncate(text.len() - trailing_blanks(text));
+}
+
+impl<A: Allocator> Name<A> {
+    /// The name that this text is, or `BadText` where it is none.
+    pub fn new(alloc: A, text: &[u8]) -> Result<Name<A>, TextFault>
+        ensures ok { IfOk result (λ name. (name ≡ text.now) × (is_name text.now ≡ true)) }
+        ensures bad { IsErrOf result TextFault.BadText ↔ (is_name text.now ≡ false) }
+    {
+        if !is_name(text) {
+            return Err(TextFault::BadText);
+        }
+        Ok(Name::from_checked(alloc, text)?)
+    }
+
+    /// The name that this text is, known to be one.
+    pub(crate) fn from_checked(alloc: A, text: &[u8]) -> Result<Name<A>, AllocError>
+        requires { is_name text.now ≡ true }
+        ensures { IfOk result (λ name. name ≡ text.now) }
+    {
+        Ok(Name {
+            token: Vec::from_slice(alloc, text)?,
+        })
+    }
+
+    /// The bytes of the name, in the case that it was given in.
+    pub fn bytes(&self) -> &[u8]
+        ensures text { result.now ≡ self.now }
+        ensures named { is_name self.now ≡ true }
+    {
+        &self.token
+    }
+
+    /// Whether both are one name: ASCII case doesn't matter.
+    pub fn same(&self, other: &Name<A>) -> bool
+        ensures { IsTrue result ↔ (lower self.now ≡ lower other.now) }
+    {
+        self.token.eq_ignore_ascii_case(&other.token)
+    }
+
+    /// Whether the text is this name: ASCII case doesn't matter.
+    pub fn is(&self, text: &[u8]) -> bool
+        ensures { result ≡ same self.now text.now }
+    {
+        self.token.eq_ignore_ascii_case(text)
+    }
+}
+
+impl<A: Allocator> Value<A> {
+    /// The value that this text is, or `BadText` where it is none. An empty text is a value.
+    pub fn new(alloc: A, text: &[u8]) -> Result<Value<A>, TextFault>
+        ensures ok { IfOk result (λ value. (value ≡ text.now) × (is_value text.now ≡ true)) }
+        ensures bad { IsErrOf result TextFault.BadText ↔ (is_value text.now ≡ false) }
+    {
+        if !is_value_text(text) {
+            return Err(TextFault::BadText);
+        }
+        Ok(Value::from_checked(alloc, text)?)
+    }
+
+    /// The value that this text is, known to be one.
+    pub(crate) fn from_checked(alloc: A, text: &[u8]) -> Result<Value<A>, AllocError>
+        requires { is_value text.now ≡ true }
+        ensures { IfOk result (λ value. value ≡ text.now) }
+    {
+        Ok(Value {
+            text: Vec::from_slice(alloc, text)?,
+        })
+    }
+
+    /// The value that these bytes are, known to be one.
+    pub(crate) fn from_vec(text: Vec<u8, A>) -> Value<A>
+        requires { is_value text.items ≡ true }
+        ensures { result ≡ text.items }
+    {
+        Value { text }
+    }
+
+    /// The bytes of the value.
+    pub fn bytes(&self) -> &[u8]
+        ensures text { result.now ≡ self.now }
+        ensures value { is_value self.now ≡ true }
+    {
+        &self.text
+    }
+}
