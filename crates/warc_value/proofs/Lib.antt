@@ -1,0 +1,6 @@
+pub mod Bits
+pub mod Alphabet
+pub mod DateLemmas
+pub mod DayLemmas
+pub mod LawLemmas
+pub mod WorkedValues

@@ -1,0 +1,4 @@
+pub mod Dates
+pub mod Base32
+pub mod Digests
+pub mod Running

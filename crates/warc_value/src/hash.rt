@@ -1,0 +1,94 @@
+ghost use Rattle.std.specs.Prelude.{◌≡◌, ◌++◌, ◌↔◌, List, ℕ, []};
+ghost use Rattle.sha1.specs.Sha1.{sha1};
+ghost use Rattle.warc_value.specs.Digests.{wanted_digest, verdict_of};
+
+use crate::symbols::unbase32;
+use sha1::Sha1;
+use std::alloc::Allocator;
+use warc_field::Value;
+
+/// The digest that a record's block should have.
+#[derive(Clone, Copy, PartialEq, Eq, Debug)]
+pub enum Wanted {
+    /// The twenty bytes of its SHA-1.
+    Sha1([u8; 20]),
+    /// Nothing is wanted that could be checked.
+    Unchecked,
+}
+
+/// How a block's digest compares with the one that is wanted.
+#[derive(Clone, Copy, PartialEq, Eq, Debug)]
+pub enum Verdict {
+    /// The digests are equal.
+    Good,
+    /// They differ.
+    Bad,
+    /// No digest was wanted.
+    Unchecked,
+}
+
+impl Wanted {
+    /// The digest that a value of `WARC-Block-Digest` asks for: SHA-1 in base32, `sha1:` and 32 characters, all in any
+    /// case. Any other value asks for none (ISO 28500:2017, 5.8 leaves the algorithm and the encoding open).
+    pub fn of<A: Allocator>(value: &Value<A>) -> Wanted
+        ensures { result ≡ wanted_digest value.now }
+    {
+        let value = value.bytes();
+        if value.len() < 5 || !value[..5].eq_ignore_ascii_case(b"sha1:") {
+            return Wanted::Unchecked;
+        }
+        match unbase32(&value[5..]) {
+            Some(digest) => Wanted::Sha1(digest),
+            None => Wanted::Unchecked,
+        }
+    }
+}
+
+/// The SHA-1 of a whole block (FIPS 180-4).
+pub fn digest(block: &[u8]) -> [u8; 20]
+    ensures { result ≡ sha1 block.now }
+{
+    Sha1::digest(block)
+}
+
+/// The SHA-1 of a block that comes in pieces.
+#[derive(Drop)]
+pub struct Running {
+    state: Sha1,
+}
+
+impl Running {
+    ghost use Rattle.warc_value.specs.Running.{HasTaken};
+
+    /// Nothing is taken yet.
+    pub fn new() -> Running
+        ensures { HasTaken result [] }
+    {
+        Running { state: Sha1::new() }
+    }
+
+    /// Takes the next piece, of any length.
+    pub fn update(&mut self, piece: &[u8])
+        ensures { (taken : List ℕ) → HasTaken self.old taken → HasTaken self.new (taken ++ piece.now) }
+    {
+        self.state.update(piece);
+    }
+
+    /// Whether the pieces joined have the digest that is wanted.
+    pub fn verdict(self, wanted: &Wanted) -> Verdict
+        ensures unchecked { (result ≡ Verdict.Unchecked) ↔ (wanted.now ≡ Wanted.Unchecked) }
+        ensures value { (taken : List ℕ) → HasTaken self taken → result ≡ verdict_of wanted.now taken }
+    {
+        let Running { state } = self;
+        match wanted {
+            Wanted::Sha1(digest) => {
+                if state.finalize() == *digest {
+                    Verdict::Good
+                } else {
+                    Verdict::Bad
+                }
+            }
+            Wanted::Unchecked => Verdict::Unchecked,
+        }
+    }
+}
