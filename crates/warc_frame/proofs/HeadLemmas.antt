@@ -1,0 +1,114 @@
+-- What the rows of a head's refusals test.
+use Rattle.std.proofs.Common.{◌≡◌, ℕ, zero, suc, ◌+◌, ◌<◌, ◌≤◌, true, false, cond, nat_le, List, [], ◌∷◌, ◌++◌, Option, Some, None, Result, Ok, Err, length, length-take, take, drop, get_or, min, refl, sym, ap, subst, ◌∙◌, arith, ⊎_elim}
+use Rattle.std.specs.Prelude.{option_map, option_and_then}
+use Rattle.std.proofs.lemmas.List.{take_all, take-append-drop, get_or-take}
+use Rattle.std.proofs.lemmas.Slice.Eq.{bytes_eq-Decides}
+use Rattle.std.proofs.lemmas.Bool.{cases_lt, leb-true}
+use Rattle.warc_frame.specs.declared.version.Version.{Version}
+use Rattle.warc_frame.specs.declared.version.Version.TheVariants.{V1_0, V1_1}
+use Rattle.warc_frame.specs.declared.fault.FaultKind.{FaultKind}
+use Rattle.warc_frame.specs.declared.fault.FaultKind.TheVariants.{Length}
+use Rattle.warc_frame.specs.Record.{or_length, max_head, max_block}
+use Rattle.warc_frame.specs.VersionLine.{version_line}
+use Rattle.warc_frame.specs.Reading.{begins, version_of, empty_line, head_front, head_len}
+use Rattle.warc_frame.proofs.EmptyLineLemmas.{true_or_false, empty-bytes, empty-len}
+
+-- the part that a search goes through
+take_least : (n : ℕ) (t : List ℕ) → take (min (length t) n) t ≡ take n t
+take_least n t = ⊎_elim
+    (λ l. let e : min (length t) n ≡ length t = omega arith in ap (λ k. take k t) e ∙ take_all (length t) t (omega arith) ∙ sym (take_all n t (omega arith)))
+    (λ l. let e : min (length t) n ≡ n = omega arith in ap (λ k. take k t) e)
+    (cases_lt (length t) n)
+
+pub take_shorter : (m : ℕ) (t : List ℕ) (a : ℕ) → a ≡ min (length t) m → take a t ≡ take m t
+take_shorter m t a e = ap (λ k. take k t) e ∙ take_least m t
+
+-- a text that begins as another and is long enough has it at its front
+pub begins-front : (t wanted : List ℕ) → begins t wanted ≡ true → length wanted ≤ length t → t ≡ wanted ++ drop (length wanted) t
+begins-front t wanted h long =
+    let n = length wanted in
+    let size : length (take n t) ≡ n = omega (arith, length-take n t) in
+    let same : take n t ≡ wanted = (bytes_eq-Decides _ _).0 h ∙ ap (λ k. take k wanted) size ∙ take_all n wanted (omega arith) in
+    sym (take-append-drop n t) ∙ ap (λ xs. xs ++ drop n t) same
+
+-- a text begins as the line of its version
+pub version-begins : (t : List ℕ) (v : Version) → version_of t ≡ Some v → begins t (version_line v) ≡ true
+unfolding version_of
+version-begins t v h = ⊎_elim
+    (λ (one : begins t (version_line V1_1) ≡ true). let e : ◌≡◌ {A = Option Version} (Some V1_1) (Some v) = rw one at h in let same : V1_1 ≡ v = cc in subst (λ w. begins t (version_line w) ≡ true) same one)
+    (λ (no : begins t (version_line V1_1) ≡ false). ⊎_elim
+    (λ (two : begins t (version_line V1_0) ≡ true). let e : ◌≡◌ {A = Option Version} (Some V1_0) (Some v) = rw (no, two) at h in let same : V1_0 ≡ v = cc in subst (λ w. begins t (version_line w) ≡ true) same two)
+    (λ (none : begins t (version_line V1_0) ≡ false). let e : ◌≡◌ {A = Option Version} None (Some v) = rw (no, none) at h in cc)
+    (true_or_false (begins t (version_line V1_0))))
+    (true_or_false (begins t (version_line V1_1)))
+
+-- a byte of a text that begins as another, as far as both go
+pub begins-byte : (t wanted : List ℕ) (k : ℕ) → begins t wanted ≡ true → k < length t → k < length wanted → get_or t k 0 ≡ get_or wanted k 0
+begins-byte [] wanted k h l m = absurd (omega arith)
+begins-byte (b ∷ bs) [] k h l m = absurd (omega arith)
+begins-byte (b ∷ bs) (c ∷ cs) k h l m =
+    let n = length (c ∷ cs) in
+    let same : take n (b ∷ bs) ≡ take (length (take n (b ∷ bs))) (c ∷ cs) = (bytes_eq-Decides _ _).0 h in
+    let fits : k < length (take n (b ∷ bs)) = omega (arith, length-take n (b ∷ bs)) in
+    sym (get_or-take n (b ∷ bs) k 0 m) ∙ ap (λ xs. get_or xs k 0) same ∙ get_or-take (length (take n (b ∷ bs))) (c ∷ cs) k 0 fits
+
+no_cr_in_line : (v : Version) (k : ℕ) → k < 8 → get_or (version_line v) k 0 ≡ 13 → ⊥
+no_cr_in_line V1_0 zero l = λ e. absurd cc
+no_cr_in_line V1_0 (suc zero) l = λ e. absurd cc
+no_cr_in_line V1_0 (suc (suc zero)) l = λ e. absurd cc
+no_cr_in_line V1_0 (suc (suc (suc zero))) l = λ e. absurd cc
+no_cr_in_line V1_0 (suc (suc (suc (suc zero)))) l = λ e. absurd cc
+no_cr_in_line V1_0 (suc (suc (suc (suc (suc zero))))) l = λ e. absurd cc
+no_cr_in_line V1_0 (suc (suc (suc (suc (suc (suc zero)))))) l = λ e. absurd cc
+no_cr_in_line V1_0 (suc (suc (suc (suc (suc (suc (suc zero))))))) l = λ e. absurd cc
+no_cr_in_line V1_0 (suc (suc (suc (suc (suc (suc (suc (suc k)))))))) l = absurd (omega arith)
+no_cr_in_line V1_1 zero l = λ e. absurd cc
+no_cr_in_line V1_1 (suc zero) l = λ e. absurd cc
+no_cr_in_line V1_1 (suc (suc zero)) l = λ e. absurd cc
+no_cr_in_line V1_1 (suc (suc (suc zero))) l = λ e. absurd cc
+no_cr_in_line V1_1 (suc (suc (suc (suc zero)))) l = λ e. absurd cc
+no_cr_in_line V1_1 (suc (suc (suc (suc (suc zero))))) l = λ e. absurd cc
+no_cr_in_line V1_1 (suc (suc (suc (suc (suc (suc zero)))))) l = λ e. absurd cc
+no_cr_in_line V1_1 (suc (suc (suc (suc (suc (suc (suc zero))))))) l = λ e. absurd cc
+no_cr_in_line V1_1 (suc (suc (suc (suc (suc (suc (suc (suc k)))))))) l = absurd (omega arith)
+
+some_four : (o : Option ℕ) (n : ℕ) → option_map (λ place. place + 4) o ≡ Some n → (p : ℕ) × (o ≡ Some p) × (p + 4 ≡ n)
+some_four None n h = absurd cc
+some_four (Some p) n h = (p, refl, cc)
+
+-- the place of the empty line that ends a head
+pub head-place : (t : List ℕ) (n : ℕ) → head_len t ≡ Some n → (p : ℕ) × (empty_line (head_front t) ≡ Some p) × (p + 4 ≡ n) × (n ≤ length t) × (n ≤ max_head)
+unfolding head_len head_front
+head-place t n h =
+    let found = some_four (empty_line (take max_head t)) n h in
+    let long = empty-len (take max_head t) found.0 found.1 in
+    (found.0, found.1, found.2, omega (arith, long, found.2, length-take max_head t), omega (arith, long, found.2, length-take max_head t))
+
+pub head_within : (t : List ℕ) (n : ℕ) → head_len t ≡ Some n → n ≤ length t
+head_within t n h = (head-place t n h).3
+
+line_short : (v : Version) (k : ℕ) → k < 8 → k < length (version_line v)
+line_short V1_0 k l = omega arith
+line_short V1_1 k l = omega arith
+
+-- a head holds its version line and the empty line behind it
+pub head_room : (t : List ℕ) (v : Version) (n : ℕ) → version_of t ≡ Some v → head_len t ≡ Some n → 12 ≤ n
+unfolding head_front
+head_room t v n h e =
+    let found = head-place t n e in
+    let p = found.0 in
+    let bytes = empty-bytes (take max_head t) p found.1 in
+    let long = empty-len (take max_head t) p found.1 in
+    let inside : p < max_head = omega (arith, long, length-take max_head t) in
+    let cr : get_or t p 0 ≡ 13 = sym (get_or-take max_head t p 0 inside) ∙ bytes.0 in
+    ⊎_elim
+    (λ early. absurd (no_cr_in_line v p early (sym (begins-byte t (version_line v) p (version-begins t v h) (omega (arith, found.2, found.3)) (line_short v p early)) ∙ cr)))
+    (λ late. omega (arith, late, found.2))
+    (cases_lt p 8)
+
+number_fits : (o : Option ℕ) (n : ℕ) → or_length (option_and_then (λ k. cond (nat_le k max_block) (Some k) None) o) ≡ Ok n → n ≤ max_block
+number_fits None n h = absurd cc
+number_fits (Some k) n h = ⊎_elim
+    (λ small. let e : ◌≡◌ {A = Result ℕ FaultKind} (Ok k) (Ok n) = rw small at h in let same : k ≡ n = cc in omega (arith, same, leb-true _ _ small))
+    (λ large. let e : ◌≡◌ {A = Result ℕ FaultKind} (Err Length) (Ok n) = rw large at h in absurd cc)
+    (true_or_false (nat_le k max_block))

@@ -1,0 +1,87 @@
+-- The laws of the module `laws`, each under its function's name.
+use Rattle.std.proofs.Common.{◌≡◌, ◌≢◌, ℕ, ◌+◌, ◌≤◌, List, [], ◌++◌, Option, None, Ok, Err, length, take, ◌⊎◌, ◌^◌, ◌<◌, ap, sym, ◌∙◌, arith}
+use Rattle.warc_frame.specs.declared.fault.FaultKind.TheVariants.{Truncated}
+use Rattle.warc_frame.specs.declared.fault.Fault.{Fault}
+use Rattle.warc_frame.specs.Record.{Record, IsFramed, max_archive}
+use Rattle.warc_frame.specs.Spelling.{Spells, SpellsAll, canonical}
+use Rattle.warc_frame.specs.Reading.{Judgement, record_of}
+use Rattle.warc_frame.specs.Faults.{AllAccepted, ReadsAs, IsFirstFault}
+use Rattle.warc_frame.proofs.ReadLemmas.{record-spelled}
+use Rattle.warc_frame.proofs.SpellLemmas.{record-read, canonical-spells}
+use Rattle.warc_frame.proofs.StableLemmas.{record-fault-stays}
+use Rattle.warc_frame.proofs.FaultLemmas.{spelling_ends, spelling_one, none_where_spelled, spelled_or_fault, first-stays, first_one, reads_one, reads_some}
+use Rattle.std.proofs.lemmas.Grind.{common_steps}
+use Rattle.std.proofs.lemmas.List.{take-append-le}
+use Rattle.std.proofs.Math.Seq.{take-append_seam}
+use Rattle.std.specs.Io.KnownBytes.{append_known}
+use Rattle.warc_frame.specs.Device.{Staged}
+use Rattle.warc_frame.specs.Send.{WentOut, IsStaged}
+
+-- no text that spells a record begins another one that does
+pub spelling_is_unambiguous : (r s : Record) (text more : List ℕ) → Spells r text → Spells s (text ++ more) → (more ≡ []) × (r ≡ s)
+spelling_is_unambiguous = spelling_ends
+
+-- a text spells at most one list
+pub spelling_is_unambiguous-list : (rs ss : List Record) (text : List ℕ) → SpellsAll rs text → SpellsAll ss text → rs ≡ ss
+spelling_is_unambiguous-list = spelling_one
+
+-- the canonical text of a record spells it
+pub canonical_text_spells : (r : Record) → IsFramed r → Spells r (canonical r)
+canonical_text_spells = canonical-spells
+
+-- what is spelled is read, whatever follows
+pub reading_is_spelling-read : (judge : Judgement) (r : Record) (text more : List ℕ) → Spells r text → judge r.fields ≡ None → record_of judge (text ++ more) ≡ Ok (r, length text)
+reading_is_spelling-read = record-read
+
+-- what is read is spelled
+pub reading_is_spelling : (judge : Judgement) (text : List ℕ) (r : Record) (n : ℕ) → record_of judge text ≡ Ok (r, n) → (n ≤ length text) × Spells r (take n text) × (judge r.fields ≡ None)
+reading_is_spelling = record-spelled
+
+-- a text that spells a list has no first fault
+pub no_fault_where_spelled : (judge : Judgement) (q : ℕ) (text : List ℕ) (records : List Record) (fault : Fault) → q + length text ≤ max_archive → SpellsAll records text → AllAccepted judge records → IsFirstFault judge q text fault → ⊥
+no_fault_where_spelled = none_where_spelled
+
+-- a text that has none spells one
+pub no_fault_where_spelled-or : (judge : Judgement) (q : ℕ) (text : List ℕ) → q + length text ≤ max_archive → ((records : List Record) × SpellsAll records text × AllAccepted judge records) ⊎ ((fault : Fault) × IsFirstFault judge q text fault)
+no_fault_where_spelled-or = spelled_or_fault
+
+-- every fault but truncation stays when bytes are appended
+pub faults_are_stable : (judge : Judgement) (q : ℕ) (text more : List ℕ) (fault : Fault) → IsFirstFault judge q text fault → fault.kind ≢ Truncated → IsFirstFault judge q (text ++ more) fault
+faults_are_stable = first-stays
+
+-- so do those of the record at the front
+pub faults_are_stable-record : (judge : Judgement) (text more : List ℕ) (fault : Fault) → record_of judge text ≡ Err fault → fault.kind ≢ Truncated → record_of judge (text ++ more) ≡ Err fault
+faults_are_stable-record = record-fault-stays
+
+-- a text has at most one first fault
+pub first_fault_is_unique : (judge : Judgement) (q : ℕ) (text : List ℕ) (one other : Fault) → IsFirstFault judge q text one → IsFirstFault judge q text other → one ≡ other
+first_fault_is_unique = first_one
+
+-- a text is read as one list of records and one fault, or none
+pub reading_is_unique : (judge : Judgement) (q : ℕ) (text : List ℕ) (rs ss : List Record) (one other : Option Fault) → ReadsAs judge q text rs one → ReadsAs judge q text ss other → (rs ≡ ss) × (one ≡ other)
+reading_is_unique = reads_one
+
+-- each text is read so
+pub reading_is_unique-some : (judge : Judgement) (q : ℕ) (text : List ℕ) → (records : List Record) × (found : Option Fault) × ReadsAs judge q text records found
+reading_is_unique-some = reads_some
+
+pub went_out_of_longer : (start now : Option (List ℕ)) (output more : List ℕ) (sent : ℕ) → WentOut start output now sent → WentOut start (output ++ more) now sent
+went_out_of_longer start now output more sent out = record {
+  count = out.count;
+  within = grind (arith, common_steps, out.within);
+  told = out.told ∙ ap (λ l. append_known start l) (sym (take-append-le out.count output more out.within));
+  number = out.number;
+}
+
+pub staged_went_out : (start now : Option (List ℕ)) (output : List ℕ) (buffer : Staged) → IsStaged start output now buffer → WentOut start output now buffer.sent
+staged_went_out start now output buffer is = record {
+  count = length is.gone;
+  within = grind (arith, common_steps, is.whole);
+  told = is.told ∙ ap (λ l. append_known start l) (sym (ap (λ l. take (length is.gone) l) is.whole ∙ take-append_seam is.gone buffer.bytes));
+  number = is.number;
+}
+
+pub sent_is_exact : (start now : Option (List ℕ)) (output : List ℕ) (sent : ℕ) → WentOut start output now sent → length output < 2 ^ 64 → (sent ≤ length output) × (now ≡ append_known start (take sent output))
+sent_is_exact start now output sent out short =
+    let exact : sent ≡ out.count = omega (arith, out.number, out.within) in
+    (omega (arith, out.within), out.told ∙ ap (λ n. append_known start (take n output)) (sym exact))

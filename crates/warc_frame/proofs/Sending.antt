@@ -1,0 +1,24 @@
+-- What went out of an output, piece by piece.
+use Rattle.std.proofs.Common.{◌≡◌, ℕ, ◌+◌, ◌-◌, ◌^◌, ◌<◌, List, length, take, ◌++◌, min, Option, Some, None, refl, ap, sym, ◌∙◌, arith, append_assoc}
+use Rattle.std.proofs.lemmas.Grind.{common_steps}
+use Rattle.std.proofs.Math.Seq.{take-append-add}
+use Rattle.std.specs.Io.KnownBytes.{append_known}
+use Rattle.warc_frame.specs.Count.{capped}
+use Rattle.warc_frame.specs.Send.{WentOut}
+
+pub append_known-append : (o : Option (List ℕ)) (xs ys : List ℕ) → append_known (append_known o xs) ys ≡ append_known o (xs ++ ys)
+append_known-append None xs ys = refl
+append_known-append (Some zs) xs ys = ap (λ l. Some l) (append_assoc zs xs ys)
+
+-- sums of counts that stop stop as the sum does
+pub capped-add : (a b n m : ℕ) → a ≡ capped n → m ≡ min (a + b) (2 ^ 64 - 1) → m ≡ capped (n + b)
+capped-add a b n m h e = omega arith
+
+-- a front of the next piece went out
+pub went_out_more : (start before now : Option (List ℕ)) (gone piece : List ℕ) (old n new : ℕ) → before ≡ append_known start gone → old ≡ capped (length gone) → now ≡ append_known before (take n piece) → n < length piece → new ≡ min (old + n) (2 ^ 64 - 1) → WentOut start (gone ++ piece) now new
+went_out_more start before now gone piece old n new told number took short sum = record {
+  count = length gone + n;
+  within = grind (arith, common_steps);
+  told = took ∙ ap (λ o. append_known o (take n piece)) told ∙ append_known-append start gone (take n piece) ∙ ap (λ l. append_known start l) (sym (take-append-add gone piece n));
+  number = capped-add old n (length gone) new number sum;
+}

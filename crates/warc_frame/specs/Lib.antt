@@ -1,0 +1,14 @@
+pub mod Count
+pub mod Device
+pub mod FaultText
+pub mod Gather
+pub mod Send
+pub mod VersionLine
+pub mod Record
+pub mod Spelling
+pub mod Reading
+pub mod Faults
+pub mod Told
+pub mod Decoding
+pub mod Steps
+pub mod Pieces

@@ -1,0 +1,34 @@
+-- What went out of an output, to a sink that told some bytes at the start.
+use Rattle.std.specs.Prelude.{◌≡◌, ℕ, ◌≤◌, List, ◌++◌, length, take, Option}
+use Rattle.std.specs.Prelude.{Result, Ok, Err}
+use Rattle.std.specs.Io.KnownBytes.{append_known}
+use Rattle.warc_frame.specs.Count.{capped}
+use Rattle.warc_frame.specs.Device.{Staged}
+use Rattle.warc_frame.specs.declared.fault.OutFault.{OutFault}
+use Rattle.warc_frame.specs.declared.fault.OutFault.TheVariants.{Read, Write, Memory}
+use Rattle.warc_frame.specs.declared.send.SendFault.{SendFault}
+
+-- how many bytes of a piece went out
+abbrev pub count_sent : Result (Unit {0}) SendFault → List ℕ → ℕ
+count_sent (Ok u) piece = length piece
+count_sent (Err e) piece = e.sent
+
+-- the number of bytes that a fault tells
+abbrev pub sent_of : OutFault → ℕ
+sent_of (Read sent) = sent
+sent_of (Write sent) = sent
+sent_of (Memory sent) = sent
+
+-- of the output a front went out, as many bytes as `sent` says
+pub record WentOut (start : Option (List ℕ)) (output : List ℕ) (now : Option (List ℕ)) (sent : ℕ) : Type 0 where
+  pub count : ℕ
+  pub within : count ≤ length output
+  pub told : now ≡ append_known start (take count output)
+  pub number : sent ≡ capped count
+
+-- the output so far: what went out, and then what waits in the buffer
+pub record IsStaged (start : Option (List ℕ)) (output : List ℕ) (now : Option (List ℕ)) (buffer : Staged) : Type 0 where
+  pub gone : List ℕ
+  pub whole : output ≡ gone ++ buffer.bytes
+  pub told : now ≡ append_known start gone
+  pub number : buffer.sent ≡ capped (length gone)

@@ -1,0 +1,126 @@
+-- What a reader of a stream was told, and what of it lies in the bytes.
+use Rattle.std.specs.Prelude.{◌≡◌, ◌≢◌, ℕ, ◌+◌, List, [], ◌∷◌, ◌++◌, length, take, drop, slice_range, Option, Some, None, IsSome, Result, Ok, Err}
+use Rattle.warc_field.specs.Area.{Pair}
+use Rattle.warc_frame.specs.declared.version.Version.{Version}
+use Rattle.warc_frame.specs.declared.fault.FaultKind.{FaultKind}
+use Rattle.warc_frame.specs.declared.fault.FaultKind.TheVariants.{Truncated, Memory}
+use Rattle.warc_frame.specs.declared.fault.Fault.{Fault}
+use Rattle.warc_frame.specs.declared.stream.Event.{Event}
+use Rattle.warc_frame.specs.declared.stream.Event.TheVariants as events
+use Rattle.warc_frame.specs.Record.{Record}
+use Rattle.warc_frame.specs.Spelling.{SpellsAll}
+use Rattle.warc_frame.specs.Reading.{Head, any_fields, head_of, record_of, fault}
+use Rattle.warc_frame.specs.Faults.{ReadsAs, within_limit, goes_on, limited}
+
+-- a record whose head was told and whose end wasn't, with the bytes of its block that were told
+pub record Unclosed : Type 0 where
+  pub version : Version
+  pub fields : List Pair
+  pub block_len : ℕ
+  pub bytes : List ℕ
+
+-- the records whose end was told, and the one behind them
+pub record Told : Type 0 where
+  pub records : List Record
+  pub unclosed : Option Unclosed
+
+-- nothing was told yet
+abbrev pub nothing : Told
+nothing = record { records = []; unclosed = None }
+
+abbrev pub with_bytes : Option Unclosed → List ℕ → Option Unclosed
+with_bytes None bytes = None
+with_bytes (Some u) bytes = Some (record { version = u.version; fields = u.fields; block_len = u.block_len; bytes = u.bytes ++ bytes })
+
+abbrev pub ended : Option Unclosed → List Record
+ended None = []
+ended (Some u) = record { version = u.version; fields = u.fields; block = u.bytes } ∷ []
+
+-- what was told once this event, at this piece, is told too
+abbrev pub tell : {A : Type 0} → Told → List ℕ → Event A → Told
+tell told piece events.More = told
+tell told piece (events.Head version fields n) = record { records = told.records; unclosed = Some (record { version = version; fields = fields; block_len = n; bytes = [] }) }
+tell told piece (events.Part from to) = record { records = told.records; unclosed = with_bytes told.unclosed (slice_range piece from to) }
+tell told piece events.End = record { records = told.records ++ ended told.unclosed; unclosed = None }
+
+-- all of a block was told
+abbrev pub IsWhole : Option Unclosed → Type 0
+IsWhole None = ⊥
+IsWhole (Some u) = length u.bytes ≡ u.block_len
+
+-- a head is told only between records, a part only behind a head, and an end only behind the whole block
+abbrev pub MayTell : {A : Type 0} → Option Unclosed → Event A → Type 0
+MayTell unclosed events.More = Unit {0}
+MayTell unclosed (events.Head version fields n) = unclosed ≡ None
+MayTell unclosed (events.Part from to) = IsSome unclosed
+MayTell unclosed events.End = IsWhole unclosed
+
+abbrev pub opened : Result Head Fault → List ℕ → Option Unclosed
+opened (Ok head) t = Some (record { version = head.version; fields = head.fields; block_len = head.block_len; bytes = take head.block_len (drop head.len t) })
+opened (Err f) t = None
+
+-- what a text that is less than a record tells: its head, where it is whole and can be framed, and the bytes of its block
+abbrev pub unclosed_of : List ℕ → Option Unclosed
+unclosed_of t = opened (head_of any_fields t) t
+
+-- a text ends before the record at its front does
+abbrev pub IsCut : List ℕ → Type 0
+IsCut t = record_of any_fields t ≡ Err (fault Truncated (length t))
+
+-- what was told is exactly what lies in the text: its whole records, the head behind them, the bytes of its block
+pub record Lies (text : List ℕ) (told : Told) : Type 0 where
+  pub front : List ℕ
+  pub rest : List ℕ
+  pub text_is : text ≡ front ++ rest
+  pub spelled : SpellsAll told.records front
+  pub cut : IsCut rest
+  pub unclosed_is : told.unclosed ≡ unclosed_of rest
+
+-- a text is the whole head of a record
+abbrev pub IsHeadOf : Unclosed → List ℕ → Type 0
+IsHeadOf u head = head_of any_fields head ≡ Ok (record { version = u.version; fields = u.fields; len = length head; block_len = u.block_len })
+
+abbrev pub EndsThere : List ℕ → Option Unclosed → Type 0
+EndsThere rest None = rest ≡ []
+EndsThere rest (Some u) = (head : List ℕ) × IsHeadOf u head × (rest ≡ head ++ u.bytes)
+
+-- the text ends where what was told ends: behind a record, behind a head, or in a block behind the bytes told
+pub record IsExact (text : List ℕ) (told : Told) : Type 0 where
+  pub front : List ℕ
+  pub rest : List ℕ
+  pub text_is : text ≡ front ++ rest
+  pub spelled : SpellsAll told.records front
+  pub ends : EndsThere rest told.unclosed
+
+-- where an event tells something
+abbrev pub IfTold : {A : Type 0} → Event A → Type 0 → Type 0
+IfTold events.More P = Unit {0}
+IfTold (events.Head version fields n) P = P
+IfTold (events.Part from to) P = P
+IfTold events.End P = P
+
+-- the frame fault of a text that begins at offset `at`, which stays whatever follows; what was told is all that lies
+-- before it: the records, and of what the fault is in, a head that is whole and can be framed and the bytes of its block
+pub record Refutes (at : ℕ) (text : List ℕ) (told : Told) (f : Fault) : Type 0 where
+  pub found : Option Fault
+  pub reads : ReadsAs any_fields at (within_limit at text) told.records found
+  pub limit : limited (goes_on at text) found ≡ Some f
+  pub settled : f.kind ≢ Truncated
+  pub unclosed_is : told.unclosed ≡ unclosed_of reads.rest
+
+-- memory was wanted for the head of the record behind those that were told, and refused
+pub record WantsMemory (at : ℕ) (text : List ℕ) (told : Told) (f : Fault) : Type 0 where
+  pub front : List ℕ
+  pub rest : List ℕ
+  pub text_is : within_limit at text ≡ front ++ rest
+  pub spelled : SpellsAll told.records front
+  pub offset_is : f.offset ≡ at + length front
+  pub unclosed_is : told.unclosed ≡ None
+
+abbrev pub RefusesAs : FaultKind → ℕ → List ℕ → Told → Fault → Type 0
+RefusesAs Memory at text told f = WantsMemory at text told f
+RefusesAs kind at text told f = Refutes at text told f
+
+-- what a step that fails says of the bytes taken and its piece, together
+abbrev pub Refuses : ℕ → List ℕ → Told → Fault → Type 0
+Refuses at text told f = RefusesAs f.kind at text told f

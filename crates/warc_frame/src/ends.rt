@@ -1,0 +1,95 @@
+ghost use Rattle.std.specs.Prelude.{◌≡◌, ℕ, ◌+◌, ◌-◌, ◌<◌, ◌≤◌, ◌++◌, ◌&&◌, length, take, drop, slice_index, IfSome, IsTrue, ◌↔◌, is_some, MatchOption, None, Some};
+ghost use Rattle.warc_frame.specs.Reading.{empty_line, version_of, begins};
+ghost use Rattle.warc_frame.specs.Decoding.{ends_behind, closing};
+
+use memchr::memmem;
+
+const CLOSING: [u8; 4] = *b"\r\n\r\n";
+
+/// The byte at a place of the two texts together.
+fn byte_at(kept: &[u8], piece: &[u8], place: usize) -> u8
+    requires { place < length kept.now + length piece.now }
+    ensures { result ≡ slice_index (kept.now ++ piece.now) place }
+{
+    if place < kept.len() {
+        kept[place]
+    } else {
+        piece[place - kept.len()]
+    }
+}
+
+/// Whether a CRLF CRLF ends with this byte of the piece.
+fn ends_at(kept: &[u8], piece: &[u8], place: usize) -> bool
+    requires within { place < length piece.now }
+    requires short { length kept.now + length piece.now ≤ 65536 }
+    ensures { result ≡ ends_behind (kept.now ++ piece.now) (length kept.now + place) }
+{
+    let end = kept.len() + place;
+    if piece[place] != b'\n' {
+        return false;
+    }
+    if end < 3 {
+        return false;
+    }
+    if byte_at(kept, piece, end - 1) != b'\r' {
+        return false;
+    }
+    if byte_at(kept, piece, end - 2) != b'\n' {
+        return false;
+    }
+    byte_at(kept, piece, end - 3) == b'\r'
+}
+
+/// How many bytes of the piece end the first CRLF CRLF, where the kept bytes hold none. Only those that begin in the kept
+/// bytes are looked for byte by byte.
+pub(crate) fn find_end(kept: &[u8], piece: &[u8]) -> Option<usize>
+    requires short { length kept.now + length piece.now ≤ 65536 }
+    requires none { empty_line kept.now ≡ None }
+    ensures within { IfSome result (λ n. (0 < n) × (n ≤ length piece.now) × (4 ≤ length kept.now + n)) }
+    ensures end { MatchOption result (empty_line (kept.now ++ piece.now) ≡ None) (λ n. empty_line (kept.now ++ piece.now) ≡ Some (length kept.now + n - 4)) }
+{
+    for place in 0..piece.len().min(3) {
+        if ends_at(kept, piece, place) {
+            return Some(place + 1);
+        }
+    }
+    let place = memmem::find(piece, b"\r\n\r\n")?;
+    Some(place + 4)
+}
+
+/// Whether the text, as far as it goes, begins as the line.
+fn begins_as(text: &[u8], line: &[u8]) -> bool
+    ensures { result ≡ begins text.now line.now }
+{
+    let len = text.len().min(line.len());
+    line.starts_with(&text[..len])
+}
+
+/// Whether the two texts together, as far as they go, begin as the line.
+fn begins_line(kept: &[u8], piece: &[u8], line: &[u8]) -> bool
+    ensures { result ≡ begins (kept.now ++ piece.now) line.now }
+{
+    if !begins_as(kept, line) {
+        return false;
+    }
+    begins_as(piece, &line[kept.len().min(line.len())..])
+}
+
+/// Whether the two texts together, as far as they go, begin as a version line.
+#[tactic(auto, unfolding(crate::specs::Reading::version_of))]
+pub(crate) fn begins_across(kept: &[u8], piece: &[u8]) -> bool
+    ensures { result ≡ is_some (version_of (kept.now ++ piece.now)) }
+{
+    if begins_line(kept, piece, b"WARC/1.1\r\n") {
+        return true;
+    }
+    begins_line(kept, piece, b"WARC/1.0\r\n")
+}
+
+/// Whether these bytes are those of a CRLF CRLF from this place on.
+pub(crate) fn closes_on(bytes: &[u8], matched: usize) -> bool
+    requires { matched + length bytes.now ≤ 4 }
+    ensures { IsTrue result ↔ (bytes.now ≡ take (length bytes.now) (drop matched closing)) }
+{
+    bytes == &CLOSING[matched..matched + bytes.len()]
+}

@@ -1,0 +1,186 @@
+//! The first fault of an archive: what it is, and where.
+ghost use Rattle.std.specs.Prelude.{◌≡◌, Some};
+ghost use Rattle.warc_frame.specs.Send.{sent_of};
+ghost use Rattle.warc_frame.specs.FaultText.{name_of, kind_text, fault_text, out_fault_text};
+
+use crate::send::SendFault;
+use std::alloc::AllocError;
+use std::fmt;
+use thiserror::Error;
+
+/// A field that each record has exactly once.
+#[derive(Clone, Copy, PartialEq, Eq, Debug)]
+pub enum Mandatory {
+    ContentLength,
+    Type,
+    RecordId,
+    Date,
+}
+
+impl Mandatory {
+    /// The field's name, as the standard writes it.
+    pub fn name(self) -> &'static str
+        ensures { result.now ≡ name_of self }
+    {
+        match self {
+            Mandatory::ContentLength => "Content-Length",
+            Mandatory::Type => "WARC-Type",
+            Mandatory::RecordId => "WARC-Record-ID",
+            Mandatory::Date => "WARC-Date",
+        }
+    }
+}
+
+impl fmt::Display for Mandatory {
+    ghost output = { λ field. Some (name_of field) };
+
+    fn fmt<W: fmt::Write>(&self, f: &mut fmt::Formatter<W>) -> fmt::Result {
+        write!(f, "{}", self.name())
+    }
+}
+
+/// Why an archive is refused: F1 to F14, in this order.
+#[derive(Clone, Copy, PartialEq, Eq, Debug)]
+pub enum FaultKind {
+    /// The bytes there begin no version line.
+    Version,
+
+    /// The head passes 65,536 bytes, as it is spelled or as it would be spelled canonically.
+    HeadTooLong,
+
+    /// A line is no field.
+    Field,
+
+    /// This field is absent.
+    Missing(Mandatory),
+
+    /// This field stands more than once.
+    Repeated(Mandatory),
+
+    /// The value of `Content-Length` is no number of at most 2^40.
+    Length,
+
+    /// The value of `WARC-Type` is no token.
+    BadType,
+
+    /// The value of `WARC-Record-ID` holds no id.
+    Id,
+
+    /// The value of `WARC-Date` is no date.
+    Date,
+
+    /// The bytes after the block begin no CRLF CRLF.
+    End,
+
+    /// The bytes end before the record does.
+    Truncated,
+
+    /// A byte stands at offset 2^48.
+    TooLong,
+
+    /// A read failed.
+    Read,
+
+    /// A growth of the memory was refused.
+    Memory,
+}
+
+impl fmt::Display for FaultKind {
+    ghost output = { λ kind. Some (kind_text kind) };
+
+    fn fmt<W: fmt::Write>(&self, f: &mut fmt::Formatter<W>) -> fmt::Result {
+        match self {
+            FaultKind::Version => write!(f, "F1 Version"),
+            FaultKind::HeadTooLong => write!(f, "F2 HeadTooLong"),
+            FaultKind::Field => write!(f, "F3 Field"),
+            FaultKind::Missing(field) => write!(f, "F4 Missing {field}"),
+            FaultKind::Repeated(field) => write!(f, "F5 Repeated {field}"),
+            FaultKind::Length => write!(f, "F6 Length"),
+            FaultKind::BadType => write!(f, "F7 BadType"),
+            FaultKind::Id => write!(f, "F8 Id"),
+            FaultKind::Date => write!(f, "F9 Date"),
+            FaultKind::End => write!(f, "F10 End"),
+            FaultKind::Truncated => write!(f, "F11 Truncated"),
+            FaultKind::TooLong => write!(f, "F12 TooLong"),
+            FaultKind::Read => write!(f, "F13 Read"),
+            FaultKind::Memory => write!(f, "F14 Memory"),
+        }
+    }
+}
+
+/// The fault at which reading stops, and its offset in bytes from the archive's front.
+#[derive(Clone, Copy, PartialEq, Eq, Debug, Error)]
+pub struct Fault {
+    pub kind: FaultKind,
+    pub offset: u64,
+}
+
+impl fmt::Display for Fault {
+    ghost output = { λ fault. Some (fault_text fault) };
+
+    fn fmt<W: fmt::Write>(&self, f: &mut fmt::Formatter<W>) -> fmt::Result {
+        write!(f, "{} at {}", self.kind, self.offset)
+    }
+}
+
+/// Why a command's output ends early, and how many bytes of it went out.
+#[derive(Clone, Copy, PartialEq, Eq, Debug, Error)]
+pub enum OutFault {
+    /// A read failed.
+    Read(u64),
+
+    /// A write failed.
+    Write(u64),
+
+    /// A growth of the memory was refused.
+    Memory(u64),
+}
+
+impl OutFault {
+    /// How many bytes of the output went out.
+    pub fn sent(self) -> u64
+        ensures { result ≡ sent_of self }
+    {
+        match self {
+            OutFault::Read(sent) | OutFault::Write(sent) | OutFault::Memory(sent) => sent,
+        }
+    }
+}
+
+impl fmt::Display for OutFault {
+    ghost output = { λ fault. Some (out_fault_text fault) };
+
+    fn fmt<W: fmt::Write>(&self, f: &mut fmt::Formatter<W>) -> fmt::Result {
+        match self {
+            OutFault::Read(sent) => write!(f, "read failed after {sent}"),
+            OutFault::Write(sent) => write!(f, "write failed after {sent}"),
+            OutFault::Memory(sent) => write!(f, "out of memory after {sent}"),
+        }
+    }
+}
+
+impl From<SendFault> for OutFault {
+    ghost use Rattle.std.specs.Prelude.{◌≡◌};
+    ghost use Rattle.warc_frame.specs.declared.fault.OutFault.TheVariants.{Write};
+
+    ghost from_gives = { λ fault out. out ≡ Write fault.sent };
+
+    fn from(fault: SendFault) -> OutFault {
+        OutFault::Write(fault.sent)
+    }
+}
+
+impl From<AllocError> for Fault {
+    ghost use Rattle.std.specs.Prelude.{◌≡◌};
+    ghost use Rattle.warc_frame.specs.declared.fault.FaultKind.TheVariants.{Memory};
+
+    ghost from_gives = { λ _ e. e ≡ record { kind = Memory; offset = 0 } };
+
+    /// Want of memory for the record at the front, whose offset is 0.
+    fn from(_: AllocError) -> Fault {
+        Fault {
+            kind: FaultKind::Memory,
+            offset: 0,
+        }
+    }
+}

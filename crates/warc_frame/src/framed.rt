@@ -1,0 +1,130 @@
+ghost use Rattle.std.specs.Prelude.{◌≡◌, ◌+◌, ◌≤◌, Ok, Err, IfOk, IsOk, MatchResult, length};
+ghost use Rattle.warc_frame.specs.Record.{Record, IsFramed, framed_of, kind_of, max_block, max_head};
+ghost use Rattle.warc_field.specs.Area.{canonical_fields};
+
+use crate::fault::{FaultKind, Mandatory};
+use crate::reading::{fits_head, read_block_len};
+use crate::version::Version;
+use std::alloc::{Allocator, Global};
+use std::marker::Model;
+use warc_field::Fields;
+
+/// Why a version, fields and a block make no record.
+#[derive(Clone, Copy, Debug, PartialEq, Eq)]
+pub enum FramedFault {
+    /// The head, written canonically, would pass 65,536 bytes.
+    HeadTooLong,
+    /// There is no `Content-Length`.
+    Missing,
+    /// There are several.
+    Repeated,
+    /// It is no number up to 2^40, or not the length of the block.
+    Length,
+}
+
+impl FramedFault {
+    /// The same as a fault of an archive.
+    pub fn kind(self) -> FaultKind
+        ensures { result ≡ kind_of self }
+    {
+        match self {
+            FramedFault::HeadTooLong => FaultKind::HeadTooLong,
+            FramedFault::Missing => FaultKind::Missing(Mandatory::ContentLength),
+            FramedFault::Repeated => FaultKind::Repeated(Mandatory::ContentLength),
+            FramedFault::Length => FaultKind::Length,
+        }
+    }
+}
+
+/// A record: its version, its named fields and its block.
+#[derive(Debug, Drop)]
+pub struct Framed<A: Allocator = Global> {
+    version: Version,
+    fields: Fields<A>,
+    block: Vec<u8, A>,
+}
+
+impl<A: Allocator> Model for Framed<A> {
+    ghost use Rattle.warc_frame.specs.Record.{Record, IsFramed};
+
+    ghost Value = { Record };
+
+    ghost view = { λ f. record { version = f.version; fields = f.fields; block = f.block.items } };
+
+    ghost invariant = { λ f. IsFramed (record { version = f.version; fields = f.fields; block = f.block.items }) };
+}
+
+impl<A: Allocator> Framed<A> {
+    /// The record of these, or the first reason why they are none. It takes no memory, and drops what it refuses.
+    #[tactic(auto, unfolding(crate::specs::Record::framed_of))]
+    pub fn new(
+        version: Version,
+        fields: Fields<A>,
+        block: Vec<u8, A>,
+    ) -> Result<Framed<A>, FramedFault>
+        // Which record, or which reason.
+        ensures exact { MatchResult result (λ framed. framed_of (record { version = version; fields = fields; block = block.items }) ≡ Ok framed) (λ fault. framed_of (record { version = version; fields = fields; block = block.items }) ≡ Err (kind_of fault)) }
+        ensures framed { IfOk result IsFramed }
+        ensures only { IsFramed (record { version = version; fields = fields; block = block.items }) → IsOk result }
+    {
+        let _count = fields.len();
+        if !fits_head(version, &fields) {
+            return Err(FramedFault::HeadTooLong);
+        }
+        let len = read_block_len(&fields)?;
+        if len != block.len() as u64 {
+            return Err(FramedFault::Length);
+        }
+        Ok(Framed {
+            version,
+            fields,
+            block,
+        })
+    }
+
+    pub(crate) fn from_checked(version: Version, fields: Fields<A>, block: Vec<u8, A>) -> Framed<A>
+        requires { IsFramed (record { version = version; fields = fields; block = block.items }) }
+        ensures { result ≡ record { version = version; fields = fields; block = block.items } }
+    {
+        Framed {
+            version,
+            fields,
+            block,
+        }
+    }
+
+    /// The version that the first line names.
+    pub fn version(&self) -> Version
+        ensures { result ≡ self.now.version }
+    {
+        self.version
+    }
+
+    /// The named fields, in their order.
+    #[tactic(auto, using(crate::proofs::FramedLemmas::framed_fields))]
+    pub fn fields(&self) -> &Fields<A>
+        ensures fields { result.now ≡ self.now.fields }
+
+        // Their canonical lines leave room in a head for its first line and its last.
+        ensures short { length (canonical_fields self.now.fields) + 12 ≤ max_head }
+    {
+        &self.fields
+    }
+
+    /// The block, whatever its bytes are.
+    #[tactic(auto, using(crate::proofs::FramedLemmas::framed_block))]
+    pub fn block(&self) -> &[u8]
+        ensures block { result.now ≡ self.now.block }
+        ensures short { length self.now.block ≤ max_block }
+        ensures framed { IsFramed self.now }
+    {
+        &self.block
+    }
+
+    /// The version, the fields and the block.
+    pub fn into_parts(self) -> (Version, Fields<A>, Vec<u8, A>)
+        ensures { record { version = result.0; fields = result.1; block = result.2.items } ≡ self }
+    {
+        (self.version, self.fields, self.block)
+    }
+}

@@ -1,0 +1,32 @@
+//! Records of an archive as bytes: sources and sinks, framing, and the exact fault where there is none.
+#![tactic(auto)]
+
+mod count;
+mod ends;
+mod fault;
+mod framed;
+mod gather;
+pub mod laws;
+mod pieces;
+mod reading;
+mod send;
+mod sink;
+mod source;
+mod staging;
+mod stream;
+mod version;
+mod writing;
+
+pub use count::raise;
+pub use fault::{Fault, FaultKind, Mandatory, OutFault};
+pub use framed::{Framed, FramedFault};
+pub use gather::{GatherFault, Gathered, MAX_ARCHIVE, read_whole};
+pub use pieces::decode;
+pub use reading::{MAX_BLOCK, MAX_HEAD, read_one};
+pub use send::{SendFault, send_all};
+pub use sink::{MemSink, OutSink, Sink, WriteFault, is_failed};
+pub use source::{FileSource, MemSource, ReadFault, Source};
+pub use staging::OutBuffer;
+pub use stream::{Decoder, Event};
+pub use version::Version;
+pub use writing::write_one;

@@ -1,0 +1,241 @@
+ghost use Rattle.std.specs.Prelude.{◌≡◌, ◌≢◌, ◌<◌, ◌+◌, ◌≤◌, ℕ, ◌++◌, List, [], Ok, Err, Some, None, length, take, not, nat_lt, OnOk, IfOk, IfErr, IfSome, MatchResult};
+ghost use Rattle.warc_frame.specs.declared.version.Version.{Version};
+ghost use Rattle.warc_frame.specs.Record.{Record, canonical_len, block_len, kind_of, max_block, max_head};
+ghost use Rattle.warc_frame.specs.Spelling.{Spells};
+ghost use Rattle.warc_frame.specs.Reading.{any_fields, begins, block_at, empty_line, head_front, head_len, head_of, record_of, version_of, Gives, OrMemory};
+ghost use Rattle.warc_frame.specs.Faults.{IsFrameFault};
+
+use crate::fault::{Fault, FaultKind};
+use crate::framed::{Framed, FramedFault};
+use crate::version::Version;
+use memchr::memmem;
+use std::alloc::Allocator;
+use warc_field::{AreaFault, Fields, canonical_len, decimal, read_area};
+
+/// The most bytes of a head.
+pub const MAX_HEAD: usize = 65_536;
+
+/// The most bytes of a block.
+pub const MAX_BLOCK: u64 = 1 << 40;
+
+/// The length of a version line.
+const VERSION_LINE: usize = 10;
+
+/// A head, its length, and the length of the block behind it.
+#[derive(Drop)]
+pub(crate) struct Head<A: Allocator> {
+    pub(crate) version: Version,
+    pub(crate) fields: Fields<A>,
+    pub(crate) len: usize,
+    pub(crate) block_len: u64,
+}
+
+/// Whether the text, as far as it goes, begins as is wanted.
+fn begins_as(text: &[u8], wanted: &[u8]) -> bool
+    ensures { result ≡ begins text.now wanted.now }
+{
+    let len = text.len().min(wanted.len());
+    wanted.starts_with(&text[..len])
+}
+
+/// The version whose line the text, as far as it goes, begins with.
+#[tactic(auto, unfolding(crate::specs::Reading::version_of))]
+fn read_version(text: &[u8]) -> Option<Version>
+    ensures { result ≡ version_of text.now }
+{
+    if begins_as(text, b"WARC/1.1\r\n") {
+        Some(Version::V1_1)
+    } else if begins_as(text, b"WARC/1.0\r\n") {
+        Some(Version::V1_0)
+    } else {
+        None
+    }
+}
+
+/// Where the first CRLF CRLF stands.
+fn find_empty_line(text: &[u8]) -> Option<usize>
+    ensures value { result ≡ empty_line text.now }
+    ensures within { IfSome result (λ at. at + 4 ≤ length text.now) }
+{
+    memmem::find(text, b"\r\n\r\n")
+}
+
+/// The part of a text in which its head must end.
+fn front_of(text: &[u8]) -> &[u8]
+    ensures front { result.now ≡ head_front text.now }
+    ensures within { length result.now ≤ length text.now }
+{
+    &text[..text.len().min(MAX_HEAD)]
+}
+
+/// The length of the head, if it ends where it must.
+#[tactic(auto, unfolding(crate::specs::Reading::head_len))]
+fn find_head_len(text: &[u8]) -> Option<usize>
+    ensures value { result ≡ head_len text.now }
+    ensures within { IfSome result (λ len. len ≤ length text.now) }
+{
+    match find_empty_line(front_of(text)) {
+        Some(place) => Some(place + 4),
+        None => None,
+    }
+}
+
+/// Whether the head of these fields, written canonically, is short enough.
+#[tactic(auto, using(crate::proofs::CanonicalLemmas::head_fits, crate::proofs::CanonicalLemmas::head_passes, crate::proofs::CanonicalLemmas::head_passes_far))]
+pub(crate) fn fits_head<A: Allocator>(version: Version, fields: &Fields<A>) -> bool
+    ensures { result ≡ not (nat_lt max_head (canonical_len version fields.now)) }
+{
+    match canonical_len(fields) {
+        Some(area) => area <= MAX_HEAD - VERSION_LINE - 2,
+        None => false,
+    }
+}
+
+/// The number of the only `Content-Length`.
+#[tactic(auto, unfolding(crate::specs::Record::block_len))]
+pub(crate) fn read_block_len<A: Allocator>(fields: &Fields<A>) -> Result<u64, FramedFault>
+    ensures exact { MatchResult result (λ n. block_len fields.now ≡ Ok n) (λ fault. block_len fields.now ≡ Err (kind_of fault)) }
+    ensures small { IfOk result (λ n. n ≤ max_block) }
+{
+    match fields.count(b"Content-Length") {
+        0 => Err(FramedFault::Missing),
+        1 => {
+            let Some(value) = fields.first(b"Content-Length") else {
+                return Err(FramedFault::Length);
+            };
+            match decimal(value.bytes()) {
+                Some(n) if n <= MAX_BLOCK => Ok(n),
+                _ => Err(FramedFault::Length),
+            }
+        }
+        _ => Err(FramedFault::Repeated),
+    }
+}
+
+/// The fault of the record at the front of a text.
+fn at_front(kind: FaultKind) -> Fault
+    ensures { result ≡ record { kind = kind; offset = 0 } }
+{
+    Fault { kind, offset: 0 }
+}
+
+/// What a head says whose version and length are known: its fields, and how long the block is.
+#[tactic(auto, using(crate::proofs::HeadLemmas::head_room, crate::proofs::HeadLemmas::head_within), unfolding(crate::specs::Reading::head_of))]
+pub(crate) fn read_fields<A: Allocator + Copy>(
+    alloc: A,
+    version: Version,
+    len: usize,
+    text: &[u8],
+) -> Result<Head<A>, Fault>
+    requires version { version_of text.now ≡ Some version }
+    requires len { head_len text.now ≡ Some len }
+    ensures exact { Gives (λ h. record { version = h.version; fields = h.fields; len = h.len; block_len = h.block_len }) result (head_of any_fields text.now) }
+    ensures within { IfOk result (λ h. (h.len ≤ length text.now) × (h.block_len ≤ max_block)) }
+    ensures by { IfErr result (λ f. f.offset ≤ length text.now) }
+{
+    let fields = match read_area(alloc, &text[VERSION_LINE..len - 2]) {
+        Ok(fields) => fields,
+        Err(AreaFault::Line(at)) => return Err(Fault {
+            kind: FaultKind::Field,
+            offset: (VERSION_LINE + at) as u64,
+        }),
+        Err(AreaFault::Memory) => return Err(at_front(FaultKind::Memory)),
+    };
+    if !fits_head(version, &fields) {
+        return Err(at_front(FaultKind::HeadTooLong));
+    }
+    let block_len = match read_block_len(&fields) {
+        Ok(n) => n,
+        Err(fault) => return Err(at_front(fault.kind())),
+    };
+    Ok(Head {
+        version,
+        fields,
+        len,
+        block_len,
+    })
+}
+
+/// The head at the front of a text.
+#[tactic(auto, unfolding(crate::specs::Reading::head_of))]
+pub(crate) fn read_head<A: Allocator + Copy>(alloc: A, text: &[u8]) -> Result<Head<A>, Fault>
+    ensures exact { Gives (λ h. record { version = h.version; fields = h.fields; len = h.len; block_len = h.block_len }) result (head_of any_fields text.now) }
+    ensures within { IfOk result (λ h. (h.len ≤ length text.now) × (h.block_len ≤ max_block)) }
+    ensures by { IfErr result (λ f. f.offset ≤ length text.now) }
+{
+    let Some(version) = read_version(text) else {
+        return Err(at_front(FaultKind::Version));
+    };
+    let Some(len) = find_head_len(text) else {
+        if text.len() >= MAX_HEAD {
+            return Err(at_front(FaultKind::HeadTooLong));
+        }
+        return Err(Fault {
+            kind: FaultKind::Truncated,
+            offset: text.len() as u64,
+        });
+    };
+    read_fields(alloc, version, len, text)
+}
+
+/// The block behind a head, if two CRLFs close it.
+#[tactic(auto, unfolding(crate::specs::Reading::block_at))]
+fn read_block(head_len: usize, block_len: u64, text: &[u8]) -> Result<&[u8], Fault>
+    requires { head_len ≤ length text.now }
+    ensures value { Gives (λ block. block.now) result (block_at head_len block_len text.now) }
+    ensures within { OnOk result (head_len + block_len + 4 ≤ length text.now) }
+    ensures by { IfErr result (λ f. f.offset ≤ length text.now) }
+{
+    let rest = &text[head_len..];
+    let truncated = Fault {
+        kind: FaultKind::Truncated,
+        offset: text.len() as u64,
+    };
+    if (rest.len() as u64) < block_len {
+        return Err(truncated);
+    }
+    let (block, end) = rest.split_at(block_len as usize);
+    if !begins_as(end, b"\r\n\r\n") {
+        return Err(Fault {
+            kind: FaultKind::End,
+            offset: head_len as u64 + block_len,
+        });
+    }
+    if end.len() < 4 {
+        return Err(truncated);
+    }
+    Ok(block)
+}
+
+/// The record at the front of a text, and its length.
+#[tactic(auto, unfolding(crate::specs::Reading::record_of))]
+fn read_front<A: Allocator + Copy>(alloc: A, text: &[u8]) -> Result<(Framed<A>, usize), Fault>
+    ensures exact { Gives (λ x. x) result (record_of any_fields text.now) }
+    ensures by { IfErr result (λ f. f.offset ≤ length text.now) }
+{
+    let head = read_head(alloc, text)?;
+    let block = read_block(head.len, head.block_len, text)?;
+    let len = head.len + head.block_len as usize + 4;
+    let block = Vec::from_slice(alloc, block)?;
+    Ok((Framed::from_checked(head.version, head.fields, block), len))
+}
+
+/// The record at the front of a text, and its length. A fault's offset counts from the front. Nothing given is Truncated
+/// at 0; want of memory is told at 0.
+pub fn read_one<A: Allocator + Copy>(alloc: A, text: &[u8]) -> Result<(Framed<A>, usize), Fault>
+    // What is read is spelled so.
+    ensures found { IfOk result (λ x. (x.1 ≤ length text.now) × Spells x.0 (take x.1 text.now)) }
+
+    // A record that the text begins with is read, unless memory runs out.
+    ensures only { (r : Record) (front rest : List ℕ) → Spells r front → text.now ≡ front ++ rest
+        → Gives (λ x. x) result (Ok (r, length front)) }
+
+    // Where none stands there, the text has this frame fault, unless memory ran out.
+    ensures fault { text.now ≢ [] → IfErr result (λ f. OrMemory f.kind f.offset (IsFrameFault 0 text.now f)) }
+
+    // It is the first row of the table that fits.
+    ensures exact { Gives (λ x. x) result (record_of any_fields text.now) }
+    ensures bound { IfErr result (λ f. f.offset ≤ length text.now) }
+{
+    read_front(alloc, text)
+}

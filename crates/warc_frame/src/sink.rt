@@ -1,0 +1,160 @@
+//! Where bytes go to.
+ghost use Rattle.std.specs.Prelude.{◌≡◌, ℕ, ◌-◌, ◌<◌, ◌≤◌, List, take, length, Option, Some, None, IfOk, OnErr, if◌then◌else◌, vec_len, vec_capacity};
+ghost use Rattle.std.specs.Io.KnownBytes.{append_known, WriteAppends};
+ghost use Rattle.warc_frame.specs.Count.{raised};
+ghost use Rattle.warc_frame.specs.Device.{taken, failed};
+
+use crate::count::raise;
+use std::alloc::{Allocator, Global};
+use std::io::Write;
+use std::marker::Model;
+
+/// A write failed.
+#[derive(Clone, Copy, PartialEq, Eq, Debug)]
+pub struct WriteFault;
+
+/// Takes bytes, as many of each piece as it likes.
+pub trait Sink {
+    /// The bytes that were taken, where that is told.
+    ghost tells: { Self → Option (List ℕ) };
+
+    /// How often it has failed. A count stays at 2^64 - 1.
+    ghost faults: { Self → ℕ };
+
+    /// Takes a front of the piece, and answers its length. A write that takes nothing of a piece
+    /// that isn't empty is a failure, too.
+    fn write(&mut self, piece: &[u8]) -> Result<usize, WriteFault>
+        ensures bound { IfOk result (λ n. n ≤ length piece.now) }
+        ensures bytes { tells self.new ≡ append_known (tells self.old) (take (taken result) piece.now) }
+        ensures cause { faults self.new ≡ (if failed result piece.now then raised (faults self.old) else faults self.old) };
+}
+
+/// Whether a write failed, or took nothing of a piece that isn't empty.
+pub fn is_failed(answer: &Result<usize, WriteFault>, piece: &[u8]) -> bool
+    ensures { result ≡ failed answer.now piece.now }
+{
+    match answer {
+        Ok(n) => *n == 0 && !piece.is_empty(),
+        Err(_) => true,
+    }
+}
+
+/// A sink in memory.
+#[derive(Drop)]
+pub struct MemSink<A: Allocator = Global> {
+    bytes: Vec<u8, A>,
+    faults: u64,
+}
+
+impl<A: Allocator> Model for MemSink<A> {
+    ghost use Rattle.std.specs.Prelude.{◌-◌, vec_len, vec_capacity};
+    ghost use Rattle.warc_frame.specs.Device.{Grown};
+
+    ghost Value = { Grown };
+
+    ghost view = { λ s. record { bytes = s.bytes.items; room = vec_capacity s.bytes - vec_len s.bytes; faults = s.faults } };
+}
+
+impl<A: Allocator> MemSink<A> {
+    /// A sink that goes on behind these bytes.
+    pub fn new(bytes: Vec<u8, A>) -> MemSink<A>
+        ensures bytes { result.bytes ≡ bytes.items }
+        ensures room { result.room ≡ vec_capacity bytes - vec_len bytes }
+        ensures sound { result.faults ≡ 0 }
+    {
+        MemSink { bytes, faults: 0 }
+    }
+
+    /// The bytes so far.
+    pub fn bytes(&self) -> &[u8]
+        ensures { result.now ≡ self.now.bytes }
+    {
+        self.bytes.as_slice()
+    }
+
+    /// Gives the bytes away.
+    pub fn into_inner(self) -> Vec<u8, A>
+        ensures { result.items ≡ self.bytes }
+    {
+        self.bytes
+    }
+}
+
+impl<A: Allocator> Sink for MemSink<A> {
+    ghost tells = { λ s. Some s.bytes };
+
+    ghost faults = { λ s. s.faults };
+
+    /// It fails only where a growth of the memory is refused, and else takes the whole piece.
+    fn write(&mut self, piece: &[u8]) -> Result<usize, WriteFault>
+        ensures bound { IfOk result (λ n. n ≤ length piece.now) }
+        ensures bytes { Some self.new.bytes ≡ append_known (Some self.old.bytes) (take (taken result) piece.now) }
+        ensures cause { self.new.faults ≡ (if failed result piece.now then raised self.old.faults else self.old.faults) }
+        ensures whole { IfOk result (λ n. n ≡ length piece.now) }
+        ensures full { OnErr result (self.old.room < length piece.now) }
+    {
+        match self.bytes.extend_from_slice(piece) {
+            Ok(()) => Ok(piece.len()),
+            Err(_) => {
+                self.faults = raise(self.faults);
+                Err(WriteFault)
+            }
+        }
+    }
+}
+
+/// A sink over a writer. It tells nothing of the bytes.
+#[derive(Drop)]
+pub struct OutSink<W> {
+    writer: W,
+    faults: u64,
+}
+
+impl<W> Model for OutSink<W> {
+    ghost use Rattle.warc_frame.specs.Device.{Written};
+
+    ghost Value = { Written W };
+
+    ghost view = { λ s. record { writer = s.writer; faults = s.faults } };
+}
+
+impl<W: Write> OutSink<W> {
+    /// A sink over this writer, which hasn't failed.
+    pub fn new(writer: W) -> OutSink<W>
+        ensures writer { result.writer ≡ writer }
+        ensures sound { result.faults ≡ 0 }
+    {
+        OutSink { writer, faults: 0 }
+    }
+
+    /// Gives the writer back. It isn't flushed.
+    pub fn into_inner(self) -> W
+        ensures { result ≡ self.writer }
+    {
+        self.writer
+    }
+}
+
+impl<W: Write> Sink for OutSink<W> {
+    ghost tells = { λ _. None };
+
+    ghost faults = { λ s. s.faults };
+
+    /// Any error of the writer is a failure, and nothing is tried again. What the writer holds,
+    /// where that is known, grows by the bytes that it took.
+    fn write(&mut self, piece: &[u8]) -> Result<usize, WriteFault>
+        ensures bound { IfOk result (λ n. n ≤ length piece.now) }
+        ensures bytes { None ≡ append_known None (take (taken result) piece.now) }
+        ensures cause { self.new.faults ≡ (if failed result piece.now then raised self.old.faults else self.old.faults) }
+        ensures passed { WriteAppends (W.contents self.old.writer) (W.contents self.new.writer) result piece.now }
+    {
+        let answer = match self.writer.write(piece) {
+            Ok(n) => Ok(n),
+            Err(_) => Err(WriteFault),
+        };
+        if is_failed(&answer, piece) {
+            self.faults = raise(self.faults);
+        }
+        answer
+    }
+}

@@ -1,0 +1,147 @@
+//! A small buffer before a sink.
+ghost use Rattle.std.specs.Prelude.{◌≡◌, ℕ, ◌+◌, ◌<◌, List, [], ◌++◌, length, decimal, Option, Result, OnOk, IfErr, is_err, if◌then◌else◌};
+ghost use Rattle.std.specs.Io.KnownBytes.{append_known};
+ghost use Rattle.warc_frame.specs.Count.{raised, capped};
+ghost use Rattle.warc_frame.specs.Send.{count_sent, WentOut, IsStaged};
+
+use crate::send::{SendFault, send_all};
+use crate::sink::Sink;
+use itoa::Buffer;
+use std::marker::Model;
+
+/// How many bytes the buffer holds.
+const SIZE: usize = 4096;
+
+/// Bytes on their way to a sink, which each call is given: those that wait here, and the number of
+/// those that the sink took. That number stays at 2^64 - 1.
+#[derive(Drop)]
+pub struct OutBuffer {
+    bytes: [u8; SIZE],
+    len: usize,
+    sent: u64,
+}
+
+impl Model for OutBuffer {
+    ghost use Rattle.std.specs.Prelude.{◌≤◌, take};
+    ghost use Rattle.warc_frame.specs.declared.staging.TheConstants.{SIZE};
+    ghost use Rattle.warc_frame.specs.Device.{Staged};
+
+    ghost Value = { Staged };
+
+    ghost view = { λ b. record { bytes = take b.len b.bytes; sent = b.sent } };
+
+    ghost invariant = { λ b. b.len ≤ SIZE };
+}
+
+/// Writes the whole piece, and adds to the count of bytes that went out.
+fn send_counted<W: Sink>(out: &mut W, piece: &[u8], sent: &mut u64) -> Result<(), SendFault>
+    ensures out { (start : Option (List ℕ)) (gone : List ℕ) → W.tells out.old ≡ append_known start gone →
+        sent.old ≡ capped (length gone) →
+        OnOk result (W.tells out.new ≡ append_known start (gone ++ piece.now))
+        × OnOk result (sent.new ≡ capped (length (gone ++ piece.now))) }
+    ensures cut { (start : Option (List ℕ)) (gone : List ℕ) → W.tells out.old ≡ append_known start gone →
+        sent.old ≡ capped (length gone) →
+        IfErr result (λ e. WentOut start (gone ++ piece.now) (W.tells out.new) e.sent) }
+    ensures number { IfErr result (λ e. sent.new ≡ e.sent) }
+    ensures cause { W.faults out.new ≡ (if is_err result then raised (W.faults out.old) else W.faults out.old) }
+{
+    match send_all(out, piece) {
+        Ok(()) => {
+            *sent = sent.saturating_add(piece.len() as u64);
+            Ok(())
+        }
+        Err(fault) => {
+            *sent = sent.saturating_add(fault.sent);
+            Err(SendFault { sent: *sent })
+        }
+    }
+}
+
+impl OutBuffer {
+    ghost use Rattle.warc_frame.specs.Device.{Staged};
+
+    /// An empty buffer, of whose bytes none went out.
+    pub fn new() -> OutBuffer
+        ensures empty { result ≡ record { bytes = []; sent = 0 } }
+        ensures begins { (start : Option (List ℕ)) → IsStaged start [] start result }
+    {
+        OutBuffer {
+            bytes: [0; SIZE],
+            len: 0,
+            sent: 0,
+        }
+    }
+
+    /// How many bytes went out so far.
+    pub fn sent(&self) -> u64
+        ensures { result ≡ self.now.sent }
+    {
+        self.sent
+    }
+
+    /// Sends what waits in the buffer. After a failed write the buffer is empty.
+    pub fn flush<W: Sink>(&mut self, out: &mut W) -> Result<(), SendFault>
+        ensures out { (start : Option (List ℕ)) (output : List ℕ) → IsStaged start output (W.tells out.old) self.old →
+            OnOk result (IsStaged start output (W.tells out.new) self.new) }
+        ensures told { (start : Option (List ℕ)) (output : List ℕ) → IsStaged start output (W.tells out.old) self.old →
+            OnOk result (W.tells out.new ≡ append_known start output) }
+        ensures cut { (start : Option (List ℕ)) (output : List ℕ) → IsStaged start output (W.tells out.old) self.old →
+            IfErr result (λ e. WentOut start output (W.tells out.new) e.sent) }
+        ensures empty { self.new.bytes ≡ [] }
+        ensures failed { IfErr result (λ e. self.new ≡ record { bytes = []; sent = e.sent }) }
+        ensures cause { W.faults out.new ≡ (if is_err result then raised (W.faults out.old) else W.faults out.old) }
+    {
+        let answer = send_counted(out, &self.bytes[..self.len], &mut self.sent);
+        self.len = 0;
+        answer
+    }
+
+    /// Sends what waits in the buffer where so many bytes don't fit behind it.
+    fn make_room<W: Sink>(&mut self, out: &mut W, len: usize) -> Result<(), SendFault>
+        ensures out { (start : Option (List ℕ)) (output : List ℕ) → IsStaged start output (W.tells out.old) self.old →
+            OnOk result (IsStaged start output (W.tells out.new) self.new) }
+        ensures cut { (start : Option (List ℕ)) (output : List ℕ) → IsStaged start output (W.tells out.old) self.old →
+            IfErr result (λ e. WentOut start output (W.tells out.new) e.sent) }
+        ensures room { OnOk result (SIZE < length self.new.bytes + len → self.new.bytes ≡ []) }
+        ensures failed { IfErr result (λ e. self.new ≡ record { bytes = []; sent = e.sent }) }
+        ensures cause { W.faults out.new ≡ (if is_err result then raised (W.faults out.old) else W.faults out.old) }
+    {
+        if len > SIZE - self.len {
+            return self.flush(out);
+        }
+        Ok(())
+    }
+
+    /// Adds a piece to the output. One that is longer than the buffer goes through without being
+    /// copied. After a failed write the buffer is empty.
+    pub fn put<W: Sink>(&mut self, out: &mut W, piece: &[u8]) -> Result<(), SendFault>
+        ensures out { (start : Option (List ℕ)) (output : List ℕ) → IsStaged start output (W.tells out.old) self.old →
+            OnOk result (IsStaged start (output ++ piece.now) (W.tells out.new) self.new) }
+        ensures cut { (start : Option (List ℕ)) (output : List ℕ) → IsStaged start output (W.tells out.old) self.old →
+            IfErr result (λ e. WentOut start (output ++ piece.now) (W.tells out.new) e.sent) }
+        ensures failed { IfErr result (λ e. self.new ≡ record { bytes = []; sent = e.sent }) }
+        ensures cause { W.faults out.new ≡ (if is_err result then raised (W.faults out.old) else W.faults out.old) }
+    {
+        self.make_room(out, piece.len())?;
+        if piece.len() > SIZE - self.len {
+            return send_counted(out, piece, &mut self.sent);
+        }
+        let end = self.len + piece.len();
+        self.bytes[self.len..end].copy_from_slice(piece);
+        self.len = end;
+        Ok(())
+    }
+
+    /// Adds a number to the output, in decimal digits.
+    pub fn put_number<W: Sink>(&mut self, out: &mut W, number: u64) -> Result<(), SendFault>
+        ensures out { (start : Option (List ℕ)) (output : List ℕ) → IsStaged start output (W.tells out.old) self.old →
+            OnOk result (IsStaged start (output ++ decimal number) (W.tells out.new) self.new) }
+        ensures cut { (start : Option (List ℕ)) (output : List ℕ) → IsStaged start output (W.tells out.old) self.old →
+            IfErr result (λ e. WentOut start (output ++ decimal number) (W.tells out.new) e.sent) }
+        ensures failed { IfErr result (λ e. self.new ≡ record { bytes = []; sent = e.sent }) }
+        ensures cause { W.faults out.new ≡ (if is_err result then raised (W.faults out.old) else W.faults out.old) }
+    {
+        let mut digits = Buffer::new();
+        self.put(out, digits.format(number).as_bytes())
+    }
+}

@@ -1,0 +1,289 @@
+ghost use Rattle.std.specs.Prelude.{◌≡◌, ◌≢◌, ℕ, ◌+◌, ◌-◌, ◌<◌, ◌≤◌, ◌^◌, ◌++◌, length, List, [], take, Bool, true, false, MatchResult, IfOk, OnErr, IfErr, Ok, Err, Some, None};
+ghost use Rattle.warc_frame.specs.Told.{Told, nothing, Lies, Refuses};
+ghost use Rattle.warc_frame.specs.Decoding.{IsAt, IsFailed, Finishes, IsWithin, Takes};
+ghost use Rattle.warc_frame.specs.Steps.{Near, ClosesHead};
+ghost use Rattle.warc_frame.specs.declared.fault.Fault.{Fault};
+ghost use Rattle.warc_frame.specs.declared.stream.Event.TheVariants as events;
+
+use crate::ends::{begins_across, closes_on, find_end};
+use crate::fault::{Fault, FaultKind};
+use crate::gather::MAX_ARCHIVE;
+use crate::reading::{MAX_HEAD, read_head};
+use crate::version::Version;
+use std::alloc::{Allocator, Global};
+use std::marker::Model;
+use warc_field::Fields;
+
+/// What a step tells.
+#[derive(Debug, Drop)]
+pub enum Event<A: Allocator = Global> {
+    /// The whole piece was taken, and nothing ended in it.
+    More,
+    /// A whole head: the version, the fields, and how many bytes the block behind it has.
+    Head(Version, Fields<A>, u64),
+    /// Bytes of the block: the range of the given piece from the first place to before the second. It isn't empty.
+    Part(usize, usize),
+    /// The end of a record: the two CRLFs behind its block.
+    End,
+}
+
+/// What the bytes taken end in.
+#[derive(Clone, Copy, Debug)]
+pub(crate) enum Phase {
+    /// A head, of which there may be no byte yet.
+    Head,
+    /// A block, or the two CRLFs behind it.
+    Block,
+    /// A fault was told.
+    Failed(Fault),
+}
+
+/// A reader of records that come in pieces of any length. It keeps at most one head, and no byte of a block.
+#[derive(Drop)]
+pub struct Decoder<A: Allocator = Global> {
+    phase: Phase,
+    /// The offset behind the bytes taken.
+    position: u64,
+    /// The bytes of a head that isn't whole yet.
+    head: Vec<u8, A>,
+    /// How many bytes of the block are to come.
+    left: u64,
+    /// How many bytes of the two CRLFs behind the block were taken.
+    matched: usize,
+}
+
+impl<A: Allocator> Model for Decoder<A> {
+    ghost use Rattle.warc_frame.specs.Decoding.{State, IsSound};
+
+    ghost Value = { State };
+
+    ghost view = { λ d. record { phase = d.phase; position = d.position; kept = d.head.items; left = d.left; matched = d.matched } };
+
+    ghost invariant = { λ d. IsSound d.position d.head.items d.matched };
+}
+
+impl<A: Allocator + Copy> Decoder<A> {
+    /// A decoder of a stream whose first byte stands at this offset, at most 2^48. It takes no memory.
+    pub fn new(alloc: A, at: u64) -> Decoder<A>
+        requires { at ≤ 2 ^ 48 }
+        ensures { IsAt at [] nothing result }
+    {
+        Decoder {
+            phase: Phase::Head,
+            position: at,
+            head: Vec::new(alloc),
+            left: 0,
+            matched: 0,
+        }
+    }
+
+    /// The offset behind the bytes taken.
+    pub fn position(&self) -> u64
+        // What was told is exactly what lies in the bytes taken.
+        ensures history { (at : ℕ) (taken : List ℕ) (told : Told) → IsAt at taken told self.now → (result ≡ at + length taken) × Lies taken told }
+        ensures value { result ≡ self.now.position }
+        ensures limit { result ≤ 2 ^ 48 }
+    {
+        self.position
+    }
+
+    /// Whether the stream may end here: it may between records. Else it is truncated, or the fault told comes again.
+    pub fn finish(&self) -> Result<(), Fault>
+        ensures history { (at : ℕ) (taken : List ℕ) (told : Told) → IsAt at taken told self.now → Finishes at taken told result }
+        ensures failed { (fault : Fault) → IsFailed self.now fault → result ≡ Err fault }
+    {
+        let truncated = Fault {
+            kind: FaultKind::Truncated,
+            offset: self.position,
+        };
+        match self.phase {
+            Phase::Failed(fault) => Err(fault),
+            Phase::Head => {
+                if self.head.is_empty() {
+                    Ok(())
+                } else {
+                    Err(truncated)
+                }
+            }
+            Phase::Block => Err(truncated),
+        }
+    }
+
+    /// Takes bytes of the piece's front, and tells what they end or are.
+    ///
+    /// It takes at least one byte of a piece that isn't empty, or fails; `More` takes the whole piece. An event is told
+    /// with the last byte that it stands for. A fault is the frame fault of the bytes taken followed by the piece, or want
+    /// of memory; it takes nothing, and each later call answers it again.
+    pub fn step(&mut self, piece: &[u8]) -> Result<(usize, Event<A>), Fault>
+        ensures history { (at : ℕ) (taken : List ℕ) (told : Told) → IsAt at taken told self.old →
+            MatchResult result (λ r. Takes at taken told self.new piece.now r.0 r.1) (λ fault. Refuses at (taken ++ piece.now) told fault) }
+        ensures within { IfOk result (λ r. IsWithin (length piece.now) r.0 r.1) }
+        ensures empty { piece.now ≡ [] → MatchResult result (λ r. r ≡ (0, Event.More)) (IsFailed self.old) }
+        ensures err { IfErr result (IsFailed self.new) }
+        ensures still { OnErr result (self.new.position ≡ self.old.position) }
+        ensures failed { (fault : Fault) → IsFailed self.old fault → (result ≡ Err fault) × (self.new ≡ self.old) }
+    {
+        let room = MAX_ARCHIVE - self.position;
+        let n = room.min(piece.len() as u64) as usize;
+        let crosses = n < piece.len();
+        let near = &piece[..n];
+        let outcome = match self.phase {
+            Phase::Failed(fault) => return Err(fault),
+            Phase::Head if piece.is_empty() => return Ok((0, Event::More)),
+            Phase::Head => self.take_head(near, crosses),
+            Phase::Block => self.take_block(near, crosses),
+        };
+        if let Err(fault) = &outcome {
+            self.phase = Phase::Failed(*fault);
+        }
+        outcome
+    }
+
+    /// Takes bytes of a head; `crosses` says that bytes at the limit follow the given ones.
+    fn take_head(&mut self, near: &[u8], crosses: bool) -> Result<(usize, Event<A>), Fault>
+        requires room { self.old.position + length near.now ≤ 2 ^ 48 }
+        ensures history { (at : ℕ) (taken text : List ℕ) (told : Told) → self.old.phase ≡ Phase.Head → IsAt at taken told self.old → Near crosses at text (taken ++ near.now) →
+            MatchResult result (λ r. Takes at taken told self.new near.now r.0 r.1) (λ fault. Refuses at text told fault) }
+        ensures within { IfOk result (λ r. IsWithin (length near.now) r.0 r.1) }
+        ensures more { IfOk result (λ r. r.1 ≡ Event.More → crosses ≡ false) }
+        ensures still { OnErr result (self.new.position ≡ self.old.position) }
+    {
+        let start = self.position - self.head.len() as u64;
+        if !begins_across(&self.head, near) {
+            return Err(Fault {
+                kind: FaultKind::Version,
+                offset: start,
+            });
+        }
+        let room = MAX_HEAD - self.head.len();
+        let front = &near[..room.min(near.len())];
+        if let Some(n) = find_end(&self.head, front) {
+            return self.close_head(&front[..n]);
+        }
+        if front.len() == room {
+            return Err(Fault {
+                kind: FaultKind::HeadTooLong,
+                offset: start,
+            });
+        }
+        if crosses {
+            return Err(Fault {
+                kind: FaultKind::TooLong,
+                offset: MAX_ARCHIVE,
+            });
+        }
+        if self.head.extend_from_slice(front).is_err() {
+            return Err(Fault {
+                kind: FaultKind::Memory,
+                offset: start,
+            });
+        }
+        self.position += front.len() as u64;
+        Ok((front.len(), Event::More))
+    }
+
+    /// Takes the bytes that end a head, and reads the head: in place where all of it is given.
+    fn close_head(&mut self, end: &[u8]) -> Result<(usize, Event<A>), Fault>
+        requires some { 0 < length end.now }
+        requires room { self.old.position + length end.now ≤ 2 ^ 48 }
+        ensures closes { ClosesHead self.old self.new end.now result }
+        ensures within { IfOk result (λ r. IsWithin (length end.now) r.0 r.1) }
+        ensures head { IfOk result (λ r. r.1 ≢ Event.More) }
+        ensures still { OnErr result (self.new.position ≡ self.old.position) }
+    {
+        let start = self.position - self.head.len() as u64;
+        let alloc = *self.head.allocator();
+        let read = if self.head.is_empty() {
+            read_head(alloc, end)
+        } else {
+            if self.head.extend_from_slice(end).is_err() {
+                return Err(Fault {
+                    kind: FaultKind::Memory,
+                    offset: start,
+                });
+            }
+            read_head(alloc, &self.head)
+        };
+        self.head.clear();
+        match read {
+            Ok(head) => {
+                self.position += end.len() as u64;
+                self.left = head.block_len;
+                self.matched = 0;
+                self.phase = Phase::Block;
+                Ok((
+                    end.len(),
+                    Event::Head(head.version, head.fields, head.block_len),
+                ))
+            }
+            Err(fault) => Err(Fault {
+                kind: fault.kind,
+                offset: start + fault.offset,
+            }),
+        }
+    }
+
+    /// Takes bytes of a block or of what closes the record.
+    fn take_block(&mut self, near: &[u8], crosses: bool) -> Result<(usize, Event<A>), Fault>
+        requires room { self.old.position + length near.now ≤ 2 ^ 48 }
+        ensures history { (at : ℕ) (taken text : List ℕ) (told : Told) → self.old.phase ≡ Phase.Block → IsAt at taken told self.old → Near crosses at text (taken ++ near.now) →
+            MatchResult result (λ r. Takes at taken told self.new near.now r.0 r.1) (λ fault. Refuses at text told fault) }
+        ensures within { IfOk result (λ r. IsWithin (length near.now) r.0 r.1) }
+        ensures empty { near.now ≡ [] → crosses ≡ false → result ≡ Ok (0, Event.More) }
+        ensures more { IfOk result (λ r. r.1 ≡ Event.More → crosses ≡ false) }
+        ensures still { OnErr result (self.new.position ≡ self.old.position) }
+    {
+        if near.is_empty() {
+            if crosses {
+                return Err(Fault {
+                    kind: FaultKind::TooLong,
+                    offset: MAX_ARCHIVE,
+                });
+            }
+            return Ok((0, Event::More));
+        }
+        if self.left > 0 {
+            let n = self.left.min(near.len() as u64);
+            self.left -= n;
+            self.position += n;
+            return Ok((n as usize, Event::Part(0, n as usize)));
+        }
+        self.take_end(near, crosses)
+    }
+
+    /// Takes bytes of what closes the record.
+    fn take_end(&mut self, near: &[u8], crosses: bool) -> Result<(usize, Event<A>), Fault>
+        requires room { self.old.position + length near.now ≤ 2 ^ 48 }
+        requires some { 0 < length near.now }
+        ensures history { (at : ℕ) (taken text : List ℕ) (told : Told) → self.old.phase ≡ Phase.Block → self.old.left ≡ 0 → IsAt at taken told self.old → Near crosses at text (taken ++ near.now) →
+            MatchResult result (λ r. Takes at taken told self.new near.now r.0 r.1) (λ fault. Refuses at text told fault) }
+        ensures within { IfOk result (λ r. IsWithin (length near.now) r.0 r.1) }
+        ensures more { IfOk result (λ r. r.1 ≡ Event.More → crosses ≡ false) }
+        ensures still { OnErr result (self.new.position ≡ self.old.position) }
+    {
+        let want = 4 - self.matched;
+        let n = want.min(near.len());
+        if !closes_on(&near[..n], self.matched) {
+            return Err(Fault {
+                kind: FaultKind::End,
+                offset: self.position - self.matched as u64,
+            });
+        }
+        if n < want {
+            if crosses {
+                return Err(Fault {
+                    kind: FaultKind::TooLong,
+                    offset: MAX_ARCHIVE,
+                });
+            }
+            self.matched += n;
+            self.position += n as u64;
+            Ok((n, Event::More))
+        } else {
+            self.matched = 0;
+            self.position += n as u64;
+            self.phase = Phase::Head;
+            Ok((n, Event::End))
+        }
+    }
+}
