@@ -1,0 +1,6 @@
+mod UuidLemmas
+mod ValueLemmas
+mod HeadLemmas
+mod FindingLemmas
+pub mod LawLemmas
+mod WorkedValues

@@ -1,0 +1,111 @@
+-- What is found wrong with a record, beside what refuses it: N1 to N11, in the order of their numbers. For N1 to N3 the
+-- fields go by the order of the table, for N9 by their order in the record.
+use Rattle.std.specs.Prelude.{ℕ, ◌-◌, Bool, true, false, not, ◌&&◌, ◌||◌, ◌==◌, nat_lt, List, [], ◌∷◌, ◌++◌, length, map, filter, codes, is_some, is_none, Option, Some, None, slice_index, if◌then◌else◌}
+use Rattle.std.specs.Option.{option_map_or, option_copied}
+use Rattle.std.specs.Str.{is_utf8, str_eq_ignore_ascii_case}
+use Rattle.warc_field.specs.Area.{Pair, count_of}
+use Rattle.warc_record.specs.declared.types.Kind.{Kind}
+use Rattle.warc_record.specs.declared.readings.SegmentNumber.{SegmentNumber}
+use Rattle.warc_record.specs.declared.readings.SegmentNumber.TheVariants.{Absent, Number, Bad}
+use Rattle.warc_record.specs.declared.checks.TableCheck.{TableCheck}
+use Rattle.warc_record.specs.declared.checks.TableCheck.TheVariants.{Lacks, HasForbidden, Repeats}
+use Rattle.warc_record.specs.declared.checks.Finding.{Finding}
+use Rattle.warc_record.specs.Kinds.{is_known, is_revisit, is_continuation}
+use Rattle.warc_record.specs.Readings.{present_value, present_bare, Reading, reading_of}
+use Rattle.warc_record.specs.Table.{Rule, rules, is_among}
+
+-- a finding: its number, and the name of the field that it is about, if any
+pub record Found : Type 0 where
+  pub number : ℕ
+  pub field : Option (List ℕ)
+
+abbrev pub about : ℕ → List ℕ → Found
+about number name = record { number = number; field = Some name }
+
+abbrev pub once : ℕ → Bool → List Found
+once number holds = if holds then record { number = number; field = None } ∷ [] else []
+
+-- the field isn't absent: a target is absent where its bare text is empty, any other field where its value is
+abbrev pub stands : List ℕ → List Pair → Bool
+stands name fields =
+    if str_eq_ignore_ascii_case name (codes "WARC-Target-URI") then is_some (present_bare name fields) else is_some (present_value name fields)
+
+-- N1: a required field is absent. N2: a forbidden one isn't. N3: a field that may not be repeated is.
+abbrev pub fits : TableCheck → Kind → List Pair → Rule → Bool
+fits Lacks kind fields rule = is_among kind rule.required && not (stands rule.name fields)
+fits HasForbidden kind fields rule = is_among kind rule.forbidden && stands rule.name fields
+fits Repeats kind fields rule = is_known kind && not rule.repeats && nat_lt 1 (count_of rule.name fields)
+
+abbrev pub number_of : TableCheck → ℕ
+number_of Lacks = 1
+number_of HasForbidden = 2
+number_of Repeats = 3
+
+abbrev pub by_table : TableCheck → Kind → List Pair → List Found
+by_table check kind fields = map (λ (rule : Rule). about (number_of check) rule.name) (filter (fits check kind fields) rules)
+
+-- N5: a segment number that is none, or is less than 2 in a continuation, or isn't 1 in another kind; or, in a
+-- continuation, a total that is no number
+abbrev pub is_bad_number : Kind → SegmentNumber → Bool
+is_bad_number kind Absent = false
+is_bad_number kind Bad = true
+is_bad_number kind (Number number) = if is_continuation kind then nat_lt number 2 else not (number == 1)
+
+abbrev pub is_bad_total : Reading → List Pair → Bool
+is_bad_total reading fields =
+    is_continuation reading.kind && is_some (present_value (codes "WARC-Segment-Total-Length") fields) && is_none reading.segment.total
+
+abbrev pub has_bad_segment : Reading → List Pair → Bool
+has_bad_segment reading fields =
+    is_known reading.kind && (is_bad_number reading.kind reading.segment.number || is_bad_total reading fields)
+
+-- N7: no content type, though the block isn't empty
+abbrev pub lacks_content_type : Kind → List Pair → ℕ → Bool
+lacks_content_type kind fields size =
+    is_known kind && not (is_continuation kind) && not (size == 0) && is_none (present_value (codes "Content-Type") fields)
+
+-- N8: a revisit's profile isn't known
+abbrev pub has_unknown_profile : Reading → List Pair → Bool
+has_unknown_profile reading fields =
+    is_revisit reading.kind && is_some (present_value (codes "WARC-Profile") fields) && not reading.reference.known_profile
+
+-- N9: a value isn't UTF-8; the name is told as it is written
+abbrev pub is_not_utf8 : Pair → Bool
+is_not_utf8 field = not (is_utf8 field.1)
+
+abbrev pub not_utf8 : List Pair → List Found
+not_utf8 fields = map (λ (field : Pair). about 9 field.0) (filter is_not_utf8 fields)
+
+-- N10: the value of the id doesn't stand between < and >
+abbrev pub stands_in_brackets : List ℕ → Bool
+stands_in_brackets value = (slice_index value 0 == 60) && (slice_index value (length value - 1) == 62)
+
+abbrev pub has_bare_id : Reading → Bool
+has_bare_id reading = option_map_or (λ value. not (stands_in_brackets value)) reading.id_text false
+
+-- N11: a continuation's origin holds no id
+abbrev pub lacks_origin : Reading → List Pair → Bool
+lacks_origin reading fields =
+    is_continuation reading.kind && is_some (present_value (codes "WARC-Segment-Origin-ID") fields) && is_none reading.segment.origin
+
+-- the findings of a record: N4 where its block's digest is bad, N6 where an earlier record has its id
+unfoldable pub findings_by : Reading → List Pair → ℕ → Bool → Bool → List Found
+findings_by reading fields size bad_digest used_id =
+    by_table Lacks reading.kind fields
+    ++ by_table HasForbidden reading.kind fields
+    ++ by_table Repeats reading.kind fields
+    ++ once 4 (is_known reading.kind && bad_digest)
+    ++ once 5 (has_bad_segment reading fields)
+    ++ once 6 used_id
+    ++ once 7 (lacks_content_type reading.kind fields size)
+    ++ once 8 (has_unknown_profile reading fields)
+    ++ not_utf8 fields
+    ++ once 10 (has_bare_id reading)
+    ++ once 11 (lacks_origin reading fields)
+
+unfoldable pub findings_of : List Pair → ℕ → Bool → Bool → List Found
+findings_of fields size bad_digest used_id = findings_by (reading_of fields) fields size bad_digest used_id
+
+-- a finding of the code
+abbrev pub finding_seen : Finding → Found
+finding_seen finding = record { number = finding.number; field = option_copied finding.field }

@@ -1,0 +1,270 @@
+ghost use Rattle.std.specs.Prelude.{◌≡◌, ◌++◌, ◌&&◌, OnOk, IfOk, map, false};
+ghost use Rattle.std.specs.Str.{is_utf8};
+ghost use Rattle.warc_record.specs.Kinds.{is_known};
+ghost use Rattle.warc_record.specs.Readings.{reading_of};
+ghost use Rattle.warc_record.specs.Seen.{said};
+ghost use Rattle.warc_record.specs.Table.{rule_seen};
+ghost use Rattle.warc_record.specs.Findings.{stands, fits, number_of, by_table, once, finding_seen, is_bad_number, has_bad_segment, lacks_content_type, has_unknown_profile, lacks_origin, stands_in_brackets, not_utf8, findings_of};
+
+use crate::head::Typed;
+use crate::ids::bare;
+use crate::readings::{SegmentNumber, present};
+use crate::table::{FieldRule, field_rules, is_among};
+use crate::types::Kind;
+use std::alloc::{AllocError, Allocator};
+use warc_field::Fields;
+
+/// What is found wrong with a record, beside what refuses it.
+#[derive(Clone, Copy, Debug, PartialEq, Eq)]
+pub struct Finding<'a> {
+    /// 1 to 12, for N1 to N12.
+    pub number: u8,
+
+    /// The name of the field that it is about, if it is about one.
+    pub field: Option<&'a [u8]>,
+}
+
+/// What the field table is asked: N1, N2 or N3.
+#[derive(Clone, Copy)]
+enum TableCheck {
+    Lacks,
+    HasForbidden,
+    Repeats,
+}
+
+impl TableCheck {
+    fn number(self) -> u8
+        ensures { result ≡ number_of self }
+    {
+        match self {
+            TableCheck::Lacks => 1,
+            TableCheck::HasForbidden => 2,
+            TableCheck::Repeats => 3,
+        }
+    }
+}
+
+/// Whether the field isn't absent. A target is absent too where its bare text is empty.
+fn stands<A: Allocator>(fields: &Fields<A>, name: &[u8]) -> bool
+    ensures { result ≡ stands name.now fields.now }
+{
+    match present(fields, name) {
+        Some(value) => {
+            !name.eq_ignore_ascii_case(b"WARC-Target-URI") || !bare(value.bytes()).is_empty()
+        }
+        None => false,
+    }
+}
+
+/// Whether the rule of a field finds what is asked.
+fn fits<A: Allocator>(check: TableCheck, kind: Kind, fields: &Fields<A>, rule: &FieldRule) -> bool
+    ensures { result ≡ fits check kind fields.now (rule_seen rule.now) }
+{
+    let name = rule.name.as_bytes();
+    match check {
+        TableCheck::Lacks => is_among(kind, rule.required) && !stands(fields, name),
+        TableCheck::HasForbidden => is_among(kind, rule.forbidden) && stands(fields, name),
+        TableCheck::Repeats => is_known(kind) && !rule.repeats && fields.count(name) > 1,
+    }
+}
+
+/// Adds the findings of one number by the field table.
+fn add_by_table<'a, A: Allocator>(
+    found: &mut Vec<Finding<'a>, A>,
+    check: TableCheck,
+    kind: Kind,
+    fields: &Fields<A>,
+) -> Result<(), AllocError>
+    ensures { OnOk result
+        (map finding_seen found.new.items ≡ map finding_seen found.old.items ++ by_table check kind fields.now) }
+{
+    for rule in field_rules() {
+        if fits(check, kind, fields, rule) {
+            found.push(Finding {
+                number: check.number(),
+                field: Some(rule.name.as_bytes()),
+            })?;
+        }
+    }
+    Ok(())
+}
+
+/// Adds a finding about no field, where it holds.
+fn add_once<'a, A: Allocator>(
+    found: &mut Vec<Finding<'a>, A>,
+    number: u8,
+    holds: bool,
+) -> Result<(), AllocError>
+    ensures { OnOk result
+        (map finding_seen found.new.items ≡ map finding_seen found.old.items ++ once number holds) }
+{
+    if holds {
+        found.push(Finding {
+            number,
+            field: None,
+        })?;
+    }
+    Ok(())
+}
+
+/// Whether the bytes are UTF-8.
+#[tactic(auto, using(crate::proofs::FindingLemmas::utf8_is, crate::proofs::FindingLemmas::utf8_is_not))]
+fn is_utf8(bytes: &[u8]) -> bool
+    ensures { result ≡ is_utf8 bytes.now }
+{
+    match str::from_utf8(bytes) {
+        Ok(_) => true,
+        Err(_) => false,
+    }
+}
+
+/// Adds a finding for each field whose value isn't UTF-8.
+fn add_not_utf8<'a, A: Allocator>(
+    found: &mut Vec<Finding<'a>, A>,
+    fields: &'a Fields<A>,
+) -> Result<(), AllocError>
+    ensures { OnOk result
+        (map finding_seen found.new.items ≡ map finding_seen found.old.items ++ not_utf8 fields.now) }
+{
+    for (name, value) in fields.as_slice() {
+        if !is_utf8(value.bytes()) {
+            found.push(Finding {
+                number: 9,
+                field: Some(name.bytes()),
+            })?;
+        }
+    }
+    Ok(())
+}
+
+/// Whether the kind is one of the eight.
+fn is_known(kind: Kind) -> bool
+    ensures { result ≡ is_known kind }
+{
+    kind != Kind::Other
+}
+
+/// Whether a segment number is bad in a record of this kind.
+fn is_bad_number(kind: Kind, number: SegmentNumber) -> bool
+    ensures { result ≡ is_bad_number kind number }
+{
+    match number {
+        SegmentNumber::Absent => false,
+        SegmentNumber::Bad => true,
+        SegmentNumber::Number(number) => match kind {
+            Kind::Continuation => number < 2,
+            _ => number != 1,
+        },
+    }
+}
+
+/// Whether the record's segment number or its total is bad.
+fn has_bad_segment<A: Allocator>(typed: &Typed<A>, fields: &Fields<A>) -> bool
+    ensures { result ≡ has_bad_segment (said typed.now) fields.now }
+{
+    is_known(typed.kind)
+        && (is_bad_number(typed.kind, typed.segment.number)
+            || typed.kind == Kind::Continuation
+                && present(fields, b"WARC-Segment-Total-Length").is_some()
+                && typed.segment.total.is_none())
+}
+
+/// Whether the record has a block and no type of its content.
+fn lacks_content_type<A: Allocator>(kind: Kind, fields: &Fields<A>, block_len: u64) -> bool
+    ensures { result ≡ lacks_content_type kind fields.now block_len }
+{
+    is_known(kind)
+        && kind != Kind::Continuation
+        && block_len != 0
+        && present(fields, b"Content-Type").is_none()
+}
+
+/// Whether the record is a revisit of a profile that isn't known.
+fn has_unknown_profile<A: Allocator>(typed: &Typed<A>, fields: &Fields<A>) -> bool
+    ensures { result ≡ has_unknown_profile (said typed.now) fields.now }
+{
+    typed.kind == Kind::Revisit
+        && present(fields, b"WARC-Profile").is_some()
+        && !typed.reference.known_profile
+}
+
+/// Whether the record is a continuation of no id.
+fn lacks_origin<A: Allocator>(typed: &Typed<A>, fields: &Fields<A>) -> bool
+    ensures { result ≡ lacks_origin (said typed.now) fields.now }
+{
+    typed.kind == Kind::Continuation
+        && present(fields, b"WARC-Segment-Origin-ID").is_some()
+        && typed.segment.origin.is_none()
+}
+
+/// Whether the text begins with `<` and ends with `>`.
+fn stands_in_brackets(text: &[u8]) -> bool
+    ensures { result ≡ stands_in_brackets text.now }
+{
+    !text.is_empty() && text[0] == b'<' && text[text.len() - 1] == b'>'
+}
+
+/// What an archive tells of a record beside what the record tells itself.
+#[derive(Clone, Copy, Debug, PartialEq, Eq)]
+pub struct ArchiveFacts {
+    /// Its block's digest is checked and differs.
+    pub bad_digest: bool,
+
+    /// An earlier record has the same id.
+    pub used_id: bool,
+}
+
+/// Whether a record of this kind is told for its digest.
+fn has_bad_digest(kind: Kind, facts: ArchiveFacts) -> bool
+    ensures { result ≡ (is_known kind && facts.bad_digest) }
+{
+    is_known(kind) && facts.bad_digest
+}
+
+/// The findings N1 to N11 of a record, in their order. `typed` is what these fields say,
+/// `block_len` the length of the block in bytes.
+pub fn all_findings<'a, A: Allocator + Copy>(
+    alloc: A,
+    fields: &'a Fields<A>,
+    typed: &Typed<A>,
+    block_len: u64,
+    facts: ArchiveFacts,
+) -> Result<Vec<Finding<'a>, A>, AllocError>
+    ensures { said typed.now ≡ reading_of fields.now
+        → IfOk result (λ found. map finding_seen found.items ≡ findings_of fields.now block_len facts.bad_digest facts.used_id) }
+{
+    let mut found = Vec::new(alloc);
+    add_by_table(&mut found, TableCheck::Lacks, typed.kind, fields)?;
+    add_by_table(&mut found, TableCheck::HasForbidden, typed.kind, fields)?;
+    add_by_table(&mut found, TableCheck::Repeats, typed.kind, fields)?;
+    add_once(&mut found, 4, has_bad_digest(typed.kind, facts))?;
+    add_once(&mut found, 5, has_bad_segment(typed, fields))?;
+    add_once(&mut found, 6, facts.used_id)?;
+    add_once(
+        &mut found,
+        7,
+        lacks_content_type(typed.kind, fields, block_len),
+    )?;
+    add_once(&mut found, 8, has_unknown_profile(typed, fields))?;
+    add_not_utf8(&mut found, fields)?;
+    add_once(&mut found, 10, !stands_in_brackets(typed.id_text.bytes()))?;
+    add_once(&mut found, 11, lacks_origin(typed, fields))?;
+    Ok(found)
+}
+
+/// The findings that the record alone tells: all but N4, N6 and N12.
+pub fn findings<'a, A: Allocator + Copy>(
+    alloc: A,
+    fields: &'a Fields<A>,
+    typed: &Typed<A>,
+    block_len: u64,
+) -> Result<Vec<Finding<'a>, A>, AllocError>
+    ensures { said typed.now ≡ reading_of fields.now
+        → IfOk result (λ found. map finding_seen found.items ≡ findings_of fields.now block_len false false) }
+{
+    let facts = ArchiveFacts {
+        bad_digest: false,
+        used_id: false,
+    };
+    all_findings(alloc, fields, typed, block_len, facts)
+}

@@ -1,0 +1,245 @@
+ghost use Rattle.std.specs.Prelude.{◌≡◌, IfOk, MatchResult, Some, None, true, codes, option_map};
+ghost use Rattle.warc_field.specs.Area.{first_value};
+ghost use Rattle.warc_value.specs.Dates.{instant_of};
+ghost use Rattle.warc_frame.specs.FaultText.{name_of};
+ghost use Rattle.warc_record.specs.Ids.{is_id};
+ghost use Rattle.warc_record.specs.Readings.{both, present_bare, instant_in, reference_of, segment_of, digest_wanted, reading_of};
+ghost use Rattle.warc_record.specs.Heads.{count_fault, type_fault, id_fault, head_fault};
+ghost use Rattle.warc_record.specs.Seen.{pair_said, reference_said, segment_said, said, RefusesFor};
+
+use crate::ids::{IdKey, bare, id_key, is_bare_id};
+use crate::readings::{
+    SegmentNumber, bare_in, is_known_profile, key_in, number_in, present, segment_number, text_in,
+    value_of,
+};
+use crate::types::Kind;
+use std::alloc::{AllocError, Allocator, Global};
+use warc_field::{Fields, Value, is_name};
+use warc_frame::{FaultKind, Mandatory};
+use warc_value::{Moment, Wanted, read_date};
+
+/// A target and an instant that a revisit names.
+#[derive(Debug, Drop)]
+pub struct NamedPair<A: Allocator = Global> {
+    pub target: Value<A>,
+    pub moment: Moment,
+}
+
+/// What a revisit refers to.
+#[derive(Debug, Drop)]
+pub struct Reference<A: Allocator = Global> {
+    /// Whether `WARC-Profile` is one of the four known profiles.
+    pub known_profile: bool,
+
+    /// The id in `WARC-Refers-To`.
+    pub named_id: Option<IdKey<A>>,
+
+    /// `WARC-Refers-To-Target-URI` and `WARC-Refers-To-Date`, where both read.
+    pub named_pair: Option<NamedPair<A>>,
+}
+
+/// Which segment of which record a record is.
+#[derive(Debug, Drop)]
+pub struct Segment<A: Allocator = Global> {
+    pub number: SegmentNumber,
+
+    /// The id in `WARC-Segment-Origin-ID`.
+    pub origin: Option<IdKey<A>>,
+
+    /// The number in `WARC-Segment-Total-Length`, in bytes.
+    pub total: Option<u64>,
+}
+
+/// What the head of a good record says, each reading from the first field of its name.
+#[derive(Debug, Drop)]
+pub struct Typed<A: Allocator = Global> {
+    pub kind: Kind,
+
+    /// The values of `WARC-Type`, `WARC-Record-ID` and `WARC-Date`, as they stand.
+    pub type_text: Value<A>,
+    pub id_text: Value<A>,
+    pub date_text: Value<A>,
+
+    pub id: IdKey<A>,
+    pub moment: Moment,
+
+    /// The bare text of `WARC-Target-URI`, where it isn't empty.
+    pub target: Option<Value<A>>,
+
+    pub reference: Reference<A>,
+    pub segment: Segment<A>,
+
+    /// The digest that `WARC-Block-Digest` wants.
+    pub wanted: Wanted,
+
+    /// The value of `WARC-Payload-Digest`, a text that is never computed.
+    pub payload_digest: Option<Value<A>>,
+
+    /// Whether `WARC-Truncated` isn't absent.
+    pub truncated: bool,
+}
+
+/// The date that the first field's value is.
+fn instant_in<A: Allocator>(fields: &Fields<A>, name: &[u8]) -> Option<Moment>
+    ensures { result ≡ instant_in name.now fields.now }
+{
+    read_date(present(fields, name)?.bytes())
+}
+
+/// The target and the instant that the head names.
+fn named_pair<A: Allocator + Copy>(
+    alloc: A,
+    fields: &Fields<A>,
+) -> Result<Option<NamedPair<A>>, AllocError>
+    ensures { IfOk result (λ pair. option_map pair_said pair
+        ≡ both (present_bare (codes "WARC-Refers-To-Target-URI") fields.now) (instant_in (codes "WARC-Refers-To-Date") fields.now)) }
+{
+    let Some(target) = bare_in(alloc, fields, b"WARC-Refers-To-Target-URI")? else {
+        return Ok(None);
+    };
+    match instant_in(fields, b"WARC-Refers-To-Date") {
+        Some(moment) => Ok(Some(NamedPair { target, moment })),
+        None => Ok(None),
+    }
+}
+
+/// What the head refers to.
+fn read_reference<A: Allocator + Copy>(
+    alloc: A,
+    fields: &Fields<A>,
+) -> Result<Reference<A>, AllocError>
+    ensures { IfOk result (λ reference. reference_said reference ≡ reference_of fields.now) }
+{
+    let known_profile = match present(fields, b"WARC-Profile") {
+        Some(value) => is_known_profile(value.bytes()),
+        None => false,
+    };
+    Ok(Reference {
+        known_profile,
+        named_id: key_in(alloc, fields, b"WARC-Refers-To")?,
+        named_pair: named_pair(alloc, fields)?,
+    })
+}
+
+/// Which segment the head says that the record is.
+fn read_segment<A: Allocator + Copy>(alloc: A, fields: &Fields<A>) -> Result<Segment<A>, AllocError>
+    ensures { IfOk result (λ segment. segment_said segment ≡ segment_of fields.now) }
+{
+    Ok(Segment {
+        number: segment_number(fields),
+        origin: key_in(alloc, fields, b"WARC-Segment-Origin-ID")?,
+        total: number_in(fields, b"WARC-Segment-Total-Length"),
+    })
+}
+
+/// The digest that the head wants of its block.
+fn wanted<A: Allocator>(fields: &Fields<A>) -> Wanted
+    ensures { result ≡ digest_wanted fields.now }
+{
+    match present(fields, b"WARC-Block-Digest") {
+        Some(value) => Wanted::of(value),
+        None => Wanted::Unchecked,
+    }
+}
+
+/// The value of a field that must stand exactly once.
+fn only<A: Allocator>(fields: &Fields<A>, field: Mandatory) -> Result<&Value<A>, FaultKind>
+    ensures { MatchResult result
+        (λ value. (count_fault field fields.now ≡ None) × (first_value (name_of field) fields.now ≡ Some value.now))
+        (λ fault. count_fault field fields.now ≡ Some fault) }
+{
+    let name = field.name().as_bytes();
+    let Some(value) = fields.first(name) else {
+        return Err(FaultKind::Missing(field));
+    };
+    if fields.count(name) > 1 {
+        Err(FaultKind::Repeated(field))
+    } else {
+        Ok(value)
+    }
+}
+
+/// The value of the head's type.
+fn type_text<A: Allocator>(fields: &Fields<A>) -> Result<&Value<A>, FaultKind>
+    ensures { MatchResult result
+        (λ value. (type_fault fields.now ≡ None) × (first_value (codes "WARC-Type") fields.now ≡ Some value.now))
+        (λ fault. type_fault fields.now ≡ Some fault) }
+{
+    let value = only(fields, Mandatory::Type)?;
+    if is_name(value.bytes()) {
+        Ok(value)
+    } else {
+        Err(FaultKind::BadType)
+    }
+}
+
+/// The value of the head's id.
+fn id_text<A: Allocator>(fields: &Fields<A>) -> Result<&Value<A>, FaultKind>
+    ensures { MatchResult result
+        (λ value. (id_fault fields.now ≡ None) × (first_value (codes "WARC-Record-ID") fields.now ≡ Some value.now)
+        × (is_id value.now ≡ true))
+        (λ fault. id_fault fields.now ≡ Some fault) }
+{
+    let value = only(fields, Mandatory::RecordId)?;
+    if is_bare_id(bare(value.bytes())) {
+        Ok(value)
+    } else {
+        Err(FaultKind::Id)
+    }
+}
+
+/// What a head of these mandatory fields says.
+fn read_typed<A: Allocator + Copy>(
+    alloc: A,
+    fields: &Fields<A>,
+    type_text: &Value<A>,
+    id_text: &Value<A>,
+    date_text: &Value<A>,
+    moment: Moment,
+) -> Result<Typed<A>, AllocError>
+    requires of_type { first_value (codes "WARC-Type") fields.now ≡ Some type_text.now }
+    requires of_id { first_value (codes "WARC-Record-ID") fields.now ≡ Some id_text.now }
+    requires id { is_id id_text.now ≡ true }
+    requires of_date { first_value (codes "WARC-Date") fields.now ≡ Some date_text.now }
+    requires date { instant_of date_text.now ≡ Some moment }
+    ensures { IfOk result (λ typed. said typed ≡ reading_of fields.now) }
+{
+    let Some(id) = id_key(alloc, id_text.bytes())? else {
+        unreachable!()
+    };
+    Ok(Typed {
+        kind: Kind::named(type_text.bytes()),
+        type_text: value_of(alloc, type_text.bytes())?,
+        id_text: value_of(alloc, id_text.bytes())?,
+        date_text: value_of(alloc, date_text.bytes())?,
+        id,
+        moment,
+        target: bare_in(alloc, fields, b"WARC-Target-URI")?,
+        reference: read_reference(alloc, fields)?,
+        segment: read_segment(alloc, fields)?,
+        wanted: wanted(fields),
+        payload_digest: text_in(alloc, fields, b"WARC-Payload-Digest")?,
+        truncated: present(fields, b"WARC-Truncated").is_some(),
+    })
+}
+
+/// What the head of a record says, or the first refusal of its type, its id and its date, in this
+/// order: F4 Missing or F5 Repeated, and then F7 BadType, F8 Id or F9 Date. F14 Memory where memory
+/// was refused. It doesn't look at `Content-Length`.
+#[tactic(auto, using(crate::proofs::HeadLemmas::refuses_for))]
+pub fn type_head<A: Allocator + Copy>(alloc: A, fields: &Fields<A>) -> Result<Typed<A>, FaultKind>
+    ensures reading { IfOk result (λ typed. said typed ≡ reading_of fields.now) }
+    ensures fault { RefusesFor result (head_fault fields.now) }
+{
+    let type_text = type_text(fields)?;
+    let id_text = id_text(fields)?;
+    let date_text = only(fields, Mandatory::Date)?;
+    let Some(moment) = read_date(date_text.bytes()) else {
+        return Err(FaultKind::Date);
+    };
+    // Only here is memory taken.
+    match read_typed(alloc, fields, type_text, id_text, date_text, moment) {
+        Ok(typed) => Ok(typed),
+        Err(_) => Err(FaultKind::Memory),
+    }
+}

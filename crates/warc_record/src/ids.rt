@@ -1,0 +1,192 @@
+ghost use Rattle.std.specs.Prelude.{◌≡◌, ◌∷◌, ◌==◌, IfOk, length};
+ghost use Rattle.std.specs.List.{list_any};
+ghost use Rattle.std.proofs.Common.{rules};
+ghost use Rattle.std.specs.Cmp.{partial_order_from_own_ties};
+ghost use Rattle.std.specs.Cmp.Rules.{comparing};
+ghost use Rattle.std.specs.Cmp.Lexicographic.{slice_cmp, pointwise};
+ghost use Rattle.std.specs.Ordering.{nat_cmp, as_partial_cmp};
+ghost use Rattle.uuid.specs.Text.{parsed_urn};
+ghost use Rattle.warc_record.specs.Keys.{form_bytes};
+ghost use Rattle.warc_record.specs.Ids.{is_bracket, ends_id, is_bracketed, bare_text, is_bare_id, id_key, key_of};
+
+use std::alloc::{AllocError, Allocator, Global};
+use std::cmp::Ordering;
+use std::marker::Model;
+use uuid::Uuid;
+use warc_field::trim;
+
+/// An id, to be compared and kept. Contracts see its key: `<` and the sixteen bytes of a UUID, or
+/// else the bare text.
+#[derive(Debug, Drop)]
+pub struct IdKey<A: Allocator = Global> {
+    form: Form<A>,
+}
+
+#[derive(Debug, Drop)]
+enum Form<A: Allocator> {
+    Uuid([u8; 17]),
+    Text(Vec<u8, A>),
+}
+
+impl<A: Allocator> Model for IdKey<A> {
+    ghost use Rattle.std.specs.Prelude.{List, ℕ};
+
+    ghost Value = { List ℕ };
+
+    ghost use Rattle.warc_record.specs.Keys.{form_bytes};
+
+    ghost view = { λ key. form_bytes key.form };
+}
+
+impl<A: Allocator> IdKey<A> {
+    /// The key's bytes, by which keys are ordered. No id's text begins as the key of a UUID does.
+    pub fn bytes(&self) -> &[u8]
+        ensures { result.now ≡ self.now }
+    {
+        match &self.form {
+            Form::Uuid(bytes) => bytes.as_slice(),
+            Form::Text(bytes) => bytes.as_slice(),
+        }
+    }
+
+    /// How many bytes it holds.
+    pub fn kept(&self) -> usize
+        ensures { result ≡ length self.now }
+    {
+        self.bytes().len()
+    }
+}
+
+impl<A: Allocator> PartialEq for IdKey<A> {
+    ghost eq = { pointwise ◌==◌ };
+
+    ghost laws = { Prim.search (comparing, rules) };
+
+    fn eq(&self, other: &IdKey<A>) -> bool {
+        self.bytes() == other.bytes()
+    }
+}
+
+impl<A: Allocator> Eq for IdKey<A> {
+    ghost laws = { Prim.search (comparing, rules) };
+}
+
+impl<A: Allocator> PartialOrd for IdKey<A> {
+    ghost partial_cmp = { as_partial_cmp (slice_cmp nat_cmp) };
+
+    ghost laws = { partial_order_from_own_ties (Prim.search (comparing, rules)) (Prim.search (comparing, rules)) };
+
+    fn partial_cmp(&self, other: &IdKey<A>) -> Option<Ordering> {
+        Some(self.cmp(other))
+    }
+}
+
+impl<A: Allocator> Ord for IdKey<A> {
+    ghost cmp = { slice_cmp nat_cmp };
+
+    ghost total = { Prim.search (comparing, rules) };
+
+    ghost matches_partial_cmp = { Prim.search (comparing, rules) };
+
+    ghost matches_eq = { Prim.search (comparing, rules) };
+
+    fn cmp(&self, other: &IdKey<A>) -> Ordering {
+        self.bytes().cmp(other.bytes())
+    }
+}
+
+/// Whether the byte is `<` or `>`.
+fn is_bracket(byte: u8) -> bool
+    ensures { result ≡ is_bracket byte }
+{
+    byte == b'<' || byte == b'>'
+}
+
+/// Whether a bracket stands in the text.
+fn holds_bracket(text: &[u8]) -> bool
+    ensures { result ≡ list_any is_bracket text.now }
+{
+    text.iter().any(|byte| is_bracket(*byte))
+}
+
+/// Whether the byte stands in no id: a bracket, a space or a tab.
+#[tactic(auto, unfolding(warc_field::specs::Text::is_blank))]
+fn ends_id(byte: u8) -> bool
+    ensures { result ≡ ends_id byte }
+{
+    is_bracket(byte) || byte == b' ' || byte == b'\t'
+}
+
+/// Whether the text begins with `<`, ends with `>` and holds no other of the two.
+fn is_bracketed(text: &[u8]) -> bool
+    ensures { result ≡ is_bracketed text.now }
+{
+    let len = text.len();
+    len > 1 && text[0] == b'<' && text[len - 1] == b'>' && !holds_bracket(&text[1..len - 1])
+}
+
+/// The text without a pair of brackets at its ends, where no other bracket stands in it, and then
+/// without spaces and tabs at its ends.
+#[tactic(auto, unfolding(crate::specs::Ids::bare_text))]
+pub fn bare(text: &[u8]) -> &[u8]
+    ensures { result.now ≡ bare_text text.now }
+{
+    if is_bracketed(text) {
+        trim(&text[1..text.len() - 1])
+    } else {
+        trim(text)
+    }
+}
+
+/// Whether a byte stands in the text that no id holds.
+fn holds_id_end(text: &[u8]) -> bool
+    ensures { result ≡ list_any ends_id text.now }
+{
+    text.iter().any(|byte| ends_id(*byte))
+}
+
+/// Whether a bare text is an id: it isn't empty, and holds no bracket, space or tab.
+#[tactic(auto, unfolding(crate::specs::Ids::is_bare_id))]
+pub(crate) fn is_bare_id(bare: &[u8]) -> bool
+    ensures { result ≡ is_bare_id bare.now }
+{
+    !bare.is_empty() && !holds_id_end(bare)
+}
+
+/// The bytes of the UUID that a text is, behind `urn:uuid:` in any case.
+fn urn_uuid(text: &[u8]) -> Option<[u8; 16]>
+    ensures { result ≡ parsed_urn text.now }
+{
+    if text.len() != 45 {
+        return None;
+    }
+    match Uuid::try_parse_ascii(text) {
+        Ok(uuid) => Some(uuid.into_bytes()),
+        Err(_) => None,
+    }
+}
+
+/// The key of a UUID.
+fn uuid_form<A: Allocator>(uuid: [u8; 16]) -> Form<A>
+    ensures { form_bytes result ≡ 60 ∷ uuid }
+{
+    let mut bytes = [b'<'; 17];
+    bytes[1..].copy_from_slice(&uuid);
+    Form::Uuid(bytes)
+}
+
+/// The key of the id that a text holds, or `None` where it holds none. Only an id that is no UUID
+/// takes memory.
+pub fn id_key<A: Allocator>(alloc: A, text: &[u8]) -> Result<Option<IdKey<A>>, AllocError>
+    ensures { IfOk result (λ key. key ≡ id_key text.now) }
+{
+    let bare = bare(text);
+    if !is_bare_id(bare) {
+        return Ok(None);
+    }
+    let form = match urn_uuid(bare) {
+        Some(uuid) => uuid_form(uuid),
+        None => Form::Text(Vec::from_slice(alloc, bare)?),
+    };
+    Ok(Some(IdKey { form }))
+}

@@ -1,0 +1,18 @@
+//! What the head of a WARC record says: its type, id, date, target, references and segment, and
+//! what is found wrong with its fields.
+#![tactic(auto)]
+
+mod checks;
+mod head;
+mod ids;
+pub mod laws;
+mod readings;
+mod table;
+mod types;
+
+pub use checks::{ArchiveFacts, Finding, all_findings, findings};
+pub use head::{NamedPair, Reference, Segment, Typed, type_head};
+pub use ids::{IdKey, bare, id_key};
+pub use readings::SegmentNumber;
+pub use table::{FieldRule, field_rules};
+pub use types::Kind;

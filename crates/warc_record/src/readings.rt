@@ -1,0 +1,124 @@
+ghost use Rattle.std.specs.Prelude.{◌≡◌, true, IfOk, Some};
+ghost use Rattle.std.specs.Option.{option_copied};
+ghost use Rattle.warc_field.specs.Text.{is_value};
+ghost use Rattle.warc_record.specs.Readings.{present_value, present_bare, key_in, number_in, is_known_profile, segment_number};
+
+use crate::ids::{IdKey, bare, id_key};
+use std::alloc::{AllocError, Allocator};
+use warc_field::{Fields, TextFault, Value, decimal};
+
+/// The segment number that a head states.
+#[derive(Clone, Copy, Debug, PartialEq, Eq)]
+pub enum SegmentNumber {
+    /// None: the record is whole.
+    Absent,
+
+    /// A number, at most 2^48.
+    Number(u64),
+
+    /// A value that is no such number.
+    Bad,
+}
+
+/// The value of the first field of the name, where it isn't empty.
+pub(crate) fn present<'a, A: Allocator>(fields: &'a Fields<A>, name: &[u8]) -> Option<&'a Value<A>>
+    ensures { option_copied result ≡ present_value name.now fields.now }
+{
+    let value = fields.first(name)?;
+    if value.bytes().is_empty() {
+        None
+    } else {
+        Some(value)
+    }
+}
+
+/// The value that the text is.
+pub(crate) fn value_of<A: Allocator>(alloc: A, text: &[u8]) -> Result<Value<A>, AllocError>
+    requires { is_value text.now ≡ true }
+    ensures { IfOk result (λ value. value ≡ text.now) }
+{
+    match Value::new(alloc, text) {
+        Ok(value) => Ok(value),
+        Err(TextFault::Memory) => Err(AllocError),
+        Err(TextFault::BadText) => unreachable!(),
+    }
+}
+
+/// A copy of the first field's value, where it isn't empty.
+pub(crate) fn text_in<A: Allocator + Copy>(
+    alloc: A,
+    fields: &Fields<A>,
+    name: &[u8],
+) -> Result<Option<Value<A>>, AllocError>
+    ensures { IfOk result (λ value. value ≡ present_value name.now fields.now) }
+{
+    match present(fields, name) {
+        Some(value) => Ok(Some(value_of(alloc, value.bytes())?)),
+        None => Ok(None),
+    }
+}
+
+/// The bare text of the first field's value, where it isn't empty.
+#[tactic(auto, using(crate::proofs::ValueLemmas::bare_is_value))]
+pub(crate) fn bare_in<A: Allocator + Copy>(
+    alloc: A,
+    fields: &Fields<A>,
+    name: &[u8],
+) -> Result<Option<Value<A>>, AllocError>
+    ensures { IfOk result (λ text. text ≡ present_bare name.now fields.now) }
+{
+    let Some(value) = present(fields, name) else {
+        return Ok(None);
+    };
+    let text = bare(value.bytes());
+    if text.is_empty() {
+        Ok(None)
+    } else {
+        Ok(Some(value_of(alloc, text)?))
+    }
+}
+
+/// The key of the id that the first field's value holds.
+pub(crate) fn key_in<A: Allocator + Copy>(
+    alloc: A,
+    fields: &Fields<A>,
+    name: &[u8],
+) -> Result<Option<IdKey<A>>, AllocError>
+    ensures { IfOk result (λ key. key ≡ key_in name.now fields.now) }
+{
+    match present(fields, name) {
+        Some(value) => id_key(alloc, value.bytes()),
+        None => Ok(None),
+    }
+}
+
+/// The number that the first field's value is.
+pub(crate) fn number_in<A: Allocator>(fields: &Fields<A>, name: &[u8]) -> Option<u64>
+    ensures { result ≡ number_in name.now fields.now }
+{
+    decimal(present(fields, name)?.bytes())
+}
+
+/// The segment number that the head states.
+pub(crate) fn segment_number<A: Allocator>(fields: &Fields<A>) -> SegmentNumber
+    ensures { result ≡ segment_number fields.now }
+{
+    match present(fields, b"WARC-Segment-Number") {
+        None => SegmentNumber::Absent,
+        Some(value) => match decimal(value.bytes()) {
+            Some(number) => SegmentNumber::Number(number),
+            None => SegmentNumber::Bad,
+        },
+    }
+}
+
+/// Whether the value is one of the known profiles of revisits, in brackets or without.
+pub(crate) fn is_known_profile(value: &[u8]) -> bool
+    ensures { result ≡ is_known_profile value.now }
+{
+    let profile = bare(value);
+    profile == b"http://netpreserve.org/warc/1.1/revisit/identical-payload-digest".as_slice()
+        || profile == b"http://netpreserve.org/warc/1.1/revisit/server-not-modified".as_slice()
+        || profile == b"http://netpreserve.org/warc/1.0/revisit/identical-payload-digest".as_slice()
+        || profile == b"http://netpreserve.org/warc/1.0/revisit/server-not-modified".as_slice()
+}

@@ -1,0 +1,197 @@
+ghost use Rattle.std.specs.Prelude.{◌≡◌, map};
+ghost use Rattle.warc_record.specs.Table.{rules, rule_seen, place_of, is_among};
+
+use crate::types::Kind;
+
+/// A row of the field table.
+pub struct FieldRule {
+    pub name: &'static str,
+
+    /// The kinds of record in which the field must stand.
+    pub required: &'static [Kind],
+
+    /// Those in which it must not.
+    pub forbidden: &'static [Kind],
+
+    /// Whether it may stand more than once.
+    pub repeats: bool,
+}
+
+const ALL_BUT_REVISIT: &[Kind] = &[
+    Kind::Warcinfo,
+    Kind::Response,
+    Kind::Resource,
+    Kind::Request,
+    Kind::Metadata,
+    Kind::Conversion,
+    Kind::Continuation,
+];
+
+const ALL_BUT_WARCINFO: &[Kind] = &[
+    Kind::Response,
+    Kind::Resource,
+    Kind::Request,
+    Kind::Metadata,
+    Kind::Revisit,
+    Kind::Conversion,
+    Kind::Continuation,
+];
+
+const ALL_BUT_CONTINUATION: &[Kind] = &[
+    Kind::Warcinfo,
+    Kind::Response,
+    Kind::Resource,
+    Kind::Request,
+    Kind::Metadata,
+    Kind::Revisit,
+    Kind::Conversion,
+];
+
+static FIELD_RULES: [FieldRule; 17] = [
+    FieldRule {
+        name: "WARC-Target-URI",
+        required: &[
+            Kind::Response,
+            Kind::Resource,
+            Kind::Request,
+            Kind::Revisit,
+            Kind::Conversion,
+            Kind::Continuation,
+        ],
+        forbidden: &[Kind::Warcinfo],
+        repeats: false,
+    },
+    FieldRule {
+        name: "WARC-Concurrent-To",
+        required: &[],
+        forbidden: &[Kind::Warcinfo, Kind::Conversion, Kind::Continuation],
+        repeats: true,
+    },
+    FieldRule {
+        name: "WARC-IP-Address",
+        required: &[],
+        forbidden: &[Kind::Warcinfo, Kind::Conversion, Kind::Continuation],
+        repeats: false,
+    },
+    FieldRule {
+        name: "WARC-Refers-To",
+        required: &[],
+        forbidden: &[
+            Kind::Warcinfo,
+            Kind::Response,
+            Kind::Resource,
+            Kind::Request,
+            Kind::Continuation,
+        ],
+        repeats: false,
+    },
+    FieldRule {
+        name: "WARC-Refers-To-Target-URI",
+        required: &[],
+        forbidden: ALL_BUT_REVISIT,
+        repeats: false,
+    },
+    FieldRule {
+        name: "WARC-Refers-To-Date",
+        required: &[],
+        forbidden: ALL_BUT_REVISIT,
+        repeats: false,
+    },
+    FieldRule {
+        name: "WARC-Filename",
+        required: &[],
+        forbidden: ALL_BUT_WARCINFO,
+        repeats: false,
+    },
+    FieldRule {
+        name: "WARC-Profile",
+        required: &[Kind::Revisit],
+        forbidden: &[],
+        repeats: false,
+    },
+    FieldRule {
+        name: "WARC-Warcinfo-ID",
+        required: &[],
+        forbidden: &[Kind::Warcinfo],
+        repeats: false,
+    },
+    FieldRule {
+        name: "WARC-Segment-Number",
+        required: &[Kind::Continuation],
+        forbidden: &[],
+        repeats: false,
+    },
+    FieldRule {
+        name: "WARC-Segment-Origin-ID",
+        required: &[Kind::Continuation],
+        forbidden: ALL_BUT_CONTINUATION,
+        repeats: false,
+    },
+    FieldRule {
+        name: "WARC-Segment-Total-Length",
+        required: &[],
+        forbidden: ALL_BUT_CONTINUATION,
+        repeats: false,
+    },
+    FieldRule {
+        name: "WARC-Block-Digest",
+        required: &[],
+        forbidden: &[],
+        repeats: false,
+    },
+    FieldRule {
+        name: "WARC-Payload-Digest",
+        required: &[],
+        forbidden: &[],
+        repeats: false,
+    },
+    FieldRule {
+        name: "WARC-Truncated",
+        required: &[],
+        forbidden: &[],
+        repeats: false,
+    },
+    FieldRule {
+        name: "WARC-Identified-Payload-Type",
+        required: &[],
+        forbidden: &[],
+        repeats: false,
+    },
+    FieldRule {
+        name: "Content-Type",
+        required: &[],
+        forbidden: &[],
+        repeats: false,
+    },
+];
+
+/// The field table, in its order.
+pub fn field_rules() -> &'static [FieldRule]
+    ensures { map rule_seen result.now ≡ rules }
+{
+    &FIELD_RULES
+}
+
+/// The place of a kind in the standard's order.
+fn place(kind: Kind) -> u8
+    ensures { result ≡ place_of kind }
+{
+    match kind {
+        Kind::Warcinfo => 0,
+        Kind::Response => 1,
+        Kind::Resource => 2,
+        Kind::Request => 3,
+        Kind::Metadata => 4,
+        Kind::Revisit => 5,
+        Kind::Conversion => 6,
+        Kind::Continuation => 7,
+        Kind::Other => 8,
+    }
+}
+
+/// Whether the kind is one of these.
+pub(crate) fn is_among(kind: Kind, kinds: &[Kind]) -> bool
+    ensures { result ≡ is_among kind kinds.now }
+{
+    kinds.iter().any(|other| place(*other) == place(kind))
+}
