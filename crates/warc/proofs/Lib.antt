@@ -1,0 +1,7 @@
+pub mod ArchiveLemmas
+pub mod ClapLaws
+pub mod KindLemmas
+pub mod LineLemmas
+pub mod ProgramLemmas
+pub mod RefusalLemmas
+mod WorkedValues

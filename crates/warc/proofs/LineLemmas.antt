@@ -1,0 +1,84 @@
+-- Lines and the pieces that they are put together from.
+use Rattle.std.proofs.Common.{◌≡◌, ℕ, ◌+◌, ◌<◌, List, [], ◌∷◌, ◌++◌, length, take, drop, get_or, append_assoc, decimal, refl, map, Bor, sym, ap, subst, ◌∙◌, arith, Option}
+use Rattle.std.proofs.lemmas.Grind.{flat_map-append}
+use Rattle.std.proofs.lemmas.List.{append-nil, map-append, take_more, length-take-le, take-append-drop}
+use Rattle.std.proofs.lemmas.List.Folds.{concat-append}
+use Rattle.std.specs.List.{concat, enumerate_from, flat_map, join_with_byte}
+use Rattle.warc_frame.specs.Device.{Staged}
+use Rattle.warc_frame.specs.Send.{IsStaged, WentOut}
+use Rattle.warc_frame.proofs.LawLemmas.{went_out_of_longer}
+use Rattle.warc.specs.Listing.{line_of, listing, shown}
+use Rattle.warc.specs.Row.{Columns}
+
+seven : (a b c d e f g : List ℕ) → concat (a ∷ (9 ∷ []) ∷ b ∷ (9 ∷ []) ∷ c ∷ (9 ∷ []) ∷ d ∷ (9 ∷ []) ∷ e ∷ (9 ∷ []) ∷ f ∷ (9 ∷ []) ∷ g ∷ (10 ∷ []) ∷ [])
+    ≡ join_with_byte 9 (a ∷ b ∷ c ∷ d ∷ e ∷ f ∷ g ∷ []) ++ 10 ∷ []
+seven a b c d e f g = simp append_assoc
+
+-- the pieces that a line is put together from
+pub line_from : (position : ℕ) (row : Columns) (a b c d e f g : List ℕ) → a ≡ decimal position → b ≡ decimal row.offset → c ≡ decimal row.block_len
+    → d ≡ shown row.kind → e ≡ shown row.date → f ≡ shown row.id → g ≡ shown row.target
+    → concat (a ∷ (9 ∷ []) ∷ b ∷ (9 ∷ []) ∷ c ∷ (9 ∷ []) ∷ d ∷ (9 ∷ []) ∷ e ∷ (9 ∷ []) ∷ f ∷ (9 ∷ []) ∷ g ∷ (10 ∷ []) ∷ []) ≡ line_of position row
+unfolding line_of
+line_from position row a b c d e f g is_a is_b is_c is_d is_e is_f is_g =
+    seven a b c d e f g ∙ rw (is_a, is_b, is_c, is_d, is_e, is_f, is_g) refl
+
+-- one more piece, and the pieces behind it
+pub pieces_more : (output : List ℕ) (pieces : List (Bor (List ℕ))) (i : ℕ) (d : Bor (List ℕ)) → i < length pieces
+    → (output ++ concat (map (λ p. p.now) (take i pieces))) ++ (get_or pieces i d).now ≡ output ++ concat (map (λ p. p.now) (take (i + 1) pieces))
+pieces_more output pieces i d lt =
+    let now : Bor (List ℕ) → List ℕ = λ p. p.now in
+    let last = ap (λ l. concat (map now l)) (take_more pieces i d lt) ∙ ap concat (map-append now (take i pieces) (get_or pieces i d ∷ []))
+    ∙ concat-append (map now (take i pieces)) ((get_or pieces i d).now ∷ [])
+    ∙ ap (λ l. concat (map now (take i pieces)) ++ l) (append-nil (get_or pieces i d).now) in
+    append_assoc output (concat (map now (take i pieces))) (get_or pieces i d).now ∙ ap (λ l. output ++ l) (sym last)
+
+pub pieces_rest : (output : List ℕ) (pieces : List (Bor (List ℕ))) (i : ℕ)
+    → (output ++ concat (map (λ p. p.now) (take i pieces))) ++ concat (map (λ p. p.now) (drop i pieces)) ≡ output ++ concat (map (λ p. p.now) pieces)
+pieces_rest output pieces i =
+    let now : Bor (List ℕ) → List ℕ = λ p. p.now in
+    append_assoc output (concat (map now (take i pieces))) (concat (map now (drop i pieces)))
+    ∙ ap (λ l. output ++ l) (sym (concat-append (map now (take i pieces)) (map now (drop i pieces)))
+    ∙ ap concat (sym (map-append now (take i pieces) (drop i pieces))) ∙ ap (λ l. concat (map now l)) (take-append-drop i pieces))
+
+-- what went out of an output went out of one that goes on with more
+pub longer : {start now : Option (List ℕ)} {output : List ℕ} {sent : ℕ} (more : List ℕ) → WentOut start output now sent → WentOut start (output ++ more) now sent
+longer {start} {now} {output} {sent} more out = went_out_of_longer start now output more sent out
+
+-- the same output
+pub same_out : {start now : Option (List ℕ)} {a b : List ℕ} {sent : ℕ} → a ≡ b → WentOut start a now sent → WentOut start b now sent
+same_out {start} {now} {a} {b} {sent} same out = let P : List ℕ → Type 0 = λ l. WentOut start l now sent in subst P same out
+
+pub same_staged : {start now : Option (List ℕ)} {a b : List ℕ} {buffer : Staged} → a ≡ b → IsStaged start a now buffer → IsStaged start b now buffer
+same_staged {start} {now} {a} {b} {buffer} same is = let P : List ℕ → Type 0 = λ l. IsStaged start l now buffer in subst P same is
+
+enumerate_from-append : (n : ℕ) (xs ys : List Columns) → enumerate_from n (xs ++ ys) ≡ enumerate_from n xs ++ enumerate_from (n + length xs) ys
+enumerate_from-append n [] ys = ap (λ k. enumerate_from k ys) (omega arith)
+enumerate_from-append n (x ∷ xs) ys =
+    let e : n + 1 + length xs ≡ n + length (x ∷ xs) = omega arith in
+    ap (λ l. (n, x) ∷ l) (enumerate_from-append (n + 1) xs ys ∙ ap (λ k. enumerate_from (n + 1) xs ++ enumerate_from k ys) e)
+
+listing-append : (xs ys : List Columns) → listing (xs ++ ys) ≡ listing xs ++ flat_map (λ p. line_of p.0 p.1) (enumerate_from (length xs) ys)
+unfolding listing
+listing-append xs ys =
+    ap (flat_map (λ p. line_of p.0 p.1)) (enumerate_from-append 0 xs ys ∙ ap (λ k. enumerate_from 0 xs ++ enumerate_from k ys) (omega arith))
+    ∙ flat_map-append (λ p. line_of p.0 p.1) (enumerate_from 0 xs) (enumerate_from (length xs) ys)
+
+-- one more line
+pub listing_more : (rows : List Columns) (i : ℕ) (d : Columns) → i < length rows → listing (take (i + 1) rows) ≡ listing (take i rows) ++ line_of i (get_or rows i d)
+unfolding listing
+listing_more rows i d lt =
+    let more = ap listing (take_more rows i d lt) ∙ listing-append (take i rows) (get_or rows i d ∷ []) in
+    let size : length (take i rows) ≡ i = length-take-le i rows (omega (arith, lt)) in
+    more ∙ ap (λ k. listing (take i rows) ++ flat_map (λ p. line_of p.0 p.1) (enumerate_from k (get_or rows i d ∷ []))) size
+    ∙ ap (λ l. listing (take i rows) ++ l) (append-nil (line_of i (get_or rows i d)))
+
+-- the line of the row at a place
+pub listing_next : (seen rows : List Columns) (i : ℕ) (row : Columns) → seen ≡ rows → row ≡ get_or seen i row → i < length seen
+    → listing (take i rows) ++ line_of i row ≡ listing (take (i + 1) rows)
+listing_next seen rows i row same is lt =
+    let lt' : i < length rows = omega (arith, lt, ap length same) in
+    ap (λ r. listing (take i rows) ++ line_of i r) (is ∙ ap (λ l. get_or l i row) same) ∙ sym (listing_more rows i row lt')
+
+-- the lines of the first rows, and the others
+pub listing_front : (rows : List Columns) (i : ℕ) → listing rows ≡ listing (take i rows) ++ flat_map (λ p. line_of p.0 p.1) (enumerate_from (length (take i rows)) (drop i rows))
+listing_front rows i = ap listing (sym (take-append-drop i rows)) ∙ listing-append (take i rows) (drop i rows)

@@ -1,0 +1,31 @@
+use Rattle.std.proofs.Common.{rules, ◌+◌, refl, sym, ap, ◌∙◌}
+use Rattle.warc.specs.Archive.{Contents}
+use Rattle.warc.specs.Listing.{listing}
+use Rattle.warc.proofs.LineLemmas.{longer, listing_front, listing_next, same_out, same_staged}
+use Rattle.warc.proofs.reader.Archive.list.Goals as goal
+
+pub listing-init : goal.listing-init
+unfolding listing
+listing-init g c = record {
+  staged = c.new-buffer.ensures.begins (g.W.Sink.tells c.args.out.now);
+  sound = refl;
+}
+
+pub returns-in_err-put_line-clause-cut : goal.returns-in_err-put_line-clause-cut
+returns-in_err-put_line-clause-cut g c =
+    let i = c.listing.position in
+    let rows = c.deref-row-items.ensures.value ∙ ap (λ (a : Contents). a.rows) c.self.view_is in
+    let next = listing_next c.deref-row-items.result.now c.args.self.now.rows i c.row-item.result rows c.row-item.is c.listing-test.true in
+    let out = longer _ (same_out next (c.in_err-put_line.ensures.cut _ _ c.listing.invariant.staged)) in
+    let whole = same_out (sym (listing_front c.args.self.now.rows (i + 1))) out in
+    search rules
+
+pub listing-preserved : goal.listing-preserved
+listing-preserved g c =
+    let i = c.listing.position in
+    let rows = c.deref-row-items.ensures.value ∙ ap (λ (a : Contents). a.rows) c.self.view_is in
+    let next = listing_next c.deref-row-items.result.now c.args.self.now.rows i c.row-item.result rows c.row-item.is c.listing-test.true in
+    record {
+      staged = same_staged next (c.in_ok-put_line.ensures.out _ _ c.listing.invariant.staged);
+      sound = search rules;
+    }

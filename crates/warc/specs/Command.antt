@@ -1,0 +1,13 @@
+-- A command of the program.
+use Rattle.std.specs.Prelude.{List, [], ◌∷◌, codes}
+use Rattle.clap.specs.Walk.{Text}
+use Rattle.warc.specs.declared.words.Command.{Command}
+use Rattle.warc.specs.declared.words.Command.TheVariants as command
+
+-- its name and its texts in order
+abbrev pub view_of : Command → Text × List Text
+view_of (command.List archive) = (codes "list", archive.now ∷ [])
+
+-- the path of the file that it reads
+abbrev pub path_of : Command → Text
+path_of (command.List archive) = archive.now

@@ -1,0 +1,176 @@
+//! The words of a command line.
+ghost use Rattle.std.specs.Prelude.{◌≡◌, ◌∷◌, [], true, false, map, Some, IfOk, IfErr, option_map, codes};
+ghost use Rattle.clap.specs.Faults.{fault_of};
+ghost use Rattle.clap.specs.Matches.{found_of};
+ghost use Rattle.clap.specs.Simple.{App, app_of, subcommand_rows_of, with_rule};
+ghost use Rattle.clap.specs.Takes.{takes};
+ghost use Rattle.clap.specs.Values.{kind_of};
+ghost use Rattle.clap.specs.Walk.{rows_of, rule_of};
+ghost use Rattle.clap.specs.declared.builder.command.Command.TheViews.{out-Command};
+ghost use Rattle.warc.specs.Command.{path_of, view_of};
+ghost use Rattle.warc.specs.CommandLine.{IsToldBy, command_of, named, required_word, text_of, warc_app, with_layout};
+
+use clap::error::ErrorKind;
+use clap::{Arg, ArgMatches};
+use std::alloc::{AllocError, Global};
+use std::convert::AsStr;
+
+/// What the program is asked to do. The texts are borrowed from the words.
+#[derive(Clone, Copy, Debug, PartialEq, Eq)]
+pub enum Command<'a> {
+    /// A line for each record.
+    List { archive: &'a str },
+}
+
+impl<'a> Command<'a> {
+    /// The path of the file that the command reads.
+    pub fn path(&self) -> &'a str
+        ensures { result.now ≡ path_of self.now }
+    {
+        match self {
+            Command::List { archive } => archive,
+        }
+    }
+}
+
+/// Why words name no command.
+#[derive(Debug, Drop)]
+pub enum CommandFault {
+    /// The text that `clap` writes, and whether it was asked for, as by `--help`.
+    Usage { text: String, asked: bool },
+    Memory,
+}
+
+/// A word that a command requires: its name in the usage, and what it is.
+#[derive(Clone, Copy)]
+struct Word {
+    name: &'static str,
+    help: &'static str,
+}
+
+const VERSION: &str = "0.1.0";
+
+const EXAMPLE: &str = "Example: warc list examples/abc.warc";
+
+const ARCHIVE: Word = Word {
+    name: "archive",
+    help: "The path of the archive; /dev/stdin is standard input",
+};
+
+fn warc_parser<'a>(alloc: Global) -> Result<clap::Command<'a>, AllocError>
+    ensures { IfOk result (λ c. app_of c ≡ warc_app) }
+{
+    let parser = clap::Command::new(alloc, "warc")
+        .about("Reads archives in the WARC format")
+        .version(VERSION)
+        .after_help(EXAMPLE)
+        .subcommand_required(true);
+    with_command(
+        parser,
+        alloc,
+        "list",
+        "Prints a line for each record",
+        &[ARCHIVE],
+    )
+}
+
+/// The parser with one more command, which requires the words in their order.
+fn with_command<'a>(
+    parser: clap::Command<'a>,
+    alloc: Global,
+    name: &'static str,
+    about: &'static str,
+    words: &[Word],
+) -> Result<clap::Command<'a>, AllocError>
+    ensures { (app : App) → app_of parser.entry ≡ app → IfOk result (λ c. app_of c
+        ≡ with_layout app (record { name = name.entry.now; words = map (λ w. w.name.now) words.now })) }
+{
+    let mut command = clap::Command::new(alloc, name).about(about);
+    for word in words {
+        command = with_word(command, alloc, word.name, word.help)?;
+    }
+    parser.subcommand(command)
+}
+
+/// The command with one more word.
+fn with_word<'a>(
+    command: clap::Command<'a>,
+    alloc: Global,
+    name: &'static str,
+    help: &'static str,
+) -> Result<clap::Command<'a>, AllocError>
+    ensures app { (app : App) → app_of command.entry ≡ app
+        → IfOk result (λ c. app_of c ≡ with_rule app (required_word name.entry.now)) }
+    ensures local { (out-Command command.entry).has_globals ≡ false
+        → IfOk result (λ c. (out-Command c).has_globals ≡ false) }
+{
+    command.arg(required(alloc, name, help))
+}
+
+fn required<'a>(alloc: Global, name: &'static str, help: &'static str) -> Arg<'a>
+    ensures rule { rule_of result ≡ required_word name.entry.now }
+    ensures local { result.global ≡ false }
+{
+    Arg::new(alloc, name).help(help).required(true)
+}
+
+/// The text of a word, which is there where `clap` takes the words.
+fn text_at<'a>(matches: &ArgMatches<'a>, name: &str) -> &'a str
+    ensures { result.now ≡ text_of (rows_of (found_of matches.now)) name.now }
+{
+    match matches.get_str(name) {
+        Some(text) => text,
+        None => "",
+    }
+}
+
+/// The command that was met. `clap` meets no command but the program's own, so `list`, the only
+/// one, needs no test.
+fn read<'a>(matches: &ArgMatches<'a>) -> Option<Command<'a>>
+    ensures { option_map view_of result
+        ≡ option_map (λ p. named p.0 p.1) (subcommand_rows_of matches.now) }
+{
+    let (_name, texts) = matches.subcommand()?;
+    Some(Command::List {
+        archive: text_at(texts, "archive"),
+    })
+}
+
+/// What `clap` refused, or was asked to show.
+fn refusal(alloc: Global, error: &clap::Error) -> CommandFault
+    ensures memory { kind_of error.now ≡ ErrorKind.OutOfMemory → result ≡ CommandFault.Memory }
+    ensures told { IsToldBy (kind_of error.now ∷ []) result }
+{
+    if let ErrorKind::OutOfMemory = error.kind() {
+        return CommandFault::Memory;
+    }
+    match error.to_string(alloc) {
+        Ok(text) => CommandFault::Usage {
+            text,
+            asked: !error.use_stderr(),
+        },
+        Err(_) => CommandFault::Memory,
+    }
+}
+
+/// The command and the texts that the words name, the program's name being the first word. Words
+/// that `clap` refuses are a `Usage` with its text, and so are `help`, `--help` and `--version`,
+/// which ask for one.
+pub fn parse<'a, S: AsStr>(alloc: Global, words: &'a [S]) -> Result<Command<'a>, CommandFault>
+    ensures named { IfOk result (λ c. Some (view_of c) ≡ command_of (map S.text words.entry.now)) }
+    ensures accepted { IfOk result (λ _. fault_of warc_app (map S.text words.entry.now) ≡ []) }
+    ensures taken { IfErr result (λ e. takes warc_app (map S.text words.entry.now) ≡ true
+        → e ≡ CommandFault.Memory) }
+    ensures told { IfErr result (IsToldBy (fault_of warc_app (map S.text words.entry.now))) }
+{
+    let Ok(parser) = warc_parser(alloc) else {
+        return Err(CommandFault::Memory);
+    };
+    match parser.try_get_matches_from(words) {
+        Ok(matches) => match read(&matches) {
+            Some(command) => Ok(command),
+            None => unreachable!(),
+        },
+        Err(error) => Err(refusal(alloc, &error)),
+    }
+}
