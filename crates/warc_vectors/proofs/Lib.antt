@@ -1,0 +1,2 @@
+mod RefusalAsked
+mod RowLines

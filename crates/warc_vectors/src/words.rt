@@ -1,0 +1,106 @@
+//! The words of a command line.
+use warc::{Command, CommandFault, parse};
+
+/// The text that the words are answered with, where they name no command, and whether it was asked
+/// for.
+fn answer(rt: &HostRuntime, words: &[&str]) -> Option<(String, bool)> {
+    match parse(rt.alloc(), words) {
+        Err(CommandFault::Usage { text, asked }) => Some((text, asked)),
+        _ => None,
+    }
+}
+
+#[test]
+fn list_names_its_archive(rt: HostRuntime) {
+    let alloc = rt.alloc();
+    for words in [
+        ["warc", "list", "a.warc"].as_slice(),
+        &["/usr/bin/warc", "list", "--", "a.warc"],
+    ] {
+        assert!(rt; matches!(parse(alloc, words), Ok(Command::List { archive: "a.warc" })));
+    }
+    assert!(rt;
+        matches!(
+            parse(alloc, &["warc", "list", ""]),
+            Ok(Command::List { archive: "" })
+        )
+    );
+    assert!(rt;
+        matches!(
+            parse(alloc, &["warc", "list", "-"]),
+            Ok(Command::List { archive: "-" })
+        )
+    );
+    assert!(rt;
+        matches!(
+            parse(alloc, &["warc", "list", "--", "-a"]),
+            Ok(Command::List { archive: "-a" })
+        )
+    );
+    assert!(rt; Command::List { archive: "a.warc" }.path() == "a.warc");
+}
+
+#[test]
+fn help_and_version_are_asked_for(rt: HostRuntime) {
+    for words in [
+        ["warc", "--help"].as_slice(),
+        &["warc", "-h"],
+        &["warc", "help"],
+    ] {
+        let Some((text, asked)) = answer(&rt, words) else {
+            assert!(rt; false);
+            return;
+        };
+        assert!(rt; asked);
+        assert!(rt; text.as_str().contains("Usage: warc <COMMAND>"));
+        assert!(rt;
+            text.as_str()
+                .contains("list  Prints a line for each record")
+        );
+        assert!(rt;
+            text.as_str()
+                .contains("Example: warc list examples/abc.warc")
+        );
+    }
+    for words in [
+        ["warc", "list", "--help"].as_slice(),
+        &["warc", "help", "list"],
+    ] {
+        let Some((text, asked)) = answer(&rt, words) else {
+            assert!(rt; false);
+            return;
+        };
+        assert!(rt; asked);
+        assert!(rt; text.as_str().contains("Usage: warc list <archive>"));
+    }
+    let Some((text, asked)) = answer(&rt, &["warc", "--version"]) else {
+        assert!(rt; false);
+        return;
+    };
+    assert!(rt; asked && text.as_str() == "warc 0.1.0\n");
+}
+
+#[test]
+fn wrong_words_are_refused(rt: HostRuntime) {
+    for words in [
+        [].as_slice(),
+        &["warc"],
+        &["warc", ""],
+        &["warc", "--", "list", "a.warc"],
+        &["warc", "LIST", "a.warc"],
+        &["warc", "show", "a.warc"],
+        &["warc", "list"],
+        &["warc", "list", "-a"],
+        &["warc", "list", "a.warc", "b.warc"],
+        &["warc", "list", "a.warc", "--verbose"],
+        &["warc", "check", "a.warc"],
+        &["warc", "help", "show"],
+    ] {
+        let Some((text, asked)) = answer(&rt, words) else {
+            assert!(rt; false);
+            return;
+        };
+        assert!(rt; !asked);
+        assert!(rt; text.as_str().starts_with("error: "));
+    }
+}
