@@ -1,5 +1,5 @@
 -- The field area: the lines of a head between its version line and its empty line, and the fields that they are
--- (WARC 1.1, 4: `named-field = field-name ":" [ field-value ]`).
+-- (WARC 1.1, 4: `named-field = field-name ":" [ field-value ]`). The first bad line is this project's own notion.
 use Rattle.std.specs.Prelude.{◌≡◌, ℕ, ◌+◌, ◌<◌, ◌≤◌, Bool, ◌==◌, List, [], ◌∷◌, ◌++◌, length, take, drop, Option, Some, None, Result, Ok, Err, option_and_then, option_map, find, count_by, position, if◌then◌else◌, true, false}
 use Rattle.std.specs.List.{list_all, flat_map}
 use Rattle.warc_field.specs.declared.area.AreaFault.{AreaFault}
