@@ -1,7 +1,7 @@
 -- What each byte stands for in base32, tried one by one.
-use Rattle.std.proofs.Common.{◌≡◌, ℕ, zero, suc, ◌+◌, ◌-◌, ◌<◌, ◌≤◌, Bool, true, false, ◌&&◌, ◌||◌, nat_eq, nat_le, nat_lt, Option, Some, None, refl, arith, sym, ◌∙◌, if◌then◌else◌}
+use Rattle.std.proofs.Common.{◌≡◌, ℕ, zero, suc, ◌+◌, ◌-◌, ◌<◌, Bool, true, false, ◌&&◌, nat_eq, nat_le, Option, Some, None, refl, arith, if◌then◌else◌}
 use Rattle.std.proofs.lemmas.Grind.{common_steps}
-use Rattle.warc_value.specs.Base32.{value_of, symbol_of}
+use Rattle.warc_value.specs.Base32.{value_of}
 
 -- a test passes each number below another one
 abbrev pub all_below : (ℕ → Bool) → ℕ → Bool

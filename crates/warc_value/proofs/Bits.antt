@@ -1,9 +1,9 @@
 -- Bits of bytes, and numbers of five bits.
-use Rattle.std.proofs.Common.{◌≡◌, ℕ, zero, suc, ◌+◌, ◌-◌, ◌*◌, ◌/◌, ◌%◌, ◌<◌, ◌≤◌, Bool, true, false, ◌&&◌, nat_eq, nat_le, get_or, take, drop, length, min, List, [], ◌∷◌, ◌++◌, Option, Some, None, refl, ap, subst, arith, sym, ◌∙◌, if◌then◌else◌}
-use Rattle.std.specs.List.{flat_map, list_all}
+use Rattle.std.proofs.Common.{◌≡◌, ℕ, ◌+◌, ◌*◌, ◌/◌, ◌%◌, ◌<◌, ◌≤◌, true, false, ◌&&◌, get_or, take, drop, length, List, [], ◌∷◌, ◌++◌, Some, None, refl, ap, subst, arith, sym, ◌∙◌}
+use Rattle.std.specs.List.{list_all}
 use Rattle.std.proofs.lemmas.Slice.Eq.{text_from_reads}
 use Rattle.std.proofs.lemmas.Grind.{common_steps}
-use Rattle.std.proofs.lemmas.List.{take-append-le, take-append-drop, length-take-le, length-append, length-drop, append_assoc, append-nil, take_all, drop_all}
+use Rattle.std.proofs.lemmas.List.{take-append-le, take-append-drop, length-take-le, length-drop, append_assoc, append-nil, take_all, drop_all}
 use Rattle.std.proofs.lemmas.List.Folds.{list_all-append}
 use Rattle.std.proofs.Math.Seq.{take-add, drop-drop, take-append-add, take-length}
 use Rattle.warc_value.specs.Base32.{bits_of, number_of_bits, fives, eights, symbol_of, value_of, is_symbol, base32_of, bytes_of, decoded_of, unbase32_of}

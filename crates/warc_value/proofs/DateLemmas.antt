@@ -1,5 +1,5 @@
 -- Digits, and the forms of dates by their lengths.
-use Rattle.std.proofs.Common.{◌≡◌, ℕ, zero, suc, ◌+◌, ◌-◌, ◌*◌, ◌^◌, ◌<◌, ◌≤◌, ◌==◌, Bool, true, false, ◌&&◌, ◌||◌, not, ◌⊎◌, inl, inr, nat_eq, nat_le, nat_lt, get_or, take, drop, length, List, [], ◌∷◌, ◌++◌, Option, Some, None, refl, drop-cons, add-one, add-zero, zero-add, arith, sym, ◌∙◌, ap, subst, if◌then◌else◌, codes, Fits, w32, lit<, pow-add, mul-le-mul_right, le_of_lt}
+use Rattle.std.proofs.Common.{◌≡◌, ℕ, zero, suc, ◌+◌, ◌-◌, ◌*◌, ◌^◌, ◌<◌, ◌≤◌, ◌==◌, Bool, true, false, ◌&&◌, ◌||◌, not, ◌⊎◌, inl, inr, nat_eq, nat_le, nat_lt, get_or, take, drop, length, List, [], ◌∷◌, ◌++◌, Option, Some, None, refl, drop-cons, add-one, add-zero, zero-add, arith, sym, ◌∙◌, ap, subst, if◌then◌else◌, codes, lit<, pow-add, mul-le-mul_right, le_of_lt}
 use Rattle.std.proofs.lemmas.Grind.{common_steps, pow_more}
 use Rattle.std.proofs.lemmas.List.{drop_all, length-take, length-drop, get_or-take, get_or-drop}
 use Rattle.std.proofs.lemmas.List.Folds.{list_all-append}
@@ -11,7 +11,6 @@ use Rattle.std.specs.List.{list_all, list_any}
 use Rattle.std.specs.Char.{is_ascii_digit, digit_value}
 use Rattle.std.specs.Str.Parse.{digits_value}
 use Rattle.std.specs.Prelude.{is_some, option_map}
-use Rattle.std.proofs.lemmas.Slice.Eq.{text_from_reads}
 use Rattle.warc_value.specs.declared.date.Date.{Date}
 use Rattle.warc_value.proofs.Alphabet.{all_below, passes_below, both-left, both-right}
 use Rattle.warc_value.specs.Dates.{fits_place, is_form_length, forms, fits, date_in, date_of, number_or}

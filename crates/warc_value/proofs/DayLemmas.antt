@@ -1,14 +1,10 @@
 -- Day numbers from 1 January of the year 0, against those of the calendar of `jiff`.
-use Rattle.std.proofs.Common.{◌≡◌, ℕ, zero, suc, ◌+◌, ◌-◌, ◌<◌, ◌≤◌, Bool, true, false, Option, Some, None, nat_le, ◌&&◌, refl, sym, ap, ◌∙◌, arith, ℤ, pos, negsuc, neg_ℤ, ◌+ℤ◌, ◌-ℤ◌, ◌<ℤ◌, ◌≤ℤ◌, unsigned_abs, if◌then◌else◌}
+use Rattle.std.proofs.Common.{◌≡◌, ℕ, zero, suc, ◌+◌, ◌-◌, ◌≤◌, true, Some, None, refl, sym, arith, pos, ◌+ℤ◌, ◌-ℤ◌, unsigned_abs, if◌then◌else◌}
 use Rattle.std.proofs.lemmas.Grind.{common_steps}
-use Rattle.std.proofs.lemmas.Int.{ints}
-use Rattle.jiff_core.specs.Calendar.{day_of_year, day_count, days_from_civil, days_of_months, days_in_month, IsCivilDate, IsDate}
-use Rattle.jiff_core.specs.declared.civil.date.Date.{Date as Plain}
-use Rattle.jiff_core.specs.Date.{IsYmd}
+use Rattle.jiff_core.specs.Calendar.{day_of_year, day_count, days_from_civil, days_of_months, IsCivilDate}
 use Rattle.jiff_core.proofs.SignedLemmas.{signed_arith}
 use Rattle.jiff_core.proofs.MarchLemmas.{day_count-early}
-use Rattle.jiff_core.proofs.CalendarLemmas.{day_count-epoch, days_from_civil-day_count, day_count-day_of_year, day_count-later_year}
-use borrow.Author.Differences.{up, down}
+use Rattle.jiff_core.proofs.CalendarLemmas.{days_from_civil-day_count, day_count-day_of_year, day_count-later_year}
 use Rattle.warc_value.specs.declared.date.Date.{Date}
 use Rattle.warc_value.specs.Dates.{is_day, day_number}
 

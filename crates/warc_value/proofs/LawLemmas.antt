@@ -1,13 +1,12 @@
 -- The laws of dates and digests, under the names of their functions.
-use Rattle.std.proofs.Common.{◌≡◌, ℕ, zero, suc, ◌+◌, ◌-◌, ◌*◌, ◌/◌, ◌%◌, ◌^◌, ◌<◌, ◌≤◌, Bool, true, false, ◌&&◌, not, nat_eq, nat_lt, List, [], ◌∷◌, ◌++◌, length, map, take, drop, codes, All, Option, Some, None, refl, sym, ap, subst, ◌∙◌, arith, if◌then◌else◌}
-use Rattle.std.proofs.lemmas.Grind.{common_steps}
-use Rattle.std.specs.List.{flat_map, list_all}
-use Rattle.std.specs.Prelude.{unwrap_or, is_some}
+use Rattle.std.proofs.Common.{◌≡◌, ℕ, zero, suc, ◌+◌, ◌*◌, ◌/◌, ◌%◌, ◌<◌, Bool, true, false, ◌&&◌, not, nat_eq, List, [], ◌∷◌, ◌++◌, length, map, codes, All, Option, Some, None, refl, sym, ap, ◌∙◌, arith, if◌then◌else◌}
+use Rattle.std.specs.List.{list_all}
+use Rattle.std.specs.Prelude.{is_some}
 use Rattle.std.proofs.lemmas.List.Quantifiers.{position-Some}
 use Rattle.std.proofs.lemmas.Bool.{eqb-true}
 use Rattle.std.specs.Char.{to_ascii_uppercase}
-use Rattle.warc_value.specs.Base32.{bits_of, number_of_bits, fives, eights, alphabet, symbol_of, value_of, is_symbol, base32_of, bytes_of, decoded_of, unbase32_of}
-use Rattle.warc_field.specs.Text.{is_value_byte, is_blank, is_value}
+use Rattle.warc_value.specs.Base32.{fives, eights, alphabet, symbol_of, value_of, is_symbol, base32_of, bytes_of, unbase32_of}
+use Rattle.warc_field.specs.Text.{is_value_byte, is_blank}
 use Rattle.warc_value.specs.declared.hash.Wanted.TheVariants.{Sha1}
 use Rattle.warc_value.specs.Digests.{wanted_digest}
 use Rattle.warc_value.proofs.Alphabet.{all_below, passes_below, code_of, same_code, both-left, both-right}

@@ -1,4 +1,5 @@
--- Dates (ISO 28500:2017, 5.4, by the W3C note on date and time formats): six forms, Gregorian throughout, always UTC.
+-- Dates (ISO 28500:2017, 5.4, by the W3C note on date and time formats): six forms, always UTC. The calendar, Gregorian
+-- throughout, is this project's own choice, and so are days without an hour 24 and minutes without a leap second.
 use Rattle.std.specs.Prelude.{ℕ, ◌+◌, ◌-◌, ◌*◌, ◌^◌, Bool, ◌&&◌, ◌||◌, ◌==◌, nat_le, nat_lt, List, [], ◌∷◌, length, map, filter, find, codes, Option, Some, None, option_map, option_and_then, if◌then◌else◌, pos, ◌-ℤ◌, unsigned_abs}
 use Rattle.std.specs.List.{zip, list_all, list_any}
 use Rattle.std.specs.Char.{is_ascii_digit}

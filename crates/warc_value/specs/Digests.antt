@@ -1,5 +1,6 @@
--- Block digests (ISO 28500:2017, 5.8): SHA-1 in base32 is checked, and nothing else.
-use Rattle.std.specs.Prelude.{ℕ, ◌&&◌, List, take, drop, codes, Option, Some, None, if◌then◌else◌}
+-- Block digests (ISO 28500:2017, 5.8, which leaves algorithm and encoding open; SHA-1 by FIPS 180-4). That SHA-1 in base32
+-- is checked, and nothing else, is this project's own choice.
+use Rattle.std.specs.Prelude.{ℕ, List, take, drop, codes, Option, Some, None, if◌then◌else◌}
 use Rattle.std.specs.Str.{str_eq_ignore_ascii_case, bytes_eq}
 use Rattle.sha1.specs.Sha1.{sha1}
 use Rattle.warc_value.specs.Base32.{unbase32_of}

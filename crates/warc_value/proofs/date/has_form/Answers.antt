@@ -1,7 +1,7 @@
-use Rattle.std.proofs.Common.{◌≡◌, arith, length, get_or, true, false, nat_eq, sym, ◌∙◌}
+use Rattle.std.proofs.Common.{◌≡◌, arith, length, get_or, true, false, sym, ◌∙◌}
 use Rattle.std.proofs.lemmas.Grind.{common_steps}
 use Rattle.warc_value.specs.Dates.{fits_place}
-use Rattle.warc_value.proofs.DateLemmas.{has_length, length-matches, place_of, fits_from, has_form-length, has_form-misfit, has_form-fit, fits_from-more, fits_from-misfit, fits_from-end}
+use Rattle.warc_value.proofs.DateLemmas.{length-matches, place_of, has_form-length, has_form-misfit, has_form-fit, fits_from-more, fits_from-misfit, fits_from-end}
 use Rattle.warc_value.proofs.date.has_form.Goals as goal
 use Rattle.warc_value.proofs.date.has_form.Goals.{then-text-gt10, else-text-gt10, then-is_end_of_time, else-is_end_of_time}
 

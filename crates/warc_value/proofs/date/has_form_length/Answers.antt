@@ -1,4 +1,4 @@
-use Rattle.std.proofs.Common.{◌≡◌, arith, true, false, sym, ◌∙◌}
+use Rattle.std.proofs.Common.{arith}
 use Rattle.std.proofs.lemmas.Grind.{common_steps}
 use Rattle.warc_value.proofs.DateLemmas.{has_length, length-matches}
 use Rattle.warc_value.proofs.date.has_form_length.Goals as goal

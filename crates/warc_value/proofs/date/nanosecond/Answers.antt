@@ -1,4 +1,4 @@
-use Rattle.std.proofs.Common.{arith, length, take, drop, ◌-◌, ◌*◌, ◌^◌, ◌<◌}
+use Rattle.std.proofs.Common.{arith, length, ◌-◌, ◌*◌, ◌^◌, ◌<◌}
 use Rattle.std.proofs.lemmas.Grind.{common_steps}
 use Rattle.warc_value.proofs.DateLemmas.{scaled-below, fraction_of}
 use Rattle.warc_value.proofs.date.nanosecond.Goals as goal
