@@ -29,7 +29,7 @@ key_when : (b : Bool) (key : List ℕ) → b ≡ true → (if b then Some key el
 key_when b key e = ap (λ c. if c then Some key else None) e
 
 -- the key of an id
-key_is : (a : List ℕ) → IsTrue (is_id a) → id_key a ≡ Some (key_of (bare_text a))
+pub key_is : (a : List ℕ) → IsTrue (is_id a) → id_key a ≡ Some (key_of (bare_text a))
 key_is a id = key_when (is_id a) (key_of (bare_text a)) id
 
 inside : {k l : List ℕ} → Some k ≡ Some l → k ≡ l

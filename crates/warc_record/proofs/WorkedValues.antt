@@ -3,7 +3,7 @@ use Rattle.std.proofs.Common.{◌≡◌, List, [], ◌∷◌, ◌++◌, true, fa
 use Rattle.warc_field.specs.Text.{is_blank, trimmed, is_name, is_name_byte}
 use Rattle.warc_field.specs.Decimal.{decimal_of}
 use Rattle.warc_field.specs.Area.{Pair}
-use Rattle.warc_value.specs.Dates.{instant_of, date_of, fits, forms}
+use Rattle.warc_value.specs.Dates.{instant_of, date_of, date_in, fits, forms}
 use Rattle.std.specs.Str.{is_utf8, chars}
 use lib.Utf8.{encode}
 use Rattle.uuid.specs.Text.{by_index}
@@ -93,6 +93,10 @@ warcinfo =
     ∷ (codes "WARC-Date", codes "2020")
     ∷ (codes "WARC-Target-URI", codes "http://a.example/")
     ∷ []
+
+good_head : head_fault ((codes "WARC-Date", codes "2020") ∷ (codes "warc-record-id", codes "<a>") ∷ (codes "WARC-Type", codes "any") ∷ []) ≡ None
+unfolding bare_text trimmed is_blank is_name is_name_byte is_bare_id instant_of date_of fits forms date_in
+good_head = refl
 
 bad_date : head_fault ((codes "WARC-Type", codes "metadata") ∷ (codes "WARC-Record-ID", codes "a") ∷ (codes "WARC-Date", codes "x") ∷ []) ≡ Some Date
 unfolding bare_text trimmed is_blank is_name is_name_byte is_bare_id instant_of date_of fits forms

@@ -1,5 +1,6 @@
 -- What is found wrong with a record, beside what refuses it: N1 to N11, in the order of their numbers. For N1 to N3 the
--- fields go by the order of the table, for N9 by their order in the record.
+-- fields go by the order of the table, for N9 by their order in the record. Findings are this project's own notion: it
+-- measures records by ISO 28500:2017, 5 to 7, and by its own field table.
 use Rattle.std.specs.Prelude.{ℕ, ◌-◌, Bool, true, false, not, ◌&&◌, ◌||◌, ◌==◌, nat_lt, List, [], ◌∷◌, ◌++◌, length, map, filter, codes, is_some, is_none, Option, Some, None, slice_index, if◌then◌else◌}
 use Rattle.std.specs.Option.{option_map_or, option_copied}
 use Rattle.std.specs.Str.{is_utf8, str_eq_ignore_ascii_case}

@@ -1,4 +1,5 @@
--- Which heads are good, beyond framing: type, id and date each stand exactly once and read (ISO 28500:2017, 5.1 to 5.5).
+-- Which heads are good, beyond framing: type, id and date each stand exactly once (ISO 28500:2017, 4 and 5.1) and read
+-- (5.5, 5.2, 5.4). The order in which they are judged is this project's own.
 use Rattle.std.specs.Prelude.{ℕ, Bool, false, nat_lt, List, is_some, is_none, Option, Some, None, if◌then◌else◌}
 use Rattle.std.specs.Option.{option_map_or, option_or}
 use Rattle.warc_field.specs.Text.{is_name}

@@ -1,4 +1,4 @@
--- The kinds of records (ISO 28500:2017, 6).
+-- The kinds of records (ISO 28500:2017, 5.5 and 6). That case doesn't matter is this project's own reading.
 use Rattle.std.specs.Prelude.{ℕ, Bool, true, false, List, [], ◌∷◌, find, codes}
 use Rattle.std.specs.Option.{option_map_or}
 use Rattle.std.specs.Str.{str_eq_ignore_ascii_case}

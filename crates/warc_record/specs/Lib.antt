@@ -3,6 +3,7 @@ pub mod Keys
 pub mod Kinds
 pub mod Readings
 pub mod Heads
+pub mod Good
 pub mod Seen
 pub mod Table
 pub mod Findings
