@@ -17,7 +17,7 @@ use Rattle.warc_frame.proofs.SpellLemmas.{record-read, ok_parts, nothing, spells
 use Rattle.warc_frame.proofs.StableLemmas.{record-fault-stays, take-more}
 
 -- a record that the text begins with, and what is behind it
-same_front : (judge : Judgement) (r s : Record) (f1 r1 f2 r2 : List ℕ) → Spells r f1 → Spells s f2 → judge r.fields ≡ None → judge s.fields ≡ None → f1 ++ r1 ≡ f2 ++ r2 → (r ≡ s) × (length f1 ≡ length f2) × (r1 ≡ r2)
+pub same_front : (judge : Judgement) (r s : Record) (f1 r1 f2 r2 : List ℕ) → Spells r f1 → Spells s f2 → judge r.fields ≡ None → judge s.fields ≡ None → f1 ++ r1 ≡ f2 ++ r2 → (r ≡ s) × (length f1 ≡ length f2) × (r1 ≡ r2)
 same_front judge r s f1 r1 f2 r2 a b ja jb e =
     let one = record-read judge r f1 r1 a ja in
     let two = record-read judge s f2 r2 b jb in

@@ -18,6 +18,7 @@ pub mod WorkedValues
 pub mod StreamEnds
 pub mod StreamHeads
 pub mod StreamState
+pub mod JudgedLemmas
 pub mod StreamFaults
 pub mod StreamBridge
 pub mod StreamSteps

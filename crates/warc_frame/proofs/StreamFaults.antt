@@ -7,7 +7,7 @@ use Rattle.warc_frame.specs.Record.{max_archive}
 use Rattle.warc_frame.specs.Spelling.{SpellsAll}
 use Rattle.warc_frame.specs.Reading.{any_fields, record_of, fault}
 use Rattle.warc_frame.specs.Faults.{behind, within_limit, goes_on, limited, IsFrameFault}
-use Rattle.warc_frame.specs.Told.{Told, IsCut, Lies, unclosed_of, Refutes}
+use Rattle.warc_frame.specs.Told.{Told, IsCut, Lies, unclosed_of, Refutes, RefusesAs, Refuses}
 use Rattle.warc_frame.proofs.StreamState.{all_accepted}
 
 limited_kind : (b : Bool) (kind : FaultKind) (o : ℕ) → kind ≢ kinds.Truncated → limited b (Some (fault kind o)) ≡ Some (fault kind o)
@@ -63,3 +63,23 @@ too_long at text near told e on l = too_long_rest at text l.front l.rest told (e
 -- a refusal is the frame fault of the text
 pub refuted_fault : (at : ℕ) (text : List ℕ) (told : Told) (f : Fault) → Refutes at text told f → IsFrameFault at text f
 refuted_fault at text told f r = record { records = told.records; found = r.found; before = r.reads; is = r.limit }
+
+refutes_as : (kind : FaultKind) (at : ℕ) (text : List ℕ) (told : Told) (f : Fault) → RefusesAs kind at text told f → kind ≢ kinds.Memory → Refutes at text told f
+refutes_as kinds.Memory at text told f r other = absurd (other refl)
+refutes_as kinds.Version at text told f r other = r
+refutes_as kinds.HeadTooLong at text told f r other = r
+refutes_as kinds.Field at text told f r other = r
+refutes_as (kinds.Missing m) at text told f r other = r
+refutes_as (kinds.Repeated m) at text told f r other = r
+refutes_as kinds.Length at text told f r other = r
+refutes_as kinds.BadType at text told f r other = r
+refutes_as kinds.Id at text told f r other = r
+refutes_as kinds.Date at text told f r other = r
+refutes_as kinds.End at text told f r other = r
+refutes_as kinds.Truncated at text told f r other = r
+refutes_as kinds.TooLong at text told f r other = r
+refutes_as kinds.Read at text told f r other = r
+
+-- what a step says that fails for another reason than want of memory
+pub refusals_refute : (at : ℕ) (text : List ℕ) (told : Told) (f : Fault) → Refuses at text told f → f.kind ≢ kinds.Memory → Refutes at text told f
+refusals_refute at text told f r other = refutes_as f.kind at text told f r other

@@ -1,23 +1,23 @@
 -- How a stream is read piece by piece.
-use Rattle.std.proofs.Common.{◌≡◌, ◌≢◌, ℕ, ◌+◌, ◌<◌, ◌≤◌, List, [], ◌∷◌, ◌++◌, length, take, drop, refl, sym, ap, ◌∙◌, arith, Option, Some, None, Result, Ok, Err, get_or}
+use Rattle.std.proofs.Common.{◌≡◌, ℕ, ◌+◌, ◌-◌, ◌<◌, ◌≤◌, List, [], ◌∷◌, ◌++◌, length, take, drop, refl, sym, ap, subst, ◌∙◌, arith, Option, Some, None, Result, Ok, Err, get_or}
 use Rattle.std.specs.List.{flat_map}
-use Rattle.std.proofs.lemmas.List.{append_assoc, take_all, take_more, length-take-le, take-append-drop, append-nil}
+use Rattle.std.proofs.lemmas.List.{append_assoc, take_all, take_rest, take_more, length-take-le, take-append-drop, append-nil}
 use Rattle.std.proofs.Math.Seq.{take-append-add}
 use Rattle.warc_frame.specs.declared.fault.FaultKind.{FaultKind}
 use Rattle.warc_frame.specs.declared.fault.FaultKind.TheVariants as kinds
 use Rattle.warc_frame.specs.declared.fault.Fault.{Fault}
 use Rattle.warc_frame.specs.declared.stream.Event.{Event}
 use Rattle.warc_frame.specs.declared.stream.Event.TheVariants as events
-use Rattle.warc_frame.specs.Record.{Record, IsFramed}
+use Rattle.warc_frame.specs.Record.{Record, IsFramed, max_archive}
 use Rattle.warc_frame.specs.Spelling.{SpellsAll}
 use Rattle.warc_frame.specs.Reading.{any_fields}
-use Rattle.warc_frame.specs.Faults.{IsFrameFault}
-use Rattle.warc_frame.specs.Told.{Unclosed, Told, ended, RefusesAs, Refuses}
-use Rattle.warc_frame.specs.Decoding.{State, IsWithin, Takes}
-use Rattle.warc_frame.specs.Pieces.{ClosesFramed, MayKeep, UnlessMemory, IsPieceFault, IsPiecesFault}
-use Rattle.std.specs.Prelude.{is_err, OnOk, false}
+use Rattle.warc_frame.specs.Faults.{within_limit}
+use Rattle.warc_frame.specs.Told.{Unclosed, Told, tell, ended, WantsMemory, RefusesAs, Refuses}
+use Rattle.warc_frame.specs.Decoding.{State, IsAt, IsWithin, Takes}
+use Rattle.warc_frame.specs.Pieces.{ClosesFramed, MayKeep, StandsBehind, Keeping, Keeps, start_on, IsPieceFault, IsPiecesFault, IsMemoryFault}
+use Rattle.std.specs.Prelude.{is_err, OnOk, OnErr, true, false}
 use Rattle.warc_frame.proofs.StreamSteps.{true_false}
-use Rattle.warc_frame.proofs.StreamFaults.{refuted_fault}
+use Rattle.warc_frame.proofs.StreamFaults.{refuted_fault, refusals_refute}
 use Rattle.warc_frame.proofs.LawLemmas.{faults_are_stable}
 
 -- the last record of a list that is spelled can be framed
@@ -46,64 +46,72 @@ take_further i n xs h =
     let len : length (take i xs) ≡ i = length-take-le i xs h in
     ap (λ x. take (i + n) x) (sym (take-append-drop i xs)) ∙ ap (λ k. take (k + n) (take i xs ++ drop i xs)) (sym len) ∙ take-append-add (take i xs) (drop i xs) n
 
-refuses_as : (kind : FaultKind) (at : ℕ) (text : List ℕ) (told : Told) (f : Fault) → RefusesAs kind at text told f → UnlessMemory kind (IsFrameFault at text f × (f.kind ≢ kinds.Truncated))
-refuses_as kinds.Memory at text told f r = tt
-refuses_as kinds.Version at text told f r = (refuted_fault at text told f r, r.settled)
-refuses_as kinds.HeadTooLong at text told f r = (refuted_fault at text told f r, r.settled)
-refuses_as kinds.Field at text told f r = (refuted_fault at text told f r, r.settled)
-refuses_as (kinds.Missing m) at text told f r = (refuted_fault at text told f r, r.settled)
-refuses_as (kinds.Repeated m) at text told f r = (refuted_fault at text told f r, r.settled)
-refuses_as kinds.Length at text told f r = (refuted_fault at text told f r, r.settled)
-refuses_as kinds.BadType at text told f r = (refuted_fault at text told f r, r.settled)
-refuses_as kinds.Id at text told f r = (refuted_fault at text told f r, r.settled)
-refuses_as kinds.Date at text told f r = (refuted_fault at text told f r, r.settled)
-refuses_as kinds.End at text told f r = (refuted_fault at text told f r, r.settled)
-refuses_as kinds.Truncated at text told f r = (refuted_fault at text told f r, r.settled)
-refuses_as kinds.TooLong at text told f r = (refuted_fault at text told f r, r.settled)
-refuses_as kinds.Read at text told f r = (refuted_fault at text told f r, r.settled)
-
 -- a step's refusal is the frame fault of the bytes
 pub refused : (at : ℕ) (text : List ℕ) (told : Told) (f : Fault) → Refuses at text told f → IsPieceFault at text f
-refused at text told f r = refuses_as f.kind at text told f r
-
-stays_as : (kind : FaultKind) (at : ℕ) (text more : List ℕ) (f : Fault) → UnlessMemory kind (IsFrameFault at text f × (f.kind ≢ kinds.Truncated)) → UnlessMemory kind (IsFrameFault at (text ++ more) f)
-stays_as kinds.Memory at text more f r = tt
-stays_as kinds.Version at text more f r = faults_are_stable any_fields at text more f r.0 r.1
-stays_as kinds.HeadTooLong at text more f r = faults_are_stable any_fields at text more f r.0 r.1
-stays_as kinds.Field at text more f r = faults_are_stable any_fields at text more f r.0 r.1
-stays_as (kinds.Missing m) at text more f r = faults_are_stable any_fields at text more f r.0 r.1
-stays_as (kinds.Repeated m) at text more f r = faults_are_stable any_fields at text more f r.0 r.1
-stays_as kinds.Length at text more f r = faults_are_stable any_fields at text more f r.0 r.1
-stays_as kinds.BadType at text more f r = faults_are_stable any_fields at text more f r.0 r.1
-stays_as kinds.Id at text more f r = faults_are_stable any_fields at text more f r.0 r.1
-stays_as kinds.Date at text more f r = faults_are_stable any_fields at text more f r.0 r.1
-stays_as kinds.End at text more f r = faults_are_stable any_fields at text more f r.0 r.1
-stays_as kinds.Truncated at text more f r = faults_are_stable any_fields at text more f r.0 r.1
-stays_as kinds.TooLong at text more f r = faults_are_stable any_fields at text more f r.0 r.1
-stays_as kinds.Read at text more f r = faults_are_stable any_fields at text more f r.0 r.1
+refused at text told f r other = let x = refusals_refute at text told f r other in (refuted_fault at text told f x, x.settled)
 
 -- it stays whatever follows
 pub stays : (at : ℕ) (text more : List ℕ) (f : Fault) → IsPieceFault at text f → IsPiecesFault at (text ++ more) f
-stays at text more f r = stays_as f.kind at text more f r
+stays at text more f r other = let x = r other in faults_are_stable any_fields at text more f x.0 x.1
 
-unless : (kind : FaultKind) (P : Type 0) → P → UnlessMemory kind P
-unless kinds.Memory P p = tt
-unless kinds.Version P p = p
-unless kinds.HeadTooLong P p = p
-unless kinds.Field P p = p
-unless (kinds.Missing m) P p = p
-unless (kinds.Repeated m) P p = p
-unless kinds.Length P p = p
-unless kinds.BadType P p = p
-unless kinds.Id P p = p
-unless kinds.Date P p = p
-unless kinds.End P p = p
-unless kinds.Truncated P p = p
-unless kinds.TooLong P p = p
-unless kinds.Read P p = p
+-- the bytes taken and what follows them in the piece
+pub whole_piece : (taken piece : List ℕ) (from : ℕ) → (taken ++ take from piece) ++ take (length piece - from) (drop from piece) ≡ taken ++ piece
+whole_piece taken piece from =
+    ap (λ x. (taken ++ take from piece) ++ x) (take_rest piece from) ∙ append_assoc taken (take from piece) (drop from piece) ∙ ap (λ x. taken ++ x) (take-append-drop from piece)
 
-pub found : (at : ℕ) (text : List ℕ) (f : Fault) → IsFrameFault at text f → IsPiecesFault at text f
-found at text f r = unless f.kind (IsFrameFault at text f) r
+-- what stands behind records stays there
+pub stands_more : (at : ℕ) (text more : List ℕ) (records : List Record) (offset : ℕ) → StandsBehind at text records offset → StandsBehind at (text ++ more) records offset
+stands_more at text more records offset s = record {
+  front = s.front;
+  rest = s.rest ++ more;
+  text_is = ap (λ x. x ++ more) s.text_is ∙ append_assoc s.front s.rest more;
+  spelled = s.spelled;
+  offset_is = s.offset_is;
+}
+
+pub memory_more : (at : ℕ) (text more : List ℕ) (f : Fault) → IsMemoryFault at text f → IsMemoryFault at (text ++ more) f
+memory_more at text more f h is = let x = h is in (x.0, stands_more at text more x.0 f.offset x.1)
+
+-- memory was wanted for the record behind those that were told
+wanted : (at : ℕ) (text : List ℕ) (told : Told) (f : Fault) → WantsMemory at text told f → StandsBehind at text told.records f.offset
+unfolding within_limit
+wanted at text told f w = record {
+  front = w.front;
+  rest = w.rest ++ drop (max_archive - at) text;
+  text_is = sym (take-append-drop (max_archive - at) text) ∙ ap (λ x. x ++ drop (max_archive - at) text) w.text_is ∙ append_assoc w.front w.rest (drop (max_archive - at) text);
+  spelled = w.spelled;
+  offset_is = w.offset_is;
+}
+
+pub refused_memory : (at : ℕ) (text : List ℕ) (told : Told) (f : Fault) → Refuses at text told f → IsMemoryFault at text f
+refused_memory at text told f r is = let P : FaultKind → Type 0 = λ k. RefusesAs k at text told f in (told.records, wanted at text told f (subst P is r))
+
+-- where the record begins that isn't ended, behind an event
+starts : {A : Type 0} (at : ℕ) (taken piece : List ℕ) (told : Told) (new : State) (took start : ℕ) (event : Event A) → Takes at taken told new piece took event → StandsBehind at taken told.records start
+    → StandsBehind at (taken ++ take took piece) (tell told piece event).records (start_on start new.position event)
+starts at taken piece told new took start events.More t s = stands_more at taken (take took piece) told.records start s
+starts at taken piece told new took start (events.Head version fields number) t s = stands_more at taken (take took piece) told.records start s
+starts at taken piece told new took start (events.Part from to) t s = stands_more at taken (take took piece) told.records start s
+starts at taken piece told new took start events.End t s =
+    let x = t.exact in
+    let all : x.front ≡ taken ++ take took piece = sym (x.text_is ∙ ap (λ xs. x.front ++ xs) x.ends ∙ append-nil x.front) in
+    record { front = x.front; rest = x.rest; text_is = x.text_is; spelled = x.spelled; offset_is = t.is_at.position_is ∙ ap (λ xs. at + length xs) (sym all) }
+
+-- what is kept behind an event
+pub keeps_on : {A : Type 0} (at : ℕ) (taken piece : List ℕ) (old new : Keeping) (d : State) (took : ℕ) (event : Event A) → Takes at taken old.told d piece took event → StandsBehind at taken old.told.records old.start
+    → new.told ≡ tell old.told piece event → new.start ≡ start_on old.start d.position event → Keeps at (taken ++ take took piece) new d
+keeps_on at taken piece old new d took event t s told start =
+    let P : Told → Type 0 = λ x. IsAt at (taken ++ take took piece) x d in
+    let Q : Told → Type 0 = λ x. StandsBehind at (taken ++ take took piece) x.records (start_on old.start d.position event) in
+    let R : ℕ → Type 0 = λ x. StandsBehind at (taken ++ take took piece) new.told.records x in
+    record {
+      is_at = subst P (sym told) t.is_at;
+      start = subst R (sym start) (subst Q (sym told) (starts at taken piece old.told d took old.start event t s));
+    }
+
+-- a text that is cut off wants no memory
+pub cut_off : kinds.Truncated ≡ kinds.Memory → ⊥
+cut_off e = cc
 
 -- the bytes of pieces, one behind the other
 joined_append : {X : Type 0} (v : X → List ℕ) (xs ys : List X) → flat_map v (xs ++ ys) ≡ flat_map v xs ++ flat_map v ys
@@ -122,3 +130,7 @@ joined_all v ps i h = ap (flat_map v) (take_all i ps h)
 pub on_ok : {E : Type 0} (r : Result (Unit {0}) E) (P : Type 0) → is_err r ≡ false → OnOk r P → P
 on_ok (Ok u) P h p = p
 on_ok (Err f) P h p = absurd (true_false h)
+
+pub on_err : {E : Type 0} (r : Result (Unit {0}) E) (P : Type 0) → is_err r ≡ true → OnErr r P → P
+on_err (Ok u) P h p = absurd (true_false (sym h))
+on_err (Err f) P h p = p

@@ -1,16 +1,14 @@
 -- What was told is what lies in the bytes taken.
-use Rattle.std.proofs.Common.{◌≡◌, ◌≢◌, ℕ, zero, suc, ◌+◌, ◌-◌, ◌<◌, ◌≤◌, ◌^◌, true, false, List, [], ◌∷◌, ◌++◌, Option, Some, None, Ok, length, length-append, take, drop, refl, sym, ap, subst, ◌∙◌, arith}
+use Rattle.std.proofs.Common.{◌≡◌, ℕ, zero, suc, ◌+◌, ◌-◌, ◌<◌, ◌≤◌, ◌^◌, true, false, List, [], ◌∷◌, ◌++◌, Option, Some, None, Ok, length, length-append, take, drop, refl, sym, ap, subst, ◌∙◌, arith}
 use Rattle.std.proofs.Math.Seq.{drop-append_seam, take-append_seam}
 use Rattle.std.proofs.lemmas.List.{append-nil, length-take-le, take_all, drop_all}
 use Rattle.std.proofs.lemmas.Bool.{false_from_ne_true, ltb-true}
 use Rattle.warc_frame.specs.declared.stream.Phase.{Phase}
 use Rattle.warc_frame.specs.declared.stream.Phase.TheVariants as phases
-use Rattle.warc_frame.specs.declared.fault.FaultKind.TheVariants as kinds
-use Rattle.warc_frame.specs.declared.fault.Fault.{Fault}
 use Rattle.warc_frame.specs.declared.version.Version.TheVariants as versions
 use Rattle.warc_frame.specs.Record.{Record, max_archive}
-use Rattle.warc_frame.specs.Reading.{Head, any_fields, begins, version_of, empty_line, head_front, head_len, head_of, fault}
-use Rattle.warc_frame.specs.Faults.{AllAccepted, within_limit, goes_on, IsFrameFault}
+use Rattle.warc_frame.specs.Reading.{Head, any_fields, begins, version_of, empty_line, head_front, head_len, head_of}
+use Rattle.warc_frame.specs.Faults.{AllAccepted, within_limit, goes_on}
 use Rattle.warc_frame.specs.Told.{Unclosed, Told, IsHeadOf, IsCut, Lies, opened, unclosed_of}
 use Rattle.warc_frame.specs.Decoding.{State, closing, InHead, InBlock, PhaseIs, IsAt}
 use Rattle.warc_frame.proofs.StreamHeads.{cut_head, head_more, head_parts, record_head, record_cut}
@@ -99,25 +97,6 @@ within_all at text h = take_all (max_archive - at) text (omega (arith, h))
 pub goes_not_on : (at : ℕ) (text : List ℕ) → at + length text ≤ 2 ^ 48 → goes_on at text ≡ false
 unfolding goes_on
 goes_not_on at text h = false_from_ne_true _ (λ is. absurd (omega (arith, h, ltb-true _ _ is)))
-
--- a text that ends in less than a record, and not with nothing, is truncated
-pub truncated : (at : ℕ) (taken : List ℕ) (told : Told) → at + length taken ≤ 2 ^ 48 → (l : Lies taken told) → l.rest ≢ [] → IsFrameFault at taken (fault kinds.Truncated (at + length taken))
-truncated at taken told low l some =
-    let offset : at + length l.front + length l.rest ≡ at + length taken = omega (arith, ap length l.text_is, length-append l.front l.rest) in
-    let g : Fault = fault kinds.Truncated (at + length taken) in
-    record {
-      records = told.records;
-      found = Some g;
-      before = record {
-        front = l.front;
-        rest = l.rest;
-        text = within_all at taken low ∙ l.text_is;
-        spelled = l.spelled;
-        accepted = all_accepted told.records;
-        fault_is = (some, fault kinds.Truncated (length l.rest), l.cut, ap (fault kinds.Truncated) (sym offset));
-      };
-      is = rw (goes_not_on at taken low) refl;
-    }
 
 -- of no bytes nothing speaks against a head
 pub empty_version : version_of [] ≡ Some versions.V1_1

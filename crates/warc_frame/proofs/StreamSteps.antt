@@ -1,6 +1,6 @@
 -- How what a decoder stands for goes on.
 use Rattle.std.proofs.Common.{◌≡◌, ◌≢◌, ℕ, min, ◌+◌, ◌-◌, ◌<◌, ◌≤◌, ◌^◌, true, false, nat_lt, List, [], ◌++◌, length, take, drop, refl, sym, ap, ◌∙◌, subst, arith, length-append, Option, Some, None, Result, Ok, Err, MatchResult, IfOk, IsSome, ⊎_elim}
-use Rattle.std.specs.Prelude.{is_some, is_err, is_ok, if◌then◌else◌}
+use Rattle.std.specs.Prelude.{is_err, is_ok, if◌then◌else◌}
 use Rattle.std.specs.List.{slice_range}
 use Rattle.std.proofs.Math.Seq.{take-append-add, drop-append_seam, take-append_seam}
 use Rattle.std.proofs.lemmas.List.{append_assoc, append-nil, append_cancel_left, take-append-drop, length-take-le, length-take, take_all, take_at, take-take, take_min, drop-take}
@@ -23,11 +23,12 @@ use Rattle.warc_frame.specs.Told.{Unclosed, Told, nothing, opened, tell, with_by
 use Rattle.warc_frame.specs.Decoding.{State, closing, InHead, InBlock, PhaseIs, IsAt, IsSound, IsWithin, Takes, Finishes}
 use Rattle.warc_frame.specs.Steps.{Near, TellsHead, HeadFails, ClosesHead}
 use Rattle.warc_frame.proofs.StreamEnds.{empty_line-less}
-use Rattle.warc_frame.proofs.StreamHeads.{begins-less, version_there, cut_head, head_len-whole, head_len-none, head_parts, head_settled, head_more, record_head, record_bad, record_whole, Settled}
+use Rattle.warc_frame.proofs.StreamHeads.{begins-less, version_there, version-more, cut_head, head_len-whole, head_len-none, head_parts, head_settled, head_more, record_head, record_bad, record_whole, Settled}
 use Rattle.std.proofs.lemmas.Slice.Eq.{bytes_eq-Decides}
 use Rattle.warc_frame.specs.declared.version.Version.TheVariants as versions
 use Rattle.warc_frame.proofs.HeadLemmas.{head_room, version-begins}
-use Rattle.warc_frame.proofs.StreamState.{empty_version, empty_head, empty_none, front_length, head_told, head_behind, unclosed_behind, truncated, cut_at, cut_in_head, cut_in_block}
+use Rattle.warc_frame.proofs.StreamState.{empty_version, empty_head, empty_none, front_length, head_told, head_behind, unclosed_behind, cut_at, cut_in_head, cut_in_block}
+use Rattle.warc_frame.proofs.JudgedLemmas.{truncated, all_told}
 use Rattle.warc_frame.proofs.StreamFaults.{refutes}
 use Rattle.warc_frame.proofs.StreamBridge.{record_spelled, spells_all_more}
 
@@ -343,14 +344,6 @@ head_refused at taken told d text near g f s ph front fails settled is =
     refutes at text s.front t told g f (front ∙ head_text at taken told d near s ph) s.spelled (head_some t g fails settled) (record_head any_fields t g fails) settled
     (is ∙ ap (λ q. behind q g) (head_start at taken told d s ph)) (h.told ∙ sym (ap (λ r. opened r t) fails))
 
-pub none_from : {A : Type 0} (o : Option A) → is_some o ≡ false → o ≡ None
-none_from None h = refl
-none_from (Some x) h = cc
-
-pub some_from : {A : Type 0} (o : Option A) → is_some o ≡ true → (x : A) × (o ≡ Some x)
-some_from None h = absurd cc
-some_from (Some x) h = (x, refl)
-
 -- the bytes of a head that are looked at
 pub front_is : (kept near : List ℕ) (room m : ℕ) → length kept ≤ 65536 → room ≡ 65536 - length kept → m ≡ min room (length near) → take max_head (kept ++ near) ≡ kept ++ take m near
 front_is kept near room m small size cut =
@@ -369,6 +362,21 @@ ended_head kept front n found four fits small =
     let there : empty_line (head ++ drop n front) ≡ Some (length kept + n - 4) = ap empty_line (sym split) ∙ found in
     let place : length kept + n - 4 + 4 ≡ length head = omega (arith, size, four) in
     head_len-whole head (length kept + n - 4) (empty_line-less head (drop n front) (length kept + n - 4) there (omega (arith, place))) place small
+
+-- where a head ends among the bytes that are looked at, its version and its length are those of the bytes up to there
+pub whole_head : (kept near : List ℕ) (v : Version) (m n : ℕ) → length kept ≤ 65536 → m ≡ min (65536 - length kept) (length near) → version_of (kept ++ near) ≡ Some v
+    → empty_line (kept ++ take m near) ≡ Some (length kept + n - 4) → n ≤ length (take m near) → 4 ≤ length kept + n
+    → (version_of (kept ++ take n (take m near)) ≡ Some v) × (head_len (kept ++ take n (take m near)) ≡ Some (length (kept ++ take n (take m near))))
+whole_head kept near v m n low size version found fits four =
+    let end : List ℕ = take n (take m near) in
+    let head : List ℕ = kept ++ end in
+    let cut : end ≡ take n near = take-take n m near (omega (arith, fits, length-take m near)) in
+    let whole : head ++ drop n near ≡ kept ++ near = append_assoc kept end (drop n near) ∙ ap (λ x. kept ++ x) (ap (λ x. x ++ drop n near) cut ∙ take-append-drop n near) in
+    let small : length head ≤ 65536 = omega (arith, length-append kept end, length-take n (take m near), length-take m near, size, low) in
+    let len = ended_head kept (take m near) n found four fits small in
+    let line = version-less head (drop n near) v (ap version_of whole ∙ version) in
+    let room = head_room head line.0 (length head) line.1 len in
+    (sym (version-more head (drop n near) (omega (arith, room))) ∙ ap version_of whole ∙ version, len)
 
 -- memory was refused in a head
 pub no_memory : (at : ℕ) (taken : List ℕ) (told : Told) (d : State) (text near : List ℕ) (f : Fault) → IsAt at taken told d → d.phase ≡ phases.Head → within_limit at text ≡ taken ++ near → f.offset ≡ d.position - length d.kept → WantsMemory at text told f
@@ -510,7 +518,7 @@ unfolding lies_as
 finishes_cut at taken told d s low some =
     let same : fault kinds.Truncated d.position ≡ fault kinds.Truncated (at + length taken) = ap (fault kinds.Truncated) s.position_is in
     let P : Fault → Type 0 = λ f. IsFrameFault at taken f in
-    (same, subst P (sym same) (truncated at taken told (omega (arith, s.position_is, low)) (lies_as at taken told d s) (rest_some at taken told d s some)))
+    (same, subst P (sym same) (truncated any_fields at taken told (omega (arith, s.position_is, low)) (all_told told) (lies_as at taken told d s) (rest_some at taken told d s some)))
 
 pub gives_ok : {X Y : Type 0} (view : X → Y) (r : Result X Fault) (read : Result Y Fault) (x : X) → r ≡ Ok x → Gives view r read → read ≡ Ok (view x)
 gives_ok view r read x e h = subst (λ q. Gives view q read) e h

@@ -1,4 +1,4 @@
--- Counts that stay at the greatest number of 64 bits.
+-- Counts that stay at the greatest number of 64 bits. This project's own notion.
 use Rattle.std.specs.Prelude.{ℕ, ◌+◌, ◌-◌, ◌^◌, nat_lt, min, if◌then◌else◌}
 
 -- one more, up to the greatest number of 64 bits

@@ -1,4 +1,5 @@
--- What reads give of the bytes that a source holds, and what writes add to those that a sink tells.
+-- What reads give of the bytes that a source holds, and what writes add to those that a sink tells. This project's own
+-- notion.
 use Rattle.std.specs.Prelude.{◌≡◌, ℕ, ◌-◌, ◌<◌, ◌≤◌, List, length, take, drop, Bool, true, ◌==◌, ◌&&◌, nat_lt, Ok, Err}
 use Rattle.std.specs.Prelude.{Result}
 

@@ -1,4 +1,4 @@
--- The text of a fault, by which the program tells it.
+-- The text of a fault, by which the program tells it: this project's own notion, but for the names of fields.
 use Rattle.std.specs.Prelude.{ℕ, List, ◌++◌, codes, decimal}
 use Rattle.warc_frame.specs.declared.fault.Mandatory.{Mandatory}
 use Rattle.warc_frame.specs.declared.fault.Mandatory.TheVariants.{ContentLength, «Type», RecordId, Date as DateField}
@@ -9,7 +9,7 @@ use Rattle.warc_frame.specs.declared.fault.OutFault.{OutFault}
 use Rattle.warc_frame.specs.declared.fault.OutFault.TheVariants.{Read as ReadFailed, Write as WriteFailed, Memory as OutOfMemory}
 use Rattle.warc_frame.specs.declared.send.SendFault.{SendFault}
 
--- the name of a field, as the standard writes it (WARC 1.1, section 5)
+-- the name of a field, as the standard writes it (ISO 28500:2017, which is WARC 1.1: section 5, named fields)
 abbrev pub name_of : Mandatory → List ℕ
 name_of ContentLength = codes "Content-Length"
 name_of «Type» = codes "WARC-Type"

@@ -1,4 +1,4 @@
--- What is read of a source, from its front on.
+-- What is read of a source, from its front on. This project's own notion.
 use Rattle.std.specs.Prelude.{◌≡◌, ⊤, ℕ, ◌^◌, ◌<◌, ◌↔◌, List, length, take, IsTrue, Bool, ◌++◌, codes, decimal}
 use Rattle.warc_frame.specs.Count.{raised}
 use Rattle.warc_frame.specs.declared.gather.GatherFault.{GatherFault}

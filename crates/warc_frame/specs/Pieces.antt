@@ -1,13 +1,14 @@
--- What reading a stream piece by piece keeps and answers.
-use Rattle.std.specs.Prelude.{◌≢◌, ℕ, ◌≤◌, List, Option, Some, None}
-use Rattle.warc_frame.specs.declared.fault.FaultKind.{FaultKind}
+-- What reading a stream piece by piece keeps and answers. This project's own notion.
+use Rattle.std.specs.Prelude.{◌≡◌, ◌≢◌, ℕ, ◌+◌, ◌≤◌, List, ◌++◌, length, Option, Some, None}
 use Rattle.warc_frame.specs.declared.fault.FaultKind.TheVariants.{Truncated, Memory}
 use Rattle.warc_frame.specs.declared.fault.Fault.{Fault}
 use Rattle.warc_frame.specs.declared.stream.Event.{Event}
 use Rattle.warc_frame.specs.declared.stream.Event.TheVariants as events
-use Rattle.warc_frame.specs.Record.{IsFramed}
+use Rattle.warc_frame.specs.Record.{Record, IsFramed}
+use Rattle.warc_frame.specs.Spelling.{SpellsAll}
 use Rattle.warc_frame.specs.Faults.{IsFrameFault}
-use Rattle.warc_frame.specs.Told.{Unclosed}
+use Rattle.warc_frame.specs.Told.{Unclosed, Told}
+use Rattle.warc_frame.specs.Decoding.{State, IsAt}
 
 abbrev pub ClosesFramed : Option Unclosed → Type 0
 ClosesFramed None = Unit {0}
@@ -16,18 +17,43 @@ ClosesFramed (Some u) = IsFramed (record { version = u.version; fields = u.field
 -- a part lies in the piece, and what an end closes can be framed
 abbrev pub MayKeep : {A : Type 0} → ℕ → Option Unclosed → Event A → Type 0
 MayKeep n unclosed events.More = Unit {0}
-MayKeep n unclosed (events.Head version fields length) = Unit {0}
+MayKeep n unclosed (events.Head version fields number) = Unit {0}
 MayKeep n unclosed (events.Part from to) = (from ≤ to) × (to ≤ n)
 MayKeep n unclosed events.End = ClosesFramed unclosed
 
-abbrev pub UnlessMemory : FaultKind → Type 0 → Type 0
-UnlessMemory Memory P = Unit {0}
-UnlessMemory kind P = P
+-- an offset is that behind the text of these records, at the front of a text that begins at offset `at`
+pub record StandsBehind (at : ℕ) (text : List ℕ) (records : List Record) (offset : ℕ) : Type 0 where
+  pub front : List ℕ
+  pub rest : List ℕ
+  pub text_is : text ≡ front ++ rest
+  pub spelled : SpellsAll records front
+  pub offset_is : offset ≡ at + length front
 
--- the frame fault of a text, which stays whatever follows, or want of memory
+-- where the record begins that isn't ended, once this event is told whose bytes end before offset `behind`
+abbrev pub start_on : {A : Type 0} → ℕ → ℕ → Event A → ℕ
+start_on start behind events.More = start
+start_on start behind (events.Head version fields number) = start
+start_on start behind (events.Part from to) = start
+start_on start behind events.End = behind
+
+-- what was told, and where the record begins that isn't ended
+pub record Keeping : Type 0 where
+  pub told : Told
+  pub start : ℕ
+
+-- what is kept of the bytes taken
+pub record Keeps (at : ℕ) (taken : List ℕ) (kept : Keeping) (d : State) : Type 0 where
+  pub is_at : IsAt at taken kept.told d
+  pub start : StandsBehind at taken kept.told.records kept.start
+
+-- unless memory was wanted: the frame fault of a text, which stays whatever follows
 abbrev pub IsPieceFault : ℕ → List ℕ → Fault → Type 0
-IsPieceFault at text f = UnlessMemory f.kind (IsFrameFault at text f × (f.kind ≢ Truncated))
+IsPieceFault at text f = f.kind ≢ Memory → IsFrameFault at text f × (f.kind ≢ Truncated)
 
--- the frame fault of a text, or want of memory
+-- unless memory was wanted: the frame fault of a text
 abbrev pub IsPiecesFault : ℕ → List ℕ → Fault → Type 0
-IsPiecesFault at text f = UnlessMemory f.kind (IsFrameFault at text f)
+IsPiecesFault at text f = f.kind ≢ Memory → IsFrameFault at text f
+
+-- memory was wanted for a record that begins at the fault's offset: behind whole records, or at the text's front
+abbrev pub IsMemoryFault : ℕ → List ℕ → Fault → Type 0
+IsMemoryFault at text f = f.kind ≡ Memory → (records : List Record) × StandsBehind at text records f.offset

@@ -1,4 +1,5 @@
--- The record at the front of a text, or the first row of the table of refusals that fits the text.
+-- The record at the front of a text, or the first row of the table of refusals that fits the text. What a record is: ISO
+-- 28500:2017, which is WARC 1.1, section 4, file and record model. The table of refusals is this project's own notion.
 use Rattle.std.specs.Prelude.{◌≡◌, ℕ, suc, ◌+◌, ◌-◌, ◌&&◌, Bool, not, nat_le, nat_lt, nat_eq, List, [], ◌∷◌, ◌++◌, length, take, drop, slice_range, Option, Some, None, option_map, is_none, Result, Ok, Err, if◌then◌else◌}
 use Rattle.std.specs.List.{starts_with}
 use Rattle.warc_field.specs.Area.{Pair, area_of}

@@ -1,4 +1,4 @@
--- What went out of an output, to a sink that told some bytes at the start.
+-- What went out of an output, to a sink that told some bytes at the start. This project's own notion.
 use Rattle.std.specs.Prelude.{◌≡◌, ℕ, ◌≤◌, List, ◌++◌, length, take, Option}
 use Rattle.std.specs.Prelude.{Result, Ok, Err}
 use Rattle.std.specs.Io.KnownBytes.{append_known}

@@ -1,4 +1,4 @@
--- What a reader of a stream was told, and what of it lies in the bytes.
+-- What a reader of a stream was told, and what of it lies in the bytes. This project's own notion.
 use Rattle.std.specs.Prelude.{◌≡◌, ◌≢◌, ℕ, ◌+◌, List, [], ◌∷◌, ◌++◌, length, take, drop, slice_range, Option, Some, None, IsSome, Result, Ok, Err}
 use Rattle.warc_field.specs.Area.{Pair}
 use Rattle.warc_frame.specs.declared.version.Version.{Version}
@@ -9,8 +9,8 @@ use Rattle.warc_frame.specs.declared.stream.Event.{Event}
 use Rattle.warc_frame.specs.declared.stream.Event.TheVariants as events
 use Rattle.warc_frame.specs.Record.{Record}
 use Rattle.warc_frame.specs.Spelling.{SpellsAll}
-use Rattle.warc_frame.specs.Reading.{Head, any_fields, head_of, record_of, fault}
-use Rattle.warc_frame.specs.Faults.{ReadsAs, within_limit, goes_on, limited}
+use Rattle.warc_frame.specs.Reading.{Judgement, Head, any_fields, head_of, record_of, fault}
+use Rattle.warc_frame.specs.Faults.{AllAccepted, ReadsAs, within_limit, goes_on, limited}
 
 -- a record whose head was told and whose end wasn't, with the bytes of its block that were told
 pub record Unclosed : Type 0 where
@@ -91,6 +91,15 @@ pub record IsExact (text : List ℕ) (told : Told) : Type 0 where
   pub text_is : text ≡ front ++ rest
   pub spelled : SpellsAll told.records front
   pub ends : EndsThere rest told.unclosed
+
+-- a judgement finds no fault in the fields of the head told last, if its record's end wasn't told
+abbrev pub AcceptsOpen : Judgement → Option Unclosed → Type 0
+AcceptsOpen judge None = Unit {0}
+AcceptsOpen judge (Some u) = judge u.fields ≡ None
+
+-- nor in those of any head that was told
+abbrev pub AcceptsTold : Judgement → Told → Type 0
+AcceptsTold judge told = AllAccepted judge told.records × AcceptsOpen judge told.unclosed
 
 -- where an event tells something
 abbrev pub IfTold : {A : Type 0} → Event A → Type 0 → Type 0

@@ -1,4 +1,4 @@
--- The version line of a record (WARC 1.1, section 4).
+-- The version line of a record (ISO 28500:2017, which is WARC 1.1: section 4, file and record model).
 use Rattle.std.specs.Prelude.{ℕ, List, ◌++◌, codes}
 use Rattle.warc_frame.specs.declared.version.Version.{Version}
 use Rattle.warc_frame.specs.declared.version.Version.TheVariants.{V1_0, V1_1}

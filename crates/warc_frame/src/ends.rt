@@ -1,7 +1,8 @@
-ghost use Rattle.std.specs.Prelude.{◌≡◌, ℕ, ◌+◌, ◌-◌, ◌<◌, ◌≤◌, ◌++◌, ◌&&◌, length, take, drop, slice_index, IfSome, IsTrue, ◌↔◌, is_some, MatchOption, None, Some};
+ghost use Rattle.std.specs.Prelude.{◌≡◌, ℕ, ◌+◌, ◌-◌, ◌<◌, ◌≤◌, ◌++◌, ◌&&◌, length, take, drop, slice_index, IfSome, IsTrue, ◌↔◌, MatchOption, None, Some};
 ghost use Rattle.warc_frame.specs.Reading.{empty_line, version_of, begins};
 ghost use Rattle.warc_frame.specs.Decoding.{ends_behind, closing};
 
+use crate::version::Version;
 use memchr::memmem;
 
 const CLOSING: [u8; 4] = *b"\r\n\r\n";
@@ -57,12 +58,12 @@ pub(crate) fn find_end(kept: &[u8], piece: &[u8]) -> Option<usize>
     Some(place + 4)
 }
 
-/// Whether the text, as far as it goes, begins as the line.
-fn begins_as(text: &[u8], line: &[u8]) -> bool
-    ensures { result ≡ begins text.now line.now }
+/// Whether the text, as far as it goes, begins as is wanted.
+pub(crate) fn begins_as(text: &[u8], wanted: &[u8]) -> bool
+    ensures { result ≡ begins text.now wanted.now }
 {
-    let len = text.len().min(line.len());
-    line.starts_with(&text[..len])
+    let len = text.len().min(wanted.len());
+    wanted.starts_with(&text[..len])
 }
 
 /// Whether the two texts together, as far as they go, begin as the line.
@@ -75,15 +76,18 @@ fn begins_line(kept: &[u8], piece: &[u8], line: &[u8]) -> bool
     begins_as(piece, &line[kept.len().min(line.len())..])
 }
 
-/// Whether the two texts together, as far as they go, begin as a version line.
+/// The version whose line the two texts together, as far as they go, begin with.
 #[tactic(auto, unfolding(crate::specs::Reading::version_of))]
-pub(crate) fn begins_across(kept: &[u8], piece: &[u8]) -> bool
-    ensures { result ≡ is_some (version_of (kept.now ++ piece.now)) }
+pub(crate) fn version_across(kept: &[u8], piece: &[u8]) -> Option<Version>
+    ensures { result ≡ version_of (kept.now ++ piece.now) }
 {
     if begins_line(kept, piece, b"WARC/1.1\r\n") {
-        return true;
+        Some(Version::V1_1)
+    } else if begins_line(kept, piece, b"WARC/1.0\r\n") {
+        Some(Version::V1_0)
+    } else {
+        None
     }
-    begins_line(kept, piece, b"WARC/1.0\r\n")
 }
 
 /// Whether these bytes are those of a CRLF CRLF from this place on.

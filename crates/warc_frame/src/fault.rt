@@ -1,5 +1,5 @@
 //! The first fault of an archive: what it is, and where.
-ghost use Rattle.std.specs.Prelude.{◌≡◌, Some};
+ghost use Rattle.std.specs.Prelude.{◌≡◌, ◌≤◌, ◌++◌, length, Some};
 ghost use Rattle.warc_frame.specs.Send.{sent_of};
 ghost use Rattle.warc_frame.specs.FaultText.{name_of, kind_text, fault_text, out_fault_text};
 
@@ -85,26 +85,38 @@ pub enum FaultKind {
     Memory,
 }
 
+impl FaultKind {
+    /// The fault's number and name, and the name of the field that it is about, or nothing: each of at most 16 bytes, and one
+    /// behind the other the fault's text.
+    pub fn parts(self) -> (&'static str, &'static str)
+        ensures text { result.0.now ++ result.1.now ≡ kind_text self }
+        ensures short { (length result.0.now ≤ 16) × (length result.1.now ≤ 16) }
+    {
+        match self {
+            FaultKind::Version => ("F1 Version", ""),
+            FaultKind::HeadTooLong => ("F2 HeadTooLong", ""),
+            FaultKind::Field => ("F3 Field", ""),
+            FaultKind::Missing(field) => ("F4 Missing ", field.name()),
+            FaultKind::Repeated(field) => ("F5 Repeated ", field.name()),
+            FaultKind::Length => ("F6 Length", ""),
+            FaultKind::BadType => ("F7 BadType", ""),
+            FaultKind::Id => ("F8 Id", ""),
+            FaultKind::Date => ("F9 Date", ""),
+            FaultKind::End => ("F10 End", ""),
+            FaultKind::Truncated => ("F11 Truncated", ""),
+            FaultKind::TooLong => ("F12 TooLong", ""),
+            FaultKind::Read => ("F13 Read", ""),
+            FaultKind::Memory => ("F14 Memory", ""),
+        }
+    }
+}
+
 impl fmt::Display for FaultKind {
     ghost output = { λ kind. Some (kind_text kind) };
 
     fn fmt<W: fmt::Write>(&self, f: &mut fmt::Formatter<W>) -> fmt::Result {
-        match self {
-            FaultKind::Version => write!(f, "F1 Version"),
-            FaultKind::HeadTooLong => write!(f, "F2 HeadTooLong"),
-            FaultKind::Field => write!(f, "F3 Field"),
-            FaultKind::Missing(field) => write!(f, "F4 Missing {field}"),
-            FaultKind::Repeated(field) => write!(f, "F5 Repeated {field}"),
-            FaultKind::Length => write!(f, "F6 Length"),
-            FaultKind::BadType => write!(f, "F7 BadType"),
-            FaultKind::Id => write!(f, "F8 Id"),
-            FaultKind::Date => write!(f, "F9 Date"),
-            FaultKind::End => write!(f, "F10 End"),
-            FaultKind::Truncated => write!(f, "F11 Truncated"),
-            FaultKind::TooLong => write!(f, "F12 TooLong"),
-            FaultKind::Read => write!(f, "F13 Read"),
-            FaultKind::Memory => write!(f, "F14 Memory"),
-        }
+        let (name, field) = self.parts();
+        write!(f, "{name}{field}")
     }
 }
 

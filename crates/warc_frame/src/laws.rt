@@ -1,11 +1,13 @@
 //! Laws over the definitions: each function does nothing, and its contract is the law.
-ghost use Rattle.std.specs.Prelude.{◌≡◌, ◌≢◌, ◌⊎◌, ℕ, ◌+◌, ◌≤◌, List, [], ◌++◌, Option, None, Ok, Err, length, take, ◌^◌, ◌<◌};
+ghost use Rattle.std.specs.Prelude.{◌≡◌, ◌≢◌, ◌⊎◌, ℕ, ◌+◌, ◌≤◌, List, [], ◌++◌, Option, None, Some, Ok, Err, length, take, ◌^◌, ◌<◌};
 ghost use Rattle.warc_frame.specs.declared.fault.Fault.{Fault};
-ghost use Rattle.warc_frame.specs.declared.fault.FaultKind.TheVariants.{Truncated};
+ghost use Rattle.warc_frame.specs.declared.fault.FaultKind.{FaultKind};
+ghost use Rattle.warc_frame.specs.declared.fault.FaultKind.TheVariants.{Truncated, Memory};
 ghost use Rattle.warc_frame.specs.Record.{Record, IsFramed, max_archive};
 ghost use Rattle.warc_frame.specs.Spelling.{Spells, SpellsAll, canonical};
-ghost use Rattle.warc_frame.specs.Reading.{Judgement, record_of};
-ghost use Rattle.warc_frame.specs.Faults.{AllAccepted, ReadsAs, IsFirstFault};
+ghost use Rattle.warc_frame.specs.Reading.{Judgement, Head, fault, head_of, record_of};
+ghost use Rattle.warc_frame.specs.Faults.{AllAccepted, ReadsAs, IsFirstFault, IsFrameFault};
+ghost use Rattle.warc_frame.specs.Told.{Unclosed, Told, Lies, IsExact, Refutes, Refuses, AcceptsTold};
 ghost use Rattle.std.specs.Io.KnownBytes.{append_known};
 ghost use Rattle.warc_frame.specs.Device.{Staged};
 ghost use Rattle.warc_frame.specs.Send.{WentOut, IsStaged};
@@ -29,6 +31,25 @@ pub fn reading_is_spelling()
         → record_of judge (text ++ more) ≡ Ok (r, length text) }
     ensures spelled { (judge : Judgement) (text : List ℕ) (r : Record) (n : ℕ) → record_of judge text ≡ Ok (r, n)
         → (n ≤ length text) × Spells r (take n text) × (judge r.fields ≡ None) }
+{}
+
+/// A text begins with at most one text that spells a given list of records.
+pub fn fronts_are_same()
+    ensures { (rs : List Record) (front other rest more : List ℕ) → SpellsAll rs front → SpellsAll rs other
+        → front ++ rest ≡ other ++ more → front ≡ other }
+{}
+
+/// A head that is read stays read when bytes are appended.
+pub fn heads_are_stable()
+    ensures { (judge : Judgement) (text more : List ℕ) (head : Head) → head_of judge text ≡ Ok head
+        → head_of judge (text ++ more) ≡ Ok head }
+{}
+
+/// The first n bytes of what spells a record, where the block and two CRLFs stand behind them, are read as its head.
+pub fn head_of_spelled()
+    ensures { (judge : Judgement) (r : Record) (text : List ℕ) (n : ℕ) → Spells r text → judge r.fields ≡ None
+        → n + length r.block + 4 ≡ length text
+        → head_of judge (take n text) ≡ Ok (record { version = r.version; fields = r.fields; len = n; block_len = length r.block }) }
 {}
 
 /// A text that begins at offset q and ends by offset 2^48 has no first fault exactly if it spells a list of records, all
@@ -62,6 +83,23 @@ pub fn reading_is_unique()
         → (records : List Record) × (found : Option Fault) × ReadsAs judge q text records found }
     ensures one { (judge : Judgement) (q : ℕ) (text : List ℕ) (rs ss : List Record) (one other : Option Fault)
         → ReadsAs judge q text rs one → ReadsAs judge q text ss other → (rs ≡ ss) × (one ≡ other) }
+{}
+
+/// What a step that fails says of the text, where it didn't want memory: the text is refuted, by a fault that stays.
+pub fn refusals_refute()
+    ensures { (at : ℕ) (text : List ℕ) (told : Told) (f : Fault) → Refuses at text told f → f.kind ≢ Memory → Refutes at text told f }
+{}
+
+/// The first fault for a reader that is told a text by framing alone, and judges the fields of each head that it is told.
+/// While it accepts them, the fault is framing's; the first that it refuses is the fault, at its record's first byte.
+pub fn first_fault_of_judged_heads()
+    ensures refuted { (judge : Judgement) (at : ℕ) (text : List ℕ) (told : Told) (f : Fault) → Refutes at text told f
+        → AcceptsTold judge told → IsFirstFault judge at text f }
+    ensures cut { (judge : Judgement) (at : ℕ) (text : List ℕ) (told : Told) (f : Fault) → Lies text told
+        → AcceptsTold judge told → at + length text ≤ max_archive → IsFrameFault at text f → IsFirstFault judge at text f }
+    ensures head { (judge : Judgement) (at : ℕ) (text : List ℕ) (told : Told) (u : Unclosed) (kind : FaultKind) → IsExact text told
+        → told.unclosed ≡ Some u → AllAccepted judge told.records → judge u.fields ≡ Some kind → at + length text ≤ max_archive
+        → (front rest : List ℕ) × (text ≡ front ++ rest) × SpellsAll told.records front × IsFirstFault judge at text (fault kind (at + length front)) }
 {}
 
 /// What went out of an output went out of each longer one.

@@ -22,7 +22,7 @@ pub use fault::{Fault, FaultKind, Mandatory, OutFault};
 pub use framed::{Framed, FramedFault};
 pub use gather::{GatherFault, Gathered, MAX_ARCHIVE, read_whole};
 pub use pieces::decode;
-pub use reading::{MAX_BLOCK, MAX_HEAD, read_one};
+pub use reading::{Head, MAX_BLOCK, MAX_HEAD, read_head, read_one};
 pub use send::{SendFault, send_all};
 pub use sink::{MemSink, OutSink, Sink, WriteFault, is_failed};
 pub use source::{FileSource, MemSource, ReadFault, Source};

@@ -1,10 +1,9 @@
-ghost use Rattle.std.specs.Prelude.{◌≡◌, ℕ, ◌+◌, ◌≤◌, ◌^◌, ◌++◌, List, [], ◌∷◌, length, IfOk, IfErr, OnOk, MatchResult};
+ghost use Rattle.std.specs.Prelude.{◌≡◌, ℕ, ◌+◌, ◌≤◌, ◌^◌, ◌++◌, List, [], ◌∷◌, length, IfOk, IfErr, OnOk, OnErr, MatchResult};
 ghost use Rattle.std.specs.List.{flat_map};
 ghost use Rattle.warc_frame.specs.Record.{Record};
 ghost use Rattle.warc_frame.specs.Spelling.{SpellsAll};
 ghost use Rattle.warc_frame.specs.Told.{tell};
-ghost use Rattle.warc_frame.specs.Decoding.{IsAt};
-ghost use Rattle.warc_frame.specs.Pieces.{IsPieceFault, MayKeep, IsPiecesFault};
+ghost use Rattle.warc_frame.specs.Pieces.{start_on, Keeps, IsPieceFault, IsMemoryFault, MayKeep, IsPiecesFault};
 
 use crate::fault::{Fault, FaultKind};
 use crate::framed::Framed;
@@ -36,21 +35,25 @@ impl<A: Allocator> Model for Begun<A> {
 struct Kept<A: Allocator> {
     records: Vec<Framed<A>, A>,
     begun: Option<Begun<A>>,
+    /// The offset behind the records told.
+    start: u64,
 }
 
 impl<A: Allocator> Model for Kept<A> {
-    ghost use Rattle.warc_frame.specs.Told.{Told};
+    ghost use Rattle.warc_frame.specs.Pieces.{Keeping};
 
-    ghost Value = { Told };
+    ghost Value = { Keeping };
 
-    ghost view = { λ k. record { records = k.records.items; unclosed = k.begun } };
+    ghost view = { λ k. record { told = record { records = k.records.items; unclosed = k.begun }; start = k.start } };
 }
 
 impl<A: Allocator + Copy> Kept<A> {
-    /// Keeps what an event tells of a piece.
-    fn keep(&mut self, piece: &[u8], event: Event<A>) -> Result<(), AllocError>
-        requires { MayKeep (length piece.now) self.old.unclosed event }
-        ensures { OnOk result (self.new ≡ tell self.old piece.now event) }
+    /// Keeps what an event tells of a piece, whose bytes end before offset `behind`.
+    fn keep(&mut self, piece: &[u8], event: Event<A>, behind: u64) -> Result<(), AllocError>
+        requires { MayKeep (length piece.now) self.old.told.unclosed event }
+        ensures told { OnOk result (self.new.told ≡ tell self.old.told piece.now event) }
+        ensures start { OnOk result (self.new.start ≡ start_on self.old.start behind event) }
+        ensures still { OnErr result (self.new.start ≡ self.old.start) }
     {
         match event {
             Event::More => {}
@@ -73,6 +76,7 @@ impl<A: Allocator + Copy> Kept<A> {
                     let record = Framed::from_checked(begun.version, begun.fields, begun.bytes);
                     self.records.push(record)?;
                 }
+                self.start = behind;
             }
         }
         Ok(())
@@ -85,18 +89,19 @@ fn feed<A: Allocator + Copy>(
     kept: &mut Kept<A>,
     piece: &[u8],
 ) -> Result<(), Fault>
-    requires { (at : ℕ) × (taken : List ℕ) × IsAt at taken kept.old decoder.old }
-    ensures { (at : ℕ) (taken : List ℕ) → IsAt at taken kept.old decoder.old →
-        MatchResult result (λ _. IsAt at (taken ++ piece.now) kept.new decoder.new) (λ fault. IsPieceFault at (taken ++ piece.now) fault) }
+    requires { (at : ℕ) × (taken : List ℕ) × Keeps at taken kept.old decoder.old }
+    ensures kept { (at : ℕ) (taken : List ℕ) → Keeps at taken kept.old decoder.old →
+        MatchResult result (λ _. Keeps at (taken ++ piece.now) kept.new decoder.new) (IsPieceFault at (taken ++ piece.now)) }
+    ensures memory { (at : ℕ) (taken : List ℕ) → Keeps at taken kept.old decoder.old → IfErr result (IsMemoryFault at (taken ++ piece.now)) }
 {
     let mut from = 0;
     while from < piece.len() {
         let rest = &piece[from..];
         let (took, event) = decoder.step(rest)?;
-        if kept.keep(rest, event).is_err() {
+        if kept.keep(rest, event, decoder.position()).is_err() {
             return Err(Fault {
                 kind: FaultKind::Memory,
-                offset: decoder.position(),
+                offset: kept.start,
             });
         }
         from += took;
@@ -105,7 +110,8 @@ fn feed<A: Allocator + Copy>(
 }
 
 /// The records that the pieces, one behind the other, spell, however the bytes are cut into them; the first byte stands at
-/// offset `at`, at most 2^48. The fault is the frame fault of all bytes, or want of memory.
+/// offset `at`, at most 2^48. The fault is the frame fault of all bytes, or want of memory at the first byte of the record that
+/// memory was wanted for.
 pub fn decode<A: Allocator + Copy>(
     alloc: A,
     at: u64,
@@ -116,11 +122,13 @@ pub fn decode<A: Allocator + Copy>(
     // No other list of records is spelled.
     ensures only { IfOk result (λ records. (others : List Record) → SpellsAll others (flat_map (λ piece. piece.now) pieces.now) → records.items ≡ others) }
     ensures fault { IfErr result (IsPiecesFault at (flat_map (λ piece. piece.now) pieces.now)) }
+    ensures memory { IfErr result (IsMemoryFault at (flat_map (λ piece. piece.now) pieces.now)) }
 {
     let mut decoder = Decoder::new(alloc, at);
     let mut kept = Kept {
         records: Vec::new(alloc),
         begun: None,
+        start: at,
     };
     for piece in pieces {
         feed(&mut decoder, &mut kept, piece)?;

@@ -5,6 +5,7 @@ ghost use Rattle.warc_frame.specs.Spelling.{Spells};
 ghost use Rattle.warc_frame.specs.Reading.{any_fields, begins, block_at, empty_line, head_front, head_len, head_of, record_of, version_of, Gives, OrMemory};
 ghost use Rattle.warc_frame.specs.Faults.{IsFrameFault};
 
+use crate::ends::{begins_as, version_across};
 use crate::fault::{Fault, FaultKind};
 use crate::framed::{Framed, FramedFault};
 use crate::version::Version;
@@ -21,35 +22,15 @@ pub const MAX_BLOCK: u64 = 1 << 40;
 /// The length of a version line.
 const VERSION_LINE: usize = 10;
 
-/// A head, its length, and the length of the block behind it.
+/// A head: all bytes of a record before its block.
 #[derive(Drop)]
-pub(crate) struct Head<A: Allocator> {
-    pub(crate) version: Version,
-    pub(crate) fields: Fields<A>,
-    pub(crate) len: usize,
-    pub(crate) block_len: u64,
-}
-
-/// Whether the text, as far as it goes, begins as is wanted.
-fn begins_as(text: &[u8], wanted: &[u8]) -> bool
-    ensures { result ≡ begins text.now wanted.now }
-{
-    let len = text.len().min(wanted.len());
-    wanted.starts_with(&text[..len])
-}
-
-/// The version whose line the text, as far as it goes, begins with.
-#[tactic(auto, unfolding(crate::specs::Reading::version_of))]
-fn read_version(text: &[u8]) -> Option<Version>
-    ensures { result ≡ version_of text.now }
-{
-    if begins_as(text, b"WARC/1.1\r\n") {
-        Some(Version::V1_1)
-    } else if begins_as(text, b"WARC/1.0\r\n") {
-        Some(Version::V1_0)
-    } else {
-        None
-    }
+pub struct Head<A: Allocator> {
+    pub version: Version,
+    pub fields: Fields<A>,
+    /// How many bytes the head has, the empty line that ends it included: at most 65,536.
+    pub len: usize,
+    /// How many bytes the block behind it has, as its `Content-Length` says: at most 2^40.
+    pub block_len: u64,
 }
 
 /// Where the first CRLF CRLF stands.
@@ -156,14 +137,16 @@ pub(crate) fn read_fields<A: Allocator + Copy>(
     })
 }
 
-/// The head at the front of a text.
+/// The head at the front of a text, whatever follows it. A fault's offset counts from the front: it is the first row of the
+/// table of refusals that fits, as far as framing goes, and the block isn't looked at. Nothing given is Truncated at 0; want
+/// of memory is told at 0.
 #[tactic(auto, unfolding(crate::specs::Reading::head_of))]
-pub(crate) fn read_head<A: Allocator + Copy>(alloc: A, text: &[u8]) -> Result<Head<A>, Fault>
+pub fn read_head<A: Allocator + Copy>(alloc: A, text: &[u8]) -> Result<Head<A>, Fault>
     ensures exact { Gives (λ h. record { version = h.version; fields = h.fields; len = h.len; block_len = h.block_len }) result (head_of any_fields text.now) }
     ensures within { IfOk result (λ h. (h.len ≤ length text.now) × (h.block_len ≤ max_block)) }
     ensures by { IfErr result (λ f. f.offset ≤ length text.now) }
 {
-    let Some(version) = read_version(text) else {
+    let Some(version) = version_across(&[], text) else {
         return Err(at_front(FaultKind::Version));
     };
     let Some(len) = find_head_len(text) else {

@@ -1,14 +1,15 @@
 ghost use Rattle.std.specs.Prelude.{◌≡◌, ◌≢◌, ℕ, ◌+◌, ◌-◌, ◌<◌, ◌≤◌, ◌^◌, ◌++◌, length, List, [], take, Bool, true, false, MatchResult, IfOk, OnErr, IfErr, Ok, Err, Some, None};
+ghost use Rattle.warc_frame.specs.Reading.{head_len, version_of};
 ghost use Rattle.warc_frame.specs.Told.{Told, nothing, Lies, Refuses};
 ghost use Rattle.warc_frame.specs.Decoding.{IsAt, IsFailed, Finishes, IsWithin, Takes};
 ghost use Rattle.warc_frame.specs.Steps.{Near, ClosesHead};
 ghost use Rattle.warc_frame.specs.declared.fault.Fault.{Fault};
 ghost use Rattle.warc_frame.specs.declared.stream.Event.TheVariants as events;
 
-use crate::ends::{begins_across, closes_on, find_end};
+use crate::ends::{closes_on, find_end, version_across};
 use crate::fault::{Fault, FaultKind};
 use crate::gather::MAX_ARCHIVE;
-use crate::reading::{MAX_HEAD, read_head};
+use crate::reading::{MAX_HEAD, read_fields};
 use crate::version::Version;
 use std::alloc::{Allocator, Global};
 use std::marker::Model;
@@ -149,16 +150,16 @@ impl<A: Allocator + Copy> Decoder<A> {
         ensures still { OnErr result (self.new.position ≡ self.old.position) }
     {
         let start = self.position - self.head.len() as u64;
-        if !begins_across(&self.head, near) {
+        let Some(version) = version_across(&self.head, near) else {
             return Err(Fault {
                 kind: FaultKind::Version,
                 offset: start,
             });
-        }
+        };
         let room = MAX_HEAD - self.head.len();
         let front = &near[..room.min(near.len())];
         if let Some(n) = find_end(&self.head, front) {
-            return self.close_head(&front[..n]);
+            return self.close_head(version, &front[..n]);
         }
         if front.len() == room {
             return Err(Fault {
@@ -182,8 +183,10 @@ impl<A: Allocator + Copy> Decoder<A> {
         Ok((front.len(), Event::More))
     }
 
-    /// Takes the bytes that end a head, and reads the head: in place where all of it is given.
-    fn close_head(&mut self, end: &[u8]) -> Result<(usize, Event<A>), Fault>
+    /// Takes the bytes that end a head of this version, and reads the head: in place where all of it is given.
+    fn close_head(&mut self, version: Version, end: &[u8]) -> Result<(usize, Event<A>), Fault>
+        requires version { version_of (self.old.kept ++ end.now) ≡ Some version }
+        requires len { head_len (self.old.kept ++ end.now) ≡ Some (length (self.old.kept ++ end.now)) }
         requires some { 0 < length end.now }
         requires room { self.old.position + length end.now ≤ 2 ^ 48 }
         ensures closes { ClosesHead self.old self.new end.now result }
@@ -194,7 +197,7 @@ impl<A: Allocator + Copy> Decoder<A> {
         let start = self.position - self.head.len() as u64;
         let alloc = *self.head.allocator();
         let read = if self.head.is_empty() {
-            read_head(alloc, end)
+            read_fields(alloc, version, end.len(), end)
         } else {
             if self.head.extend_from_slice(end).is_err() {
                 return Err(Fault {
@@ -202,7 +205,7 @@ impl<A: Allocator + Copy> Decoder<A> {
                     offset: start,
                 });
             }
-            read_head(alloc, &self.head)
+            read_fields(alloc, version, self.head.len(), &self.head)
         };
         self.head.clear();
         match read {

@@ -4,7 +4,7 @@ ghost use Rattle.warc_frame.specs.VersionLine.{version_line, version_name};
 
 use std::fmt;
 
-/// A version of the format (WARC 1.1, section 4).
+/// A version of the format (ISO 28500:2017, which is WARC 1.1: section 4, file and record model).
 #[derive(Clone, Copy, PartialEq, Eq, Debug)]
 pub enum Version {
     V1_0,

@@ -28,9 +28,9 @@ returns-in-Ok-clause-closes g c =
     let read : head_of any_fields (c.args.self.now.kept ++ c.args.end.now) ≡ Ok (record { version = c.in-Ok.head.version; fields = c.in-Ok.head.fields; len = c.in-Ok.head.len; block_len = c.in-Ok.head.block_len }) = elim c.if-is_empty.branch [
       | then-is_empty w ↦ (
           let nil : c.self.inside.head.items ≡ [] = nil_from_length c.self.inside.head.items (grind (arith, c.self.inside.head.ok.0)) in
-          ap (λ x. head_of any_fields (x ++ c.args.end.now)) (sym kept ∙ nil) ∙ gives_ok _ w.read_head-read.result (head_of any_fields c.args.end.now) c.in-Ok.head (sym w.read-is ∙ c.in-Ok.is) w.read_head-read.ensures.exact)
+          ap (λ x. head_of any_fields (x ++ c.args.end.now)) (sym kept ∙ nil) ∙ gives_ok _ w.read_fields-read.result (head_of any_fields c.args.end.now) c.in-Ok.head (sym w.read-is ∙ c.in-Ok.is) w.read_fields-read.ensures.exact)
       | else-is_empty+else-is_err w ↦ (
           let more = extended w.extend_from_slice.result (c.self.inside.head.items ++ c.args.end.now) c.self.inside.head.items w.extend_from_slice.new.self.items (sym w.is_err.ensures.value ∙ w.if-is_err.false) w.extend_from_slice.ensures.items in
-          ap (head_of any_fields) (ap (λ x. x ++ c.args.end.now) (sym kept) ∙ sym more ∙ sym w.deref.ensures.value) ∙ gives_ok _ w.read_head-read-else-is_empty.result (head_of any_fields w.deref.result.now) c.in-Ok.head (sym w.read-is ∙ c.in-Ok.is) w.read_head-read-else-is_empty.ensures.exact)
+          ap (head_of any_fields) (ap (λ x. x ++ c.args.end.now) (sym kept) ∙ sym more ∙ sym w.deref.ensures.value) ∙ gives_ok _ w.read_fields-read-else-is_empty.result (head_of any_fields w.deref.result.now) c.in-Ok.head (sym w.read-is ∙ c.in-Ok.is) w.read_fields-read-else-is_empty.ensures.exact)
     ] in
     (refl, (c.in-Ok.head.len, refl, read), c.clear.ensures.items, ap (λ k. k + length c.args.end.now) (place ∙ at), refl, refl)
