@@ -1,18 +1,27 @@
--- Reading a record from bytes gives no fault of a source.
-use Rattle.std.proofs.Common.{◌≡◌, ℕ, ◌+◌, ◌<◌, Bool, true, false, true≢false, ◌==◌, ◌-◌, ◌&&◌, not, nat_le, nat_lt, is_none, slice_range, List, [], ◌++◌, length, take, drop, zero, suc, Option, Some, None, Result, Ok, Err, IfErr, if◌then◌else◌, length-drop, refl, sym, ap, subst, ◌∙◌, arith}
-use Rattle.std.proofs.Math.Seq.{take-length}
+-- The faults of bytes and of heads are no faults of a source.
+use Rattle.std.proofs.Common.{◌≡◌, ◌≢◌, ℕ, ◌+◌, Bool, true, false, true≢false, ◌==◌, ◌-◌, ◌&&◌, not, nat_le, nat_lt, is_none, slice_range, List, ◌++◌, length, drop, Option, Some, None, Result, Ok, Err, IfErr, if◌then◌else◌, refl, sym, ap, ◌∙◌}
+use Rattle.std.specs.Option.{option_map_or, option_or}
 use Rattle.warc_field.specs.Area.{Pair, area_of, count_of, first_value}
 use Rattle.warc_field.specs.Lines.{crlf}
-use Rattle.warc_frame.specs.Reading.{◌>>=◌, Head, OrMemory, any_fields, at_front, begins, block_at, fault, fields_or_line, head_len, head_of, needs, record_of, refuses, version_of}
-use Rattle.warc_frame.specs.Record.{Record, block_len, block_number, canonical_len, content_length, max_head, or_length}
-use Rattle.warc_frame.specs.Spelling.{Spells, record_text}
+use Rattle.warc_frame.specs.Faults.{HasFault, limited, or_too_long}
+use Rattle.warc_frame.specs.FaultText.{name_of}
+use Rattle.warc_frame.specs.Reading.{◌>>=◌, Head, any_fields, at_front, begins, block_at, fault, fields_or_line, head_len, head_of, needs, record_of, refuses, version_of}
+use Rattle.warc_frame.specs.Record.{Record, block_len, block_number, canonical_len, content_length, max_archive, max_head, or_length}
 use Rattle.warc_frame.specs.declared.fault.Fault.{Fault}
 use Rattle.warc_frame.specs.declared.fault.FaultKind.{FaultKind}
-use Rattle.warc_frame.specs.declared.fault.FaultKind.TheVariants.{Version as NoVersion, End, HeadTooLong, Memory, Missing, Read, Repeated, TooLong, Truncated}
-use Rattle.warc_frame.specs.declared.fault.Mandatory.TheVariants.{ContentLength}
+use Rattle.warc_frame.specs.declared.fault.FaultKind.TheVariants.{Version as NoVersion, BadType, Date, End, HeadTooLong, Id, Missing, Read, Repeated, TooLong, Truncated}
+use Rattle.warc_frame.specs.declared.fault.Mandatory.{Mandatory}
+use Rattle.warc_frame.specs.declared.fault.Mandatory.TheVariants.{ContentLength, «Type», RecordId, Date as DateField}
+use Rattle.warc_record.specs.Heads.{count_fault, date_fault, head_fault, id_fault, is_date, type_fault, value_fault}
+use Rattle.warc_record.specs.Ids.{is_id}
+use Rattle.warc_field.specs.Text.{is_name}
 use Rattle.warc_frame.specs.declared.version.Version.{Version}
-use Rattle.warc_frame.specs.declared.version.Version.TheVariants.{V1_0, V1_1}
-use Rattle.warc.specs.Archive.{StopsBy, is_of_bytes}
+
+-- a fault that reading bytes gives, and not a source
+abbrev is_of_bytes : FaultKind → Bool
+is_of_bytes Read = false
+is_of_bytes TooLong = false
+is_of_bytes kind = true
 
 abbrev IsOfBytes : Fault → Type 0
 IsOfBytes f = is_of_bytes f.kind ≡ true
@@ -88,29 +97,70 @@ by_err (Err e) f err same =
 of_bytes : (t : List ℕ) (f : Fault) → record_of any_fields t ≡ Err f → is_of_bytes f.kind ≡ true
 of_bytes t f is = by_err (record_of any_fields t) f (record_err t) is
 
--- a fault of the record that begins at an offset
-pub stops_by : (kind : FaultKind) (offset at : ℕ) (text : List ℕ) → OrMemory kind offset (record_of any_fields text ≡ Err (fault kind offset))
-    → (is_of_bytes kind ≡ true) × StopsBy kind at text (fault kind (at + offset))
-stops_by Memory offset at text is = (refl, ap (λ n. at + n) is ∙ omega arith)
-stops_by Read offset at text is = absurd (true≢false (sym (of_bytes text (fault Read offset) is)))
-stops_by TooLong offset at text is = absurd (true≢false (sym (of_bytes text (fault TooLong offset) is)))
-stops_by kind offset at text is = (refl, (fault kind offset, is, refl))
+kind_not_read : (kind : FaultKind) → is_of_bytes kind ≡ true → kind ≢ Read
+kind_not_read kind of read = true≢false (sym of ∙ ap is_of_bytes read)
 
--- a record's text isn't empty
-no_record : (version : Version) (fields : List Pair) (block area : List ℕ) → [] ≡ record_text (record { version = version; fields = fields; block = block }) area → ⊥
-no_record V1_0 fields block area is = cc is
-no_record V1_1 fields block area is = cc is
+found_kind : (t : List ℕ) (q : ℕ) (g : Fault) → HasFault any_fields q t (Some g) → is_of_bytes g.kind ≡ true
+found_kind t q g (some, h, read, is) = ap (λ (x : Fault). is_of_bytes x.kind) is ∙ of_bytes t h read
 
-pub spelled_some : (r : Record) (n : ℕ) (text : List ℕ) → Spells r (take n text) → 0 < n
-spelled_some r zero text is = absurd (no_record r.version r.fields r.block is.area is.text_is)
-spelled_some r (suc n) text is = omega arith
+long_kind : (kind : FaultKind) (offset : ℕ) (f : Fault) → is_of_bytes kind ≡ true → or_too_long kind (fault kind offset) ≡ f → f.kind ≢ Read
+long_kind Truncated offset f of is read = cc (ap (λ (x : Fault). x.kind) is ∙ read)
+long_kind kind offset f of is read = kind_not_read kind of (ap (λ (x : Fault). x.kind) is ∙ read)
 
--- `&l[m..]`, as goals show it
-pub take-rest : (m : ℕ) (l : List ℕ) → take (length l - m) (drop m l) ≡ drop m l
-take-rest m l = ap (λ k. take k (drop m l)) (sym (length-drop m l)) ∙ take-length (drop m l)
+-- so is the frame fault of bytes, as far as an archive goes
+pub limited_kind : (goes : Bool) (found : Option Fault) (t : List ℕ) (q : ℕ) (f : Fault) → HasFault any_fields q t found → limited goes found ≡ Some f → f.kind ≢ Read
+limited_kind false None t q f has is read = cc is
+limited_kind true None t q f has is read =
+    let same : fault TooLong max_archive ≡ f = cc is in
+    cc (ap (λ (x : Fault). x.kind) same ∙ read)
+limited_kind false (Some g) t q f has is read =
+    let same : g ≡ f = cc is in
+    kind_not_read g.kind (found_kind t q g has) (ap (λ (x : Fault). x.kind) same ∙ read)
+limited_kind true (Some g) t q f has is read =
+    let same : or_too_long g.kind g ≡ f = cc is in
+    long_kind g.kind g.offset f (found_kind t q g has) same read
 
-pub stops_at : (kind : FaultKind) (offset at : ℕ) (bytes : List ℕ) → OrMemory kind offset (record_of any_fields (take (length bytes - at) (drop at bytes)) ≡ Err (fault kind offset))
-    → (is_of_bytes kind ≡ true) × StopsBy kind at (drop at bytes) (fault kind (at + offset))
-stops_at kind offset at bytes exact =
-    let P : List ℕ → Type 0 = λ t. OrMemory kind offset (record_of any_fields t ≡ Err (fault kind offset)) in
-    stops_by kind offset at (drop at bytes) (subst P (take-rest at bytes) exact)
+-- a fault of a head
+abbrev pub is_of_head : FaultKind → Bool
+is_of_head (Missing field) = true
+is_of_head (Repeated field) = true
+is_of_head BadType = true
+is_of_head Id = true
+is_of_head Date = true
+is_of_head kind = false
+
+abbrev AllOfHead : Option FaultKind → Type 0
+AllOfHead None = Unit {0}
+AllOfHead (Some kind) = is_of_head kind ≡ true
+
+if_of : (test : Bool) (x y : Option FaultKind) → AllOfHead x → AllOfHead y → AllOfHead (if test then x else y)
+if_of true x y first second = first
+if_of false x y first second = second
+
+or_of : (x y : Option FaultKind) → AllOfHead x → AllOfHead y → AllOfHead (option_or x y)
+or_of None y first second = second
+or_of (Some kind) y first second = first
+
+count_of_head : (field : Mandatory) (fields : List Pair) → AllOfHead (count_fault field fields)
+count_of_head field fields =
+    let again : Option FaultKind = if nat_lt 1 (count_of (name_of field) fields) then Some (Repeated field) else None in
+    if_of (is_none (first_value (name_of field) fields)) (Some (Missing field)) again refl
+    (if_of (nat_lt 1 (count_of (name_of field) fields)) (Some (Repeated field)) None refl tt)
+
+value_of_head : (field : Mandatory) (reads : List ℕ → Bool) (kind : FaultKind) (fields : List Pair) → is_of_head kind ≡ true → AllOfHead (value_fault field reads kind fields)
+value_of_head field reads kind fields of = if_of (option_map_or reads (first_value (name_of field) fields) false) None (Some kind) tt of
+
+all_of_head : (fields : List Pair) → AllOfHead (head_fault fields)
+all_of_head fields =
+    or_of (type_fault fields) (option_or (id_fault fields) (date_fault fields))
+    (or_of (count_fault «Type» fields) (value_fault «Type» is_name BadType fields) (count_of_head «Type» fields) (value_of_head «Type» is_name BadType fields refl))
+    (or_of (id_fault fields) (date_fault fields)
+    (or_of (count_fault RecordId fields) (value_fault RecordId is_id Id fields) (count_of_head RecordId fields) (value_of_head RecordId is_id Id fields refl))
+    (or_of (count_fault DateField fields) (value_fault DateField is_date Date fields) (count_of_head DateField fields) (value_of_head DateField is_date Date fields refl)))
+
+by_head : (o : Option FaultKind) (kind : FaultKind) → AllOfHead o → o ≡ Some kind → is_of_head kind ≡ true
+by_head None kind all is = cc is
+by_head (Some k) kind all is = let same : k ≡ kind = cc is in ap is_of_head (sym same) ∙ all
+
+pub head_kind : (fields : List Pair) (kind : FaultKind) → head_fault fields ≡ Some kind → is_of_head kind ≡ true
+head_kind fields kind is = by_head (head_fault fields) kind (all_of_head fields) is

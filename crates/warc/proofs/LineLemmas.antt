@@ -1,22 +1,23 @@
 -- Lines and the pieces that they are put together from.
-use Rattle.std.proofs.Common.{◌≡◌, ℕ, ◌+◌, ◌<◌, List, [], ◌∷◌, ◌++◌, length, take, drop, get_or, append_assoc, decimal, refl, map, Bor, sym, ap, subst, ◌∙◌, arith, Option}
+use Rattle.std.proofs.Common.{◌≡◌, ℕ, ◌+◌, ◌<◌, List, [], ◌∷◌, ◌++◌, length, take, drop, get_or, append_assoc, decimal, refl, map, Bor, sym, ap, subst, ◌∙◌, arith, Option, Some}
 use Rattle.std.proofs.lemmas.Grind.{flat_map-append}
 use Rattle.std.proofs.lemmas.List.{append-nil, map-append, take_more, length-take-le, take-append-drop}
 use Rattle.std.proofs.lemmas.List.Folds.{concat-append}
-use Rattle.std.specs.List.{concat, enumerate_from, flat_map, join_with_byte}
+use Rattle.std.proofs.lemmas.Option.{get_or_from_slice_get, slice_get_within}
+use Rattle.std.specs.List.{concat, enumerate_from, flat_map, join_with_byte, slice_get}
 use Rattle.warc_frame.specs.Device.{Staged}
 use Rattle.warc_frame.specs.Send.{IsStaged, WentOut}
 use Rattle.warc_frame.proofs.LawLemmas.{went_out_of_longer}
 use Rattle.warc.specs.Listing.{line_of, listing, shown}
-use Rattle.warc.specs.Row.{Columns}
+use Rattle.warc.specs.Row.{Row}
 
 seven : (a b c d e f g : List ℕ) → concat (a ∷ (9 ∷ []) ∷ b ∷ (9 ∷ []) ∷ c ∷ (9 ∷ []) ∷ d ∷ (9 ∷ []) ∷ e ∷ (9 ∷ []) ∷ f ∷ (9 ∷ []) ∷ g ∷ (10 ∷ []) ∷ [])
     ≡ join_with_byte 9 (a ∷ b ∷ c ∷ d ∷ e ∷ f ∷ g ∷ []) ++ 10 ∷ []
 seven a b c d e f g = simp append_assoc
 
 -- the pieces that a line is put together from
-pub line_from : (position : ℕ) (row : Columns) (a b c d e f g : List ℕ) → a ≡ decimal position → b ≡ decimal row.offset → c ≡ decimal row.block_len
-    → d ≡ shown row.kind → e ≡ shown row.date → f ≡ shown row.id → g ≡ shown row.target
+pub line_from : (position : ℕ) (row : Row) (a b c d e f g : List ℕ) → a ≡ decimal position → b ≡ decimal row.offset → c ≡ decimal row.block_len
+    → d ≡ row.kind → e ≡ row.date → f ≡ row.id → g ≡ shown row.target
     → concat (a ∷ (9 ∷ []) ∷ b ∷ (9 ∷ []) ∷ c ∷ (9 ∷ []) ∷ d ∷ (9 ∷ []) ∷ e ∷ (9 ∷ []) ∷ f ∷ (9 ∷ []) ∷ g ∷ (10 ∷ []) ∷ []) ≡ line_of position row
 unfolding line_of
 line_from position row a b c d e f g is_a is_b is_c is_d is_e is_f is_g =
@@ -51,20 +52,20 @@ same_out {start} {now} {a} {b} {sent} same out = let P : List ℕ → Type 0 = �
 pub same_staged : {start now : Option (List ℕ)} {a b : List ℕ} {buffer : Staged} → a ≡ b → IsStaged start a now buffer → IsStaged start b now buffer
 same_staged {start} {now} {a} {b} {buffer} same is = let P : List ℕ → Type 0 = λ l. IsStaged start l now buffer in subst P same is
 
-enumerate_from-append : (n : ℕ) (xs ys : List Columns) → enumerate_from n (xs ++ ys) ≡ enumerate_from n xs ++ enumerate_from (n + length xs) ys
+enumerate_from-append : (n : ℕ) (xs ys : List Row) → enumerate_from n (xs ++ ys) ≡ enumerate_from n xs ++ enumerate_from (n + length xs) ys
 enumerate_from-append n [] ys = ap (λ k. enumerate_from k ys) (omega arith)
 enumerate_from-append n (x ∷ xs) ys =
     let e : n + 1 + length xs ≡ n + length (x ∷ xs) = omega arith in
     ap (λ l. (n, x) ∷ l) (enumerate_from-append (n + 1) xs ys ∙ ap (λ k. enumerate_from (n + 1) xs ++ enumerate_from k ys) e)
 
-listing-append : (xs ys : List Columns) → listing (xs ++ ys) ≡ listing xs ++ flat_map (λ p. line_of p.0 p.1) (enumerate_from (length xs) ys)
+listing-append : (xs ys : List Row) → listing (xs ++ ys) ≡ listing xs ++ flat_map (λ p. line_of p.0 p.1) (enumerate_from (length xs) ys)
 unfolding listing
 listing-append xs ys =
     ap (flat_map (λ p. line_of p.0 p.1)) (enumerate_from-append 0 xs ys ∙ ap (λ k. enumerate_from 0 xs ++ enumerate_from k ys) (omega arith))
     ∙ flat_map-append (λ p. line_of p.0 p.1) (enumerate_from 0 xs) (enumerate_from (length xs) ys)
 
 -- one more line
-pub listing_more : (rows : List Columns) (i : ℕ) (d : Columns) → i < length rows → listing (take (i + 1) rows) ≡ listing (take i rows) ++ line_of i (get_or rows i d)
+pub listing_more : (rows : List Row) (i : ℕ) (d : Row) → i < length rows → listing (take (i + 1) rows) ≡ listing (take i rows) ++ line_of i (get_or rows i d)
 unfolding listing
 listing_more rows i d lt =
     let more = ap listing (take_more rows i d lt) ∙ listing-append (take i rows) (get_or rows i d ∷ []) in
@@ -73,12 +74,10 @@ listing_more rows i d lt =
     ∙ ap (λ l. listing (take i rows) ++ l) (append-nil (line_of i (get_or rows i d)))
 
 -- the line of the row at a place
-pub listing_next : (seen rows : List Columns) (i : ℕ) (row : Columns) → seen ≡ rows → row ≡ get_or seen i row → i < length seen
-    → listing (take i rows) ++ line_of i row ≡ listing (take (i + 1) rows)
-listing_next seen rows i row same is lt =
-    let lt' : i < length rows = omega (arith, lt, ap length same) in
-    ap (λ r. listing (take i rows) ++ line_of i r) (is ∙ ap (λ l. get_or l i row) same) ∙ sym (listing_more rows i row lt')
+pub listing_next : (rows : List Row) (i : ℕ) (row : Row) → slice_get rows i ≡ Some row → listing (take i rows) ++ line_of i row ≡ listing (take (i + 1) rows)
+listing_next rows i row is =
+    ap (λ r. listing (take i rows) ++ line_of i r) (sym (get_or_from_slice_get rows i row row is)) ∙ sym (listing_more rows i row (slice_get_within rows i row is))
 
 -- the lines of the first rows, and the others
-pub listing_front : (rows : List Columns) (i : ℕ) → listing rows ≡ listing (take i rows) ++ flat_map (λ p. line_of p.0 p.1) (enumerate_from (length (take i rows)) (drop i rows))
+pub listing_front : (rows : List Row) (i : ℕ) → listing rows ≡ listing (take i rows) ++ flat_map (λ p. line_of p.0 p.1) (enumerate_from (length (take i rows)) (drop i rows))
 listing_front rows i = ap listing (sym (take-append-drop i rows)) ∙ listing-append (take i rows) (drop i rows)

@@ -1,128 +1,120 @@
--- From the fault of the bytes that were read to that of all bytes.
-use Rattle.std.proofs.Common.{◌≡◌, ℕ, ◌<◌, ◌≤◌, ◌^◌, Bool, true, false, true≢false, List, ◌++◌, length, drop, Option, Some, None, Result, Ok, Err, IfOk, IfErr, nat_lt, append_assoc, refl, sym, ap, subst, ◌∙◌}
-use Rattle.std.specs.Result.{IsErrAnd}
-use Rattle.std.proofs.lemmas.Bool.{le-ltb, lt-ltb, ltb-false, ltb-true}
-use Rattle.std.proofs.lemmas.List.{take-append-drop, take_all}
-use Rattle.warc_frame.specs.Faults.{IsFrameFault, ReadsAs, goes_on, limited, or_too_long, within_limit}
-use Rattle.warc_frame.specs.Gather.{IsFront}
-use Rattle.warc_frame.specs.Reading.{any_fields, fault}
+-- Why bytes are refused while they are read.
+use Rattle.std.proofs.Common.{◌≡◌, ◌≢◌, ℕ, ◌+◌, ◌-◌, ◌≤◌, true, true≢false, List, ◌++◌, length, drop, Some, None, Err, refl, sym, ap, subst, ◌∙◌, arith}
+use Rattle.std.proofs.lemmas.List.{append_assoc, take-append-drop}
+use Rattle.warc_frame.specs.Faults.{AllAccepted, within_limit}
 use Rattle.warc_frame.specs.Record.{Record, max_archive}
+use Rattle.warc_frame.specs.Reading.{fault}
+use Rattle.warc_frame.specs.Spelling.{SpellsAll}
+use Rattle.warc_frame.specs.Told.{AcceptsTold, IsExact, Refuses, RefusesAs, Told, Unclosed, WantsMemory}
 use Rattle.warc_frame.specs.declared.fault.Fault.{Fault}
 use Rattle.warc_frame.specs.declared.fault.FaultKind.{FaultKind}
-use Rattle.warc_frame.specs.declared.fault.FaultKind.TheVariants.{Memory, Read, TooLong, Truncated}
-use Rattle.warc.specs.Archive.{AreRowsOf, EndsBy, IsRecordEnd, IsRefusalOf, RefusesBy, error_of, faults_after, is_of_bytes}
-use Rattle.warc.specs.Row.{Columns}
-use Rattle.warc.proofs.ArchiveLemmas.{reads_whole}
+use Rattle.warc_frame.specs.declared.fault.FaultKind.TheVariants.{Memory, Read, Truncated}
+use Rattle.warc_frame.proofs.JudgedLemmas.{judged_refuted, judged_head}
+use Rattle.warc_frame.proofs.LawLemmas.{faults_are_stable}
+use Rattle.warc_record.specs.Heads.{head_fault}
+use Rattle.warc_record.specs.Seen.{RefusesFor}
+use Rattle.warc.specs.Archive.{IsFaultOf, IsRecordEnd, IsRefusalOf, RefusesBy}
+use Rattle.warc.specs.Stream.{HasRead, StaysBy, StaysRefused}
+use Rattle.warc.specs.declared.reading.Reading.{Reading}
+use Rattle.warc.proofs.KindLemmas.{head_kind, is_of_head, limited_kind}
+use Rattle.warc.proofs.StreamLemmas.{accepts_told, same_front, spells_all}
 
--- what was read is the part that an archive can hold
-seen_is : (bytes seen : List ℕ) (longer : Bool) → IsFront bytes seen longer → seen ≡ within_limit 0 bytes
-unfolding within_limit
-seen_is bytes seen longer front = front.front
-
-goes_on_is : (bytes seen : List ℕ) → IsFront bytes seen true → goes_on 0 bytes ≡ true
-unfolding goes_on
-goes_on_is bytes seen front = lt-ltb (2 ^ 48) (length bytes) (front.longer.0 refl)
-
-is_false : (b : Bool) → (b ≡ true → ⊥) → b ≡ false
-is_false true never = absurd (never refl)
-is_false false never = refl
-
-ends_here : (bytes seen : List ℕ) → IsFront bytes seen false → length bytes ≤ 2 ^ 48
-ends_here bytes seen front =
-    let not_longer : 2 ^ 48 < length bytes → ⊥ = λ h. true≢false (sym (front.longer.1 h)) in
-    ltb-false (2 ^ 48) (length bytes) (is_false (nat_lt (2 ^ 48) (length bytes)) (λ h. not_longer (ltb-true (2 ^ 48) (length bytes) h)))
-
-stays_on : (bytes seen : List ℕ) → IsFront bytes seen false → goes_on 0 bytes ≡ false
-unfolding goes_on
-stays_on bytes seen front = le-ltb (2 ^ 48) (length bytes) (ends_here bytes seen front)
-
-pub seen_all : (bytes seen : List ℕ) → IsFront bytes seen false → seen ≡ bytes
-seen_all bytes seen front = front.front ∙ take_all (2 ^ 48) bytes (ends_here bytes seen front)
-
--- a record's end among the bytes that were read
-record_end : (bytes seen : List ℕ) (longer : Bool) (offset : ℕ) → IsFront bytes seen longer → IsRecordEnd seen offset → IsRecordEnd bytes offset
-record_end bytes seen longer offset front is = record {
+-- more bytes behind a record's end
+end_more : (text more : List ℕ) (offset : ℕ) → IsRecordEnd text offset → IsRecordEnd (text ++ more) offset
+end_more text more offset is = record {
   records = is.records;
   front = is.front;
-  rest = is.rest ++ drop (2 ^ 48) bytes;
-  bytes_are = sym (take-append-drop (2 ^ 48) bytes) ∙ ap (λ l. l ++ drop (2 ^ 48) bytes) (sym front.front ∙ is.bytes_are) ∙ append_assoc is.front is.rest (drop (2 ^ 48) bytes);
+  rest = is.rest ++ more;
+  bytes_are = ap (λ t. t ++ more) is.bytes_are ∙ append_assoc is.front is.rest more;
   spelled = is.spelled;
+  good = is.good;
   offset_is = is.offset_is;
 }
 
--- the first fault, by what reading found in the part that an archive can hold
-first : (bytes seen : List ℕ) (longer : Bool) (records : List Record) (found : Option Fault) (f : Fault) → IsFront bytes seen longer
-    → goes_on 0 bytes ≡ longer → ReadsAs any_fields 0 seen records found → limited longer found ≡ Some f → IsFrameFault 0 bytes f
-first bytes seen longer records found f front goes reads is = record {
-  records = records;
-  found = found;
-  before = let P : List ℕ → Type 0 = λ t. ReadsAs any_fields 0 t records found in subst P (seen_is bytes seen longer front) reads;
-  is = ap (λ b. limited b found) goes ∙ is;
+stays_by : (kind : FaultKind) (offset : ℕ) (text more : List ℕ) → StaysBy kind text (fault kind offset) → StaysBy kind (text ++ more) (fault kind offset)
+stays_by Memory offset text more is = end_more text more offset is
+stays_by Read offset text more is = absurd is
+stays_by Truncated offset text more is = absurd is
+stays_by kind offset text more is = faults_are_stable head_fault 0 text more (fault kind offset) is (λ e. cc e)
+
+-- a refusal stays whatever follows
+pub stays_more : (text more : List ℕ) (f : Fault) → StaysRefused text f → StaysRefused (text ++ more) f
+stays_more text more f is = stays_by f.kind f.offset text more is
+
+refusal_by : (kind : FaultKind) (offset : ℕ) (text : List ℕ) → StaysBy kind text (fault kind offset) → RefusesBy kind text (fault kind offset)
+refusal_by Memory offset text is = is
+refusal_by Read offset text is = absurd is
+refusal_by Truncated offset text is = absurd is
+refusal_by kind offset text is = is
+
+pub refusal_of : (text : List ℕ) (f : Fault) → StaysRefused text f → IsRefusalOf text f
+refusal_of text f is = refusal_by f.kind f.offset text is
+
+not_read_by : (kind : FaultKind) (offset : ℕ) (text : List ℕ) → StaysBy kind text (fault kind offset) → kind ≢ Read
+not_read_by Memory offset text is e = cc e
+not_read_by Read offset text is e = is
+not_read_by Truncated offset text is e = cc e
+not_read_by kind offset text is e = cc e
+
+pub stays_not_read : (text : List ℕ) (f : Fault) → StaysRefused text f → f.kind ≢ Read
+stays_not_read text f is = not_read_by f.kind f.offset text is
+
+-- memory was wanted for a head
+wants_memory : (text : List ℕ) (told : Told) (f : Fault) → AllAccepted head_fault told.records → WantsMemory 0 text told f → IsRecordEnd text f.offset
+unfolding within_limit
+wants_memory text told f good is = record {
+  records = told.records;
+  front = is.front;
+  rest = is.rest ++ drop (max_archive - 0) text;
+  bytes_are = sym (take-append-drop (max_archive - 0) text) ∙ ap (λ t. t ++ drop (max_archive - 0) text) is.text_is ∙ append_assoc is.front is.rest (drop (max_archive - 0) text);
+  spelled = is.spelled;
+  good = good;
+  offset_is = is.offset_is ∙ omega arith;
 }
 
-short_by : (kind : FaultKind) (offset : ℕ) (bytes seen : List ℕ) → IsFront bytes seen false → is_of_bytes kind ≡ true
-    → EndsBy kind seen (fault kind offset) → RefusesBy kind bytes (fault kind offset)
-short_by Read offset bytes seen front of_bytes ends = tt
-short_by TooLong offset bytes seen front of_bytes ends = absurd (true≢false (sym of_bytes))
-short_by Memory offset bytes seen front of_bytes ends = record_end bytes seen false offset front ends
-short_by kind offset bytes seen front of_bytes (records, reads) =
-    first bytes seen false records (Some (fault kind offset)) (fault kind offset) front (stays_on bytes seen front) reads refl
+step_by : (kind : FaultKind) (offset : ℕ) (text : List ℕ) (told : Told) → AcceptsTold head_fault told → RefusesAs kind 0 text told (fault kind offset) → StaysBy kind text (fault kind offset)
+step_by Memory offset text told accepts is = wants_memory text told (fault Memory offset) accepts.0 is
+step_by Read offset text told accepts is = absurd (limited_kind _ is.found is.reads.rest _ (fault Read offset) is.reads.fault_is is.limit refl)
+step_by Truncated offset text told accepts is = absurd (is.settled refl)
+step_by kind offset text told accepts is = judged_refuted head_fault 0 text told (fault kind offset) is accepts
 
-long_by : (kind : FaultKind) (offset : ℕ) (bytes seen : List ℕ) → IsFront bytes seen true → is_of_bytes kind ≡ true
-    → EndsBy kind seen (fault kind offset) → IsRefusalOf bytes (or_too_long kind (fault kind offset))
-long_by Read offset bytes seen front of_bytes ends = tt
-long_by TooLong offset bytes seen front of_bytes ends = absurd (true≢false (sym of_bytes))
-long_by Memory offset bytes seen front of_bytes ends = record_end bytes seen true offset front ends
-long_by Truncated offset bytes seen front of_bytes (records, reads) =
-    first bytes seen true records (Some (fault Truncated offset)) (fault TooLong max_archive) front (goes_on_is bytes seen front) reads refl
-long_by kind offset bytes seen front of_bytes (records, reads) =
-    first bytes seen true records (Some (fault kind offset)) (fault kind offset) front (goes_on_is bytes seen front) reads refl
+-- a step of the decoder failed
+pub step_refused : {A : Type 0} (text piece : List ℕ) (told : Told) (r : Reading A) (f : Fault) → HasRead text told r → Refuses 0 (text ++ piece) told f → StaysRefused (text ++ piece) f
+step_refused text piece told r f has is = step_by f.kind f.offset (text ++ piece) told (accepts_told text told r has) is
 
--- a refusal of the bytes, from the answer for those that were read
-pub refused_short : (bytes seen : List ℕ) (f : Fault) → IsFront bytes seen false → is_of_bytes f.kind ≡ true → EndsBy f.kind seen f → IsRefusalOf bytes f
-refused_short bytes seen f front of_bytes ends = short_by f.kind f.offset bytes seen front of_bytes ends
+-- memory was wanted for a record that was being read
+pub memory_at : {A : Type 0} (text more : List ℕ) (told : Told) (r : Reading A) → HasRead text told r → IsRecordEnd (text ++ more) r.begin
+memory_at text more told r has = record {
+  records = told.records;
+  front = has.front;
+  rest = has.rest ++ more;
+  bytes_are = ap (λ t. t ++ more) has.text_is ∙ append_assoc has.front has.rest more;
+  spelled = let P : List Record → Type 0 = λ rs. SpellsAll rs has.front in subst P (sym has.told_is) (spells_all 0 has.records has.front has.spelled);
+  good = has.good;
+  offset_is = has.begin_is;
+}
 
-refused_long : (bytes seen : List ℕ) (f g : Fault) → IsFront bytes seen true → is_of_bytes f.kind ≡ true → EndsBy f.kind seen f → limited true (Some f) ≡ Some g
-    → IsRefusalOf bytes g
-refused_long bytes seen f g front of_bytes ends is =
-    let same : or_too_long f.kind f ≡ g = cc is in
-    let P : Fault → Type 0 = λ h. IsRefusalOf bytes h in
-    subst P same (long_by f.kind f.offset bytes seen front of_bytes ends)
+head_by : (kind : FaultKind) (text : List ℕ) (f : Fault) (offset : ℕ) → is_of_head kind ≡ true → IsFaultOf text (fault kind offset) → StaysBy kind text (fault kind offset)
+head_by Memory text f offset of is = absurd (true≢false (sym of))
+head_by Read text f offset of is = absurd (true≢false (sym of))
+head_by Truncated text f offset of is = absurd (true≢false (sym of))
+head_by kind text f offset of is = is
 
-too_long_is : (bytes seen : List ℕ) (rows : List Columns) (g : Fault) → IsFront bytes seen true → AreRowsOf seen rows → limited true None ≡ Some g → IsRefusalOf bytes g
-too_long_is bytes seen rows g front are is =
-    let same : fault TooLong max_archive ≡ g = cc is in
-    let P : Fault → Type 0 = λ h. IsRefusalOf bytes h in
-    let reads = reads_whole seen rows are in
-    subst P same (first bytes seen true reads.0 None (fault TooLong max_archive) front (goes_on_is bytes seen front) reads.1 refl)
+-- a head is refused
+head_fault_at : {A : Type 0} (text more : List ℕ) (rs : List Record) (u : Unclosed) (r : Reading A) (kind : FaultKind) → HasRead text (record { records = rs; unclosed = None }) r
+    → IsExact (text ++ more) (record { records = rs; unclosed = Some u }) → head_fault u.fields ≡ Some kind → length (text ++ more) ≤ max_archive
+    → StaysBy kind (text ++ more) (fault kind r.begin)
+head_fault_at text more rs u r kind has exact is short =
+    let told : Told = record { records = rs; unclosed = Some u } in
+    let (front, rest, text_is, spelled, first) = judged_head head_fault 0 (text ++ more) told u kind exact refl has.good is (omega (arith, short)) in
+    let (same, others) = same_front text more front rest (record { records = rs; unclosed = None }) r has text_is spelled in
+    let size : length front ≡ r.begin = ap length (sym same) ∙ sym has.begin_is in
+    let begin : 0 + length front ≡ r.begin = omega (arith, size) in
+    let P : ℕ → Type 0 = λ q. IsFaultOf (text ++ more) (fault kind q) in
+    head_by kind (text ++ more) (fault kind r.begin) r.begin (head_kind u.fields kind is) (subst P begin first)
 
-module _ {X : Type 0} (view : X → List Columns) where
-  pub accepted_of : (bytes seen : List ℕ) (longer : Bool) (answer result : Result X Fault) → IsFront bytes seen longer → IfOk answer (λ rows. AreRowsOf seen (view rows))
-      → (longer ≡ false → result ≡ answer) → (longer ≡ true → IsErrAnd result (λ f. limited true (error_of answer) ≡ Some f))
-      → IfOk result (λ rows. (length bytes ≤ max_archive) × AreRowsOf bytes (view rows))
-  accepted_of bytes seen longer answer (Err f) front are whole more = tt
-  accepted_of bytes seen true answer (Ok rows) front are whole more = absurd (more refl)
-  accepted_of bytes seen false (Err f) (Ok rows) front are whole more = cc (whole refl)
-  accepted_of bytes seen false (Ok rows') (Ok rows) front are whole more =
-      let same : rows ≡ rows' = cc (whole refl) in
-      let P : List ℕ → Type 0 = λ t. AreRowsOf t (view rows) in
-      let Q : X → Type 0 = λ r. AreRowsOf seen (view r) in
-      (ends_here bytes seen front, subst P (seen_all bytes seen front) (subst Q (sym same) are))
-
-  pub refused_of : (bytes seen : List ℕ) (longer : Bool) (answer result : Result X Fault) → IsFront bytes seen longer → IfOk answer (λ rows. AreRowsOf seen (view rows))
-      → IfErr answer (λ f. (is_of_bytes f.kind ≡ true) × EndsBy f.kind seen f)
-      → (longer ≡ false → result ≡ answer) → (longer ≡ true → IsErrAnd result (λ f. limited true (error_of answer) ≡ Some f))
-      → IfErr result (IsRefusalOf bytes)
-  refused_of bytes seen longer answer (Ok rows) front are ends whole more = tt
-  refused_of bytes seen true (Ok rows) (Err f) front are ends whole more = too_long_is bytes seen (view rows) f front are (more refl)
-  refused_of bytes seen true (Err g) (Err f) front are ends whole more = refused_long bytes seen g f front ends.0 ends.1 (more refl)
-  refused_of bytes seen false (Ok rows) (Err f) front are ends whole more = cc (whole refl)
-  refused_of bytes seen false (Err g) (Err f) front are ends whole more =
-      let same : g ≡ f = cc (whole refl) in
-      let P : Fault → Type 0 = λ h. IsRefusalOf bytes h in
-      subst P same (refused_short bytes seen g front ends.0 ends.1)
-
--- a fault of bytes isn't a source's
-pub not_read : (kind : FaultKind) (n : ℕ) → is_of_bytes kind ≡ true → faults_after kind n ≡ n
-not_read Read n of_bytes = absurd (true≢false (sym of_bytes))
-not_read kind n of_bytes = refl
+pub head_refused : {A : Type 0} (X : Type 0) (text more : List ℕ) (rs : List Record) (u : Unclosed) (r : Reading A) (kind : FaultKind) → HasRead text (record { records = rs; unclosed = None }) r
+    → IsExact (text ++ more) (record { records = rs; unclosed = Some u }) → RefusesFor {X = X} (Err kind) (head_fault u.fields) → length (text ++ more) ≤ max_archive
+    → StaysBy kind (text ++ more) (fault kind r.begin)
+head_refused X text more rs u r Memory has exact is short = memory_at text more (record { records = rs; unclosed = None }) r has
+head_refused X text more rs u r kind has exact is short = head_fault_at text more rs u r kind has exact is short

@@ -17,9 +17,12 @@ pub record Layout : Type 0 where
 abbrev pub list_layout : Layout
 list_layout = record { name = codes "list"; words = codes "archive" ∷ [] }
 
+abbrev pub check_layout : Layout
+check_layout = record { name = codes "check"; words = codes "archive" ∷ [] }
+
 -- the commands, in the order in which help lists them
 abbrev pub layouts : List Layout
-layouts = list_layout ∷ []
+layouts = list_layout ∷ check_layout ∷ []
 
 abbrev pub required_word : Text → Rule
 required_word name = record (new_rule name) { required = true }
@@ -38,7 +41,7 @@ warc_app = fold with_layout
     (on_top (λ s. record s { has_version = true; subcommand_required = true }) (new_app (codes "warc")))
     layouts
 
--- the command of a name; clap gives no other name than theirs, so `list` needs no test
+-- the command of a name; clap gives no other name than theirs, so one of them needs no test
 abbrev pub layout_of : Text → Layout
 layout_of name = unwrap_or (find (λ l. bytes_eq name l.name) layouts) list_layout
 

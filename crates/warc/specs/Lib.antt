@@ -1,6 +1,11 @@
 pub mod Archive
+pub mod Checking
 pub mod Command
 pub mod CommandLine
+pub mod Examining
+pub mod Failing
 pub mod Listing
 pub mod Program
 pub mod Row
+pub mod Rows
+pub mod Stream

@@ -1,30 +1,42 @@
--- What `list` tells of a record (WARC 1.1, section 5: the named fields).
-use Rattle.std.specs.Prelude.{ℕ, List, [], length, codes, unwrap_or}
-use Rattle.warc_field.specs.Area.{Pair, first_value}
+-- What an archive keeps of a record (WARC 1.1, section 5: the named fields).
+use Rattle.std.specs.Prelude.{ℕ, Bool, List, [], length, unwrap_or}
+use Rattle.warc_value.specs.Digests.{verdict_of}
+use Rattle.warc_value.specs.declared.hash.Verdict.{Verdict}
 use Rattle.warc_frame.specs.Record.{Record}
-use Rattle.warc_record.specs.Ids.{bare_text}
+use Rattle.warc_record.specs.Readings.{Reading, reading_of}
 
--- the offset of a record, the length of its block, and the texts of its type, date, id and target, each empty where it
--- is absent
-pub record Columns : Type 0 where
+-- a record, the offset of its first byte, and that of its block's
+pub record Placed : Type 0 where
   pub offset : ℕ
+  pub block_start : ℕ
+  pub content : Record
+
+-- the offsets of a record and of its block, the block's length, how the block compares with the digest that its head
+-- wants, whether it is marked as truncated, and the texts of its type, date, id and target, each empty where it is absent
+pub record Row : Type 0 where
+  pub offset : ℕ
+  pub block_start : ℕ
   pub block_len : ℕ
+  pub verdict : Verdict
+  pub is_truncated : Bool
   pub kind : List ℕ
   pub date : List ℕ
   pub id : List ℕ
   pub target : List ℕ
 
--- the value of the first field of a name, or nothing
-abbrev pub value_or_empty : List ℕ → List Pair → List ℕ
-value_or_empty name fields = unwrap_or (first_value name fields) []
-
--- of the record at an offset
-abbrev pub columns_of : ℕ → Record → Columns
-columns_of offset r = record {
-  offset = offset;
-  block_len = length r.block;
-  kind = value_or_empty (codes "WARC-Type") r.fields;
-  date = value_or_empty (codes "WARC-Date") r.fields;
-  id = value_or_empty (codes "WARC-Record-ID") r.fields;
-  target = bare_text (value_or_empty (codes "WARC-Target-URI") r.fields);
+-- what is kept of a record whose head says this: the texts are empty where there are none
+abbrev pub row_with : Placed → Reading → Row
+row_with p head = record {
+  offset = p.offset;
+  block_start = p.block_start;
+  block_len = length p.content.block;
+  verdict = verdict_of head.wanted p.content.block;
+  is_truncated = head.truncated;
+  kind = unwrap_or head.type_text [];
+  date = unwrap_or head.date_text [];
+  id = unwrap_or head.id_text [];
+  target = unwrap_or head.target [];
 }
+
+abbrev pub row_of : Placed → Row
+row_of p = row_with p (reading_of p.content.fields)

@@ -1,10 +1,14 @@
-//! WARC archives read whole: their records, and the command line over them.
+//! WARC archives read as streams: their records, what is wrong with them, and the command line over them.
 #![tactic(auto)]
 
+mod check;
+mod heads;
 mod program;
 mod reader;
+mod reading;
 mod row;
 mod rows;
+mod used;
 mod words;
 
 pub use program::{perform, refuse};

@@ -1,19 +1,21 @@
 //! What the program does with a command, a source and two sinks.
-ghost use Rattle.std.specs.Prelude.{◌≡◌, ◌≤◌, ◌+◌, ◌⊎◌, ◌++◌, ℕ, List, Some, length, codes};
-ghost use Rattle.arrayvec.specs.ArrayString.{array_string_len};
-ghost use Rattle.warc_frame.specs.FaultText.{kind_text, out_fault_text};
-ghost use Rattle.warc_frame.specs.declared.fault.OutFault.TheVariants.{Write};
-ghost use Rattle.warc.specs.Program.{FaultEnds, IsShown, ListEnds, Tells, fault_line, status_of_kind, told_line};
+ghost use Rattle.std.specs.Prelude.{◌≡◌, ◌≤◌, ◌⊎◌, ◌++◌, ℕ, List, Some, decimal, length, min};
+ghost use Rattle.warc_frame.specs.FaultText.{out_fault_text};
+ghost use Rattle.warc_frame.specs.Send.{sent_of};
+ghost use Rattle.warc.specs.Program.{CheckEnds, Ends, FaultEnds, IsShown, IsStatusOf, ListEnds, Tells, fault_line, status_of_kind, told_line};
 
 use crate::reader::Archive;
 use crate::words::{Command, CommandFault};
 use arrayvec::ArrayString;
 use itoa::Buffer;
 use std::alloc::Allocator;
-use warc_frame::{Fault, FaultKind, Sink, Source, send_all};
+use warc_frame::{Fault, FaultKind, OutFault, Sink, Source, send_all};
 
 /// The exit status where all was done.
 const DONE: u8 = 0;
+
+/// The exit status where the archive was checked and something was found.
+const FOUND: u8 = 1;
 
 /// The exit status where the archive was refused.
 const REFUSED: u8 = 2;
@@ -25,8 +27,8 @@ const FAILED: u8 = 3;
 const LINE: usize = 96;
 
 /// Does what a command says. The output goes to `out` and a line on what went wrong to `err`, where
-/// failures to write are ignored. The answer is the exit status: 0 done, 2 the archive is refused, 3 a
-/// read, a write or a growth of the memory failed.
+/// failures to write are ignored. The answer is the exit status: 0 done, 1 checked and something was
+/// found, 2 the archive is refused, 3 a read, a write or a growth of the memory failed.
 pub fn perform<A, S, W, E>(
     alloc: A,
     command: &Command<'_>,
@@ -40,17 +42,18 @@ where
     W: Sink,
     E: Sink,
     ensures ends { (bytes : List ℕ) → S.holds source ≡ Some bytes →
-        ListEnds bytes (record { tells = W.tells out.old; faults = W.faults out.old })
+        Ends command.now bytes (record { tells = W.tells out.old; faults = W.faults out.old })
         (record { tells = W.tells out.new; faults = W.faults out.new })
         (record { tells = E.tells err.old; faults = E.faults err.old })
         (record { tells = E.tells err.new; faults = E.faults err.new }) result }
 
     // Nothing is written where the archive is refused, whatever the source holds.
     ensures refused { result ≡ 2 → (W.tells out.new ≡ W.tells out.old) × (W.faults out.new ≡ W.faults out.old) }
-    ensures answers { (result ≡ 0) ⊎ ((result ≡ 2) ⊎ (result ≡ 3)) }
+    ensures answers { IsStatusOf command.now result }
 {
     match command {
         Command::List { archive: _ } => list(alloc, source, out, err),
+        Command::Check { archive: _ } => check(alloc, source, out, err),
     }
 }
 
@@ -70,18 +73,64 @@ where
 {
     let archive = match Archive::open(alloc, source) {
         Ok(archive) => archive,
-        Err((fault, _)) => {
-            tell(line_of_fault(fault).as_str(), err);
-            return status_of(fault.kind);
-        }
+        Err((fault, _)) => return tell_refusal(fault, err),
     };
     match archive.list(out) {
         Ok(()) => DONE,
-        Err(fault) => {
-            tell(line_of_cut(fault.sent()).as_str(), err);
-            FAILED
-        }
+        Err(fault) => tell_cut(fault, err),
     }
+}
+
+fn check<A, S, W, E>(alloc: A, source: S, out: &mut W, err: &mut E) -> u8
+where
+    A: Allocator + Copy,
+    S: Source + Drop,
+    W: Sink,
+    E: Sink,
+    ensures ends { (bytes : List ℕ) → S.holds source ≡ Some bytes →
+        CheckEnds bytes (record { tells = W.tells out.old; faults = W.faults out.old })
+        (record { tells = W.tells out.new; faults = W.faults out.new })
+        (record { tells = E.tells err.old; faults = E.faults err.old })
+        (record { tells = E.tells err.new; faults = E.faults err.new }) result }
+    ensures refused { result ≡ 2 → (W.tells out.new ≡ W.tells out.old) × (W.faults out.new ≡ W.faults out.old) }
+    ensures answers { (result ≡ 0) ⊎ ((result ≡ 1) ⊎ ((result ≡ 2) ⊎ (result ≡ 3))) }
+{
+    let mut archive = match Archive::open(alloc, source) {
+        Ok(archive) => archive,
+        Err((fault, _)) => return tell_refusal(fault, err),
+    };
+    match archive.check(out) {
+        Ok(count) => status_of_count(count),
+        Err(fault) => tell_cut(fault, err),
+    }
+}
+
+/// The status where an archive was checked and so many things were found.
+fn status_of_count(count: usize) -> u8
+    ensures value { result ≡ min count 1 }
+    ensures cases { (result ≡ 0) ⊎ (result ≡ 1) }
+{
+    if count == 0 { DONE } else { FOUND }
+}
+
+/// Tells why an archive isn't opened, and answers the exit status.
+fn tell_refusal<E: Sink>(fault: Fault, err: &mut E) -> u8
+    ensures told { Tells (fault_line fault) (record { tells = E.tells err.old; faults = E.faults err.old })
+        (record { tells = E.tells err.new; faults = E.faults err.new }) }
+    ensures status { result ≡ status_of_kind fault.kind }
+{
+    tell(line_of_fault(fault).as_str(), err);
+    status_of(fault.kind)
+}
+
+/// Tells why an output ends early, and answers the exit status.
+fn tell_cut<E: Sink>(fault: OutFault, err: &mut E) -> u8
+    ensures told { Tells (told_line (out_fault_text fault)) (record { tells = E.tells err.old; faults = E.faults err.old })
+        (record { tells = E.tells err.new; faults = E.faults err.new }) }
+    ensures status { result ≡ 3 }
+{
+    tell(line_of_cut(fault).as_str(), err);
+    FAILED
 }
 
 /// The status where an archive isn't opened.
@@ -106,7 +155,7 @@ fn tell<E: Sink>(line: &str, err: &mut E)
 fn line_of_fault(fault: Fault) -> ArrayString<LINE>
     ensures { result.bytes ≡ fault_line fault }
 {
-    let (name, field) = kind_parts(fault.kind);
+    let (name, field) = fault.kind.parts();
     let mut digits = Buffer::new();
     let mut line = ArrayString::new();
     line.push_str("warc: ");
@@ -118,37 +167,27 @@ fn line_of_fault(fault: Fault) -> ArrayString<LINE>
     line
 }
 
-/// The number and the name of a kind of fault, and the field that it is about, if any.
-fn kind_parts(kind: FaultKind) -> (&'static str, &'static str)
-    ensures text { result.0.now ++ result.1.now ≡ kind_text kind }
-    ensures short { (length result.0.now ≤ 16) × (length result.1.now ≤ 16) }
+/// How an output ended, but for the number of bytes that went out.
+fn cause_of(fault: OutFault) -> &'static str
+    ensures text { result.now ++ decimal (sent_of fault) ≡ out_fault_text fault }
+    ensures short { length result.now ≤ 20 }
 {
-    match kind {
-        FaultKind::Version => ("F1 Version", ""),
-        FaultKind::HeadTooLong => ("F2 HeadTooLong", ""),
-        FaultKind::Field => ("F3 Field", ""),
-        FaultKind::Missing(field) => ("F4 Missing ", field.name()),
-        FaultKind::Repeated(field) => ("F5 Repeated ", field.name()),
-        FaultKind::Length => ("F6 Length", ""),
-        FaultKind::BadType => ("F7 BadType", ""),
-        FaultKind::Id => ("F8 Id", ""),
-        FaultKind::Date => ("F9 Date", ""),
-        FaultKind::End => ("F10 End", ""),
-        FaultKind::Truncated => ("F11 Truncated", ""),
-        FaultKind::TooLong => ("F12 TooLong", ""),
-        FaultKind::Read => ("F13 Read", ""),
-        FaultKind::Memory => ("F14 Memory", ""),
+    match fault {
+        OutFault::Read(_) => "read failed after ",
+        OutFault::Write(_) => "write failed after ",
+        OutFault::Memory(_) => "out of memory after ",
     }
 }
 
-/// The line that tells that a write failed after so many bytes.
-fn line_of_cut(sent: u64) -> ArrayString<LINE>
-    ensures { result.bytes ≡ told_line (out_fault_text (Write sent)) }
+/// The line that tells why an output ends early.
+fn line_of_cut(fault: OutFault) -> ArrayString<LINE>
+    ensures { result.bytes ≡ told_line (out_fault_text fault) }
 {
     let mut digits = Buffer::new();
     let mut line = ArrayString::new();
-    line.push_str("warc: write failed after ");
-    line.push_str(digits.format(sent));
+    line.push_str("warc: ");
+    line.push_str(cause_of(fault));
+    line.push_str(digits.format(fault.sent()));
     line.push_str("\n");
     line
 }
@@ -167,10 +206,7 @@ pub fn refuse<W: Sink, E: Sink>(fault: &CommandFault, out: &mut W, err: &mut E) 
             tell(text.as_str(), err);
             FAILED
         }
-        CommandFault::Memory => {
-            tell("warc: out of memory after 0\n", err);
-            FAILED
-        }
+        CommandFault::Memory => tell_cut(OutFault::Memory(0), err),
     }
 }
 
@@ -183,9 +219,6 @@ fn show<W: Sink, E: Sink>(text: &str, out: &mut W, err: &mut E) -> u8
 {
     match send_all(out, text.as_bytes()) {
         Ok(()) => DONE,
-        Err(fault) => {
-            tell(line_of_cut(fault.sent).as_str(), err);
-            FAILED
-        }
+        Err(fault) => tell_cut(OutFault::Write(fault.sent), err),
     }
 }

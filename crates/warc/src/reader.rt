@@ -1,15 +1,20 @@
 //! An archive over the source that holds its bytes.
 ghost use Rattle.std.specs.Prelude.{◌≡◌, ℕ, ◌+◌, ◌≤◌, List, length, Some, IfOk, IfErr, OnOk, MatchResult, is_err, if◌then◌else◌};
 ghost use Rattle.std.specs.Io.KnownBytes.{append_known};
-ghost use Rattle.warc_frame.specs.Count.{raised};
+ghost use Rattle.warc_frame.specs.Count.{capped, raised};
 ghost use Rattle.warc_frame.specs.Send.{WentOut, sent_of};
-ghost use Rattle.warc.specs.Archive.{IsArchiveOf, IsRefusalOf, faults_after};
+ghost use Rattle.warc.specs.Archive.{IsArchiveOf, IsRefusalOf, contents, faults_after};
+ghost use Rattle.warc.specs.Checking.{check_text, findings_of_archive};
+ghost use Rattle.warc.specs.Failing.{HasFailedBy, MayHaveFailedBy, failed_by};
 ghost use Rattle.warc.specs.Listing.{listing};
 
-use crate::row::Row;
-use crate::rows::read_rows;
+use crate::check::check_rows;
+use crate::reading::read_rows;
+use crate::row::put_line;
+use crate::rows::Rows;
 use std::alloc::{Allocator, Global};
 use std::marker::Model;
+use warc_frame::laws::head_of_spelled;
 use warc_frame::{Fault, FaultKind, OutBuffer, OutFault, Sink, Source};
 
 /// An archive and the source of its bytes. Contracts see what the source holds, how often it failed
@@ -17,7 +22,7 @@ use warc_frame::{Fault, FaultKind, OutBuffer, OutFault, Sink, Source};
 #[derive(Drop)]
 pub struct Archive<S: Source, A: Allocator = Global> {
     source: S,
-    rows: Vec<Row<A>, A>,
+    rows: Rows<A>,
 }
 
 impl<S: Source, A: Allocator> Model for Archive<S, A> {
@@ -29,7 +34,7 @@ impl<S: Source, A: Allocator> Model for Archive<S, A> {
       holds = S.holds a.source;
       faults = S.faults a.source;
       reads = S.reads a.source;
-      rows = a.rows.items;
+      rows = a.rows;
     } };
 }
 
@@ -42,7 +47,7 @@ impl<S: Source, A: Allocator> Archive<S, A> {
     }
 
     /// Writes a line for each record: its position and offset, the length of its block, its type,
-    /// date, id and target, with a tab between two, and `-` for an absent text. It takes no memory.
+    /// date, id and target, with a tab between two, and `-` for an absent target. It takes no memory.
     pub fn list<W: Sink>(&self, out: &mut W) -> Result<(), OutFault>
         ensures told { OnOk result (W.tells out.new ≡ append_known (W.tells out.old) (listing self.now.rows)) }
         ensures cut { IfErr result (λ e. WentOut (W.tells out.old) (listing self.now.rows) (W.tells out.new) (sent_of e)) }
@@ -50,8 +55,11 @@ impl<S: Source, A: Allocator> Archive<S, A> {
         ensures cause { W.faults out.new ≡ (if is_err result then raised (W.faults out.old) else W.faults out.old) }
     {
         let mut buffer = OutBuffer::new();
-        'listing: for (position, row) in self.rows.iter().enumerate() {
-            row.put_line(position as u64, &mut buffer, out)?;
+        'listing: for position in 0..self.rows.len() {
+            let Some(row) = self.rows.get(position) else {
+                unreachable!()
+            };
+            put_line(position as u64, &row, &mut buffer, out)?;
         }
         buffer.flush(out)?;
         Ok(())
@@ -59,9 +67,9 @@ impl<S: Source, A: Allocator> Archive<S, A> {
 }
 
 impl<S: Source, A: Allocator + Copy> Archive<S, A> {
-    /// Reads the source from its front to its end, or to offset 2^48, where no byte may stand. A
-    /// refusal hands the source back: `Read` where a read failed, at the offset that was asked for,
-    /// `Memory` at the record for which it didn't suffice, and else the first fault of the bytes.
+    /// Reads the source from its front to its end, or to offset 2^48, where no byte may stand, and keeps
+    /// no block. A refusal hands the source back: `Read` where a read failed, at the offset that was asked
+    /// for, `Memory` at the record for which it didn't suffice, and else the first fault of the bytes.
     pub fn open(alloc: A, source: S) -> Result<Archive<S, A>, (Fault, S)>
         ensures accepted { (bytes : List ℕ) → S.holds source ≡ Some bytes → IfOk result (IsArchiveOf bytes) }
         ensures refused { (bytes : List ℕ) → S.holds source ≡ Some bytes →
@@ -85,5 +93,35 @@ impl<S: Source, A: Allocator + Copy> Archive<S, A> {
             Ok(rows) => Ok(Archive { source, rows }),
             Err(fault) => Err((fault, source)),
         }
+    }
+
+    /// Writes a line for each finding, by the position of its record, then by its number, then by the
+    /// order of the field table, and answers how many there are, up to 2^64 - 1: `0 N2 WARC-Target-URI`,
+    /// `1 N6`, or `- N12` for an archive without records. Each head is read again.
+    ///
+    /// A read that fails, or a source that no longer gives what it gave at opening, is `Read`; a
+    /// write that fails is `Write`, and a refused growth of the memory `Memory`. Each tells how many
+    /// bytes went out, which are the first of the output.
+    pub fn check<W: Sink>(&mut self, out: &mut W) -> Result<usize, OutFault>
+        ensures told { (bytes : List ℕ) (is : IsArchiveOf bytes self.old) →
+            OnOk result (W.tells out.new ≡ append_known (W.tells out.old) (check_text (contents is.rows.records))) }
+        ensures number { (bytes : List ℕ) (is : IsArchiveOf bytes self.old) →
+            IfOk result (λ n. n ≡ capped (length (findings_of_archive (contents is.rows.records)))) }
+        ensures cut { (bytes : List ℕ) (is : IsArchiveOf bytes self.old) →
+            IfErr result (λ e. WentOut (W.tells out.old) (check_text (contents is.rows.records)) (W.tells out.new) (sent_of e)) }
+
+        // The source still holds what it held, and the rows stay.
+        ensures kept { self.new.holds ≡ self.old.holds }
+        ensures rows { self.new.rows ≡ self.old.rows }
+
+        // The sink has failed once more exactly where the answer is `Write`, and the source where it is
+        // `Read`, unless it told of other bytes than it held.
+        ensures cause { W.faults out.new ≡ failed_by result (W.faults out.old) }
+        ensures may { MayHaveFailedBy result self.old.faults self.new.faults }
+        ensures failed { (bytes : List ℕ) → IsArchiveOf bytes self.old → HasFailedBy result self.old.faults self.new.faults }
+    {
+        head_of_spelled();
+        let alloc = self.rows.allocator();
+        check_rows(alloc, &mut self.source, &self.rows, out)
     }
 }

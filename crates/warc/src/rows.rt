@@ -1,127 +1,163 @@
-//! The rows of the records that a source holds.
-ghost use Rattle.std.specs.Prelude.{◌≡◌, ℕ, ◌+◌, ◌<◌, ◌≤◌, List, length, take, drop, true, false, Some, IfOk, IfErr, IsErrAnd, MatchResult};
-ghost use Rattle.warc_frame.specs.Faults.{limited, or_too_long};
-ghost use Rattle.warc_frame.specs.Record.{Record, max_archive};
-ghost use Rattle.warc_frame.specs.Spelling.{Spells};
-ghost use Rattle.warc.specs.Archive.{AreRowsOf, EndsBy, IsRefusalOf, StopsBy, error_of, faults_after, is_of_bytes};
-ghost use Rattle.warc.specs.Row.{columns_of};
+//! What an archive keeps of its records, in flat lists: where each stands, and its texts one behind another.
+ghost use Rattle.std.specs.Prelude.{◌≡◌, ◌<◌, ◌≤◌, [], ◌∷◌, ◌++◌, length, slice_range, OnOk, Some};
+ghost use Rattle.std.specs.List.{slice_get};
 
-use crate::row::Row;
-use std::alloc::Allocator;
-use warc_frame::{Fault, FaultKind, GatherFault, MAX_ARCHIVE, Source, read_one, read_whole};
+use std::alloc::{AllocError, Allocator};
+use std::marker::Model;
+use warc_value::Verdict;
 
-/// The rows of the records that a source holds.
-pub(crate) fn read_rows<S: Source, A: Allocator + Copy>(
-    alloc: A,
-    source: &mut S,
-) -> Result<Vec<Row<A>, A>, Fault>
-    ensures accepted { (bytes : List ℕ) → S.holds source.old ≡ Some bytes →
-        IfOk result (λ rows. (length bytes ≤ max_archive) × AreRowsOf bytes rows.items) }
-    ensures refused { (bytes : List ℕ) → S.holds source.old ≡ Some bytes → IfErr result (IsRefusalOf bytes) }
-    ensures kept { S.holds source.new ≡ S.holds source.old }
-    ensures cause { MatchResult result (λ _. S.faults source.new ≡ S.faults source.old)
-        (λ e. S.faults source.new ≡ faults_after e.kind (S.faults source.old)) }
-    ensures asked { IfErr result (λ e. e.kind ≡ FaultKind.Read → e.offset ≡ S.asked source.new) }
-    ensures cost { (bytes : List ℕ) → S.holds source.old ≡ Some bytes →
-        S.reads source.new ≤ S.reads source.old + length bytes + 1 }
-{
-    let gathered = match read_whole(alloc, source) {
-        Ok(gathered) => gathered,
-        Err(GatherFault::Read(offset)) => return Err(Fault {
-            kind: FaultKind::Read,
-            offset,
-        }),
-        Err(GatherFault::Memory) => return Err(memory_at(0)),
-    };
-    within_limit(rows_of(alloc, &gathered.bytes), gathered.is_longer)
+/// What is kept of a record. Its texts are the values of its type, date and id as they stand, and its target without
+/// brackets, empty where it is absent.
+#[derive(Drop)]
+pub(crate) struct Row<'a> {
+    /// The offset of its first byte.
+    pub(crate) offset: u64,
+    /// The offset of its block's first byte.
+    pub(crate) block_start: u64,
+    /// How many bytes its block has.
+    pub(crate) block_len: u64,
+    /// How its block compares with the digest that its head wants.
+    pub(crate) verdict: Verdict,
+    /// Whether it is marked as truncated.
+    pub(crate) is_truncated: bool,
+    pub(crate) kind: &'a [u8],
+    pub(crate) date: &'a [u8],
+    pub(crate) id: &'a [u8],
+    pub(crate) target: &'a [u8],
 }
 
-/// The answer, unless a byte stands at offset 2^48: then that is the fault, where none but truncation
-/// stands before.
-fn within_limit<A: Allocator>(
-    answer: Result<Vec<Row<A>, A>, Fault>,
-    is_longer: bool,
-) -> Result<Vec<Row<A>, A>, Fault>
-    ensures whole { is_longer ≡ false → result ≡ answer }
-    ensures longer { is_longer ≡ true → IsErrAnd result (λ f. limited true (error_of answer) ≡ Some f) }
+impl<'a> Model for Row<'a> {
+    ghost use Rattle.warc.specs.Row.{Row as Seen};
+
+    ghost Value = { Seen };
+
+    ghost view = { λ r. record {
+      offset = r.offset;
+      block_start = r.block_start;
+      block_len = r.block_len;
+      verdict = r.verdict;
+      is_truncated = r.is_truncated;
+      kind = r.kind.now;
+      date = r.date.now;
+      id = r.id.now;
+      target = r.target.now;
+    } };
+}
+
+/// A record's place, and where its texts begin and end in the list of texts.
+#[derive(Clone, Copy)]
+struct Entry {
+    offset: u64,
+    block_start: u64,
+    block_len: u64,
+    verdict: Verdict,
+    is_truncated: bool,
+    kind_start: usize,
+    kind_end: usize,
+    date_end: usize,
+    id_end: usize,
+    target_end: usize,
+}
+
+/// The rows of an archive's records, in their order.
+#[derive(Drop)]
+pub(crate) struct Rows<A: Allocator> {
+    texts: Vec<u8, A>,
+    entries: Vec<Entry, A>,
+}
+
+impl<A: Allocator> Model for Rows<A> {
+    ghost use Rattle.std.specs.Prelude.{List, length, map};
+    ghost use Rattle.warc.specs.Row.{Row as Seen};
+    ghost use Rattle.warc.specs.Rows.{row_at, AreWithin};
+
+    ghost Value = { List Seen };
+
+    ghost view = { λ r. map (row_at r.texts.items) r.entries.items };
+
+    ghost invariant = { λ r. AreWithin (length r.texts.items) r.entries.items };
+}
+
+/// A part of the bytes.
+fn part(bytes: &[u8], start: usize, end: usize) -> &[u8]
+    requires order { start ≤ end }
+    requires end { end ≤ length bytes.now }
+    ensures { result.now ≡ slice_range bytes.now start end }
 {
-    if !is_longer {
-        return answer;
+    &bytes[start..end]
+}
+
+impl<A: Allocator + Copy> Rows<A> {
+    /// No rows.
+    pub(crate) fn new(alloc: A) -> Rows<A>
+        ensures { result ≡ [] }
+    {
+        Rows {
+            texts: Vec::new(alloc),
+            entries: Vec::new(alloc),
+        }
     }
-    match answer {
-        Ok(_) => Err(too_long()),
-        Err(fault) => Err(past_limit(fault)),
+
+    /// Adds a row behind the others.
+    pub(crate) fn push(&mut self, row: &Row<'_>) -> Result<(), AllocError>
+        ensures { OnOk result (self.new ≡ self.old ++ row.now ∷ []) }
+    {
+        let kind_start = self.texts.len();
+        self.texts.extend_from_slice(row.kind)?;
+        let kind_end = self.texts.len();
+        self.texts.extend_from_slice(row.date)?;
+        let date_end = self.texts.len();
+        self.texts.extend_from_slice(row.id)?;
+        let id_end = self.texts.len();
+        self.texts.extend_from_slice(row.target)?;
+        let target_end = self.texts.len();
+        self.entries.push(Entry {
+            offset: row.offset,
+            block_start: row.block_start,
+            block_len: row.block_len,
+            verdict: row.verdict,
+            is_truncated: row.is_truncated,
+            kind_start,
+            kind_end,
+            date_end,
+            id_end,
+            target_end,
+        })?;
+        Ok(())
     }
 }
 
-/// The fault where a byte stands at offset 2^48 and this one was found before.
-fn past_limit(fault: Fault) -> Fault
-    ensures { result ≡ or_too_long fault.kind fault }
-{
-    match fault.kind {
-        FaultKind::Truncated => too_long(),
-        _ => fault,
+impl<A: Allocator + Copy> Rows<A> {
+    /// Where its memory comes from.
+    pub(crate) fn allocator(&self) -> A {
+        *self.texts.allocator()
     }
 }
 
-/// A byte stands at offset 2^48.
-fn too_long() -> Fault
-    ensures { result ≡ record { kind = FaultKind.TooLong; offset = max_archive } }
-{
-    Fault {
-        kind: FaultKind::TooLong,
-        offset: MAX_ARCHIVE,
+impl<A: Allocator> Rows<A> {
+    /// How many rows there are.
+    pub(crate) fn len(&self) -> usize
+        ensures { result ≡ length self.now }
+    {
+        self.entries.len()
     }
-}
 
-/// Memory didn't suffice for the record at an offset.
-fn memory_at(offset: u64) -> Fault
-    ensures { result ≡ record { kind = FaultKind.Memory; offset = offset } }
-{
-    Fault {
-        kind: FaultKind::Memory,
-        offset,
-    }
-}
-
-/// The rows of the records that the bytes spell, or their first fault.
-fn rows_of<A: Allocator + Copy>(alloc: A, bytes: &[u8]) -> Result<Vec<Row<A>, A>, Fault>
-    requires { length bytes.now ≤ max_archive }
-    ensures spelled { IfOk result (λ rows. AreRowsOf bytes.now rows.items) }
-    ensures stopped { IfErr result (λ f. (is_of_bytes f.kind ≡ true) × EndsBy f.kind bytes.now f) }
-{
-    let mut rows = Vec::new(alloc);
-    let mut at = 0;
-    'reading: while at < bytes.len() {
-        let (row, len) = read_row(alloc, bytes, at)?;
-        let Ok(()) = rows.push(row) else {
-            return Err(memory_at(at as u64));
-        };
-        at += len;
-    }
-    Ok(rows)
-}
-
-/// The row of the record that begins at an offset, and the record's length.
-fn read_row<A: Allocator + Copy>(
-    alloc: A,
-    bytes: &[u8],
-    at: usize,
-) -> Result<(Row<A>, usize), Fault>
-    requires within { at ≤ length bytes.now }
-    requires short { length bytes.now ≤ max_archive }
-    ensures read { IfOk result (λ p. (r : Record) × Spells r (take p.1 (drop at bytes.now)) × (p.0 ≡ columns_of at r)
-        × (0 < p.1) × (at + p.1 ≤ length bytes.now)) }
-    ensures refused { IfErr result (λ f. (is_of_bytes f.kind ≡ true) × StopsBy f.kind at (drop at bytes.now) f) }
-{
-    match read_one(alloc, &bytes[at..]) {
-        Ok((framed, len)) => match Row::new(alloc, at as u64, &framed) {
-            Ok(row) => Ok((row, len)),
-            Err(_) => Err(memory_at(at as u64)),
-        },
-        Err(fault) => Err(Fault {
-            kind: fault.kind,
-            offset: at as u64 + fault.offset,
-        }),
+    /// The row at a place, if there is one.
+    pub(crate) fn get(&self, i: usize) -> Option<Row<'_>>
+        ensures { result ≡ slice_get self.now i }
+    {
+        let entry = self.entries.get(i)?;
+        let texts = self.texts.as_slice();
+        Some(Row {
+            offset: entry.offset,
+            block_start: entry.block_start,
+            block_len: entry.block_len,
+            verdict: entry.verdict,
+            is_truncated: entry.is_truncated,
+            kind: part(texts, entry.kind_start, entry.kind_end),
+            date: part(texts, entry.kind_end, entry.date_end),
+            id: part(texts, entry.date_end, entry.id_end),
+            target: part(texts, entry.id_end, entry.target_end),
+        })
     }
 }

@@ -20,6 +20,8 @@ use std::convert::AsStr;
 pub enum Command<'a> {
     /// A line for each record.
     List { archive: &'a str },
+    /// A line for each finding.
+    Check { archive: &'a str },
 }
 
 impl<'a> Command<'a> {
@@ -29,6 +31,7 @@ impl<'a> Command<'a> {
     {
         match self {
             Command::List { archive } => archive,
+            Command::Check { archive } => archive,
         }
     }
 }
@@ -65,11 +68,18 @@ fn warc_parser<'a>(alloc: Global) -> Result<clap::Command<'a>, AllocError>
         .version(VERSION)
         .after_help(EXAMPLE)
         .subcommand_required(true);
-    with_command(
+    let parser = with_command(
         parser,
         alloc,
         "list",
         "Prints a line for each record",
+        &[ARCHIVE],
+    )?;
+    with_command(
+        parser,
+        alloc,
+        "check",
+        "Prints a line for each finding: what is wrong with records that can be read",
         &[ARCHIVE],
     )
 }
@@ -124,15 +134,17 @@ fn text_at<'a>(matches: &ArgMatches<'a>, name: &str) -> &'a str
     }
 }
 
-/// The command that was met. `clap` meets no command but the program's own, so `list`, the only
-/// one, needs no test.
+/// The command that was met. `clap` meets no command but the program's own, so one of them, `list`,
+/// needs no test.
 fn read<'a>(matches: &ArgMatches<'a>) -> Option<Command<'a>>
     ensures { option_map view_of result
         ≡ option_map (λ p. named p.0 p.1) (subcommand_rows_of matches.now) }
 {
-    let (_name, texts) = matches.subcommand()?;
-    Some(Command::List {
-        archive: text_at(texts, "archive"),
+    let (name, texts) = matches.subcommand()?;
+    let archive = text_at(texts, "archive");
+    Some(match name {
+        "check" => Command::Check { archive },
+        _ => Command::List { archive },
     })
 }
 

@@ -1,4 +1,4 @@
--- Lines of a text.
+-- Lines of a text, as the tests write them (ISO 28500:2017, 4: each ends with CRLF).
 use Rattle.std.specs.Prelude.{ℕ, List, ◌++◌, codes, flat_map}
 use Rattle.std.specs.Borrow.{Bor}
 

@@ -1,4 +1,4 @@
--- The text of a record of the tests' tables.
+-- The text of a record of the tests' tables (ISO 28500:2017, 4 and 5); the tables are this project's own.
 use Rattle.std.specs.Prelude.{ℕ, List, ◌++◌, length, codes, decimal, encode_utf8, flat_map}
 use Rattle.warc_vectors.specs.Lines.{line, lines_of}
 use Rattle.warc_vectors.specs.declared.rows.Row.{Row}

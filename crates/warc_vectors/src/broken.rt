@@ -1,6 +1,6 @@
 //! Sources and sinks in memory that fail once, or take little.
 
-ghost use Rattle.std.specs.Prelude.{◌≡◌, ℕ, ◌-◌, ◌<◌, ◌≤◌, ◌++◌, ◌==◌, List, [], take, length, Some, Ok, Err, IfOk, is_err, if◌then◌else◌};
+ghost use Rattle.std.specs.Prelude.{◌≡◌, ℕ, ◌-◌, ◌<◌, ◌≤◌, ◌++◌, ◌==◌, nat_lt, List, [], take, length, Some, None, Ok, Err, IfOk, is_err, false, if◌then◌else◌};
 ghost use Rattle.warc_frame.specs.Count.{raised};
 ghost use Rattle.warc_frame.specs.Device.{taken, Gives};
 
@@ -69,6 +69,78 @@ impl<A: Allocator> Source for BrokenSource<A> {
             return Err(ReadFault);
         }
         answer
+    }
+}
+
+/// A source in memory that gives other bytes from the read of that number on, counted from 1.
+/// So nothing is known of what it holds.
+#[derive(Drop)]
+pub struct ChangingSource<A: Allocator = Global> {
+    before: MemSource<A>,
+    after: MemSource<A>,
+    left: u64,
+    reads: u64,
+    asked: u64,
+}
+
+impl<A: Allocator> Model for ChangingSource<A> {
+    ghost use Rattle.warc_vectors.specs.Broken.{Changing};
+
+    ghost Value = { Changing };
+
+    ghost view = { λ s. record { before = s.before.bytes; after = s.after.bytes; reads = s.reads; asked = s.asked; left = s.left } };
+}
+
+impl<A: Allocator> ChangingSource<A> {
+    /// At 0 and 1 it gives the other bytes from the first read on.
+    pub fn new(before: Vec<u8, A>, after: Vec<u8, A>, number: u64) -> ChangingSource<A>
+        ensures before { result.before ≡ before.items }
+        ensures after { result.after ≡ after.items }
+        ensures unread { result.reads ≡ 0 }
+        ensures left { result.left ≡ number }
+    {
+        ChangingSource {
+            before: MemSource::new(before, usize::MAX),
+            after: MemSource::new(after, usize::MAX),
+            left: number,
+            reads: 0,
+            asked: 0,
+        }
+    }
+
+    /// What the bytes of this read give.
+    fn give(&mut self, at: u64, buf: &mut [u8]) -> Result<usize, ReadFault>
+        ensures bound { IfOk result (λ n. n ≤ length buf.new) }
+        ensures sound { is_err result ≡ false }
+        ensures gives { IfOk result (Gives (if nat_lt 1 self.old.left then self.old.before else self.old.after) at buf.new) }
+        ensures left { self.new.left ≡ self.old.left - 1 }
+        ensures reads { self.new.reads ≡ self.old.reads }
+        ensures asked { self.new.asked ≡ self.old.asked }
+    {
+        let number = self.left;
+        self.left = number.saturating_sub(1);
+        if number > 1 {
+            self.before.read_at(at, buf)
+        } else {
+            self.after.read_at(at, buf)
+        }
+    }
+}
+
+impl<A: Allocator> Source for ChangingSource<A> {
+    ghost holds = { λ _. None };
+
+    ghost faults = { λ _. 0 };
+
+    ghost reads = { λ s. s.reads };
+
+    ghost asked = { λ s. s.asked };
+
+    /// It never fails.
+    fn read_at(&mut self, at: u64, buf: &mut [u8]) -> Result<usize, ReadFault> {
+        self.reads = raise(self.reads);
+        self.asked = at;
+        self.give(at, buf)
     }
 }
 

@@ -1,5 +1,6 @@
 //! The suite of `warc_frame`'s records.
 
+use crate::runs::opens_as_read;
 use crate::worked::{ONE_RESOURCE, changed, read_all};
 use crate::{RefusingAllocator, Row};
 use std::alloc::{Allocator, Global};
@@ -170,6 +171,7 @@ fn changed_records(rt: HostRuntime) -> Result<(), Fail> {
             Err(fault) => Err(fault),
         };
         assert_eq!(rt; found, expected, "at {old:?} to {new:?}");
+        assert!(rt; opens_as_read(rt.alloc(), &changed)?, "{new:?}");
     }
     Ok(())
 }
@@ -185,6 +187,7 @@ fn every_truncation(rt: HostRuntime) -> Result<(), Fail> {
                 offset: len as u64
             })
         );
+        assert!(rt; opens_as_read(rt.alloc(), &text[..len])?);
     }
     assert_eq!(rt; read_all(rt.alloc(), &text), Ok(1));
     text.push(b'W')?;

@@ -41,6 +41,22 @@ fn list_names_its_archive(rt: HostRuntime) {
 }
 
 #[test]
+fn check_names_its_archive(rt: HostRuntime) {
+    for words in [
+        ["warc", "check", "a.warc"].as_slice(),
+        &["/usr/bin/warc", "check", "--", "a.warc"],
+    ] {
+        assert!(rt;
+            matches!(
+                parse(rt.alloc(), words),
+                Ok(Command::Check { archive: "a.warc" })
+            )
+        );
+    }
+    assert!(rt; Command::Check { archive: "a.warc" }.path() == "a.warc");
+}
+
+#[test]
 fn help_and_version_are_asked_for(rt: HostRuntime) {
     for words in [
         ["warc", "--help"].as_slice(),
@@ -55,7 +71,11 @@ fn help_and_version_are_asked_for(rt: HostRuntime) {
         assert!(rt; text.as_str().contains("Usage: warc <COMMAND>"));
         assert!(rt;
             text.as_str()
-                .contains("list  Prints a line for each record")
+                .contains("list   Prints a line for each record")
+        );
+        assert!(rt;
+            text.as_str()
+                .contains("check  Prints a line for each finding")
         );
         assert!(rt;
             text.as_str()
@@ -93,7 +113,8 @@ fn wrong_words_are_refused(rt: HostRuntime) {
         &["warc", "list", "-a"],
         &["warc", "list", "a.warc", "b.warc"],
         &["warc", "list", "a.warc", "--verbose"],
-        &["warc", "check", "a.warc"],
+        &["warc", "check"],
+        &["warc", "check", "a.warc", "b.warc"],
         &["warc", "help", "show"],
     ] {
         let Some((text, asked)) = answer(&rt, words) else {

@@ -20,6 +20,10 @@ pub(crate) const ONE_RESOURCE: Row<'static> = Row {
     block: b"abc",
 };
 
+/// The line that `list` writes of it.
+pub(crate) const ONE_RESOURCE_LINE: &str =
+    "0\t0\t3\tresource\t2020-01-01T00:00:00Z\t<urn:uuid:00000000-0000-4000-8000-000000000001>\thttp://a.example/x\n";
+
 /// Its text, written out.
 const ONE_RESOURCE_TEXT: &[u8] =
     b"WARC/1.1\r\nWARC-Type: resource\r\nWARC-Record-ID: <urn:uuid:00000000-0000-4000-8000-000000000001>\r\nWARC-Date: 2020-01-01T00:00:00Z\r\nWARC-Target-URI: http://a.example/x\r\nContent-Type: text/plain\r\nWARC-Block-Digest: sha1:VGMT4NSHA2AWVOR6EVYXQUGCNSONBWE5\r\nContent-Length: 3\r\n\r\nabc\r\n\r\n";

@@ -1,4 +1,5 @@
-use Rattle.std.proofs.Common.{rules, ◌+◌, refl, sym, ap, ◌∙◌}
+use Rattle.std.proofs.Common.{rules, ◌≡◌, ◌+◌, Some, refl, sym, ap, ◌∙◌}
+use Rattle.std.specs.List.{slice_get}
 use Rattle.warc.specs.Archive.{Contents}
 use Rattle.warc.specs.Listing.{listing}
 use Rattle.warc.proofs.LineLemmas.{longer, listing_front, listing_next, same_out, same_staged}
@@ -14,8 +15,9 @@ listing-init g c = record {
 pub returns-in_err-put_line-clause-cut : goal.returns-in_err-put_line-clause-cut
 returns-in_err-put_line-clause-cut g c =
     let i = c.listing.position in
-    let rows = c.deref-row-items.ensures.value ∙ ap (λ (a : Contents). a.rows) c.self.view_is in
-    let next = listing_next c.deref-row-items.result.now c.args.self.now.rows i c.row-item.result rows c.row-item.is c.listing-test.true in
+    let rows = ap (λ (a : Contents). a.rows) c.self.view_is in
+    let at : slice_get c.args.self.now.rows i ≡ Some c.in-Some.row = ap (λ l. slice_get l i) (sym rows) ∙ sym c.get.ensures ∙ c.in-Some.is in
+    let next = listing_next c.args.self.now.rows i c.in-Some.row at in
     let out = longer _ (same_out next (c.in_err-put_line.ensures.cut _ _ c.listing.invariant.staged)) in
     let whole = same_out (sym (listing_front c.args.self.now.rows (i + 1))) out in
     search rules
@@ -23,8 +25,9 @@ returns-in_err-put_line-clause-cut g c =
 pub listing-preserved : goal.listing-preserved
 listing-preserved g c =
     let i = c.listing.position in
-    let rows = c.deref-row-items.ensures.value ∙ ap (λ (a : Contents). a.rows) c.self.view_is in
-    let next = listing_next c.deref-row-items.result.now c.args.self.now.rows i c.row-item.result rows c.row-item.is c.listing-test.true in
+    let rows = ap (λ (a : Contents). a.rows) c.self.view_is in
+    let at : slice_get c.args.self.now.rows i ≡ Some c.in-Some.row = ap (λ l. slice_get l i) (sym rows) ∙ sym c.get.ensures ∙ c.in-Some.is in
+    let next = listing_next c.args.self.now.rows i c.in-Some.row at in
     record {
       staged = same_staged next (c.in_ok-put_line.ensures.out _ _ c.listing.invariant.staged);
       sound = search rules;

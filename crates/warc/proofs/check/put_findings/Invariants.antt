@@ -1,0 +1,13 @@
+use Rattle.std.proofs.Common.{◌≡◌, ◌++◌, ℕ, List, Option, map, take}
+use Rattle.warc_frame.specs.Send.{IsStaged}
+use Rattle.warc_record.specs.Findings.{finding_seen}
+use Rattle.warc.specs.Examining.{record_text}
+use Rattle.warc.proofs.check.put_findings.Given as goal
+
+-- the lines of the findings so far are staged, and no write has failed
+abbrev pub invariant-putting : goal.invariant-putting
+invariant-putting g l = record {
+  staged : (start : Option (List ℕ)) (output : List ℕ) → IsStaged start output (g.W.Sink.tells l.fn.out) l.fn.buffer
+      → IsStaged start (output ++ record_text l.position (map finding_seen (take l.finding-index l.found))) (g.W.Sink.tells l.out) l.buffer;
+  sound : g.W.Sink.faults l.out ≡ g.W.Sink.faults l.fn.out;
+}

@@ -1,0 +1,80 @@
+use Rattle.std.proofs.Common.{rules, ◌≡◌, ◌+◌, ◌++◌, ℕ, Some, length, take, arith, sym, ap, ◌∙◌}
+use Rattle.std.specs.List.{flat_map, slice_get}
+use Rattle.warc_frame.specs.Count.{capped}
+use Rattle.warc.specs.Archive.{contents}
+use Rattle.warc.specs.Checking.{line_text}
+use Rattle.warc.specs.Examining.{findings_of_first, first_text}
+use Rattle.warc.specs.Row.{Row}
+use Rattle.warc.proofs.LineLemmas.{same_out, same_staged}
+use Rattle.warc.proofs.RecordsLemmas.{failed_halted, first_all, met_one, number_more, record_at, rest_text, sent_halted, text_more, text_rest}
+use Rattle.warc.proofs.check.put_records.Goals as goal
+
+pub returns-clause-out : goal.returns-clause-out
+returns-clause-out g c = λ bytes records start output held can is.
+    let all = first_all bytes records c.args.rows.now c.checking.position can (search rules) in
+    same_staged (ap (λ l. output ++ flat_map line_text l) all) (c.checking.invariant.staged bytes records start output held can is)
+
+pub returns-clause-number : goal.returns-clause-number
+returns-clause-number g c = λ bytes records held can.
+    let all = first_all bytes records c.args.rows.now c.checking.position can (search rules) in
+    c.checking.invariant.number bytes records held can ∙ ap (λ l. capped (length l)) all
+
+pub returns-in-Err-clause-cut : goal.returns-in-Err-clause-cut
+returns-in-Err-clause-cut g c = λ bytes records start output held can is.
+    let rs = contents records in
+    let i = c.checking.position in
+    let gone = c.staged_went_out.ensures start _ (output ++ first_text i rs) c.checking.buffer (c.checking.invariant.staged bytes records start output held can is) in
+    let out = same_out (text_rest rs i output) (c.went_out_of_longer.ensures start _ (output ++ first_text i rs) (rest_text i rs) _ gone) in
+    rw (sym (sent_halted c.in-Err.halt c.after.result c.sent.result c.checking.buffer.sent c.after.ensures c.sent.ensures)) out
+
+pub returns-in-Err-clause-failed : goal.returns-in-Err-clause-failed
+returns-in-Err-clause-failed g c = λ bytes records held can.
+    let row_is : slice_get c.args.rows.now c.checking.position ≡ Some c.in-Some.row = sym c.get.ensures ∙ c.in-Some.is in
+    let at = record_at bytes records c.args.rows.now c.checking.position c.in-Some.row can row_is in
+    failed_halted ℕ c.in-Err.halt c.after.result c.sent.result _ _ _ c.after.ensures c.checking.invariant.sound
+    (c.in-Err.ensures.failed bytes at.0 (c.checking.invariant.kept ∙ held) at.3 at.2)
+
+pub returns-in_err-number-clause-cut : goal.returns-in_err-number-clause-cut
+returns-in_err-number-clause-cut g c = λ bytes records start output held can is.
+    let rs = contents records in
+    let i = c.checking.position in
+    let row_is : slice_get c.args.rows.now i ≡ Some c.in-Some.row = sym c.get.ensures ∙ c.in-Some.is in
+    let at = record_at bytes records c.args.rows.now i c.in-Some.row can row_is in
+    let examined = c.in-Ok.ensures.read bytes at.0 (take i rs) (c.checking.invariant.kept ∙ held) at.3 at.2 (c.checking.invariant.met bytes records held can) in
+    let len = ap (λ (r : Row). r.block_len) (c.row.view_is ∙ at.2) in
+    let cut = c.in_err-number.ensures.cut start (output ++ first_text i rs) (c.checking.invariant.staged bytes records start output held can is) in
+    let longer = c.went_out_of_longer.ensures start _ _ (rest_text (i + 1) rs) _ cut in
+    let more = text_more records i at.0 c.in-Ok.examined.reread.fields c.row.inside.block_len c.in-Ok.examined.facts output at.1 examined len in
+    let whole = same_out (ap (λ l. l ++ rest_text (i + 1) rs) more ∙ text_rest rs (i + 1) output) longer in
+    search rules
+
+pub checking-preserved : goal.checking-preserved
+checking-preserved g c =
+    let i = c.checking.position in
+    let row_is : slice_get c.args.rows.now i ≡ Some c.in-Some.row = sym c.get.ensures ∙ c.in-Some.is in
+    record {
+      room = omega (arith, c.checking.invariant.room, c.examine.auto.buf);
+      staged = λ bytes records start output held can is.
+          let rs = contents records in
+          let at = record_at bytes records c.args.rows.now i c.in-Some.row can row_is in
+          let examined = c.in-Ok.ensures.read bytes at.0 (take i rs) (c.checking.invariant.kept ∙ held) at.3 at.2 (c.checking.invariant.met bytes records held can) in
+          let len = ap (λ (r : Row). r.block_len) (c.row.view_is ∙ at.2) in
+          same_staged (text_more records i at.0 c.in-Ok.examined.reread.fields c.row.inside.block_len c.in-Ok.examined.facts output at.1 examined len)
+          (c.in_ok-number.ensures.out start (output ++ first_text i rs) (c.checking.invariant.staged bytes records start output held can is));
+      met = λ bytes records held can.
+          let rs = contents records in
+          let at = record_at bytes records c.args.rows.now i c.in-Some.row can row_is in
+          met_one records i at.0 c.examine.new.met at.1
+          (c.in-Ok.ensures.met bytes at.0 (take i rs) (c.checking.invariant.kept ∙ held) at.3 at.2 (c.checking.invariant.met bytes records held can));
+      number = λ bytes records held can.
+          let rs = contents records in
+          let at = record_at bytes records c.args.rows.now i c.in-Some.row can row_is in
+          let examined = c.in-Ok.ensures.read bytes at.0 (take i rs) (c.checking.invariant.kept ∙ held) at.3 at.2 (c.checking.invariant.met bytes records held can) in
+          let len = ap (λ (r : Row). r.block_len) (c.row.view_is ∙ at.2) in
+          c.saturating_add-count.ensures ∙ ap (λ n. capped (n + c.in_ok-number.number)) (c.checking.invariant.number bytes records held can)
+          ∙ ap (λ n. capped (capped (length (findings_of_first i rs)) + n)) c.in_ok-number.ensures.number
+          ∙ number_more records i at.0 c.in-Ok.examined.reread.fields c.row.inside.block_len c.in-Ok.examined.facts at.1 examined len;
+      kept = search rules;
+      sound = search rules;
+      silent = search rules;
+    }

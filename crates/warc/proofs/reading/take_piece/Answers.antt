@@ -1,0 +1,49 @@
+use Rattle.std.proofs.Common.{◌≡◌, ℕ, ◌+◌, ◌-◌, List, ◌++◌, length, take, drop, sym, ap, subst, ◌∙◌, arith}
+use Rattle.std.proofs.lemmas.List.{append_assoc, append-nil, length-drop, take-append-drop, take_all, take_rest}
+use Rattle.std.proofs.lemmas.Result.{err_from_is_err_and}
+use Rattle.warc.specs.Stream.{Stands, StaysRefused}
+use Rattle.std.proofs.Math.Seq.{take-add}
+use Rattle.warc.proofs.reading.take_piece.Goals as goal
+
+pub taking-init : goal.taking-init
+taking-init g c = record {
+  within = omega arith;
+  stands = λ text is.
+      let P : List ℕ → Type 0 = λ t. Stands t c.args.decoder.now c.args.reading.now in
+      subst P (sym (append-nil text)) is;
+}
+
+pub returns-in_err-from : goal.returns-in_err-from
+returns-in_err-from g c =
+    let p = err_from_is_err_and c.from_residual.result c.from_residual.ensures.1 in
+    let piece : List ℕ = c.args.piece.now in
+    let from : ℕ = c.taking.from in
+    rw (p.1, p.2) (λ text is.
+    let done : List ℕ = text ++ take from piece in
+    let rest : List ℕ = take (length piece - from) (drop from piece) in
+    let whole : done ++ rest ≡ text ++ piece = ap (λ x. done ++ x) (take_rest piece from) ∙ append_assoc text (take from piece) (drop from piece) ∙ ap (λ x. text ++ x) (take-append-drop from piece) in
+    let P : List ℕ → Type 0 = λ t. StaysRefused t c.in_err-from.field-0.0 in
+    subst P whole (c.in_err-from.ensures.history done (c.taking.invariant.stands text is)))
+
+pub taking-preserved : goal.taking-preserved
+taking-preserved g c =
+    let piece : List ℕ = c.args.piece.now in
+    let from : ℕ = c.taking.from in
+    let took : ℕ = c.in_ok-from.field-0 in
+    let rest : List ℕ = take (length piece - from) (drop from piece) in
+    let size : length rest ≡ length piece - from = ap length (take_rest piece from) ∙ length-drop from piece in
+    record {
+      within = omega (arith, size, c.in_ok-from.ensures.within, c.taking-test.true, c.taking.invariant.within);
+      stands = λ text is.
+          let done : List ℕ = text ++ take from piece in
+          let P : List ℕ → Type 0 = λ t. Stands t c.take_front.new.decoder c.take_front.new.reading in
+          let whole : done ++ take took rest ≡ text ++ take (from + took) piece =
+          append_assoc text (take from piece) (take took rest) ∙ ap (λ x. text ++ (take from piece ++ take took x)) (take_rest piece from)
+          ∙ ap (λ x. text ++ x) (sym (take-add from took piece)) in
+          subst P whole (c.in_ok-from.ensures.history done (c.taking.invariant.stands text is));
+    }
+
+pub returns : goal.returns
+returns g c = λ text is.
+    let P : List ℕ → Type 0 = λ t. Stands t c.taking.decoder c.taking.reading in
+    subst P (ap (λ x. text ++ x) (take_all c.taking.from c.args.piece.now (omega (arith, c.taking-test.false)))) (c.taking.invariant.stands text is)

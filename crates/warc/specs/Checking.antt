@@ -1,0 +1,85 @@
+-- What `check` tells of an archive: the findings of its records in their order, or that it has none. The findings are this
+-- project's own profile of ISO 28500:2017, and none of them refuses a record.
+use Rattle.std.specs.Prelude.{ℕ, Bool, true, false, List, [], ◌∷◌, ◌++◌, length, map, take, codes, decimal, Option, Some, None}
+use Rattle.std.specs.List.{enumerate_from, flat_map, list_any}
+use Rattle.std.specs.Str.{bytes_eq}
+use Rattle.warc_value.specs.Digests.{verdict_of}
+use Rattle.warc_value.specs.declared.hash.Verdict.{Verdict}
+use Rattle.warc_value.specs.declared.hash.Verdict.TheVariants.{Good, Bad, Unchecked}
+use Rattle.warc_frame.specs.Record.{Record}
+use Rattle.warc_record.specs.Findings.{Found, findings_of}
+use Rattle.warc_record.specs.Readings.{digest_wanted, reading_of}
+
+-- a finding, and the position of the record that it is about, if it is about one
+pub record Line : Type 0 where
+  pub position : Option ℕ
+  pub found : Found
+
+-- a digest was checked and differs
+abbrev pub is_bad : Verdict → Bool
+is_bad Good = false
+is_bad Bad = true
+is_bad Unchecked = false
+
+abbrev pub has_bad_digest : Record → Bool
+has_bad_digest r = is_bad (verdict_of (digest_wanted r.fields) r.block)
+
+-- two keys of ids, both there and equal: then the ids are the same
+abbrev pub is_same_key : Option (List ℕ) → Option (List ℕ) → Bool
+is_same_key None b = false
+is_same_key (Some a) None = false
+is_same_key (Some a) (Some b) = bytes_eq a b
+
+-- the key of a record's id
+abbrev pub key_of : Record → Option (List ℕ)
+key_of r = (reading_of r.fields).id
+
+-- one of the records has an id of this key
+abbrev pub is_used : List Record → Option (List ℕ) → Bool
+is_used records key = list_any (λ r. is_same_key (key_of r) key) records
+
+-- the findings of a record, by those before it
+abbrev pub findings_behind : List Record → Record → List Found
+findings_behind before r = findings_of r.fields (length r.block) (has_bad_digest r) (is_used before (key_of r))
+
+abbrev pub about_record : ℕ → Found → Line
+about_record position found = record { position = Some position; found = found }
+
+-- the findings of the record at a position
+abbrev pub findings_at : List Record → ℕ → Record → List Line
+findings_at records position r = map (about_record position) (findings_behind (take position records) r)
+
+-- the findings of all records
+abbrev pub findings_of_records : List Record → List Line
+findings_of_records records = flat_map (λ p. findings_at records p.0 p.1) (enumerate_from 0 records)
+
+-- the finding where there is no record: N12
+abbrev pub no_records : Line
+no_records = record { position = None; found = record { number = 12; field = None } }
+
+-- the findings of an archive of these records
+abbrev pub findings_of_archive : List Record → List Line
+findings_of_archive [] = no_records ∷ []
+findings_of_archive (r ∷ rs) = findings_of_records (r ∷ rs)
+
+-- a position, or `-` for none
+abbrev pub position_text : Option ℕ → List ℕ
+position_text None = codes "-"
+position_text (Some position) = decimal position
+
+-- the name of a field behind a space, where there is one
+abbrev pub field_text : Option (List ℕ) → List ℕ
+field_text None = []
+field_text (Some name) = codes " " ++ name
+
+-- the line of a position, a number and the name of a field, ended by LF
+abbrev pub numbered_line : List ℕ → ℕ → List ℕ → List ℕ
+numbered_line position number field = position ++ codes " N" ++ decimal number ++ field ++ codes "\n"
+
+-- a finding's line
+unfoldable pub line_text : Line → List ℕ
+line_text l = numbered_line (position_text l.position) l.found.number (field_text l.found.field)
+
+-- all lines
+unfoldable pub check_text : List Record → List ℕ
+check_text records = flat_map line_text (findings_of_archive records)

@@ -1,0 +1,326 @@
+//! What is wrong with records though they are readable: their findings, a line each.
+ghost use Rattle.std.specs.Prelude.{◌≡◌, ℕ, ◌++◌, ◌≤◌, List, [], ◌∷◌, Option, Some, false, IfOk, IfErr, OnOk, decimal, length, map, is_err, if◌then◌else◌};
+ghost use Rattle.std.specs.Io.KnownBytes.{append_known};
+ghost use Rattle.warc_frame.specs.Count.{capped, raised};
+ghost use Rattle.warc_frame.specs.Record.{Record, max_head};
+ghost use Rattle.warc_frame.specs.Send.{IsStaged, WentOut, sent_of};
+ghost use Rattle.warc_record.specs.Findings.{finding_seen};
+ghost use Rattle.warc_record.specs.Readings.{reading_of};
+ghost use Rattle.warc_record.specs.Seen.{said};
+ghost use Rattle.warc.specs.Archive.{contents};
+ghost use Rattle.warc.specs.Row.{Placed, row_of};
+ghost use Rattle.warc.specs.Checking.{about_record, check_text, findings_of_archive, findings_of_records, is_bad, line_text, numbered_line};
+ghost use Rattle.warc.specs.Examining.{HasFailed, HasHead, HasMet, AreCheckable, IsExamined, MayHaveFailed, found_by, record_text, records_text};
+ghost use Rattle.warc.specs.Failing.{HasFailedBy, MayHaveFailedBy, failed_by, is_read};
+
+use crate::heads::{Halt, Reread, read_again};
+use crate::row::put_all;
+use crate::rows::{Row, Rows};
+use crate::used::Met;
+use itoa::Buffer;
+use std::alloc::{AllocError, Allocator};
+use warc_frame::laws::{staged_went_out, went_out_of_longer};
+use warc_frame::{MAX_HEAD, OutBuffer, OutFault, SendFault, Sink, Source};
+use warc_record::laws::good_heads_read;
+use warc_record::{ArchiveFacts, Finding, all_findings};
+use warc_value::Verdict;
+
+/// A record, read again, and what the archive tells of it.
+#[derive(Drop)]
+struct Examined<A: Allocator> {
+    reread: Reread<A>,
+    facts: ArchiveFacts,
+}
+
+/// Whether a digest was checked and differs.
+fn is_bad(verdict: Verdict) -> bool
+    ensures { result ≡ is_bad verdict }
+{
+    match verdict {
+        Verdict::Bad => true,
+        Verdict::Good | Verdict::Unchecked => false,
+    }
+}
+
+/// Reads a record again, and adds its id to those that were met.
+fn examine<S: Source, A: Allocator + Copy>(
+    alloc: A,
+    source: &mut S,
+    row: &Row<'_>,
+    met: &mut Met<A>,
+    buf: &mut [u8],
+) -> Result<Examined<A>, Halt>
+    requires { max_head ≤ length buf.old }
+    ensures said { IfOk result (λ x. said x.reread.typed ≡ reading_of x.reread.fields) }
+    ensures read { (bytes : List ℕ) (p : Placed) (before : List Record) →
+        S.holds source.old ≡ Some bytes → HasHead bytes p → row.now ≡ row_of p → HasMet before met.old →
+        IfOk result (λ x. IsExamined before p.content x.reread.fields x.facts) }
+    ensures met { (bytes : List ℕ) (p : Placed) (before : List Record) →
+        S.holds source.old ≡ Some bytes → HasHead bytes p → row.now ≡ row_of p → HasMet before met.old →
+        OnOk result (HasMet (before ++ p.content ∷ []) met.new) }
+    ensures kept { S.holds source.new ≡ S.holds source.old }
+    ensures sound { OnOk result (S.faults source.new ≡ S.faults source.old) }
+    ensures may { IfErr result (λ halt. MayHaveFailed halt (S.faults source.old) (S.faults source.new)) }
+    ensures failed { (bytes : List ℕ) (p : Placed) → S.holds source.old ≡ Some bytes → HasHead bytes p → row.now ≡ row_of p →
+        IfErr result (λ halt. HasFailed halt (S.faults source.old) (S.faults source.new)) }
+{
+    good_heads_read();
+    let reread = match read_again(alloc, source, row, buf) {
+        Ok(reread) => reread,
+        Err(halt) => return Err(halt),
+    };
+    let Ok(used_id) = met.meet(alloc, row.id) else {
+        return Err(Halt::Memory);
+    };
+    let bad_digest = is_bad(row.verdict);
+    Ok(Examined {
+        reread,
+        facts: ArchiveFacts {
+            bad_digest,
+            used_id,
+        },
+    })
+}
+
+/// Adds a finding's line to the output, by the position of its record, its number, and a field's name
+/// with what stands before it.
+fn put_parts<'a, W: Sink>(
+    position: u64,
+    number: u8,
+    space: &'a [u8],
+    field: &'a [u8],
+    buffer: &mut OutBuffer,
+    out: &mut W,
+) -> Result<(), SendFault>
+    ensures out { (start : Option (List ℕ)) (output : List ℕ) → IsStaged start output (W.tells out.old) buffer.old →
+        OnOk result (IsStaged start (output ++ numbered_line (decimal position) number (space.now ++ field.now)) (W.tells out.new) buffer.new) }
+    ensures cut { (start : Option (List ℕ)) (output : List ℕ) → IsStaged start output (W.tells out.old) buffer.old →
+        IfErr result (λ e. WentOut start (output ++ numbered_line (decimal position) number (space.now ++ field.now)) (W.tells out.new) e.sent) }
+    ensures cause { W.faults out.new ≡ (if is_err result then raised (W.faults out.old) else W.faults out.old) }
+{
+    let (mut first, mut second) = (Buffer::new(), Buffer::new());
+    let pieces = [
+        first.format(position).as_bytes(),
+        b" N",
+        second.format(number).as_bytes(),
+        space,
+        field,
+        b"\n",
+    ];
+    put_all(&pieces, buffer, out)
+}
+
+/// Adds a finding's line to the output, by the position of its record.
+#[tactic(auto, unfolding(crate::specs::Checking::line_text))]
+fn put_finding<W: Sink>(
+    position: u64,
+    finding: &Finding<'_>,
+    buffer: &mut OutBuffer,
+    out: &mut W,
+) -> Result<(), SendFault>
+    ensures out { (start : Option (List ℕ)) (output : List ℕ) → IsStaged start output (W.tells out.old) buffer.old →
+        OnOk result (IsStaged start (output ++ line_text (about_record position (finding_seen finding.now))) (W.tells out.new) buffer.new) }
+    ensures cut { (start : Option (List ℕ)) (output : List ℕ) → IsStaged start output (W.tells out.old) buffer.old →
+        IfErr result (λ e. WentOut start (output ++ line_text (about_record position (finding_seen finding.now))) (W.tells out.new) e.sent) }
+    ensures cause { W.faults out.new ≡ (if is_err result then raised (W.faults out.old) else W.faults out.old) }
+{
+    match finding.field {
+        Some(name) => put_parts(position, finding.number, b" ", name, buffer, out),
+        None => put_parts(position, finding.number, b"", b"", buffer, out),
+    }
+}
+
+/// Adds the lines of a record's findings to the output, by its position.
+fn put_findings<W: Sink>(
+    position: u64,
+    found: &[Finding<'_>],
+    buffer: &mut OutBuffer,
+    out: &mut W,
+) -> Result<(), SendFault>
+    ensures out { (start : Option (List ℕ)) (output : List ℕ) → IsStaged start output (W.tells out.old) buffer.old →
+        OnOk result (IsStaged start (output ++ record_text position (map finding_seen found.now)) (W.tells out.new) buffer.new) }
+    ensures cut { (start : Option (List ℕ)) (output : List ℕ) → IsStaged start output (W.tells out.old) buffer.old →
+        IfErr result (λ e. WentOut start (output ++ record_text position (map finding_seen found.now)) (W.tells out.new) e.sent) }
+    ensures cause { W.faults out.new ≡ (if is_err result then raised (W.faults out.old) else W.faults out.old) }
+{
+    went_out_of_longer();
+    'putting: for finding in found {
+        put_finding(position, finding, buffer, out)?;
+    }
+    Ok(())
+}
+
+/// Adds the lines of an examined record to the output, and answers their number.
+fn put_examined<A: Allocator + Copy, W: Sink>(
+    alloc: A,
+    examined: &Examined<A>,
+    position: u64,
+    block_len: u64,
+    buffer: &mut OutBuffer,
+    out: &mut W,
+) -> Result<usize, OutFault>
+    requires { said examined.now.reread.typed ≡ reading_of examined.now.reread.fields }
+    ensures out { (start : Option (List ℕ)) (output : List ℕ) → IsStaged start output (W.tells out.old) buffer.old →
+        OnOk result (IsStaged start (output ++ record_text position (found_by examined.now.reread.fields block_len examined.now.facts)) (W.tells out.new) buffer.new) }
+    ensures cut { (start : Option (List ℕ)) (output : List ℕ) → IsStaged start output (W.tells out.old) buffer.old →
+        IfErr result (λ e. WentOut start (output ++ record_text position (found_by examined.now.reread.fields block_len examined.now.facts)) (W.tells out.new) (sent_of e)) }
+    ensures number { IfOk result (λ n. n ≡ length (found_by examined.now.reread.fields block_len examined.now.facts)) }
+    ensures cause { W.faults out.new ≡ failed_by result (W.faults out.old) }
+    ensures unread { IfErr result (λ e. is_read e ≡ false) }
+{
+    staged_went_out();
+    went_out_of_longer();
+    let reread = &examined.reread;
+    let Ok(found) = all_findings(
+        alloc,
+        &reread.fields,
+        &reread.typed,
+        block_len,
+        examined.facts,
+    ) else {
+        return Err(OutFault::Memory(buffer.sent()));
+    };
+    match put_findings(position, &found, buffer, out) {
+        Ok(()) => Ok(found.len()),
+        Err(fault) => Err(OutFault::Write(fault.sent)),
+    }
+}
+
+/// Adds the lines of an examined record to the output, and answers their number.
+fn put_record<A: Allocator + Copy, W: Sink>(
+    alloc: A,
+    examined: Examined<A>,
+    position: u64,
+    block_len: u64,
+    buffer: &mut OutBuffer,
+    out: &mut W,
+) -> Result<usize, OutFault>
+    requires { said examined.reread.typed ≡ reading_of examined.reread.fields }
+    ensures out { (start : Option (List ℕ)) (output : List ℕ) → IsStaged start output (W.tells out.old) buffer.old →
+        OnOk result (IsStaged start (output ++ record_text position (found_by examined.reread.fields block_len examined.facts)) (W.tells out.new) buffer.new) }
+    ensures cut { (start : Option (List ℕ)) (output : List ℕ) → IsStaged start output (W.tells out.old) buffer.old →
+        IfErr result (λ e. WentOut start (output ++ record_text position (found_by examined.reread.fields block_len examined.facts)) (W.tells out.new) (sent_of e)) }
+    ensures number { IfOk result (λ n. n ≡ length (found_by examined.reread.fields block_len examined.facts)) }
+    ensures cause { W.faults out.new ≡ failed_by result (W.faults out.old) }
+    ensures unread { IfErr result (λ e. is_read e ≡ false) }
+{
+    put_examined(alloc, &examined, position, block_len, buffer, out)
+}
+
+/// Adds the lines of all records' findings to the output, and answers their number, up to 2^64 - 1.
+/// Each record's head is read again through a buffer that any head fits.
+fn put_records<S: Source, A: Allocator + Copy, W: Sink>(
+    alloc: A,
+    source: &mut S,
+    rows: &Rows<A>,
+    head: &mut [u8],
+    buffer: &mut OutBuffer,
+    out: &mut W,
+) -> Result<usize, OutFault>
+    requires { max_head ≤ length head.old }
+    ensures out { (bytes : List ℕ) (records : List Placed) (start : Option (List ℕ)) (output : List ℕ) →
+        S.holds source.old ≡ Some bytes → AreCheckable bytes records rows.now → IsStaged start output (W.tells out.old) buffer.old →
+        OnOk result (IsStaged start (output ++ records_text (contents records)) (W.tells out.new) buffer.new) }
+    ensures number { (bytes : List ℕ) (records : List Placed) →
+        S.holds source.old ≡ Some bytes → AreCheckable bytes records rows.now →
+        IfOk result (λ n. n ≡ capped (length (findings_of_records (contents records)))) }
+    ensures cut { (bytes : List ℕ) (records : List Placed) (start : Option (List ℕ)) (output : List ℕ) →
+        S.holds source.old ≡ Some bytes → AreCheckable bytes records rows.now → IsStaged start output (W.tells out.old) buffer.old →
+        IfErr result (λ e. WentOut start (output ++ records_text (contents records)) (W.tells out.new) (sent_of e)) }
+    ensures kept { S.holds source.new ≡ S.holds source.old }
+    ensures cause { W.faults out.new ≡ failed_by result (W.faults out.old) }
+    ensures may { MayHaveFailedBy result (S.faults source.old) (S.faults source.new) }
+    ensures failed { (bytes : List ℕ) (records : List Placed) →
+        S.holds source.old ≡ Some bytes → AreCheckable bytes records rows.now →
+        HasFailedBy result (S.faults source.old) (S.faults source.new) }
+{
+    staged_went_out();
+    went_out_of_longer();
+    let mut met = Met::new(alloc);
+    let mut count = 0usize;
+    'checking: for position in 0..rows.len() {
+        let Some(row) = rows.get(position) else {
+            unreachable!()
+        };
+        let examined = match examine(alloc, source, &row, &mut met, head) {
+            Ok(examined) => examined,
+            Err(halt) => return Err(halt.after(buffer.sent())),
+        };
+        let number = put_record(alloc, examined, position as u64, row.block_len, buffer, out)?;
+        count = count.saturating_add(number);
+    }
+    Ok(count)
+}
+
+/// A buffer that any head fits.
+fn head_buffer<A: Allocator>(alloc: A) -> Result<Vec<u8, A>, AllocError>
+    ensures { IfOk result (λ v. max_head ≤ length v.items) }
+{
+    vec![in alloc; 0u8; MAX_HEAD]
+}
+
+/// Adds the lines of all findings to the output, or that there is no record.
+fn put_archive<S: Source, A: Allocator + Copy, W: Sink>(
+    alloc: A,
+    source: &mut S,
+    rows: &Rows<A>,
+    buffer: &mut OutBuffer,
+    out: &mut W,
+) -> Result<usize, OutFault>
+    ensures out { (bytes : List ℕ) (records : List Placed) (start : Option (List ℕ)) (output : List ℕ) →
+        S.holds source.old ≡ Some bytes → AreCheckable bytes records rows.now → IsStaged start output (W.tells out.old) buffer.old →
+        OnOk result (IsStaged start (output ++ check_text (contents records)) (W.tells out.new) buffer.new) }
+    ensures number { (bytes : List ℕ) (records : List Placed) →
+        S.holds source.old ≡ Some bytes → AreCheckable bytes records rows.now →
+        IfOk result (λ n. n ≡ capped (length (findings_of_archive (contents records)))) }
+    ensures cut { (bytes : List ℕ) (records : List Placed) (start : Option (List ℕ)) (output : List ℕ) →
+        S.holds source.old ≡ Some bytes → AreCheckable bytes records rows.now → IsStaged start output (W.tells out.old) buffer.old →
+        IfErr result (λ e. WentOut start (output ++ check_text (contents records)) (W.tells out.new) (sent_of e)) }
+    ensures kept { S.holds source.new ≡ S.holds source.old }
+    ensures cause { W.faults out.new ≡ failed_by result (W.faults out.old) }
+    ensures may { MayHaveFailedBy result (S.faults source.old) (S.faults source.new) }
+    ensures failed { (bytes : List ℕ) (records : List Placed) →
+        S.holds source.old ≡ Some bytes → AreCheckable bytes records rows.now →
+        HasFailedBy result (S.faults source.old) (S.faults source.new) }
+{
+    staged_went_out();
+    went_out_of_longer();
+    if rows.len() == 0 {
+        return match buffer.put(out, b"- N12\n") {
+            Ok(()) => Ok(1),
+            Err(fault) => Err(OutFault::Write(fault.sent)),
+        };
+    }
+    let Ok(mut head) = head_buffer(alloc) else {
+        return Err(OutFault::Memory(buffer.sent()));
+    };
+    put_records(alloc, source, rows, &mut head, buffer, out)
+}
+
+/// Writes a line for each finding of the records, in their order, or that there is no record. The
+/// answer is the number of lines, up to 2^64 - 1. Each record's head is read again.
+pub(crate) fn check_rows<S: Source, A: Allocator + Copy, W: Sink>(
+    alloc: A,
+    source: &mut S,
+    rows: &Rows<A>,
+    out: &mut W,
+) -> Result<usize, OutFault>
+    ensures told { (bytes : List ℕ) (records : List Placed) → S.holds source.old ≡ Some bytes → AreCheckable bytes records rows.now →
+        OnOk result (W.tells out.new ≡ append_known (W.tells out.old) (check_text (contents records))) }
+    ensures number { (bytes : List ℕ) (records : List Placed) → S.holds source.old ≡ Some bytes → AreCheckable bytes records rows.now →
+        IfOk result (λ n. n ≡ capped (length (findings_of_archive (contents records)))) }
+    ensures cut { (bytes : List ℕ) (records : List Placed) → S.holds source.old ≡ Some bytes → AreCheckable bytes records rows.now →
+        IfErr result (λ e. WentOut (W.tells out.old) (check_text (contents records)) (W.tells out.new) (sent_of e)) }
+    ensures kept { S.holds source.new ≡ S.holds source.old }
+    ensures cause { W.faults out.new ≡ failed_by result (W.faults out.old) }
+    ensures may { MayHaveFailedBy result (S.faults source.old) (S.faults source.new) }
+    ensures failed { (bytes : List ℕ) (records : List Placed) → S.holds source.old ≡ Some bytes → AreCheckable bytes records rows.now →
+        HasFailedBy result (S.faults source.old) (S.faults source.new) }
+{
+    let mut buffer = OutBuffer::new();
+    let number = put_archive(alloc, source, rows, &mut buffer, out)?;
+    match buffer.flush(out) {
+        Ok(()) => Ok(number),
+        Err(fault) => Err(OutFault::Write(fault.sent)),
+    }
+}

@@ -1,0 +1,141 @@
+//! The heads of records, read again through the source.
+ghost use Rattle.std.specs.Prelude.{◌≡◌, ℕ, ◌+◌, ◌-◌, ◌^◌, ◌<◌, ◌≤◌, ◌⊎◌, List, length, take, drop, Ok, Some, None, IfOk, IfErr, IfSome, OnOk, OnErr, MatchResult};
+ghost use Rattle.warc_frame.specs.Count.{raised};
+ghost use Rattle.warc_frame.specs.Reading.{any_fields, head_of};
+ghost use Rattle.warc_frame.specs.Record.{Record, max_head};
+ghost use Rattle.warc_record.specs.Heads.{head_fault};
+ghost use Rattle.warc_record.specs.Readings.{reading_of};
+ghost use Rattle.warc_record.specs.Seen.{said};
+ghost use Rattle.warc.specs.Row.{Placed, row_of};
+ghost use Rattle.warc.specs.Examining.{HasFailed, HasHead, MayHaveFailed, halt_of, halted};
+
+use crate::rows::Row;
+use std::alloc::Allocator;
+use warc_field::Fields;
+use warc_frame::{FaultKind, OutFault, ReadFault, Source, read_head};
+use warc_record::{Typed, type_head};
+
+/// Why a head isn't read again.
+#[derive(Clone, Copy, PartialEq, Eq, Debug)]
+pub(crate) enum Halt {
+    /// A read failed, or the source doesn't give what it gave before.
+    Read,
+    /// A growth of the memory was refused.
+    Memory,
+}
+
+impl Halt {
+    /// The same as the end of an output of which so many bytes went out.
+    pub(crate) fn after(self, sent: u64) -> OutFault
+        ensures { result ≡ halted self sent }
+    {
+        match self {
+            Halt::Read => OutFault::Read(sent),
+            Halt::Memory => OutFault::Memory(sent),
+        }
+    }
+}
+
+/// Fills the buffer with the bytes at an offset. It fails where a read does, and where the source
+/// ends too early.
+fn read_range<S: Source>(source: &mut S, at: u64, buf: &mut [u8]) -> Result<(), ReadFault>
+    requires { at + length buf.old < 2 ^ 64 }
+    ensures bytes { (bytes : List ℕ) → S.holds source.old ≡ Some bytes →
+        OnOk result (buf.new ≡ take (length buf.old) (drop at bytes)) }
+    ensures kept { S.holds source.new ≡ S.holds source.old }
+    ensures sound { OnOk result (S.faults source.new ≡ S.faults source.old) }
+
+    // An error is a failure of the source, unless it gives too little.
+    ensures may { OnErr result ((S.faults source.new ≡ S.faults source.old) ⊎ (S.faults source.new ≡ raised (S.faults source.old))) }
+    ensures failed { (bytes : List ℕ) → S.holds source.old ≡ Some bytes → at + length buf.old ≤ length bytes →
+        OnErr result (S.faults source.new ≡ raised (S.faults source.old)) }
+{
+    let mut filled = 0;
+    'filling: while filled < buf.len() {
+        match source.read_at(at + filled as u64, &mut buf[filled..]) {
+            Ok(n) if n > 0 => filled += n,
+            _ => return Err(ReadFault),
+        }
+    }
+    Ok(())
+}
+
+/// A record's fields, read again, and what they say.
+#[derive(Drop)]
+pub(crate) struct Reread<A: Allocator> {
+    pub(crate) fields: Fields<A>,
+    pub(crate) typed: Typed<A>,
+}
+
+/// Why a head isn't read again, from what reading it answered.
+fn halt_of(kind: FaultKind) -> Halt
+    ensures { result ≡ halt_of kind }
+{
+    match kind {
+        FaultKind::Memory => Halt::Memory,
+        _ => Halt::Read,
+    }
+}
+
+/// What a text says that is the whole head of a good record with a block of this length.
+fn read_text<A: Allocator + Copy>(alloc: A, text: &[u8], block_len: u64) -> Result<Reread<A>, Halt>
+    ensures said { IfOk result (λ x. said x.typed ≡ reading_of x.fields) }
+    ensures read { (r : Record) → head_fault r.fields ≡ None → head_of any_fields text.now
+        ≡ Ok (record { version = r.version; fields = r.fields; len = length text.now; block_len = block_len })
+        → MatchResult result (λ x. x.fields ≡ r.fields) (λ halt. halt ≡ Halt.Memory) }
+{
+    let head = match read_head(alloc, text) {
+        Ok(head) => head,
+        Err(fault) => return Err(halt_of(fault.kind)),
+    };
+    if head.len != text.len() || head.block_len != block_len {
+        return Err(Halt::Read);
+    }
+    match type_head(alloc, &head.fields) {
+        Ok(typed) => Ok(Reread {
+            fields: head.fields,
+            typed,
+        }),
+        Err(kind) => Err(halt_of(kind)),
+    }
+}
+
+/// The length of a record's head, where it is at most this.
+fn head_len(row: &Row<'_>, most: usize) -> Option<usize>
+    ensures within { IfSome result (λ len. (len ≤ most) × (row.now.offset + len ≡ row.now.block_start)) }
+    ensures only { (len : ℕ) → row.now.block_start ≡ row.now.offset + len → len ≤ most → result ≡ Some len }
+{
+    if row.block_start < row.offset || row.block_start - row.offset > most as u64 {
+        return None;
+    }
+    Some((row.block_start - row.offset) as usize)
+}
+
+/// Reads a record's head again, through a buffer that any head fits.
+pub(crate) fn read_again<S: Source, A: Allocator + Copy>(
+    alloc: A,
+    source: &mut S,
+    row: &Row<'_>,
+    buf: &mut [u8],
+) -> Result<Reread<A>, Halt>
+    requires { max_head ≤ length buf.old }
+    ensures said { IfOk result (λ x. said x.typed ≡ reading_of x.fields) }
+    ensures read { (bytes : List ℕ) (p : Placed) → S.holds source.old ≡ Some bytes → HasHead bytes p → row.now ≡ row_of p →
+        IfOk result (λ x. x.fields ≡ p.content.fields) }
+    ensures kept { S.holds source.new ≡ S.holds source.old }
+    ensures sound { OnOk result (S.faults source.new ≡ S.faults source.old) }
+    ensures may { IfErr result (λ halt. MayHaveFailed halt (S.faults source.old) (S.faults source.new)) }
+
+    // Over bytes that hold the head it stops for a failed read or for want of memory alone.
+    ensures failed { (bytes : List ℕ) (p : Placed) → S.holds source.old ≡ Some bytes → HasHead bytes p → row.now ≡ row_of p →
+        IfErr result (λ halt. HasFailed halt (S.faults source.old) (S.faults source.new)) }
+{
+    let Some(len) = head_len(row, buf.len()) else {
+        return Err(Halt::Read);
+    };
+    let text = &mut buf[..len];
+    if read_range(source, row.offset, text).is_err() {
+        return Err(Halt::Read);
+    }
+    read_text(alloc, text, row.block_len)
+}

@@ -1,0 +1,83 @@
+//! Runs of the program over archives in memory.
+
+use crate::plain::read_plainly;
+use std::alloc::{Allocator, Global};
+use std::test::Fail;
+use warc::{Archive, Command, perform};
+use warc_frame::{Fault, MemSink, MemSource, Source};
+
+pub(crate) const LIST: Command<'static> = Command::List { archive: "a.warc" };
+
+pub(crate) const CHECK: Command<'static> = Command::Check { archive: "a.warc" };
+
+/// What a run wrote to its two outputs, and its status.
+#[derive(Drop)]
+pub(crate) struct Ended {
+    pub(crate) out: Vec<u8>,
+    pub(crate) err: Vec<u8>,
+    pub(crate) status: u8,
+}
+
+impl Ended {
+    pub(crate) fn is(&self, out: &str, err: &str, status: u8) -> bool {
+        self.out.as_slice() == out.as_bytes()
+            && self.err.as_slice() == err.as_bytes()
+            && self.status == status
+    }
+}
+
+/// The run of a command over a source. What the program keeps is taken from `heap`.
+pub(crate) fn run<S: Source + Drop, A: Allocator + Copy>(
+    heap: A,
+    alloc: Global,
+    command: &Command<'_>,
+    source: S,
+) -> Ended {
+    let mut out = MemSink::new(Vec::new(alloc));
+    let mut err = MemSink::new(Vec::new(alloc));
+    let status = perform(heap, command, source, &mut out, &mut err);
+    Ended {
+        out: out.into_inner(),
+        err: err.into_inner(),
+        status,
+    }
+}
+
+/// How many records an archive has, or why it isn't opened.
+fn opened<S: Source + Drop>(alloc: Global, source: S) -> Result<usize, Fault> {
+    match Archive::open(alloc, source) {
+        Ok(archive) => Ok(archive.count()),
+        Err((fault, _)) => Err(fault),
+    }
+}
+
+/// Whether the archive opens as the plain reading says, with reads of 1 byte, of 7 bytes and of all.
+pub(crate) fn opens_as_read(alloc: Global, bytes: &[u8]) -> Result<bool, Fail> {
+    let plain = read_plainly(alloc, bytes);
+    for most in [1usize, 7, usize::MAX] {
+        let source = MemSource::new(bytes.to_vec(alloc)?, most.max(1));
+        if opened(alloc, source) != plain {
+            return Ok(false);
+        }
+    }
+    Ok(true)
+}
+
+/// Whether the command over these bytes ends so, with such reads, and the archive opens as the plain
+/// reading says.
+pub(crate) fn ends(
+    alloc: Global,
+    command: &Command<'_>,
+    bytes: &[u8],
+    out: &str,
+    err: &str,
+    status: u8,
+) -> Result<bool, Fail> {
+    for most in [1usize, 7, usize::MAX] {
+        let source = MemSource::new(bytes.to_vec(alloc)?, most.max(1));
+        if !run(alloc, alloc, command, source).is(out, err, status) {
+            return Ok(false);
+        }
+    }
+    opens_as_read(alloc, bytes)
+}
