@@ -1,10 +1,10 @@
 -- Parts, lines, and where a CRLF stands.
-use Rattle.std.proofs.Common.{◌≡◌, ℕ, zero, suc, ◌+◌, ◌-◌, ◌<◌, ◌≤◌, Bool, true, false, not, ◌&&◌, List, [], ◌∷◌, ◌++◌, length, take, drop, get_or, append_assoc, refl, sym, ap, ◌∙◌, get_or-drop, arith, inl, inr, ⊎_elim, ◌⊎◌}
+use Rattle.std.proofs.Common.{◌≡◌, ℕ, zero, suc, ◌+◌, ◌-◌, ◌<◌, ◌≤◌, Bool, true, false, not, ◌&&◌, ◌==◌, List, [], ◌∷◌, ◌++◌, length, take, drop, get_or, append_assoc, refl, sym, ap, ◌∙◌, get_or-drop, length-drop, arith, inl, inr, ⊎_elim, ◌⊎◌}
 use Rattle.std.proofs.lemmas.List.{get_or_past}
 use Rattle.std.proofs.lemmas.Bool.{cases_lt, cases_eq, false≢true, eqb-true}
 use Rattle.std.specs.List.{prefix_len, flat_map}
 use Rattle.std.proofs.lemmas.Grind.{common_steps}
-use Rattle.memchr.specs.Find.{OccursAt, NoneBefore}
+use Rattle.memchr.specs.Find.{OccursAt, NoneBefore, Nowhere, Passes, is_byte}
 use Rattle.warc_field.specs.Text.{is_blank}
 use Rattle.warc_field.specs.Lines.{crlf_at, ends_at, parts, lines, is_crlf, in_front, begins_blank, unfolded, joined, continued}
 
@@ -156,17 +156,44 @@ crlf_at-drop t i k =
     let e : i + suc k ≡ suc (i + k) = omega arith in
     rw (get_or-drop i t k 0, get_or-drop i t (suc k) 0, e)
 
-pub crlf-found : (t : List ℕ) (i n : ℕ) → NoneBefore (OccursAt (drop i t) (13 ∷ 10 ∷ [])) 0 (length (drop i t) + 1) n → OccursAt (drop i t) (13 ∷ 10 ∷ []) n → (crlf_at t (i + n) ≡ true) × ((k : ℕ) → i ≤ k → k < i + n → crlf_at t k ≡ false)
-crlf-found t i n first here = (
-  sym (crlf_at-drop t i n) ∙ occurs-crlf (drop i t) n here,
-  λ k low high. let e : i + (k - i) ≡ k = omega arith in
-      ap (crlf_at t) (sym e) ∙ sym (crlf_at-drop t i (k - i)) ∙ not_true _ (λ is. first.before (k - i) (omega arith) (omega arith) (crlf-occurs (drop i t) (k - i) is)),
-)
+and_with_false : (v : Bool) → (v && false) ≡ false
+and_with_false true = refl
+and_with_false false = refl
 
-pub crlf-absent : (t : List ℕ) (i : ℕ) → ((k : ℕ) → 0 ≤ k → k < length (drop i t) + 1 → OccursAt (drop i t) (13 ∷ 10 ∷ []) k → ⊥) → (k : ℕ) → i ≤ k → crlf_at t k ≡ false
-crlf-absent t i h k low =
-    let e : i + (k - i) ≡ k = omega arith in
-    ap (crlf_at t) (sym e) ∙ sym (crlf_at-drop t i (k - i)) ∙ not_true _ (λ is. let here = crlf-occurs (drop i t) (k - i) is in h (k - i) (omega arith) (omega (arith, here.fits)) here)
+and_false_right : (v w : Bool) → w ≡ false → (v && w) ≡ false
+and_false_right v w h = ap (λ x. v && x) h ∙ and_with_false v
+
+-- what a search for CR among the bytes from `at` on says of the CRLFs there
+module _ (t : List ℕ) (at : ℕ) where
+  no_cr : (k : ℕ) → (Passes (is_byte 13) (drop at t) (k - at) → ⊥) → at ≤ k → crlf_at t k ≡ false
+  no_cr k none low =
+      let e : at + (k - at) ≡ k = omega arith in
+      let there : get_or (drop at t) (k - at) 0 ≡ get_or t k 0 = get_or-drop at t (k - at) 0 ∙ ap (λ n. get_or t n 0) e in
+      and_false_left _ _ (not_true _ (λ is. none (ap (λ b. b == 13) there ∙ is)))
+
+  pub crlf-before : (step : ℕ) → NoneBefore (Passes (is_byte 13) (drop at t)) 0 (length (drop at t)) step → (k : ℕ) → at ≤ k → k < at + step → crlf_at t k ≡ false
+  crlf-before step first k low high = no_cr k (first.before (k - at) (omega arith) (omega (arith, low, high))) low
+
+  pub crlf-absent : Nowhere (Passes (is_byte 13) (drop at t)) 0 (length (drop at t)) → (k : ℕ) → at ≤ k → crlf_at t k ≡ false
+  crlf-absent none k low = ⊎_elim
+      (λ inside. no_cr k (none (k - at) (omega arith) inside) low)
+      (λ past. and_false_left _ _ (ap (λ b. b == 13) (get_or_past t k 0 (omega (arith, past, low, length-drop at t)))))
+      (cases_lt (k - at) (length (drop at t)))
+
+  pub cr_there : (step : ℕ) → Passes (is_byte 13) (drop at t) step → get_or t (at + step) 0 ≡ 13
+  cr_there step is = sym (get_or-drop at t step 0) ∙ eqb-true _ 13 is
+
+  -- one turn of a search that found CR with no LF behind it
+  module _ (from step : ℕ) (before : (k : ℕ) → from ≤ k → k < at → crlf_at t k ≡ false) (first : NoneBefore (Passes (is_byte 13) (drop at t)) 0 (length (drop at t)) step) where
+    pub crlf-up_to : (k : ℕ) → from ≤ k → k < at + step → crlf_at t k ≡ false
+    crlf-up_to k low high = ⊎_elim (before k low) (λ above. crlf-before step first k above high) (cases_lt k at)
+
+    pub crlf-past : (get_or t (at + step + 1) 0 ≡ 10 → ⊥) → (k : ℕ) → from ≤ k → k < at + step + 1 → crlf_at t k ≡ false
+    crlf-past other k low high = ⊎_elim
+        (crlf-up_to k low)
+        (λ here. let e : suc k ≡ at + step + 1 = omega (arith, here, high) in
+        and_false_right (get_or t k 0 == 13) _ (not_true _ (λ is. other (ap (λ n. get_or t n 0) (sym e) ∙ eqb-true _ 10 is))))
+        (cases_lt k (at + step))
 
 blank_no_cr : (b c : ℕ) → is_blank b ≡ true → is_crlf b c ≡ false
 unfolding is_blank

@@ -3,3 +3,4 @@ pub mod Lines
 pub mod Area
 pub mod Decimal
 pub mod FaultText
+pub mod Short

@@ -6,6 +6,7 @@ ghost use Rattle.warc_field.specs.declared.area.AreaFault.TheVariants.{Memory};
 use crate::lines::{split_line, unfold};
 use crate::list::Fields;
 use crate::text::{Name, Value, holds_value_bytes, is_name, trim, trim_in_place};
+use memchr::memchr;
 use std::alloc::{AllocError, Allocator};
 use std::fmt;
 use thiserror::Error;
@@ -67,11 +68,12 @@ fn read_value<A: Allocator>(alloc: A, rest: &[u8]) -> Result<Option<Value<A>>, A
 }
 
 /// Where the first colon stands.
+#[tactic(auto, using(crate::proofs::TokenLemmas::first_is_position))]
 fn first_colon(line: &[u8]) -> Option<usize>
     ensures value { result ≡ position is_colon line.now }
     ensures within { IfSome result (λ k. k < length line.now) }
 {
-    line.iter().position(|byte| *byte == b':')
+    memchr(b':', line)
 }
 
 /// The field that a line is.

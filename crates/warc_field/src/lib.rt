@@ -6,6 +6,7 @@ pub mod laws;
 mod lines;
 mod list;
 mod number;
+mod short;
 mod text;
 mod write;
 

@@ -2,7 +2,7 @@ ghost use Rattle.std.specs.Prelude.{◌≡◌, ℕ, true, false, ◌+◌, ◌<�
 ghost use Rattle.warc_field.specs.Lines.{crlf_at, lines, parts, unfolded};
 
 use crate::text::{is_blank_byte, leading_blanks};
-use memchr::memmem;
+use memchr::{memchr, memmem};
 use std::alloc::{AllocError, Allocator};
 
 /// The bytes before the first CRLF, and those after it.
@@ -43,8 +43,15 @@ fn find_crlf(text: &[u8], from: usize) -> Option<usize>
     ensures first { IfSome result (λ at. (k : ℕ) → from ≤ k → k < at → crlf_at text.now k ≡ false) }
     ensures none { IfNone result ((k : ℕ) → from ≤ k → crlf_at text.now k ≡ false) }
 {
-    let at = memmem::find(&text[from..], b"\r\n")?;
-    Some(from + at)
+    let mut at = from;
+    while let Some(step) = memchr(b'\r', &text[at..]) {
+        let next = at + step + 1;
+        if next < text.len() && text[next] == b'\n' {
+            return Some(next - 1);
+        }
+        at = next;
+    }
+    None
 }
 
 /// The first line, without its CRLF, and what follows it. A line ends at a CRLF that no space or tab follows.

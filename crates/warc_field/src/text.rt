@@ -1,46 +1,50 @@
-ghost use Rattle.std.specs.Prelude.{◌≡◌, ◌≤◌, ◌-◌, ◌<◌, ◌↔◌, IsTrue, IfOk, IsErrOf, length, Some, true, false};
+ghost use Rattle.std.specs.Prelude.{◌≡◌, ◌≤◌, ◌-◌, ◌<◌, ◌↔◌, IsTrue, IfOk, IsOk, IsErrOf, length, Some, true, false};
 ghost use Rattle.std.specs.List.{list_all, prefix_len, suffix_len};
 ghost use Rattle.warc_field.specs.FaultText.{text_fault_text};
 ghost use Rattle.warc_field.specs.declared.text.TextFault.TheVariants.{Memory};
-ghost use Rattle.warc_field.specs.Text.{is_blank, is_name_byte, is_name, is_value_byte, is_value, trimmed, lower, same};
+ghost use Rattle.warc_field.specs.Text.{is_blank, is_name, is_value_byte, is_value, trimmed, lower, same};
 
+use crate::short::Bytes;
+use httparse::{is_header_value, is_token};
 use std::alloc::{AllocError, Allocator, Global};
 use std::fmt;
 use std::marker::Model;
 use thiserror::Error;
 
-/// A field's name. Contracts see its bytes.
+/// A field's name. Contracts see its bytes. A name of at most 48 bytes takes no memory.
 #[derive(Debug, Drop)]
 pub struct Name<A: Allocator = Global> {
-    token: Vec<u8, A>,
+    token: Bytes<A>,
 }
 
 impl<A: Allocator> Model for Name<A> {
     ghost use Rattle.std.specs.Prelude.{List, ℕ, ◌≡◌, true};
     ghost use Rattle.warc_field.specs.Text.{is_name};
+    ghost use Rattle.warc_field.specs.Short.{bytes_of};
 
     ghost Value = { List ℕ };
 
-    ghost view = { λ n. n.token.items };
+    ghost view = { λ n. bytes_of n.token };
 
-    ghost invariant = { λ n. is_name n.token.items ≡ true };
+    ghost invariant = { λ n. is_name (bytes_of n.token) ≡ true };
 }
 
-/// A field's value. Contracts see its bytes.
+/// A field's value. Contracts see its bytes. A value of at most 48 bytes takes no memory.
 #[derive(Debug, Drop)]
 pub struct Value<A: Allocator = Global> {
-    text: Vec<u8, A>,
+    text: Bytes<A>,
 }
 
 impl<A: Allocator> Model for Value<A> {
     ghost use Rattle.std.specs.Prelude.{List, ℕ, ◌≡◌, true};
     ghost use Rattle.warc_field.specs.Text.{is_value};
+    ghost use Rattle.warc_field.specs.Short.{bytes_of};
 
     ghost Value = { List ℕ };
 
-    ghost view = { λ v. v.text.items };
+    ghost view = { λ v. bytes_of v.text };
 
-    ghost invariant = { λ v. is_value v.text.items ≡ true };
+    ghost invariant = { λ v. is_value (bytes_of v.text) ≡ true };
 }
 
 /// Why a text makes no name or no value.
@@ -80,61 +84,20 @@ pub(crate) fn is_blank_byte(byte: u8) -> bool
     byte == b' ' || byte == b'\t'
 }
 
-/// Whether a name may hold the byte.
-#[tactic(auto, unfolding(crate::specs::Text::is_name_byte))]
-fn may_stand_in_name(byte: u8) -> bool
-    ensures { result ≡ is_name_byte byte }
-{
-    match byte {
-        b'('
-        | b')'
-        | b'<'
-        | b'>'
-        | b'@'
-        | b','
-        | b';'
-        | b':'
-        | b'\\'
-        | b'"'
-        | b'/'
-        | b'['
-        | b']'
-        | b'?'
-        | b'='
-        | b'{'
-        | b'}' => false,
-        _ => byte > 32 && byte < 127,
-    }
-}
-
-/// Whether a value may hold the byte.
-#[tactic(auto, unfolding(crate::specs::Text::is_value_byte))]
-fn may_stand_in_value(byte: u8) -> bool
-    ensures { result ≡ is_value_byte byte }
-{
-    byte == b'\t' || byte >= 32 && byte != 127
-}
-
-fn holds_name_bytes(text: &[u8]) -> bool
-    ensures { result ≡ list_all is_name_byte text.now }
-{
-    text.iter().all(|byte| may_stand_in_name(*byte))
-}
-
-/// Whether the text has no control character but tabs.
+/// Whether the text has no control character but tabs, as the bytes of an HTTP field value.
+#[tactic(auto, using(crate::proofs::TokenLemmas::same_values))]
 pub(crate) fn holds_value_bytes(text: &[u8]) -> bool
     ensures { result ≡ list_all is_value_byte text.now }
 {
-    text.iter().all(|byte| may_stand_in_value(*byte))
+    is_header_value(text)
 }
 
 /// Whether the text is a name: at least one byte, each an ASCII character that is no control character, no space and
-/// none of `( ) < > @ , ; : \ " / [ ] ? = { }`.
-#[tactic(auto, unfolding(crate::specs::Text::is_name))]
+/// none of `( ) < > @ , ; : \ " / [ ] ? = { }`. These are the tokens of HTTP.
 pub fn is_name(text: &[u8]) -> bool
     ensures { result ≡ is_name text.now }
 {
-    !text.is_empty() && holds_name_bytes(text)
+    is_token(text)
 }
 
 /// Whether the text is a value: no control character but tabs, and no space or tab at either end.
@@ -190,10 +153,11 @@ pub(crate) fn trim_in_place<A: Allocator>(text: &mut Vec<u8, A>)
 }
 
 impl<A: Allocator> Name<A> {
-    /// The name that this text is, or `BadText` where it is none.
+    /// The name that this text is, or `BadText` where it is none. Up to 48 bytes it takes no memory.
     pub fn new(alloc: A, text: &[u8]) -> Result<Name<A>, TextFault>
         ensures ok { IfOk result (λ name. (name ≡ text.now) × (is_name text.now ≡ true)) }
         ensures bad { IsErrOf result TextFault.BadText ↔ (is_name text.now ≡ false) }
+        ensures short { is_name text.now ≡ true → length text.now ≤ 48 → IsOk result }
     {
         if !is_name(text) {
             return Err(TextFault::BadText);
@@ -204,10 +168,11 @@ impl<A: Allocator> Name<A> {
     /// The name that this text is, known to be one.
     pub(crate) fn from_checked(alloc: A, text: &[u8]) -> Result<Name<A>, AllocError>
         requires { is_name text.now ≡ true }
-        ensures { IfOk result (λ name. name ≡ text.now) }
+        ensures value { IfOk result (λ name. name ≡ text.now) }
+        ensures short { length text.now ≤ 48 → IsOk result }
     {
         Ok(Name {
-            token: Vec::from_slice(alloc, text)?,
+            token: Bytes::copied(alloc, text)?,
         })
     }
 
@@ -216,29 +181,30 @@ impl<A: Allocator> Name<A> {
         ensures text { result.now ≡ self.now }
         ensures named { is_name self.now ≡ true }
     {
-        &self.token
+        self.token.as_slice()
     }
 
     /// Whether both are one name: ASCII case doesn't matter.
     pub fn same(&self, other: &Name<A>) -> bool
         ensures { IsTrue result ↔ (lower self.now ≡ lower other.now) }
     {
-        self.token.eq_ignore_ascii_case(&other.token)
+        self.bytes().eq_ignore_ascii_case(other.bytes())
     }
 
     /// Whether the text is this name: ASCII case doesn't matter.
     pub fn is(&self, text: &[u8]) -> bool
         ensures { result ≡ same self.now text.now }
     {
-        self.token.eq_ignore_ascii_case(text)
+        self.bytes().eq_ignore_ascii_case(text)
     }
 }
 
 impl<A: Allocator> Value<A> {
-    /// The value that this text is, or `BadText` where it is none. An empty text is a value.
+    /// The value that this text is, or `BadText` where it is none. Up to 48 bytes it takes no memory. An empty text is a value.
     pub fn new(alloc: A, text: &[u8]) -> Result<Value<A>, TextFault>
         ensures ok { IfOk result (λ value. (value ≡ text.now) × (is_value text.now ≡ true)) }
         ensures bad { IsErrOf result TextFault.BadText ↔ (is_value text.now ≡ false) }
+        ensures short { is_value text.now ≡ true → length text.now ≤ 48 → IsOk result }
     {
         if !is_value_text(text) {
             return Err(TextFault::BadText);
@@ -249,10 +215,11 @@ impl<A: Allocator> Value<A> {
     /// The value that this text is, known to be one.
     pub(crate) fn from_checked(alloc: A, text: &[u8]) -> Result<Value<A>, AllocError>
         requires { is_value text.now ≡ true }
-        ensures { IfOk result (λ value. value ≡ text.now) }
+        ensures value { IfOk result (λ value. value ≡ text.now) }
+        ensures short { length text.now ≤ 48 → IsOk result }
     {
         Ok(Value {
-            text: Vec::from_slice(alloc, text)?,
+            text: Bytes::copied(alloc, text)?,
         })
     }
 
@@ -261,7 +228,9 @@ impl<A: Allocator> Value<A> {
         requires { is_value text.items ≡ true }
         ensures { result ≡ text.items }
     {
-        Value { text }
+        Value {
+            text: Bytes::Long(text),
+        }
     }
 
     /// The bytes of the value.
@@ -269,6 +238,6 @@ impl<A: Allocator> Value<A> {
         ensures text { result.now ≡ self.now }
         ensures value { is_value self.now ≡ true }
     {
-        &self.text
+        self.text.as_slice()
     }
 }

@@ -330,7 +330,7 @@ fn records_are_read_and_written_without_memory(rt: HostRuntime) -> Result<(), Fa
         let heap = RefusingAllocator::new(rt.alloc(), number);
         match shape(&heap, &text) {
             Ok(_) => {
-                assert!(rt; !heap.has_refused() && number > 16);
+                assert!(rt; !heap.has_refused() && number > 2);
                 break;
             }
             Err(fault) => {

@@ -677,28 +677,32 @@ fn want_met<A: Allocator + Copy>(alloc: A, fields: &Fields<A>) -> Want {
     }
 }
 
-/// How many requests for memory it takes to make the fields of `heads_without_memory`.
-const MADE: u64 = 23;
+/// A target whose value takes memory.
+const LONG: &[u8] = b"http://a.example/a/path/of/more/than/forty-eight/bytes";
+
+/// How many requests for memory it takes to make the fields of `heads_without_memory`: the list grows
+/// three times, and three of the values are long.
+const MADE: u64 = 6;
 
 #[test]
 fn heads_without_memory(rt: HostRuntime) -> Result<(), Fail> {
     let pairs: [Pair; 7] = [
-        ("WARC-Target-URI", b"a"),
+        ("WARC-Target-URI", LONG),
         ("WARC-Refers-To", b"b"),
-        ("WARC-Refers-To-Target-URI", b"c"),
+        ("WARC-Refers-To-Target-URI", LONG),
         ("WARC-Refers-To-Date", b"2020"),
         ("WARC-Segment-Origin-ID", b"d"),
-        ("WARC-Payload-Digest", b"e"),
+        ("WARC-Payload-Digest", LONG),
         ("X", b"\xff"),
     ];
     for number in MADE + 1..MADE + 100 {
         let heap = RefusingAllocator::new(rt.alloc(), number);
         let fields = record_of(&heap, b"revisit", &pairs)?;
         let met = want_met(&heap, &fields);
-        // Three texts as they stand, the target, two ids that are no UUIDs, the target of the pair, and
-        // the digest are kept before the findings are.
+        // The target, two ids that are no UUIDs, the target of the pair, and the digest are kept before
+        // the findings are; the short texts take no memory.
         assert!(rt;
-            (met == Want::OfHead) == (number <= MADE + 8),
+            (met == Want::OfHead) == (number <= MADE + 5),
             "at {number}"
         );
         assert_eq!(rt; met != Want::Nowhere, heap.has_refused());

@@ -1,24 +1,39 @@
-use Rattle.std.proofs.Common.{◌≡◌, ◌-◌, length, take, drop, arith}
+use Rattle.std.proofs.Common.{◌≡◌, ◌+◌, ◌-◌, length, take, drop, get_or, ap, ⊎_elim, arith}
+use Rattle.std.proofs.lemmas.Bool.{cases_lt}
+use Rattle.std.proofs.lemmas.List.{get_or_past}
 use Rattle.std.proofs.lemmas.Grind.{common_steps}
-use Rattle.warc_field.proofs.LineLemmas.{crlf-found, crlf-absent}
+use Rattle.warc_field.proofs.LineLemmas.{crlf-absent, crlf-up_to, crlf-past}
+use Rattle.warc_field.proofs.lines.find_crlf.Goals.{else-next-text-via-then-next-text+else-text-next-eq10, else-next-text-via-else-next-text}
 use Rattle.warc_field.proofs.lines.find_crlf.Goals as goal
 
-pub returns-in_err-at-clause-none : goal.returns-in_err-at-clause-none
-returns-in_err-at-clause-none c =
+pub returns-clause-none : goal.returns-clause-none
+returns-clause-none c =
     let t = c.args.text.now in
-    let e : take (length t - c.args.from) (drop c.args.from t) ≡ drop c.args.from t = grind (arith, common_steps) in
-    rw c.from_residual.ensures (crlf-absent t c.args.from (rw e at c.in_err-at.ensures))
+    let at = c.loop-step.at in
+    let e : take (length t - at) (drop at t) ≡ drop at t = grind (arith, common_steps) in
+    let none = rw e at c.in_default.ensures in
+    λ k low. ⊎_elim (c.loop-step.invariant.none k low) (crlf-absent t at none k) (cases_lt k at)
 
-pub returns-clause-found : goal.returns-clause-found
-returns-clause-found c =
+pub returns-then-text-next-eq10-clause-first : goal.returns-then-text-next-eq10-clause-first
+returns-then-text-next-eq10-clause-first c =
     let t = c.args.text.now in
-    let e : take (length t - c.args.from) (drop c.args.from t) ≡ drop c.args.from t = grind (arith, common_steps) in
-    let found = rw e at c.in_ok-at.ensures in
-    (crlf-found t c.args.from c.in_ok-at.at found.0 found.1).0
+    let at = c.loop-step.at in
+    let e : take (length t - at) (drop at t) ≡ drop at t = grind (arith, common_steps) in
+    let first = rw e at c.in-Some.ensures in
+    λ k low high. crlf-up_to t at c.args.from c.in-Some.step c.loop-step.invariant.none first.0 k low (omega (arith, high))
 
-pub returns-clause-first : goal.returns-clause-first
-returns-clause-first c =
+pub loop-step-preserved : goal.loop-step-preserved
+loop-step-preserved c =
     let t = c.args.text.now in
-    let e : take (length t - c.args.from) (drop c.args.from t) ≡ drop c.args.from t = grind (arith, common_steps) in
-    let found = rw e at c.in_ok-at.ensures in
-    (crlf-found t c.args.from c.in_ok-at.at found.0 found.1).1
+    let at = c.loop-step.at in
+    let next = at + c.in-Some.step + 1 in
+    let e : take (length t - at) (drop at t) ≡ drop at t = grind (arith, common_steps) in
+    let first = rw e at c.in-Some.ensures in
+    let other : get_or t next 0 ≡ 10 → ⊥ = elim c.else-next-text.branch [
+      | else-next-text-via-then-next-text+else-text-next-eq10 w ↦ w.if-text-next-eq10.false
+      | else-next-text-via-else-next-text w ↦ λ is. absurd (omega (arith, is, get_or_past t next 0 (omega (arith, w.if-next-text.false))))
+    ] in
+    record {
+      within = (omega (arith, c.loop-step.invariant.within), omega (arith, first.0.high, ap length e, c.loop-step.invariant.within));
+      none = crlf-past t at c.args.from c.in-Some.step c.loop-step.invariant.none first.0 other;
+    }

@@ -1,0 +1,8 @@
+-- The bytes that a name or a value keeps, in place or behind a pointer: this project's own.
+use Rattle.std.specs.Prelude.{ℕ, List}
+use Rattle.warc_field.specs.declared.short.Bytes.{Bytes}
+use Rattle.warc_field.specs.declared.short.Bytes.TheVariants.{Short, Long}
+
+abbrev pub bytes_of : {A : Type 0} → Bytes A → List ℕ
+bytes_of (Short bytes) = bytes.items
+bytes_of (Long bytes) = bytes.items
