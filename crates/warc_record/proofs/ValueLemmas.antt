@@ -3,7 +3,7 @@ use Rattle.std.proofs.Common.{◌≡◌, ℕ, zero, suc, Bool, true, false, List
 use Rattle.std.specs.List.{list_all}
 use Rattle.std.proofs.lemmas.Bool.{and_parts, and_from}
 use Rattle.warc_field.specs.Text.{is_value_byte, is_value}
-use Rattle.warc_field.proofs.TextLemmas.{trimmed_is_value}
+use Rattle.warc_field.proofs.LawLemmas.{trimmed_part_is_value}
 use Rattle.warc_record.specs.Ids.{bare_text, inner_text, is_bracketed}
 
 all_take : (p : ℕ → Bool) (n : ℕ) (xs : List ℕ) → list_all p xs ≡ true → list_all p (take n xs) ≡ true
@@ -29,4 +29,4 @@ pub bare_is_value : (value : List ℕ) → is_value value ≡ true → is_value 
 unfolding bare_text
 bare_is_value value is =
     let bytes = value_bytes value is in
-    trimmed_is_value _ (one_of is_value_byte (is_bracketed value) (inner_text value) value (all_take is_value_byte _ _ (all_drop is_value_byte 1 value bytes)) bytes)
+    trimmed_part_is_value _ (one_of is_value_byte (is_bracketed value) (inner_text value) value (all_take is_value_byte _ _ (all_drop is_value_byte 1 value bytes)) bytes)
