@@ -1,5 +1,5 @@
 -- The command line, in the terms of `clap`: what it defines, and what words name by it.
-use Rattle.std.specs.Prelude.{◌≡◌, Bool, true, false, List, [], ◌∷◌, fold, map, find, Option, option_map, unwrap_or, codes}
+use Rattle.std.specs.Prelude.{◌≡◌, ℕ, Bool, true, false, List, [], ◌∷◌, fold, map, find, Option, option_map, unwrap_or, codes, string_bytes}
 use Rattle.std.specs.Str.{bytes_eq}
 use Rattle.clap.specs.Kinds.{Kinds, IsAmong}
 use Rattle.clap.specs.Simple.{App, new_app, new_rule, on_top, with_rule, with_subcommand, subcommand_of}
@@ -67,3 +67,8 @@ is_request _ = false
 abbrev pub IsToldBy : Kinds → CommandFault → Type 0
 IsToldBy kinds (Usage text asked) = (kind : ErrorKind) × IsAmong kind kinds × (asked ≡ is_request kind)
 IsToldBy kinds Memory = Unit {0}
+
+-- what such a refusal says: clap's text as it stands
+abbrev pub command_fault_text : CommandFault → List ℕ
+command_fault_text (Usage text asked) = string_bytes text
+command_fault_text Memory = codes "out of memory"

@@ -8,12 +8,14 @@ ghost use Rattle.clap.specs.Values.{kind_of};
 ghost use Rattle.clap.specs.Walk.{rows_of, rule_of};
 ghost use Rattle.clap.specs.declared.builder.command.Command.TheViews.{out-Command};
 ghost use Rattle.warc.specs.Command.{path_of, view_of};
-ghost use Rattle.warc.specs.CommandLine.{IsToldBy, command_of, named, required_word, text_of, warc_app, with_layout};
+ghost use Rattle.warc.specs.CommandLine.{IsToldBy, command_fault_text, command_of, named, required_word, text_of, warc_app, with_layout};
 
 use clap::error::ErrorKind;
 use clap::{Arg, ArgMatches};
 use std::alloc::{AllocError, Global};
 use std::convert::AsStr;
+use std::fmt;
+use thiserror::Error;
 
 /// What the program is asked to do. The texts are borrowed from the words.
 #[derive(Clone, Copy, Debug, PartialEq, Eq)]
@@ -37,11 +39,23 @@ impl<'a> Command<'a> {
 }
 
 /// Why words name no command.
-#[derive(Debug, Drop)]
+#[derive(Debug, Drop, Error)]
 pub enum CommandFault {
     /// The text that `clap` writes, and whether it was asked for, as by `--help`.
     Usage { text: String, asked: bool },
+    /// A growth of the memory was refused.
     Memory,
+}
+
+impl fmt::Display for CommandFault {
+    ghost output = { λ fault. Some (command_fault_text fault) };
+
+    fn fmt<W: fmt::Write>(&self, f: &mut fmt::Formatter<W>) -> fmt::Result {
+        match self {
+            CommandFault::Usage { text, asked: _ } => write!(f, "{text}"),
+            CommandFault::Memory => write!(f, "out of memory"),
+        }
+    }
 }
 
 /// A word that a command requires: its name in the usage, and what it is.

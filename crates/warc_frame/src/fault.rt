@@ -40,7 +40,7 @@ impl fmt::Display for Mandatory {
 }
 
 /// Why an archive is refused: F1 to F14, in this order.
-#[derive(Clone, Copy, PartialEq, Eq, Debug)]
+#[derive(Clone, Copy, PartialEq, Eq, Debug, Error)]
 pub enum FaultKind {
     /// The bytes there begin no version line.
     Version,

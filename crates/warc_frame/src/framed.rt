@@ -6,11 +6,13 @@ use crate::fault::{FaultKind, Mandatory};
 use crate::reading::{fits_head, read_block_len};
 use crate::version::Version;
 use std::alloc::{Allocator, Global};
+use std::fmt;
 use std::marker::Model;
+use thiserror::Error;
 use warc_field::Fields;
 
 /// Why a version, fields and a block make no record.
-#[derive(Clone, Copy, Debug, PartialEq, Eq)]
+#[derive(Clone, Copy, Debug, PartialEq, Eq, Error)]
 pub enum FramedFault {
     /// The head, written canonically, would pass 65,536 bytes.
     HeadTooLong,
@@ -33,6 +35,17 @@ impl FramedFault {
             FramedFault::Repeated => FaultKind::Repeated(Mandatory::ContentLength),
             FramedFault::Length => FaultKind::Length,
         }
+    }
+}
+
+impl fmt::Display for FramedFault {
+    ghost use Rattle.std.specs.Prelude.{Some};
+    ghost use Rattle.warc_frame.specs.FaultText.{kind_text};
+
+    ghost output = { λ fault. Some (kind_text (kind_of fault)) };
+
+    fn fmt<W: fmt::Write>(&self, f: &mut fmt::Formatter<W>) -> fmt::Result {
+        write!(f, "{}", self.kind())
     }
 }
 

@@ -6,12 +6,24 @@ ghost use Rattle.warc_frame.specs.Device.{taken, failed};
 
 use crate::count::raise;
 use std::alloc::{Allocator, Global};
+use std::fmt;
 use std::io::Write;
 use std::marker::Model;
+use thiserror::Error;
 
 /// A write failed.
-#[derive(Clone, Copy, PartialEq, Eq, Debug)]
+#[derive(Clone, Copy, PartialEq, Eq, Debug, Error)]
 pub struct WriteFault;
+
+impl fmt::Display for WriteFault {
+    ghost use Rattle.std.specs.Prelude.{codes};
+
+    ghost output = { λ _. Some (codes "write failed") };
+
+    fn fmt<W: fmt::Write>(&self, f: &mut fmt::Formatter<W>) -> fmt::Result {
+        write!(f, "write failed")
+    }
+}
 
 /// Takes bytes, as many of each piece as it likes.
 pub trait Sink {

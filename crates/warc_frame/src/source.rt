@@ -5,12 +5,24 @@ ghost use Rattle.warc_frame.specs.Device.{Gives};
 
 use crate::count::raise;
 use std::alloc::{Allocator, Global};
+use std::fmt;
 use std::io::{Read, Seek, SeekFrom};
 use std::marker::Model;
+use thiserror::Error;
 
 /// A read failed.
-#[derive(Clone, Copy, PartialEq, Eq, Debug)]
+#[derive(Clone, Copy, PartialEq, Eq, Debug, Error)]
 pub struct ReadFault;
+
+impl fmt::Display for ReadFault {
+    ghost use Rattle.std.specs.Prelude.{codes};
+
+    ghost output = { λ _. Some (codes "read failed") };
+
+    fn fmt<W: fmt::Write>(&self, f: &mut fmt::Formatter<W>) -> fmt::Result {
+        write!(f, "read failed")
+    }
+}
 
 /// Bytes that are read at any offset, in pieces as long as the source likes.
 pub trait Source {

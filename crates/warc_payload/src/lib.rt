@@ -10,6 +10,8 @@ ghost use Rattle.warc_payload.specs.Head.{HasNoHead, IsInfoOf};
 
 use httparse::Status;
 use httparse::spans::{EMPTY_HEADER_SPAN, HeaderSpan, parse_response};
+use std::fmt;
+use thiserror::Error;
 
 pub mod laws;
 
@@ -31,8 +33,18 @@ pub struct HeadInfo {
 }
 
 /// No whole head of at most 256 field lines is at the front.
-#[derive(Clone, Copy, Debug, PartialEq, Eq)]
+#[derive(Clone, Copy, Debug, PartialEq, Eq, Error)]
 pub struct BadHead;
+
+impl fmt::Display for BadHead {
+    ghost use Rattle.std.specs.Prelude.{Some, codes};
+
+    ghost output = { λ _. Some (codes "no whole HTTP head") };
+
+    fn fmt<W: fmt::Write>(&self, f: &mut fmt::Formatter<W>) -> fmt::Result {
+        write!(f, "no whole HTTP head")
+    }
+}
 
 /// Whether a field of the text names a coding.
 fn names_coding(text: &[u8], field: &HeaderSpan) -> bool

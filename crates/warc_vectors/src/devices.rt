@@ -84,6 +84,8 @@ fn fault_texts(rt: HostRuntime) -> Result<(), Fail> {
     ] {
         assert_eq!(rt; fault.to_string(rt.alloc())?.as_str(), text);
     }
+    assert_eq!(rt; ReadFault.to_string(rt.alloc())?.as_str(), "read failed");
+    assert_eq!(rt; WriteFault.to_string(rt.alloc())?.as_str(), "write failed");
     assert_eq!(rt; Version::V1_0.line(), b"WARC/1.0\r\n".as_slice());
     assert_eq!(rt; Version::V1_1.line(), b"WARC/1.1\r\n".as_slice());
     Ok(())

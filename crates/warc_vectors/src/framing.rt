@@ -320,6 +320,14 @@ fn records_made_of_fields(rt: HostRuntime) -> Result<(), Fail> {
             Some(expected)
         );
     }
+    for (fault, text) in [
+        (FramedFault::HeadTooLong, "F2 HeadTooLong"),
+        (FramedFault::Missing, "F4 Missing Content-Length"),
+        (FramedFault::Repeated, "F5 Repeated Content-Length"),
+        (FramedFault::Length, "F6 Length"),
+    ] {
+        assert_eq!(rt; fault.to_string(rt.alloc())?.as_str(), text);
+    }
     Ok(())
 }
 

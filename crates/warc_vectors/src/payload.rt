@@ -175,5 +175,9 @@ fn heads_that_are_refused(rt: HostRuntime) -> Result<(), Fail> {
     for text in texts {
         assert_eq!(rt; told(&rt, text), Err(BadHead));
     }
+    assert_eq!(rt;
+        BadHead.to_string(rt.alloc())?.as_str(),
+        "no whole HTTP head"
+    );
     Ok(())
 }

@@ -1,4 +1,6 @@
 //! The words of a command line.
+
+use std::test::Fail;
 use warc::{Command, CommandFault, parse};
 
 /// The text that the words are answered with, where they name no command, and whether it was asked
@@ -124,4 +126,18 @@ fn wrong_words_are_refused(rt: HostRuntime) {
         assert!(rt; !asked);
         assert!(rt; text.as_str().starts_with("error: "));
     }
+}
+
+#[test]
+fn refusals_show_their_text(rt: HostRuntime) -> Result<(), Fail> {
+    let alloc = rt.alloc();
+    let refusal = parse(alloc, &["warc", "--version"])
+        .err()
+        .ok_or("a refusal")?;
+    assert_eq!(rt; refusal.to_string(alloc)?.as_str(), "warc 0.1.0\n");
+    assert_eq!(rt;
+        CommandFault::Memory.to_string(alloc)?.as_str(),
+        "out of memory"
+    );
+    Ok(())
 }
