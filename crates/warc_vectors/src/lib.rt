@@ -20,6 +20,8 @@ mod framing;
 #[cfg(test)]
 mod good;
 #[cfg(test)]
+mod library;
+#[cfg(test)]
 mod payload;
 #[cfg(test)]
 mod pieces;
