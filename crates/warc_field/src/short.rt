@@ -8,7 +8,7 @@ use std::alloc::{AllocError, Allocator};
 /// How many bytes stand in place: as many as a name of the standard, a type, a date, a digest and most ids have.
 pub(crate) const SHORT: usize = 48;
 
-/// Bytes, which take memory only where there are more than 48.
+/// Bytes: up to 48 of them in place, or any number in memory.
 #[derive(Debug, Drop)]
 pub(crate) enum Bytes<A: Allocator> {
     Short(ArrayVec<u8, SHORT>),
@@ -16,7 +16,7 @@ pub(crate) enum Bytes<A: Allocator> {
 }
 
 impl<A: Allocator> Bytes<A> {
-    /// A copy of these bytes.
+    /// A copy of these bytes, which takes memory where there are more than 48.
     pub(crate) fn copied(alloc: A, bytes: &[u8]) -> Result<Bytes<A>, AllocError>
         ensures value { IfOk result (λ copy. bytes_of copy ≡ bytes.now) }
         ensures short { length bytes.now ≤ SHORT → IsOk result }

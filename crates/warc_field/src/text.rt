@@ -29,7 +29,7 @@ impl<A: Allocator> Model for Name<A> {
     ghost invariant = { λ n. is_name (bytes_of n.token) ≡ true };
 }
 
-/// A field's value. Contracts see its bytes. A value of at most 48 bytes takes no memory.
+/// A field's value. Contracts see its bytes. A value of at most 48 bytes takes no memory, unless it was read from folded lines.
 #[derive(Debug, Drop)]
 pub struct Value<A: Allocator = Global> {
     text: Bytes<A>,
