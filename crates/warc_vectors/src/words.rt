@@ -94,6 +94,11 @@ fn help_and_version_are_asked_for(rt: HostRuntime) {
         };
         assert!(rt; asked);
         assert!(rt; text.as_str().contains("Usage: warc list <archive>"));
+        assert!(rt;
+            text.as_str().contains(
+                "<archive>  The path of the archive; /dev/stdin is standard input"
+            )
+        );
     }
     let Some((text, asked)) = answer(&rt, &["warc", "--version"]) else {
         assert!(rt; false);
