@@ -1,14 +1,14 @@
 //! The suite of `check`: the findings of whole archives, a line each, and the status.
 
 use crate::runs::{CHECK, LIST, ends, run};
-use crate::worked::{ONE_RESOURCE, changed};
-use crate::{
-    Break, BrokenSource, BrokenWriter, ChangingSource, RefusingAllocator, Row, archive_text,
-};
 use std::alloc::Global;
 use std::test::Fail;
 use warc::{Archive, perform};
 use warc_frame::{MemSink, MemSource};
+use warc_vectors::{
+    Break, BrokenSource, BrokenWriter, ChangingSource, ONE_RESOURCE, RefusingAllocator, Row,
+    archive_text, changed,
+};
 
 /// A record with two findings of its own: a target that it may not have, and no content type.
 const WARCINFO: Row<'static> = Row {

@@ -1,6 +1,5 @@
 //! What heads say: types, ids, targets, references, segments, refusals and findings.
 
-use crate::RefusingAllocator;
 use std::alloc::Allocator;
 use std::cmp::Ordering;
 use std::test::Fail;
@@ -10,6 +9,7 @@ use warc_record::{
     ArchiveFacts, Kind, SegmentNumber, all_findings, bare, findings, id_key, type_head,
 };
 use warc_value::{Wanted, read_date};
+use warc_vectors::RefusingAllocator;
 
 /// A name and a value.
 type Pair = (&'static str, &'static [u8]);

@@ -1,12 +1,12 @@
 //! The suite of `warc_field`.
 
-use crate::RefusingAllocator;
 use std::alloc::{Allocator, Global};
 use std::test::Fail;
 use warc_field::{
     AreaFault, Fields, Name, TextFault, Value, canonical_len, decimal, is_name, read_area, trim,
     write_area,
 };
+use warc_vectors::RefusingAllocator;
 
 /// The ASCII characters that are no control characters, no space and no separators.
 const NAME_BYTES: &[u8] =

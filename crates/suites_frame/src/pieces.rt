@@ -2,13 +2,12 @@
 
 ghost use Rattle.std.specs.Prelude.{◌≤◌, ◌^◌};
 
-use crate::worked::{ONE_RESOURCE, changed};
-use crate::{RefusingAllocator, Row};
 use std::alloc::Global;
 use std::test::Fail;
 use warc_frame::{
     Decoder, Event, Fault, FaultKind, Framed, Mandatory, decode, read_one, write_one,
 };
+use warc_vectors::{ONE_RESOURCE, RefusingAllocator, Row, changed};
 
 /// The offset at which no byte may stand.
 const LIMIT: u64 = 281_474_976_710_656;

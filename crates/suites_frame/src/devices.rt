@@ -1,13 +1,13 @@
 //! The suite of `warc_frame`'s sources, sinks and faults.
 
-use crate::{Break, BrokenSource, BrokenWriter, RefusingAllocator};
 use std::alloc::Global;
 use std::io::{self, Cursor, ErrorKind, Read, Seek, SeekFrom, Write};
 use std::test::Fail;
 use warc_frame::{
-    Fault, FaultKind, FileSource, GatherFault, Mandatory, MemSink, MemSource, OutBuffer, OutFault,
-    OutSink, ReadFault, SendFault, Sink, Source, Version, WriteFault, read_whole, send_all,
+    Fault, FaultKind, FileSource, Mandatory, MemSink, MemSource, OutBuffer, OutFault, OutSink,
+    ReadFault, SendFault, Sink, Source, Version, WriteFault, send_all,
 };
+use warc_vectors::{Break, BrokenSource, BrokenWriter, RefusingAllocator};
 
 const TEXT: &[u8] = b"a text of thirty-one letters ..";
 
@@ -180,39 +180,6 @@ fn a_broken_source_fails_once(rt: HostRuntime) -> Result<(), Fail> {
 }
 
 #[test]
-fn gathers_a_source(rt: HostRuntime) -> Result<(), Fail> {
-    for most in [1usize, 7, usize::MAX] {
-        let mut source = MemSource::new(TEXT.to_vec(rt.alloc())?, most.max(1));
-        let gathered = read_whole(rt.alloc(), &mut source)?;
-        assert_eq!(rt;
-            (gathered.bytes.as_slice(), gathered.is_longer),
-            (TEXT, false)
-        );
-        for number in 1..100u64 {
-            let heap = RefusingAllocator::new(rt.alloc(), number);
-            let answer = read_whole(&heap, &mut source);
-            assert_eq!(rt;
-                matches!(answer, Err(GatherFault::Memory)),
-                heap.has_refused()
-            );
-            if !heap.has_refused() {
-                assert_eq!(rt; answer?.bytes.as_slice(), TEXT);
-                break;
-            }
-        }
-    }
-    for number in 1..33u64 {
-        let mut source = BrokenSource::new(TEXT.to_vec(rt.alloc())?, 1, number);
-        let at = number - 1;
-        assert!(rt;
-            matches!(read_whole(rt.alloc(), &mut source), Err(GatherFault::Read(found)) if found == at)
-        );
-        assert_eq!(rt; read_whole(rt.alloc(), &mut source)?.bytes.as_slice(), TEXT);
-    }
-    Ok(())
-}
-
-#[test]
 fn sends_to_a_broken_writer(rt: HostRuntime) -> Result<(), Fail> {
     let many = usize::MAX;
     let sent = |sent| Err(SendFault { sent });
@@ -300,5 +267,39 @@ fn a_sink_over_a_writer(rt: HostRuntime) -> Result<(), Fail> {
         assert_eq!(rt; send_all(&mut sink, b"abc"), Err(SendFault { sent: 2 }));
         assert_eq!(rt; sink.write(b"c"), answer);
     }
+    Ok(())
+}
+
+/// A writer whose first write fails. It counts the writes.
+#[derive(Drop)]
+struct FailsOnce {
+    writes: u32,
+}
+
+impl Write for FailsOnce {
+    fn write(&mut self, buf: &[u8]) -> io::Result<usize> {
+        self.writes = self.writes.saturating_add(1);
+        if self.writes == 1 {
+            Err(io::Error::from(ErrorKind::Interrupted))
+        } else {
+            Ok(buf.len())
+        }
+    }
+
+    fn flush(&mut self) -> io::Result<()> {
+        Ok(())
+    }
+}
+
+#[test]
+fn a_failed_write_is_not_tried_again(rt: HostRuntime) -> Result<(), Fail> {
+    let mut sink = OutSink::new(FailsOnce { writes: 0 });
+    assert_eq!(rt; sink.write(b"abc"), Err(WriteFault));
+    let FailsOnce { writes } = sink.into_inner();
+    assert_eq!(rt; writes, 1);
+    let mut sink = OutSink::new(FailsOnce { writes: 0 });
+    assert_eq!(rt; send_all(&mut sink, b"abc"), Err(SendFault { sent: 0 }));
+    let FailsOnce { writes } = sink.into_inner();
+    assert_eq!(rt; writes, 1);
     Ok(())
 }

@@ -1,11 +1,13 @@
 //! The suite of `warc`: what `list` writes over an archive, and the status that it ends with.
 
 use crate::runs::{LIST, ends, run};
-use crate::worked::{ONE_RESOURCE, ONE_RESOURCE_LINE, changed};
-use crate::{Break, BrokenSource, BrokenWriter, RefusingAllocator, Row, archive_text};
 use std::test::Fail;
 use warc::perform;
 use warc_frame::{MemSink, MemSource};
+use warc_vectors::{
+    Break, BrokenSource, BrokenWriter, ONE_RESOURCE, ONE_RESOURCE_LINE, RefusingAllocator, Row,
+    archive_text, changed,
+};
 
 #[test]
 fn archives_are_listed(rt: HostRuntime) -> Result<(), Fail> {

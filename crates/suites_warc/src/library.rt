@@ -1,10 +1,10 @@
 //! What README.md shows of the library.
 
-use crate::{Row, archive_text};
 use std::alloc::Global;
 use std::test::Fail;
 use warc::Archive;
 use warc_frame::{Decoder, Event, Fault, MemSink, MemSource};
+use warc_vectors::{Row, archive_text};
 
 const RECORD: Row<'static> = Row {
     version: "1.1",

@@ -1,12 +1,11 @@
 //! Good records only: what `open` refuses and accepts, by what `list` writes.
 
-use crate::runs::{LIST, ends};
-use crate::worked::{ONE_RESOURCE, ONE_RESOURCE_LINE, changed};
-use crate::{Row, archive_text};
+use crate::runs::{LIST, ends, opens_as_read};
 use std::alloc::Global;
 use std::test::Fail;
 use warc::Archive;
 use warc_frame::{FaultKind, MemSource};
+use warc_vectors::{CHANGES, ONE_RESOURCE, ONE_RESOURCE_LINE, Row, archive_text, changed};
 
 /// Whether the one resource record with a text in it replaced by another is refused with this line.
 fn is_refused(alloc: Global, old: &str, new: &str, line: &str) -> Result<bool, Fail> {
@@ -250,5 +249,24 @@ fn both_versions_in_one_archive(rt: HostRuntime) -> Result<(), Fail> {
          1\t278\t14\tScreenshot\t2021\t<urn:uuid:00000000-0000-4000-8000-00000000000F>\t-\n\
          2\t454\t3\tresource\t2020-01-01T00:00:00Z\t<urn:uuid:00000000-0000-4000-8000-000000000001>\thttp://a.example/x\n";
     assert!(rt; ends(alloc, &LIST, &text, lines, "", 0)?);
+    Ok(())
+}
+
+#[test]
+fn changed_records_open_as_they_read(rt: HostRuntime) -> Result<(), Fail> {
+    let text = ONE_RESOURCE.text(rt.alloc())?;
+    for (old, new, _) in CHANGES {
+        let changed = changed(rt.alloc(), &text, old, new)?;
+        assert!(rt; opens_as_read(rt.alloc(), &changed)?, "{new:?}");
+    }
+    Ok(())
+}
+
+#[test]
+fn every_truncation_opens_as_it_reads(rt: HostRuntime) -> Result<(), Fail> {
+    let text = ONE_RESOURCE.text(rt.alloc())?;
+    for len in 0..text.len() {
+        assert!(rt; opens_as_read(rt.alloc(), &text[..len])?);
+    }
     Ok(())
 }
