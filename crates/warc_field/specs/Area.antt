@@ -35,7 +35,8 @@ pub record IsFieldLine (field : Pair) (line : List ℕ) : Type 0 where
 -- the area is a concatenation of lines that spell the fields in order
 abbrev pub SpellsFields : List Pair → List ℕ → Type 0
 SpellsFields [] area = area ≡ []
-SpellsFields (field ∷ fields) area = (line more : List ℕ) × IsFieldLine field line × (area ≡ line ++ more) × SpellsFields fields more
+SpellsFields (field ∷ fields) area =
+    (line more : List ℕ) × IsFieldLine field line × (area ≡ line ++ more) × SpellsFields fields more
 
 -- the first line that is no field, or isn't ended, begins `at` bytes from the area's front: what stands before it is
 -- spelled by fields, and what follows isn't empty, begins a line, and doesn't begin with a field's whole line
@@ -48,7 +49,8 @@ pub record IsFirstBadLine (area : List ℕ) (at : ℕ) : Type 0 where
   pub spelled : SpellsFields fields front
   pub left : 0 < length rest
   pub begins : 0 < length front → begins_blank rest ≡ false
-  pub bad : (field : Pair) (line more : List ℕ) → IsFieldLine field line → rest ≡ line ++ more → begins_blank more ≡ true
+  pub bad : (field : Pair) (line more : List ℕ) → IsFieldLine field line → rest ≡ line ++ more
+      → begins_blank more ≡ true
 
 -- the line that a field is written as: name, colon, space, value, CRLF
 abbrev pub canonical_line : Pair → List ℕ

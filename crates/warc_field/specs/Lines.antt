@@ -41,7 +41,8 @@ parts (b ∷ c ∷ bs) = elim (is_crlf b c) [ true ↦ [] ∷ parts bs | false �
 unfoldable pub lines : List ℕ → List (List ℕ)
 lines [] = [] ∷ []
 lines (b ∷ []) = (b ∷ []) ∷ []
-lines (b ∷ c ∷ bs) = elim (is_crlf b c && not (begins_blank bs)) [ true ↦ [] ∷ lines bs | false ↦ in_front b (lines (c ∷ bs)) ]
+lines (b ∷ c ∷ bs) =
+    elim (is_crlf b c && not (begins_blank bs)) [ true ↦ [] ∷ lines bs | false ↦ in_front b (lines (c ∷ bs)) ]
 
 -- what a part after a CRLF becomes: the CRLF and a run of spaces and tabs become one space; any other CRLF stays
 abbrev pub continued : List ℕ → List ℕ

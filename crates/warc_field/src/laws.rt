@@ -62,5 +62,6 @@ pub fn empty_line_ends_area()
 /// The canonical line of a field takes four bytes beside its name and value.
 #[tactic(auto, using(crate::proofs::LawLemmas::canonical_text_length))]
 pub fn canonical_text_length()
-    ensures { (fields : List Pair) → length (canonical_fields fields) ≡ sum_by (λ (field : Pair). length field.0 + length field.1 + 4) fields }
+    ensures { (fields : List Pair)
+        → length (canonical_fields fields) ≡ sum_by (λ (field : Pair). length field.0 + length field.1 + 4) fields }
 {}

@@ -69,7 +69,8 @@ impl<A: Allocator> Fields<A> {
 
     /// The field at a place, counted from 0; `None` past the end.
     pub fn get(&self, place: usize) -> Option<(&Name<A>, &Value<A>)>
-        ensures { MatchOption result (length self.now ≤ place) (λ field. slice_get self.now place ≡ Some (field.0.now, field.1.now)) }
+        ensures { MatchOption result (length self.now ≤ place)
+            (λ field. slice_get self.now place ≡ Some (field.0.now, field.1.now)) }
     {
         if place < self.pairs.len() {
             let pair = &self.pairs[place];

@@ -87,7 +87,8 @@ IsWithin n took (events.Part from to) = (from < to) × (to ≡ took) × (took �
 IsWithin n took events.End = (0 < took) × (took ≤ n)
 
 -- what a step says that took bytes of a piece and told an event
-pub record Takes {A : Type 0} (at : ℕ) (taken : List ℕ) (told : Told) (new : State) (piece : List ℕ) (took : ℕ) (event : Event A) : Type 0 where
+pub record Takes {A : Type 0} (at : ℕ) (taken : List ℕ) (told : Told) (new : State) (piece : List ℕ) (took : ℕ)
+    (event : Event A) : Type 0 where
   pub may : MayTell told.unclosed event
   pub is_at : IsAt at (taken ++ take took piece) (tell told piece event) new
   pub exact : IfTold event (IsExact (taken ++ take took piece) (tell told piece event))

@@ -31,7 +31,8 @@ HasFault judge q t (Some f) = (t ≢ []) × (g : Fault) × (record_of judge t �
 
 -- a text that begins at offset q, read as far as records go: the longest list of records that a front of it spells, and
 -- what is wrong with the rest
-pub record ReadsAs (judge : Judgement) (q : ℕ) (t : List ℕ) (records : List Record) (found : Option Fault) : Type 0 where
+pub record ReadsAs (judge : Judgement) (q : ℕ) (t : List ℕ) (records : List Record)
+    (found : Option Fault) : Type 0 where
   pub front : List ℕ
   pub rest : List ℕ
   pub text : t ≡ front ++ rest

@@ -41,7 +41,8 @@ content_length = codes "Content-Length"
 
 -- the number that a value writes, if a block may be so long
 abbrev pub block_number : Option (List ℕ) → Option ℕ
-block_number value = option_and_then (λ n. if nat_le n max_block then Some n else None) (option_and_then decimal_of value)
+block_number value =
+    option_and_then (λ n. if nat_le n max_block then Some n else None) (option_and_then decimal_of value)
 
 abbrev pub or_length : Option ℕ → Result ℕ FaultKind
 or_length None = Err Length

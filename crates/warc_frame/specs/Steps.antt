@@ -18,7 +18,8 @@ pub record Near (crosses : Bool) (at : ℕ) (text near : List ℕ) : Type 0 wher
 -- an event tells what a whole head says, whose block has n bytes
 abbrev pub TellsHead : {A : Type 0} → List ℕ → ℕ → Event A → Type 0
 TellsHead head n events.More = ⊥
-TellsHead head n (events.Head version fields m) = (len : ℕ) × (m ≡ n) × (head_of any_fields head ≡ Ok (record { version = version; fields = fields; len = len; block_len = n }))
+TellsHead head n (events.Head version fields m) = (len : ℕ) × (m ≡ n)
+    × (head_of any_fields head ≡ Ok (record { version = version; fields = fields; len = len; block_len = n }))
 TellsHead head n (events.Part from to) = ⊥
 TellsHead head n events.End = ⊥
 
@@ -29,5 +30,6 @@ HeadFails kind p head f = (g : Fault) × (head_of any_fields head ≡ Err g) × 
 
 -- what taking these bytes, which end a head, does
 abbrev pub ClosesHead : {A : Type 0} → State → State → List ℕ → Result (ℕ × Event A) Fault → Type 0
-ClosesHead old new end (Ok r) = (r.0 ≡ length end) × TellsHead (old.kept ++ end) new.left r.1 × (new.kept ≡ []) × (new.position ≡ old.position + length end) × (new.matched ≡ 0) × (new.phase ≡ phases.Block)
+ClosesHead old new end (Ok r) = (r.0 ≡ length end) × TellsHead (old.kept ++ end) new.left r.1 × (new.kept ≡ [])
+    × (new.position ≡ old.position + length end) × (new.matched ≡ 0) × (new.phase ≡ phases.Block)
 ClosesHead old new end (Err f) = HeadFails f.kind (old.position - length old.kept) (old.kept ++ end) f

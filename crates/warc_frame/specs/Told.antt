@@ -30,7 +30,8 @@ nothing = record { records = []; unclosed = None }
 
 abbrev pub with_bytes : Option Unclosed → List ℕ → Option Unclosed
 with_bytes None bytes = None
-with_bytes (Some u) bytes = Some (record { version = u.version; fields = u.fields; block_len = u.block_len; bytes = u.bytes ++ bytes })
+with_bytes (Some u) bytes =
+    Some (record { version = u.version; fields = u.fields; block_len = u.block_len; bytes = u.bytes ++ bytes })
 
 abbrev pub ended : Option Unclosed → List Record
 ended None = []
@@ -39,8 +40,11 @@ ended (Some u) = record { version = u.version; fields = u.fields; block = u.byte
 -- what was told once this event, at this piece, is told too
 abbrev pub tell : {A : Type 0} → Told → List ℕ → Event A → Told
 tell told piece events.More = told
-tell told piece (events.Head version fields n) = record { records = told.records; unclosed = Some (record { version = version; fields = fields; block_len = n; bytes = [] }) }
-tell told piece (events.Part from to) = record { records = told.records; unclosed = with_bytes told.unclosed (slice_range piece from to) }
+tell told piece (events.Head version fields n) =
+    let opened : Unclosed = record { version = version; fields = fields; block_len = n; bytes = [] } in
+    record { records = told.records; unclosed = Some opened }
+tell told piece (events.Part from to) =
+    record { records = told.records; unclosed = with_bytes told.unclosed (slice_range piece from to) }
 tell told piece events.End = record { records = told.records ++ ended told.unclosed; unclosed = None }
 
 -- all of a block was told
@@ -56,7 +60,9 @@ MayTell unclosed (events.Part from to) = IsSome unclosed
 MayTell unclosed events.End = IsWhole unclosed
 
 abbrev pub opened : Result Head Fault → List ℕ → Option Unclosed
-opened (Ok head) t = Some (record { version = head.version; fields = head.fields; block_len = head.block_len; bytes = take head.block_len (drop head.len t) })
+opened (Ok head) t =
+    let bytes = take head.block_len (drop head.len t) in
+    Some (record { version = head.version; fields = head.fields; block_len = head.block_len; bytes = bytes })
 opened (Err f) t = None
 
 -- what a text that is less than a record tells: its head, where it is whole and can be framed, and the bytes of its block
@@ -78,7 +84,8 @@ pub record Lies (text : List ℕ) (told : Told) : Type 0 where
 
 -- a text is the whole head of a record
 abbrev pub IsHeadOf : Unclosed → List ℕ → Type 0
-IsHeadOf u head = head_of any_fields head ≡ Ok (record { version = u.version; fields = u.fields; len = length head; block_len = u.block_len })
+IsHeadOf u head = head_of any_fields head
+    ≡ Ok (record { version = u.version; fields = u.fields; len = length head; block_len = u.block_len })
 
 abbrev pub EndsThere : List ℕ → Option Unclosed → Type 0
 EndsThere rest None = rest ≡ []

@@ -47,7 +47,8 @@ pub(crate) fn find_end(kept: &[u8], piece: &[u8]) -> Option<usize>
     requires short { length kept.now + length piece.now ≤ 65536 }
     requires none { empty_line kept.now ≡ None }
     ensures within { IfSome result (λ n. (0 < n) × (n ≤ length piece.now) × (4 ≤ length kept.now + n)) }
-    ensures end { MatchOption result (empty_line (kept.now ++ piece.now) ≡ None) (λ n. empty_line (kept.now ++ piece.now) ≡ Some (length kept.now + n - 4)) }
+    ensures end { MatchOption result (empty_line (kept.now ++ piece.now) ≡ None)
+        (λ n. empty_line (kept.now ++ piece.now) ≡ Some (length kept.now + n - 4)) }
 {
     for place in 0..piece.len().min(3) {
         if ends_at(kept, piece, place) {

@@ -76,7 +76,10 @@ impl<A: Allocator> Framed<A> {
         block: Vec<u8, A>,
     ) -> Result<Framed<A>, FramedFault>
         // Which record, or which reason.
-        ensures exact { MatchResult result (λ framed. framed_of (record { version = version; fields = fields; block = block.items }) ≡ Ok framed) (λ fault. framed_of (record { version = version; fields = fields; block = block.items }) ≡ Err (kind_of fault)) }
+        ensures exact { MatchResult result
+            (λ framed. framed_of (record { version = version; fields = fields; block = block.items }) ≡ Ok framed)
+            (λ fault. framed_of (record { version = version; fields = fields; block = block.items })
+            ≡ Err (kind_of fault)) }
         ensures framed { IfOk result IsFramed }
         ensures only { IsFramed (record { version = version; fields = fields; block = block.items }) → IsOk result }
     {

@@ -49,7 +49,8 @@ pub fn heads_are_stable()
 pub fn head_of_spelled()
     ensures { (judge : Judgement) (r : Record) (text : List ℕ) (n : ℕ) → Spells r text → judge r.fields ≡ None
         → n + length r.block + 4 ≡ length text
-        → head_of judge (take n text) ≡ Ok (record { version = r.version; fields = r.fields; len = n; block_len = length r.block }) }
+        → head_of judge (take n text)
+        ≡ Ok (record { version = r.version; fields = r.fields; len = n; block_len = length r.block }) }
 {}
 
 /// A text that begins at offset q and ends by offset 2^48 has no first fault exactly if it spells a list of records, all
@@ -87,7 +88,8 @@ pub fn reading_is_unique()
 
 /// What a step that fails says of the text, where it didn't want memory: the text is refuted, by a fault that stays.
 pub fn refusals_refute()
-    ensures { (at : ℕ) (text : List ℕ) (told : Told) (f : Fault) → Refuses at text told f → f.kind ≢ Memory → Refutes at text told f }
+    ensures { (at : ℕ) (text : List ℕ) (told : Told) (f : Fault) → Refuses at text told f → f.kind ≢ Memory
+        → Refutes at text told f }
 {}
 
 /// The first fault for a reader that is told a text by framing alone, and judges the fields of each head that it is told.
@@ -96,10 +98,13 @@ pub fn first_fault_of_judged_heads()
     ensures refuted { (judge : Judgement) (at : ℕ) (text : List ℕ) (told : Told) (f : Fault) → Refutes at text told f
         → AcceptsTold judge told → IsFirstFault judge at text f }
     ensures cut { (judge : Judgement) (at : ℕ) (text : List ℕ) (told : Told) (f : Fault) → Lies text told
-        → AcceptsTold judge told → at + length text ≤ max_archive → IsFrameFault at text f → IsFirstFault judge at text f }
-    ensures head { (judge : Judgement) (at : ℕ) (text : List ℕ) (told : Told) (u : Unclosed) (kind : FaultKind) → IsExact text told
-        → told.unclosed ≡ Some u → AllAccepted judge told.records → judge u.fields ≡ Some kind → at + length text ≤ max_archive
-        → (front rest : List ℕ) × (text ≡ front ++ rest) × SpellsAll told.records front × IsFirstFault judge at text (fault kind (at + length front)) }
+        → AcceptsTold judge told → at + length text ≤ max_archive → IsFrameFault at text f
+        → IsFirstFault judge at text f }
+    ensures head { (judge : Judgement) (at : ℕ) (text : List ℕ) (told : Told) (u : Unclosed) (kind : FaultKind)
+        → IsExact text told → told.unclosed ≡ Some u → AllAccepted judge told.records → judge u.fields ≡ Some kind
+        → at + length text ≤ max_archive
+        → (front rest : List ℕ) × (text ≡ front ++ rest) × SpellsAll told.records front
+        × IsFirstFault judge at text (fault kind (at + length front)) }
 {}
 
 /// What went out of an output went out of each longer one.

@@ -91,8 +91,10 @@ fn feed<A: Allocator + Copy>(
 ) -> Result<(), Fault>
     requires { (at : ℕ) × (taken : List ℕ) × Keeps at taken kept.old decoder.old }
     ensures kept { (at : ℕ) (taken : List ℕ) → Keeps at taken kept.old decoder.old →
-        MatchResult result (λ _. Keeps at (taken ++ piece.now) kept.new decoder.new) (IsPieceFault at (taken ++ piece.now)) }
-    ensures memory { (at : ℕ) (taken : List ℕ) → Keeps at taken kept.old decoder.old → IfErr result (IsMemoryFault at (taken ++ piece.now)) }
+        MatchResult result (λ _. Keeps at (taken ++ piece.now) kept.new decoder.new)
+        (IsPieceFault at (taken ++ piece.now)) }
+    ensures memory { (at : ℕ) (taken : List ℕ) → Keeps at taken kept.old decoder.old
+        → IfErr result (IsMemoryFault at (taken ++ piece.now)) }
 {
     let mut from = 0;
     while from < piece.len() {
@@ -120,7 +122,9 @@ pub fn decode<A: Allocator + Copy>(
     requires { at ≤ 2 ^ 48 }
     ensures spelled { IfOk result (λ records. SpellsAll records.items (flat_map (λ piece. piece.now) pieces.now)) }
     // No other list of records is spelled.
-    ensures only { IfOk result (λ records. (others : List Record) → SpellsAll others (flat_map (λ piece. piece.now) pieces.now) → records.items ≡ others) }
+    ensures only { IfOk result
+        (λ records. (others : List Record) → SpellsAll others (flat_map (λ piece. piece.now) pieces.now)
+        → records.items ≡ others) }
     ensures fault { IfErr result (IsPiecesFault at (flat_map (λ piece. piece.now) pieces.now)) }
     ensures memory { IfErr result (IsMemoryFault at (flat_map (λ piece. piece.now) pieces.now)) }
 {

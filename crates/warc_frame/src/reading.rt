@@ -75,7 +75,8 @@ pub(crate) fn fits_head<A: Allocator>(version: Version, fields: &Fields<A>) -> b
 /// The number of the only `Content-Length`.
 #[tactic(auto, unfolding(crate::specs::Record::block_len))]
 pub(crate) fn read_block_len<A: Allocator>(fields: &Fields<A>) -> Result<u64, FramedFault>
-    ensures exact { MatchResult result (λ n. block_len fields.now ≡ Ok n) (λ fault. block_len fields.now ≡ Err (kind_of fault)) }
+    ensures exact { MatchResult result (λ n. block_len fields.now ≡ Ok n)
+        (λ fault. block_len fields.now ≡ Err (kind_of fault)) }
     ensures small { IfOk result (λ n. n ≤ max_block) }
 {
     match fields.count(b"Content-Length") {
@@ -110,7 +111,8 @@ pub(crate) fn read_fields<A: Allocator + Copy>(
 ) -> Result<Head<A>, Fault>
     requires version { version_of text.now ≡ Some version }
     requires len { head_len text.now ≡ Some len }
-    ensures exact { Gives (λ h. record { version = h.version; fields = h.fields; len = h.len; block_len = h.block_len }) result (head_of any_fields text.now) }
+    ensures exact { Gives (λ h. record { version = h.version; fields = h.fields; len = h.len; block_len = h.block_len })
+        result (head_of any_fields text.now) }
     ensures within { IfOk result (λ h. (h.len ≤ length text.now) × (h.block_len ≤ max_block)) }
     ensures by { IfErr result (λ f. f.offset ≤ length text.now) }
 {
@@ -142,7 +144,8 @@ pub(crate) fn read_fields<A: Allocator + Copy>(
 /// of memory is told at 0.
 #[tactic(auto, unfolding(crate::specs::Reading::head_of))]
 pub fn read_head<A: Allocator + Copy>(alloc: A, text: &[u8]) -> Result<Head<A>, Fault>
-    ensures exact { Gives (λ h. record { version = h.version; fields = h.fields; len = h.len; block_len = h.block_len }) result (head_of any_fields text.now) }
+    ensures exact { Gives (λ h. record { version = h.version; fields = h.fields; len = h.len; block_len = h.block_len })
+        result (head_of any_fields text.now) }
     ensures within { IfOk result (λ h. (h.len ≤ length text.now) × (h.block_len ≤ max_block)) }
     ensures by { IfErr result (λ f. f.offset ≤ length text.now) }
 {

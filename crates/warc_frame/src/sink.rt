@@ -38,7 +38,8 @@ pub trait Sink {
     fn write(&mut self, piece: &[u8]) -> Result<usize, WriteFault>
         ensures bound { IfOk result (λ n. n ≤ length piece.now) }
         ensures bytes { tells self.new ≡ append_known (tells self.old) (take (taken result) piece.now) }
-        ensures cause { faults self.new ≡ (if failed result piece.now then raised (faults self.old) else faults self.old) };
+        ensures cause { faults self.new
+            ≡ (if failed result piece.now then raised (faults self.old) else faults self.old) };
 }
 
 /// Whether a write failed, or took nothing of a piece that isn't empty.
@@ -101,7 +102,8 @@ impl<A: Allocator> Sink for MemSink<A> {
     fn write(&mut self, piece: &[u8]) -> Result<usize, WriteFault>
         ensures bound { IfOk result (λ n. n ≤ length piece.now) }
         ensures bytes { Some self.new.bytes ≡ append_known (Some self.old.bytes) (take (taken result) piece.now) }
-        ensures cause { self.new.faults ≡ (if failed result piece.now then raised self.old.faults else self.old.faults) }
+        ensures cause { self.new.faults
+            ≡ (if failed result piece.now then raised self.old.faults else self.old.faults) }
         ensures whole { IfOk result (λ n. n ≡ length piece.now) }
         ensures full { OnErr result (self.old.room < length piece.now) }
     {
@@ -157,7 +159,8 @@ impl<W: Write> Sink for OutSink<W> {
     fn write(&mut self, piece: &[u8]) -> Result<usize, WriteFault>
         ensures bound { IfOk result (λ n. n ≤ length piece.now) }
         ensures bytes { None ≡ append_known None (take (taken result) piece.now) }
-        ensures cause { self.new.faults ≡ (if failed result piece.now then raised self.old.faults else self.old.faults) }
+        ensures cause { self.new.faults
+            ≡ (if failed result piece.now then raised self.old.faults else self.old.faults) }
         ensures passed { WriteAppends (W.contents self.old.writer) (W.contents self.new.writer) result piece.now }
     {
         let answer = match self.writer.write(piece) {

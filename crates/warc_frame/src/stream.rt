@@ -83,7 +83,8 @@ impl<A: Allocator + Copy> Decoder<A> {
     /// The offset behind the bytes taken.
     pub fn position(&self) -> u64
         // What was told is exactly what lies in the bytes taken.
-        ensures history { (at : ℕ) (taken : List ℕ) (told : Told) → IsAt at taken told self.now → (result ≡ at + length taken) × Lies taken told }
+        ensures history { (at : ℕ) (taken : List ℕ) (told : Told) → IsAt at taken told self.now
+            → (result ≡ at + length taken) × Lies taken told }
         ensures value { result ≡ self.now.position }
         ensures limit { result ≤ 2 ^ 48 }
     {
@@ -92,7 +93,8 @@ impl<A: Allocator + Copy> Decoder<A> {
 
     /// Whether the stream may end here: it may between records. Else it is truncated, or the fault told comes again.
     pub fn finish(&self) -> Result<(), Fault>
-        ensures history { (at : ℕ) (taken : List ℕ) (told : Told) → IsAt at taken told self.now → Finishes at taken told result }
+        ensures history { (at : ℕ) (taken : List ℕ) (told : Told) → IsAt at taken told self.now
+            → Finishes at taken told result }
         ensures failed { (fault : Fault) → IsFailed self.now fault → result ≡ Err fault }
     {
         let truncated = Fault {
@@ -119,7 +121,8 @@ impl<A: Allocator + Copy> Decoder<A> {
     /// of memory; it takes nothing, and each later call answers it again.
     pub fn step(&mut self, piece: &[u8]) -> Result<(usize, Event<A>), Fault>
         ensures history { (at : ℕ) (taken : List ℕ) (told : Told) → IsAt at taken told self.old →
-            MatchResult result (λ r. Takes at taken told self.new piece.now r.0 r.1) (λ fault. Refuses at (taken ++ piece.now) told fault) }
+            MatchResult result (λ r. Takes at taken told self.new piece.now r.0 r.1)
+            (λ fault. Refuses at (taken ++ piece.now) told fault) }
         ensures within { IfOk result (λ r. IsWithin (length piece.now) r.0 r.1) }
         ensures empty { piece.now ≡ [] → MatchResult result (λ r. r ≡ (0, Event.More)) (IsFailed self.old) }
         ensures err { IfErr result (IsFailed self.new) }
@@ -145,8 +148,10 @@ impl<A: Allocator + Copy> Decoder<A> {
     /// Takes bytes of a head; `crosses` says that bytes at the limit follow the given ones.
     fn take_head(&mut self, near: &[u8], crosses: bool) -> Result<(usize, Event<A>), Fault>
         requires room { self.old.position + length near.now ≤ 2 ^ 48 }
-        ensures history { (at : ℕ) (taken text : List ℕ) (told : Told) → self.old.phase ≡ Phase.Head → IsAt at taken told self.old → Near crosses at text (taken ++ near.now) →
-            MatchResult result (λ r. Takes at taken told self.new near.now r.0 r.1) (λ fault. Refuses at text told fault) }
+        ensures history { (at : ℕ) (taken text : List ℕ) (told : Told) → self.old.phase ≡ Phase.Head
+            → IsAt at taken told self.old → Near crosses at text (taken ++ near.now)
+            → MatchResult result (λ r. Takes at taken told self.new near.now r.0 r.1)
+            (λ fault. Refuses at text told fault) }
         ensures within { IfOk result (λ r. IsWithin (length near.now) r.0 r.1) }
         ensures more { IfOk result (λ r. r.1 ≡ Event.More → crosses ≡ false) }
         ensures still { OnErr result (self.new.position ≡ self.old.position) }
@@ -231,8 +236,10 @@ impl<A: Allocator + Copy> Decoder<A> {
     /// Takes bytes of a block or of what closes the record.
     fn take_block(&mut self, near: &[u8], crosses: bool) -> Result<(usize, Event<A>), Fault>
         requires room { self.old.position + length near.now ≤ 2 ^ 48 }
-        ensures history { (at : ℕ) (taken text : List ℕ) (told : Told) → self.old.phase ≡ Phase.Block → IsAt at taken told self.old → Near crosses at text (taken ++ near.now) →
-            MatchResult result (λ r. Takes at taken told self.new near.now r.0 r.1) (λ fault. Refuses at text told fault) }
+        ensures history { (at : ℕ) (taken text : List ℕ) (told : Told) → self.old.phase ≡ Phase.Block
+            → IsAt at taken told self.old → Near crosses at text (taken ++ near.now)
+            → MatchResult result (λ r. Takes at taken told self.new near.now r.0 r.1)
+            (λ fault. Refuses at text told fault) }
         ensures within { IfOk result (λ r. IsWithin (length near.now) r.0 r.1) }
         ensures empty { near.now ≡ [] → crosses ≡ false → result ≡ Ok (0, Event.More) }
         ensures more { IfOk result (λ r. r.1 ≡ Event.More → crosses ≡ false) }
@@ -260,8 +267,10 @@ impl<A: Allocator + Copy> Decoder<A> {
     fn take_end(&mut self, near: &[u8], crosses: bool) -> Result<(usize, Event<A>), Fault>
         requires room { self.old.position + length near.now ≤ 2 ^ 48 }
         requires some { 0 < length near.now }
-        ensures history { (at : ℕ) (taken text : List ℕ) (told : Told) → self.old.phase ≡ Phase.Block → self.old.left ≡ 0 → IsAt at taken told self.old → Near crosses at text (taken ++ near.now) →
-            MatchResult result (λ r. Takes at taken told self.new near.now r.0 r.1) (λ fault. Refuses at text told fault) }
+        ensures history { (at : ℕ) (taken text : List ℕ) (told : Told) → self.old.phase ≡ Phase.Block
+            → self.old.left ≡ 0 → IsAt at taken told self.old → Near crosses at text (taken ++ near.now)
+            → MatchResult result (λ r. Takes at taken told self.new near.now r.0 r.1)
+            (λ fault. Refuses at text told fault) }
         ensures within { IfOk result (λ r. IsWithin (length near.now) r.0 r.1) }
         ensures more { IfOk result (λ r. r.1 ≡ Event.More → crosses ≡ false) }
         ensures still { OnErr result (self.new.position ≡ self.old.position) }

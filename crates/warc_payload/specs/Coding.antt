@@ -9,7 +9,8 @@ use Rattle.httparse.specs.Spans.{name_and_value}
 -- the name, in any case, is that of a field whose value lists codings
 abbrev pub lists_codings : List ℕ → Bool
 lists_codings name =
-    str_eq_ignore_ascii_case name (codes "transfer-encoding") || str_eq_ignore_ascii_case name (codes "content-encoding")
+    str_eq_ignore_ascii_case name (codes "transfer-encoding")
+    || str_eq_ignore_ascii_case name (codes "content-encoding")
 
 -- the value is neither empty nor `identity`, in any case
 abbrev pub is_coding : List ℕ → Bool

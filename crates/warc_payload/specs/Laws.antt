@@ -37,4 +37,5 @@ NoBodyWhereCoded = (block : List ℕ) (status : ℕ) (body : List ℕ)
 -- each block gives a body behind its HTTP head, or a coded one, or has no such head
 abbrev pub OneOfThree : Type 0
 OneOfThree =
-    (block : List ℕ) → ((status : ℕ) × (body : List ℕ) × GivesBody block status body) ⊎ (GivesCodedBody block ⊎ HasNoHead block)
+    (block : List ℕ) → ((status : ℕ) × (body : List ℕ) × GivesBody block status body)
+    ⊎ (GivesCodedBody block ⊎ HasNoHead block)

@@ -14,7 +14,8 @@ use Rattle.warc_record.specs.Findings.{Found, about, fits, number_of, has_bad_se
 -- it is about the field of a rule of the table, which is absent, forbidden or repeated
 abbrev pub IsByTable : TableCheck → Kind → List Pair → Found → Type 0
 IsByTable check kind fields found =
-    (rule : Rule) × Contains rules rule × IsTrue (fits check kind fields rule) × (found ≡ about (number_of check) rule.name)
+    (rule : Rule) × Contains rules rule × IsTrue (fits check kind fields rule)
+    × (found ≡ about (number_of check) rule.name)
 
 -- it is about a field of the record whose value isn't UTF-8
 abbrev pub IsNotUtf8 : List Pair → Found → Type 0
@@ -42,7 +43,8 @@ abbrev pub IsFinding : Reading → List Pair → ℕ → Bool → Bool → Found
 IsFinding reading fields size bad_digest used_id found =
     ((check : TableCheck) × IsByTable check reading.kind fields found)
     ⊎ (IsNotUtf8 fields found
-    ⊎ ((sentence : ℕ × Bool) × Contains (sentences reading fields size bad_digest used_id) sentence × IsOnce sentence found))
+    ⊎ ((sentence : ℕ × Bool) × Contains (sentences reading fields size bad_digest used_id) sentence
+    × IsOnce sentence found))
 
 -- a finding is listed exactly where its sentence holds
 abbrev pub ListedWhereTheyHold : Type 0

@@ -29,7 +29,8 @@ once number holds = if holds then record { number = number; field = None } ∷ [
 -- the field isn't absent: a target is absent where its bare text is empty, any other field where its value is
 abbrev pub stands : List ℕ → List Pair → Bool
 stands name fields =
-    if str_eq_ignore_ascii_case name (codes "WARC-Target-URI") then is_some (present_bare name fields) else is_some (present_value name fields)
+    if str_eq_ignore_ascii_case name (codes "WARC-Target-URI") then is_some (present_bare name fields)
+    else is_some (present_value name fields)
 
 -- N1: a required field is absent. N2: a forbidden one isn't. N3: a field that may not be repeated is.
 abbrev pub fits : TableCheck → Kind → List Pair → Rule → Bool
@@ -43,7 +44,8 @@ number_of HasForbidden = 2
 number_of Repeats = 3
 
 abbrev pub by_table : TableCheck → Kind → List Pair → List Found
-by_table check kind fields = map (λ (rule : Rule). about (number_of check) rule.name) (filter (fits check kind fields) rules)
+by_table check kind fields =
+    map (λ (rule : Rule). about (number_of check) rule.name) (filter (fits check kind fields) rules)
 
 -- N5: a segment number that is none, or is less than 2 in a continuation, or isn't 1 in another kind; or, in a
 -- continuation, a total that is no number
@@ -54,7 +56,8 @@ is_bad_number kind (Number number) = if is_continuation kind then nat_lt number 
 
 abbrev pub is_bad_total : Reading → List Pair → Bool
 is_bad_total reading fields =
-    is_continuation reading.kind && is_some (present_value (codes "WARC-Segment-Total-Length") fields) && is_none reading.segment.total
+    is_continuation reading.kind && is_some (present_value (codes "WARC-Segment-Total-Length") fields)
+    && is_none reading.segment.total
 
 abbrev pub has_bad_segment : Reading → List Pair → Bool
 has_bad_segment reading fields =
@@ -63,12 +66,14 @@ has_bad_segment reading fields =
 -- N7: no content type, though the block isn't empty
 abbrev pub lacks_content_type : Kind → List Pair → ℕ → Bool
 lacks_content_type kind fields size =
-    is_known kind && not (is_continuation kind) && not (size == 0) && is_none (present_value (codes "Content-Type") fields)
+    is_known kind && not (is_continuation kind) && not (size == 0)
+    && is_none (present_value (codes "Content-Type") fields)
 
 -- N8: a revisit's profile isn't known
 abbrev pub has_unknown_profile : Reading → List Pair → Bool
 has_unknown_profile reading fields =
-    is_revisit reading.kind && is_some (present_value (codes "WARC-Profile") fields) && not reading.reference.known_profile
+    is_revisit reading.kind && is_some (present_value (codes "WARC-Profile") fields)
+    && not reading.reference.known_profile
 
 -- N9: a value isn't UTF-8; the name is told as it is written
 abbrev pub is_not_utf8 : Pair → Bool
@@ -87,7 +92,8 @@ has_bare_id reading = option_map_or (λ value. not (stands_in_brackets value)) r
 -- N11: a continuation's origin holds no id
 abbrev pub lacks_origin : Reading → List Pair → Bool
 lacks_origin reading fields =
-    is_continuation reading.kind && is_some (present_value (codes "WARC-Segment-Origin-ID") fields) && is_none reading.segment.origin
+    is_continuation reading.kind && is_some (present_value (codes "WARC-Segment-Origin-ID") fields)
+    && is_none reading.segment.origin
 
 -- the findings of a record: N4 where its block's digest is bad, N6 where an earlier record has its id
 unfoldable pub findings_by : Reading → List Pair → ℕ → Bool → Bool → List Found

@@ -14,7 +14,8 @@ kind_names =
 
 -- the kind of the eight that a type names, in any case, or else Other
 abbrev pub kind_named : List ℕ → Kind
-kind_named text = option_map_or (λ entry. entry.1) (find (λ entry. str_eq_ignore_ascii_case text entry.0) kind_names) Other
+kind_named text =
+    option_map_or (λ entry. entry.1) (find (λ entry. str_eq_ignore_ascii_case text entry.0) kind_names) Other
 
 abbrev pub is_revisit : Kind → Bool
 is_revisit Revisit = true

@@ -72,7 +72,8 @@ abbrev pub reference_of : List Pair → ReferenceReading
 reference_of fields = record {
   known_profile = option_map_or is_known_profile (present_value (codes "WARC-Profile") fields) false;
   named_id = key_in (codes "WARC-Refers-To") fields;
-  named_pair = both (present_bare (codes "WARC-Refers-To-Target-URI") fields) (instant_in (codes "WARC-Refers-To-Date") fields);
+  named_pair =
+      both (present_bare (codes "WARC-Refers-To-Target-URI") fields) (instant_in (codes "WARC-Refers-To-Date") fields);
 }
 
 -- no number, a number, or a value that is none

@@ -42,7 +42,8 @@ all_but_continuation = Warcinfo ∷ Response ∷ Resource ∷ Request ∷ Metada
 
 unfoldable pub rules : List Rule
 rules =
-    rule (codes "WARC-Target-URI") (Response ∷ Resource ∷ Request ∷ Revisit ∷ Conversion ∷ Continuation ∷ []) (Warcinfo ∷ [])
+    rule (codes "WARC-Target-URI") (Response ∷ Resource ∷ Request ∷ Revisit ∷ Conversion ∷ Continuation ∷ [])
+    (Warcinfo ∷ [])
     ∷ record { name = codes "WARC-Concurrent-To"; required = []; forbidden = Warcinfo ∷ Conversion ∷ Continuation ∷ []; repeats = true }
     ∷ rule (codes "WARC-IP-Address") [] (Warcinfo ∷ Conversion ∷ Continuation ∷ [])
     ∷ rule (codes "WARC-Refers-To") [] (Warcinfo ∷ Response ∷ Resource ∷ Request ∷ Continuation ∷ [])
@@ -63,4 +64,5 @@ rules =
 
 -- a row of the table in code
 abbrev pub rule_seen : FieldRule → Rule
-rule_seen row = record { name = row.name.now; required = row.required.now; forbidden = row.forbidden.now; repeats = row.repeats }
+rule_seen row =
+    record { name = row.name.now; required = row.required.now; forbidden = row.forbidden.now; repeats = row.repeats }

@@ -231,7 +231,8 @@ pub fn all_findings<'a, A: Allocator + Copy>(
     facts: ArchiveFacts,
 ) -> Result<Vec<Finding<'a>, A>, AllocError>
     ensures { said typed.now ≡ reading_of fields.now
-        → IfOk result (λ found. map finding_seen found.items ≡ findings_of fields.now block_len facts.bad_digest facts.used_id) }
+        → IfOk result (λ found. map finding_seen found.items
+        ≡ findings_of fields.now block_len facts.bad_digest facts.used_id) }
 {
     let mut found = Vec::new(alloc);
     add_by_table(&mut found, TableCheck::Lacks, typed.kind, fields)?;

@@ -92,7 +92,8 @@ fn named_pair<A: Allocator + Copy>(
     fields: &Fields<A>,
 ) -> Result<Option<NamedPair<A>>, AllocError>
     ensures { IfOk result (λ pair. option_map pair_said pair
-        ≡ both (present_bare (codes "WARC-Refers-To-Target-URI") fields.now) (instant_in (codes "WARC-Refers-To-Date") fields.now)) }
+        ≡ both (present_bare (codes "WARC-Refers-To-Target-URI") fields.now)
+        (instant_in (codes "WARC-Refers-To-Date") fields.now)) }
 {
     let Some(target) = bare_in(alloc, fields, b"WARC-Refers-To-Target-URI")? else {
         return Ok(None);

@@ -43,7 +43,8 @@ forms =
 
 -- whether a byte may stand where a form has this character
 abbrev pub fits_place : ℕ → ℕ → Bool
-fits_place place byte = if list_any (λ letter. letter == place) (codes "YMDhmsf") then is_ascii_digit byte else byte == place
+fits_place place byte =
+    if list_any (λ letter. letter == place) (codes "YMDhmsf") then is_ascii_digit byte else byte == place
 
 -- whether a text has a form
 unfoldable pub fits : List ℕ → List ℕ → Bool
@@ -55,7 +56,8 @@ is_form_length n = list_any (λ form. length form == n) forms
 
 -- the digits of a text that stand where its form has a letter
 abbrev pub digits_at : ℕ → List ℕ → List ℕ → List ℕ
-digits_at letter form text = map (λ (pair : ℕ × ℕ). pair.1) (filter (λ (pair : ℕ × ℕ). pair.0 == letter) (zip form text))
+digits_at letter form text =
+    map (λ (pair : ℕ × ℕ). pair.1) (filter (λ (pair : ℕ × ℕ). pair.0 == letter) (zip form text))
 
 -- the number that they write, or the first one of its kind where the form has no such letter
 abbrev pub number_or : ℕ → List ℕ → ℕ
@@ -76,7 +78,8 @@ date_in text form = record {
 
 -- the calendar has this day, and the day this time: no hour 24, no leap second
 abbrev pub is_day : Date → Bool
-is_day date = nat_le 1 date.month && nat_le date.month 12 && nat_le 1 date.day && nat_le date.day (days_in_month (pos date.year) date.month)
+is_day date = nat_le 1 date.month && nat_le date.month 12 && nat_le 1 date.day
+    && nat_le date.day (days_in_month (pos date.year) date.month)
 
 abbrev pub is_time : Date → Bool
 is_time date = nat_le date.hour 23 && nat_le date.minute 59 && nat_le date.second 59

@@ -16,7 +16,8 @@ wanted_if_some (Some digest) = Sha1 digest
 -- the digest that a value asks for: `sha1:` in any case, and 32 characters of base32 in either; any other value asks for none
 abbrev pub wanted_digest : List ℕ → Wanted
 wanted_digest value =
-    if str_eq_ignore_ascii_case (take 5 value) (codes "sha1:") then wanted_if_some (unbase32_of (drop 5 value)) else Unchecked
+    if str_eq_ignore_ascii_case (take 5 value) (codes "sha1:") then wanted_if_some (unbase32_of (drop 5 value))
+    else Unchecked
 
 -- the verdict on a block
 abbrev pub verdict_of : Wanted → List ℕ → Verdict

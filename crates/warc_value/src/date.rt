@@ -77,7 +77,8 @@ fn number(digits: &[u8]) -> u32
 fn two_digits(text: &[u8], from: usize, first: u8) -> u8
     requires inside { from < length text.now → from + 2 ≤ length text.now }
     requires digits { from < length text.now → list_all is_ascii_digit (take 2 (drop from text.now)) ≡ true }
-    ensures { result ≡ (if nat_lt from (length text.now) then digits_value 10 (take 2 (drop from text.now)) else first) }
+    ensures { result ≡ (if nat_lt from (length text.now) then digits_value 10 (take 2 (drop from text.now))
+        else first) }
 {
     if from < text.len() {
         number(&text[from..from + 2]) as u8

@@ -8,7 +8,8 @@ ghost use Rattle.warc_value.specs.Base32.{base32_of, unbase32_of};
 /// `unbase32` undoes `base32`.
 #[tactic(auto, using(crate::proofs::LawLemmas::base32_is_undone))]
 pub fn base32_is_undone()
-    ensures { (bytes : List ℕ) → length bytes ≡ 20 → All (λ b. b < 256) bytes → unbase32_of (base32_of bytes) ≡ Some bytes }
+    ensures { (bytes : List ℕ) → length bytes ≡ 20 → All (λ b. b < 256) bytes
+        → unbase32_of (base32_of bytes) ≡ Some bytes }
 {}
 
 /// `base32` gives back what `unbase32` read, in capitals.
@@ -20,5 +21,6 @@ pub fn unbase32_is_undone()
 /// `sha1:` and the base32 text of a digest ask for that digest.
 #[tactic(auto, using(crate::proofs::LawLemmas::written_digest_is_wanted))]
 pub fn written_digest_is_wanted()
-    ensures { (digest : List ℕ) → length digest ≡ 20 → All (λ b. b < 256) digest → wanted_digest (codes "sha1:" ++ base32_of digest) ≡ Sha1 digest }
+    ensures { (digest : List ℕ) → length digest ≡ 20 → All (λ b. b < 256) digest
+        → wanted_digest (codes "sha1:" ++ base32_of digest) ≡ Sha1 digest }
 {}

@@ -7,7 +7,8 @@ abbrev pub head : Row → List ℕ
 head row =
     line (codes "WARC/" ++ row.version.now)
     ++ line (codes "WARC-Type: " ++ row.kind.now)
-    ++ line (codes "WARC-Record-ID: <urn:uuid:00000000-0000-4000-8000-00000000000" ++ encode_utf8 row.number ++ codes ">")
+    ++ line (codes "WARC-Record-ID: <urn:uuid:00000000-0000-4000-8000-00000000000" ++ encode_utf8 row.number
+    ++ codes ">")
     ++ line (codes "WARC-Date: " ++ row.date.now)
     ++ line (codes "WARC-Target-URI: " ++ row.target.now)
     ++ lines_of row.extras.now

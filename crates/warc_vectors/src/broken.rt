@@ -112,7 +112,8 @@ impl<A: Allocator> ChangingSource<A> {
     fn give(&mut self, at: u64, buf: &mut [u8]) -> Result<usize, ReadFault>
         ensures bound { IfOk result (λ n. n ≤ length buf.new) }
         ensures sound { is_err result ≡ false }
-        ensures gives { IfOk result (Gives (if nat_lt 1 self.old.left then self.old.before else self.old.after) at buf.new) }
+        ensures gives { IfOk result
+            (Gives (if nat_lt 1 self.old.left then self.old.before else self.old.after) at buf.new) }
         ensures left { self.new.left ≡ self.old.left - 1 }
         ensures reads { self.new.reads ≡ self.old.reads }
         ensures asked { self.new.asked ≡ self.old.asked }
