@@ -8,3 +8,4 @@ pub mod TokenLemmas
 pub mod CanonLemmas
 pub mod LawLemmas
 pub mod FaultLemmas
+pub mod VisibleLemmas

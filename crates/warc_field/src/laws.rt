@@ -1,5 +1,5 @@
 //! Laws of fields: each function does nothing, and its contract is the law.
-ghost use Rattle.std.specs.Prelude.{◌≡◌, ◌↔◌, ℕ, ◌+◌, ◌<◌, true, false, List, Some, Ok, Err, ◌++◌, length, sum_by};
+ghost use Rattle.std.specs.Prelude.{◌≡◌, ◌↔◌, ℕ, ◌+◌, ◌<◌, ◌&&◌, nat_lt, true, false, List, Some, Ok, Err, ◌++◌, length, sum_by};
 ghost use Rattle.std.specs.List.{list_all};
 ghost use Rattle.warc_field.specs.Text.{AreFields, is_value, is_value_byte, trimmed};
 ghost use Rattle.warc_field.specs.Lines.{crlf, empty_at};
@@ -20,6 +20,11 @@ pub fn meaning_is_value()
 #[tactic(auto, using(crate::proofs::LawLemmas::trimmed_part_is_value))]
 pub fn trimmed_part_is_value()
     ensures { (text : List ℕ) → list_all is_value_byte text ≡ true → is_value (trimmed text) ≡ true }
+{}
+
+/// A text of visible ASCII characters is a value.
+pub fn visible_text_is_value()
+    ensures { (text : List ℕ) → list_all (λ b. nat_lt 32 b && nat_lt b 127) text ≡ true → is_value text ≡ true }
 {}
 
 /// A list spells an area exactly if reading the area gives that list.

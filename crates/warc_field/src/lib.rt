@@ -13,5 +13,5 @@ mod write;
 pub use area::{AreaFault, read_area};
 pub use list::Fields;
 pub use number::decimal;
-pub use text::{Name, TextFault, Value, is_name, trim};
+pub use text::{Name, TextFault, Value, is_name, is_value, trim};
 pub use write::{canonical_len, write_area};

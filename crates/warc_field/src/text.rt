@@ -100,9 +100,9 @@ pub fn is_name(text: &[u8]) -> bool
     is_token(text)
 }
 
-/// Whether the text is a value: no control character but tabs, and no space or tab at either end.
+/// Whether the text is a value: no control character but tabs, and no space or tab at either end. An empty text is one.
 #[tactic(auto, unfolding(crate::specs::Text::is_value))]
-fn is_value_text(text: &[u8]) -> bool
+pub fn is_value(text: &[u8]) -> bool
     ensures { result ≡ is_value text.now }
 {
     holds_value_bytes(text) && leading_blanks(text) == 0 && trailing_blanks(text) == 0
@@ -206,7 +206,7 @@ impl<A: Allocator> Value<A> {
         ensures bad { IsErrOf result TextFault.BadText ↔ (is_value text.now ≡ false) }
         ensures short { is_value text.now ≡ true → length text.now ≤ 48 → IsOk result }
     {
-        if !is_value_text(text) {
+        if !is_value(text) {
             return Err(TextFault::BadText);
         }
         Ok(Value::from_checked(alloc, text)?)

@@ -1,11 +1,12 @@
--- The laws, each under the name of its function.
+-- The laws, each under the name of its function or its clause.
 use Rattle.std.proofs.Common.{◌≡◌, ◌≢◌, ◌⊎◌, inl, inr, ℕ, Bool, true, false, ◌&&◌, ◌-◌, ◌≤◌, List, ◌∷◌, length, length-take, length-drop, drop, Option, Some, None, IsTrue, if◌then◌else◌, refl, sym, ◌∙◌, ap, true≢false, arith}
 use Rattle.std.specs.List.{prefix_len, suffix_len}
 use Rattle.std.proofs.lemmas.Bool.{and_parts, eqb-true}
 use Rattle.uuid.proofs.TextLemmas.{by_index_length}
 use Rattle.warc_field.specs.Text.{is_blank, trimmed}
 use Rattle.uuid.specs.Text.{parsed_urn}
-use Rattle.warc_record.specs.Ids.{bare_text, is_bare_id, is_id, key_by, key_of, id_key, IsSameId, inner_text, is_bracketed, KeysAreEqualForSameIds, KeysAreNoLonger}
+use Rattle.warc_record.specs.Ids.{bare_text, is_bare_id, is_id, key_by, key_of, id_key, IsSameId, inner_text, is_bracketed, BareTextsAreBare, BareTextsAreNoLonger, BareTextsAreValues, KeysAreEqualForSameIds, KeysAreNoLonger}
+use Rattle.warc_record.proofs.ValueLemmas.{bare_is_value, bare_twice}
 
 never : (x : Bool) → (x && false) ≡ true → ⊥
 never true e = true≢false (sym e)
@@ -72,9 +73,9 @@ one_is_no_longer : (b : Bool) (text : List ℕ) → length (if b then inner_text
 one_is_no_longer true text = inner_is_no_longer text
 one_is_no_longer false text = omega arith
 
-bare_is_no_longer : (text : List ℕ) → length (bare_text text) ≤ length text
+pub bare_texts_are_no_longer : BareTextsAreNoLonger
 unfolding bare_text
-bare_is_no_longer text = omega (arith, trimmed_is_no_longer (if is_bracketed text then inner_text text else text), one_is_no_longer (is_bracketed text) text)
+bare_texts_are_no_longer text = omega (arith, trimmed_is_no_longer (if is_bracketed text then inner_text text else text), one_is_no_longer (is_bracketed text) text)
 
 key_is_no_longer : (bare : List ℕ) (o : Option (List ℕ)) → parsed_urn bare ≡ o → length (key_by bare o) ≤ length bare
 key_is_no_longer bare None e = omega arith
@@ -85,4 +86,10 @@ keys_are_no_longer text key e =
     let is : key_of (bare_text text) ≡ key = inside (given _ _ _ e).1 in
     let short : length (key_of (bare_text text)) ≤ length (bare_text text) = key_is_no_longer (bare_text text) _ refl in
     let same : length (key_of (bare_text text)) ≡ length key = ap length is in
-    omega (arith, short, same, bare_is_no_longer text)
+    omega (arith, short, same, bare_texts_are_no_longer text)
+
+pub bare_texts_are_values : BareTextsAreValues
+bare_texts_are_values = bare_is_value
+
+pub bare_texts_are_bare : BareTextsAreBare
+bare_texts_are_bare = bare_twice

@@ -1,9 +1,9 @@
 -- The ids of records (ISO 28500:2017, 5.2; UUIDs by RFC 9562, section 4). Bare texts, and when two ids are the same, are
 -- this project's own notions: the standard writes ids between < and >, and targets (5.14) with them or without.
-use Rattle.std.specs.Prelude.{IsTrue, ◌↔◌, ◌≡◌, ◌≤◌, ◌⊎◌, ℕ, ◌-◌, Bool, not, ◌&&◌, ◌||◌, ◌==◌, nat_lt, List, ◌∷◌, length, take, drop, slice_index, Option, Some, None, if◌then◌else◌}
+use Rattle.std.specs.Prelude.{IsTrue, ◌↔◌, ◌≡◌, ◌≤◌, ◌⊎◌, ℕ, ◌-◌, Bool, true, not, ◌&&◌, ◌||◌, ◌==◌, nat_lt, List, ◌∷◌, length, take, drop, slice_index, Option, Some, None, if◌then◌else◌}
 use Rattle.std.specs.List.{list_any}
 use Rattle.uuid.specs.Text.{parsed_urn}
-use Rattle.warc_field.specs.Text.{is_blank, trimmed}
+use Rattle.warc_field.specs.Text.{is_blank, is_value, trimmed}
 
 -- < or >
 abbrev pub is_bracket : ℕ → Bool
@@ -22,6 +22,17 @@ is_bracketed text =
 -- the text without such a pair of brackets, and then without spaces and tabs at its ends
 unfoldable pub bare_text : List ℕ → List ℕ
 bare_text text = trimmed (if is_bracketed text then inner_text text else text)
+
+-- the bare text of a value is a value, and its own bare text
+abbrev pub BareTextsAreValues : Type 0
+BareTextsAreValues = (value : List ℕ) → is_value value ≡ true → is_value (bare_text value) ≡ true
+
+abbrev pub BareTextsAreBare : Type 0
+BareTextsAreBare = (value : List ℕ) → is_value value ≡ true → bare_text (bare_text value) ≡ bare_text value
+
+-- a bare text holds no more bytes than the text that it is cut from
+abbrev pub BareTextsAreNoLonger : Type 0
+BareTextsAreNoLonger = (text : List ℕ) → length (bare_text text) ≤ length text
 
 -- < or >, a space or a tab
 abbrev pub ends_id : ℕ → Bool

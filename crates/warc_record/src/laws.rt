@@ -1,8 +1,15 @@
 //! Laws over the definitions: functions that do nothing, each with a law as its contract.
 
-ghost use Rattle.warc_record.specs.Ids.{KeysAreEqualForSameIds, KeysAreNoLonger};
+ghost use Rattle.warc_record.specs.Ids.{BareTextsAreBare, BareTextsAreNoLonger, BareTextsAreValues, KeysAreEqualForSameIds, KeysAreNoLonger};
 ghost use Rattle.warc_record.specs.Good.{GoodHeadsRead};
 ghost use Rattle.warc_record.specs.FindingLaws.{ListedWhereTheyHold, NumbersNeverFall};
+
+/// The bare text of a value is a value, its own bare text, and no longer.
+pub fn bare_texts_of_values()
+    ensures values { BareTextsAreValues }
+    ensures bare { BareTextsAreBare }
+    ensures shorter { BareTextsAreNoLonger }
+{}
 
 /// Two keys are equal exactly where the ids are the same.
 pub fn keys_are_equal_for_same_ids()

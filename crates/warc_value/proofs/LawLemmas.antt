@@ -1,12 +1,13 @@
 -- The laws of dates and digests, under the names of their functions.
-use Rattle.std.proofs.Common.{◌≡◌, ℕ, zero, suc, ◌+◌, ◌*◌, ◌/◌, ◌%◌, ◌<◌, Bool, true, false, ◌&&◌, not, nat_eq, List, [], ◌∷◌, ◌++◌, length, map, codes, All, Option, Some, None, refl, sym, ap, ◌∙◌, arith, if◌then◌else◌}
+use Rattle.std.proofs.Common.{◌≡◌, ℕ, zero, suc, ◌+◌, ◌*◌, ◌/◌, ◌%◌, ◌<◌, Bool, true, false, ◌&&◌, nat_eq, nat_le, nat_lt, List, [], ◌∷◌, ◌++◌, length, map, codes, All, Option, Some, None, refl, sym, ap, ◌∙◌, arith, if◌then◌else◌}
 use Rattle.std.specs.List.{list_all}
 use Rattle.std.specs.Prelude.{is_some}
 use Rattle.std.proofs.lemmas.List.Quantifiers.{position-Some}
 use Rattle.std.proofs.lemmas.Bool.{eqb-true}
+use Rattle.std.proofs.lemmas.Bool.Decides.{nat_tests}
+use Rattle.std.proofs.lemmas.Grind.{common_steps}
 use Rattle.std.specs.Char.{to_ascii_uppercase}
 use Rattle.warc_value.specs.Base32.{fives, eights, alphabet, symbol_of, value_of, is_symbol, base32_of, bytes_of, unbase32_of}
-use Rattle.warc_field.specs.Text.{is_value_byte, is_blank}
 use Rattle.warc_value.specs.declared.hash.Wanted.TheVariants.{Sha1}
 use Rattle.warc_value.specs.Digests.{wanted_digest}
 use Rattle.warc_value.proofs.Alphabet.{all_below, passes_below, code_of, same_code, both-left, both-right}
@@ -196,16 +197,20 @@ unbase32_is_undone text bytes is =
 pub written_digest_is_wanted : (digest : List ℕ) → length digest ≡ 20 → All (λ b. b < 256) digest → wanted_digest (codes "sha1:" ++ base32_of digest) ≡ Sha1 digest
 written_digest_is_wanted digest long small = rw (base32_is_undone digest long small) refl
 
-not-true : (b : Bool) → not b ≡ true → b ≡ false
-not-true true e = absurd (cc)
-not-true false e = refl
+-- each character of a written digest is one
+pub base32_symbols : (digest : List ℕ) → length digest ≡ 20 → All (λ b. b < 256) digest → list_all is_symbol (base32_of digest) ≡ true
+base32_symbols digest long small = let read = read-groups 4 digest long small in read.symbols
 
--- a character is a byte of a value, and no space or tab
-all-plain : all_below (λ n. is_value_byte (symbol_of n) && not (is_blank (symbol_of n))) 32 ≡ true
-unfolding symbol_of is_value_byte is_blank
-all-plain = refl
+-- a character is visible
+all-visible : all_below (λ n. nat_le 50 (symbol_of n) && nat_le (symbol_of n) 90) 32 ≡ true
+unfolding symbol_of
+all-visible = refl
 
-plain-symbol : (n : ℕ) → n < 32 → (is_value_byte (symbol_of n) ≡ true) × (is_blank (symbol_of n) ≡ false)
-plain-symbol n below =
-    let both = passes_below (λ n. is_value_byte (symbol_of n) && not (is_blank (symbol_of n))) 32 all-plain n below in
-    (both-left _ _ both, not-true _ (both-right _ _ both))
+seen : (c s : ℕ) → (nat_le 50 s && nat_le s 90) ≡ true → s ≡ to_ascii_uppercase c → (nat_lt 32 c && nat_lt c 127) ≡ true
+seen c s range is = grind (arith, nat_tests, common_steps)
+
+pub symbol_is_visible : (c : ℕ) → is_symbol c ≡ true → (nat_lt 32 c && nat_lt c 127) ≡ true
+symbol_is_visible c symbol =
+    let is = value-in c symbol in
+    let at = symbol_of-value_of c is.0 is.1 in
+    seen c (symbol_of is.0) (passes_below (λ n. nat_le 50 (symbol_of n) && nat_le (symbol_of n) 90) 32 all-visible is.0 at.0) at.1

@@ -4,3 +4,4 @@ pub mod DateLemmas
 pub mod DayLemmas
 pub mod LawLemmas
 pub mod WorkedValues
+pub mod ValueLemmas

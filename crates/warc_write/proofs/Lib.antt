@@ -1,0 +1,4 @@
+mod RenderLemmas
+mod ConversionLemmas
+mod PartLemmas
+mod WorkedValues

@@ -1,0 +1,22 @@
+use Rattle.std.proofs.Common.{rules, [], ◌+◌, ◌++◌, drop, map, ap, ◌∙◌}
+use Rattle.std.specs.List.{concat}
+use Rattle.warc_write.proofs.RenderLemmas.{pieces_more, pieces_rest, same_out, same_staged}
+use Rattle.warc_write.proofs.sending.put_all.Goals as goal
+
+pub returns-in_err-put-clause-cut : goal.returns-in_err-put-clause-cut
+returns-in_err-put-clause-cut g c = λ start output is.
+    let pieces = c.args.pieces.now in
+    let i = c.putting.piece-index in
+    let rest = concat (map (λ p. p.now) (drop (i + 1) pieces)) in
+    let cut = c.went_out_of_longer.ensures start _ _ rest _ (c.in_err-put.ensures.cut start _ (c.putting.invariant.staged start output is)) in
+    let more = pieces_more output pieces i (record { ref_ptr = (0, 0); now = [] }) c.putting-test.true in
+    let whole = same_out (ap (λ l. l ++ rest) more ∙ pieces_rest output pieces (i + 1)) cut in
+    search rules
+
+pub putting-preserved : goal.putting-preserved
+putting-preserved g c = record {
+  staged = λ start output is.
+      same_staged (pieces_more output c.args.pieces.now c.putting.piece-index (record { ref_ptr = (0, 0); now = [] }) c.putting-test.true)
+      (c.in_ok-put.ensures.out start _ (c.putting.invariant.staged start output is));
+  sound = search rules;
+}

@@ -1,0 +1,118 @@
+//! Sends the canonical texts of records to a sink.
+ghost use Rattle.std.specs.Prelude.{◌≡◌, ℕ, ◌++◌, List, Option, OnOk, IfErr, map, is_err, if◌then◌else◌};
+ghost use Rattle.std.specs.List.{concat};
+ghost use Rattle.std.specs.Io.KnownBytes.{append_known};
+ghost use Rattle.warc_field.specs.Area.{Pair, canonical_line, canonical_fields};
+ghost use Rattle.warc_frame.specs.Count.{raised};
+ghost use Rattle.warc_frame.specs.Send.{IsStaged, WentOut, sent_of};
+ghost use Rattle.warc_frame.specs.Spelling.{canonical};
+ghost use Rattle.warc_frame.specs.declared.fault.OutFault.TheVariants.{Write};
+ghost use Rattle.warc_write.specs.Rendering.{canonical_texts};
+
+use std::alloc::Allocator;
+use warc_field::{Name, Value};
+use warc_frame::laws::went_out_of_longer;
+use warc_frame::{Framed, OutBuffer, OutFault, SendFault, Sink};
+
+/// Adds the pieces to the output, one after another.
+fn put_all<W: Sink>(pieces: &[&[u8]], buffer: &mut OutBuffer, out: &mut W) -> Result<(), SendFault>
+    ensures out { (start : Option (List ℕ)) (output : List ℕ) → IsStaged start output (W.tells out.old) buffer.old →
+        OnOk result (IsStaged start (output ++ concat (map (λ p. p.now) pieces.now)) (W.tells out.new) buffer.new) }
+    ensures cut { (start : Option (List ℕ)) (output : List ℕ) → IsStaged start output (W.tells out.old) buffer.old →
+        IfErr result (λ e. WentOut start (output ++ concat (map (λ p. p.now) pieces.now)) (W.tells out.new) e.sent) }
+    ensures cause { W.faults out.new ≡ (if is_err result then raised (W.faults out.old) else W.faults out.old) }
+{
+    went_out_of_longer();
+    'putting: for piece in pieces {
+        buffer.put(out, piece)?;
+    }
+    Ok(())
+}
+
+/// Adds the canonical lines of fields to the output.
+fn put_fields<A: Allocator, W: Sink>(
+    fields: &[(Name<A>, Value<A>)],
+    buffer: &mut OutBuffer,
+    out: &mut W,
+) -> Result<(), SendFault>
+    ensures out { (start : Option (List ℕ)) (output : List ℕ) → IsStaged start output (W.tells out.old) buffer.old →
+        OnOk result (IsStaged start (output ++ canonical_fields fields.now) (W.tells out.new) buffer.new) }
+    ensures cut { (start : Option (List ℕ)) (output : List ℕ) → IsStaged start output (W.tells out.old) buffer.old →
+        IfErr result (λ e. WentOut start (output ++ canonical_fields fields.now) (W.tells out.new) e.sent) }
+    ensures cause { W.faults out.new ≡ (if is_err result then raised (W.faults out.old) else W.faults out.old) }
+{
+    went_out_of_longer();
+    'putting: for field in fields {
+        put_line(field.0.bytes(), field.1.bytes(), buffer, out)?;
+    }
+    Ok(())
+}
+
+/// Adds the canonical line of a field to the output: the name in its case, a colon, a space, the value.
+fn put_line<W: Sink>(
+    name: &[u8],
+    value: &[u8],
+    buffer: &mut OutBuffer,
+    out: &mut W,
+) -> Result<(), SendFault>
+    ensures out { (start : Option (List ℕ)) (output : List ℕ) → IsStaged start output (W.tells out.old) buffer.old →
+        OnOk result (IsStaged start (output ++ canonical_line (name.now, value.now)) (W.tells out.new) buffer.new) }
+    ensures cut { (start : Option (List ℕ)) (output : List ℕ) → IsStaged start output (W.tells out.old) buffer.old →
+        IfErr result (λ e. WentOut start (output ++ canonical_line (name.now, value.now)) (W.tells out.new) e.sent) }
+    ensures cause { W.faults out.new ≡ (if is_err result then raised (W.faults out.old) else W.faults out.old) }
+{
+    put_all(&[name, b": ", value, b"\r\n"], buffer, out)
+}
+
+/// Adds the canonical text of a record to the output. Its block isn't copied unless it fits the buffer.
+fn put_record<A: Allocator, W: Sink>(
+    framed: &Framed<A>,
+    buffer: &mut OutBuffer,
+    out: &mut W,
+) -> Result<(), SendFault>
+    ensures out { (start : Option (List ℕ)) (output : List ℕ) → IsStaged start output (W.tells out.old) buffer.old →
+        OnOk result (IsStaged start (output ++ canonical framed.now) (W.tells out.new) buffer.new) }
+    ensures cut { (start : Option (List ℕ)) (output : List ℕ) → IsStaged start output (W.tells out.old) buffer.old →
+        IfErr result (λ e. WentOut start (output ++ canonical framed.now) (W.tells out.new) e.sent) }
+    ensures cause { W.faults out.new ≡ (if is_err result then raised (W.faults out.old) else W.faults out.old) }
+{
+    went_out_of_longer();
+    buffer.put(out, framed.version().line())?;
+    put_fields(framed.fields().as_slice(), buffer, out)?;
+    put_all(&[b"\r\n", framed.block(), b"\r\n\r\n"], buffer, out)
+}
+
+/// Adds the canonical texts of records to the output, in their order.
+fn put_records<A: Allocator, W: Sink>(
+    records: &[Framed<A>],
+    buffer: &mut OutBuffer,
+    out: &mut W,
+) -> Result<(), SendFault>
+    ensures out { (start : Option (List ℕ)) (output : List ℕ) → IsStaged start output (W.tells out.old) buffer.old →
+        OnOk result (IsStaged start (output ++ canonical_texts records.now) (W.tells out.new) buffer.new) }
+    ensures cut { (start : Option (List ℕ)) (output : List ℕ) → IsStaged start output (W.tells out.old) buffer.old →
+        IfErr result (λ e. WentOut start (output ++ canonical_texts records.now) (W.tells out.new) e.sent) }
+    ensures cause { W.faults out.new ≡ (if is_err result then raised (W.faults out.old) else W.faults out.old) }
+{
+    went_out_of_longer();
+    'putting: for framed in records {
+        put_record(framed, buffer, out)?;
+    }
+    Ok(())
+}
+
+/// Writes the canonical texts of records, in their order: names in their case, each version as it is. It takes no memory,
+/// so that it fails only where a write failed, and answers `Write` with the number of bytes that went out, up to 2^64 - 1.
+pub fn render<A: Allocator, W: Sink>(records: &[Framed<A>], out: &mut W) -> Result<(), OutFault>
+    ensures told { OnOk result (W.tells out.new ≡ append_known (W.tells out.old) (canonical_texts records.now)) }
+
+    // After a failed write just so many bytes of them went out.
+    ensures cut { IfErr result (λ e. WentOut (W.tells out.old) (canonical_texts records.now) (W.tells out.new) (sent_of e)) }
+    ensures write { IfErr result (λ e. e ≡ Write (sent_of e)) }
+    ensures cause { W.faults out.new ≡ (if is_err result then raised (W.faults out.old) else W.faults out.old) }
+{
+    let mut buffer = OutBuffer::new();
+    put_records(records, &mut buffer, out)?;
+    buffer.flush(out)?;
+    Ok(())
+}
