@@ -1,0 +1,2 @@
+pub mod SeriesLemmas
+mod WorkedValues

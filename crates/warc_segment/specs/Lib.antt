@@ -1,0 +1,5 @@
+pub mod GapText
+pub mod Series
+pub mod Gaps
+pub mod SeriesLaws
+pub mod Joined
