@@ -1,2 +1,6 @@
+pub mod LeastLemmas
+pub mod CountLemmas
 pub mod SeriesLemmas
+pub mod OrderedLemmas
+pub mod ContinuationLemmas
 mod WorkedValues

@@ -2,4 +2,5 @@ pub mod GapText
 pub mod Series
 pub mod Gaps
 pub mod SeriesLaws
+pub mod Ordered
 pub mod Joined

@@ -5,6 +5,7 @@
 mod gap;
 pub mod laws;
 mod place;
+mod series;
 
 pub use gap::Gap;
 pub use place::Place;
