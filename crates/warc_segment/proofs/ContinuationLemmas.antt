@@ -28,7 +28,8 @@ number_in series i d within =
 -- ---- two neighbours
 
 pub rises_more : (series : List Continuation) (i : ℕ) (d : Continuation) → Rises (numbers_in series) i → 1 ≤ i
-    → i < length series → (get_or series (i - 1) d).number ≢ (get_or series i d).number → Rises (numbers_in series) (i + 1)
+    → i < length series → (get_or series (i - 1) d).number ≢ (get_or series i d).number
+    → Rises (numbers_in series) (i + 1)
 rises_more series i d rises some within apart = record {
   apart = λ k less same. elim (cases_lt (k + 1) i) [
     | inl early ↦ rises.apart k early same
@@ -53,7 +54,8 @@ repeated_here series i d ordered rises some within same =
     let here : get_or (numbers_in series) ((i - 1) + 1) 0 ≡ (get_or series i d).number =
     ap (λ (j : ℕ). get_or (numbers_in series) j 0) (sym f) ∙ number_in series i d within in
     ap Some (sym before)
-    ∙ sym (first_repeated (members_of series) (i - 1) ordered (subst (Rises (numbers_in series)) f rises) (omega arith)
+    ∙ sym (first_repeated (members_of series) (i - 1) ordered (subst (Rises (numbers_in series)) f rises)
+    (omega arith)
     (before ∙ sym here))
 
 pub rises_whole : (series : List Continuation) (i : ℕ) → Rises (numbers_in series) i → length series ≤ i
@@ -117,7 +119,8 @@ absent_here series i d ordered rises counts within other =
     (omega arith) (λ same. other (sym (number_in series i d within) ∙ same)) in
     sym (ap (λ (n : ℕ). least_absent (get_or (numbers_in series) (n - 1) 0) (members_of series)) (sym len) ∙ found)
 
-pub not_absent : (series : List Continuation) (i : ℕ) → AreOrdered (numbers_in series) → CountsUp (numbers_in series) i
+pub not_absent : (series : List Continuation) (i : ℕ) → AreOrdered (numbers_in series)
+    → CountsUp (numbers_in series) i
     → length series ≤ i → 0 < length series
     → None ≡ least_absent (get_or (numbers_in series) (length series - 1) 0) (members_of series)
 not_absent series i ordered counts long some =
@@ -137,7 +140,8 @@ unfinished size series ordered once none =
     sym (gap_unfinished size (members_of series) (sym once)
     (no_end (members_of series) ordered (subst (NoTotal (members_of series)) (sym len) none)))
 
-pub after_end : (size : ℕ) (series : List Continuation) (i total : ℕ) (d : Continuation) → AreOrdered (numbers_in series)
+pub after_end : (size : ℕ) (series : List Continuation) (i total : ℕ) (d : Continuation)
+    → AreOrdered (numbers_in series)
     → None ≡ least_repeated (members_of series) → Rises (numbers_in series) (length series)
     → IsEnd (members_of series) i total → i + 1 < length series
     → Some (AfterEnd (get_or series (i + 1) d).number) ≡ gap_of size (members_of series)
@@ -177,7 +181,8 @@ total_told size series i total right ordered once end last missing counts is =
     sym (gap_total size n (members_of series) right (sym once) (end_found (members_of series) i total ordered end)
     (none_after (members_of series) i ordered (omega arith))
     (sym (missing ∙ ap (λ (j : ℕ). least_absent j (members_of series)) (last_place series i last)))
-    (total_is size (members_of series) i total (subst (CountsUp (numbers_in series)) (sym len) counts) end (omega arith)
+    (total_is size (members_of series) i total (subst (CountsUp (numbers_in series)) (sym len) counts) end
+    (omega arith)
     ∙ sym is))
 
 pub whole_series : (series : List Continuation) (i total : ℕ) → AreOrdered (numbers_in series)

@@ -85,7 +85,14 @@ twice_at k (n ∷ ks) some = elim (cases_Bool (n == k)) [
   | inl hit ↦
       let c : times k (n ∷ ks) ≡ 1 + times k ks = times_here k n ks hit in
       let later = once_at k ks (omega arith) in
-      record { early = 0; late = suc later.0; order = omega arith; first = ap Some (eqb-true n k hit); again = later.1 }
+      record {
+        early = 0;
+        late = suc later.0;
+        order = omega arith;
+        first = ap Some (eqb-true n k hit);
+        again =
+            later.1;
+      }
   | inr miss ↦
       let c : times k (n ∷ ks) ≡ times k ks = times_later k n ks miss in
       let later : StandsTwice k ks = twice_at k ks (omega arith) in

@@ -19,7 +19,7 @@ stands_cases y xs x (suc i, e) = inr (i, e)
 pub stands_nowhere : {X : Type 0} (x : X) → Stands [] x → ⊥
 stands_nowhere x (i, e) = absurd (cc)
 
-stands_later : {X : Type 0} (y : X) (xs : List X) (x : X) → Stands xs x → Stands (y ∷ xs) x
+pub stands_later : {X : Type 0} (y : X) (xs : List X) (x : X) → Stands xs x → Stands (y ∷ xs) x
 stands_later y xs x at = (suc at.0, at.1)
 
 -- ---- filters and images
@@ -40,7 +40,8 @@ filter_stands {X} p (y ∷ xs) x at hit = elim (stands_cases y xs x at) [
   | inr later ↦
       let there : Stands (filter p xs) x = filter_stands p xs x later hit in
       elim (cases_Bool (p y)) [
-        | inl on ↦ subst (λ (zs : List X). Stands zs x) (sym (filter_hit p y xs on)) (stands_later y (filter p xs) x there)
+        | inl on ↦ subst (λ (zs : List X). Stands zs x) (sym (filter_hit p y xs on)) (stands_later y
+            (filter p xs) x there)
         | inr off ↦ subst (λ (zs : List X). Stands zs x) (sym (filter_miss p y xs off)) there
       ]
 ]

@@ -3,4 +3,5 @@ pub mod CountLemmas
 pub mod SeriesLemmas
 pub mod OrderedLemmas
 pub mod ContinuationLemmas
+pub mod SameLemmas
 mod WorkedValues

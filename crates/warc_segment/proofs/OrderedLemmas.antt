@@ -130,15 +130,18 @@ end_is_first (m ∷ members) up = elim (cases_Bool (has_a_total m)) [
       ∙ (least_front m.number (numbers_of (filter has_a_total members)) (λ j at.
       let from = stands_map (λ (x : Member). x.number) (filter has_a_total members) j at in
       let there : Stands members from.0 = (stands_filter has_a_total members from.0 from.1).0 in
-      let number : Stands (numbers_of members) from.0.number = map_stands (λ (x : Member). x.number) members from.0 there in
+      let number : Stands (numbers_of members) from.0.number =
+      map_stands (λ (x : Member). x.number) members from.0 there in
       let le : m.number ≤ from.0.number = up.0 from.0.number number in
       let is : from.0.number ≡ j = from.2 in
       omega arith)
-      ∙ sym (ap (λ (b : Bool). option_map (λ (x : Member). x.number) (cond b (Some m) (find has_a_total members))) hit))
+      ∙ sym (ap (λ (b : Bool). option_map (λ (x : Member). x.number) (cond b (Some m)
+      (find has_a_total members))) hit))
   | inr miss ↦
       ap (λ (ms : List Member). least (numbers_of ms)) (filter_miss has_a_total m members miss)
       ∙ (end_is_first members up.1
-      ∙ sym (ap (λ (b : Bool). option_map (λ (x : Member). x.number) (cond b (Some m) (find has_a_total members))) miss))
+      ∙ sym (ap (λ (b : Bool). option_map (λ (x : Member). x.number) (cond b (Some m)
+      (find has_a_total members))) miss))
 ]
 
 length_numbers : (members : List Member) → length (numbers_of members) ≡ length members
@@ -155,7 +158,8 @@ numbers_at : (members : List Member) (i : ℕ) (d : Member) → i < length membe
     → (get_or members i d).number ≡ get_or (numbers_of members) i 0
 numbers_at members i d within = sym (number_at members i (get_or members i d) (slice_get-get_or members i d within))
 
-without_total : (members : List Member) (i : ℕ) (d : Member) → NoTotal members i → (k : ℕ) → k < i → k < length members
+without_total : (members : List Member) (i : ℕ) (d : Member) → NoTotal members i → (k : ℕ) → k < i
+    → k < length members
     → has_a_total (get_or members k d) ≡ false
 without_total members i d none k less within =
     ap is_some (none.none k (get_or members k d) less (slice_get-get_or members k d within))
@@ -171,7 +175,8 @@ end_found members i total ordered end =
     first_found has_a_total members i it within
     (λ k less. without_total members i it end.first k less (omega arith)) hit in
     end_is_first members (up_from (numbers_of members) ordered.up)
-    ∙ (ap (option_map (λ (x : Member). x.number)) (found ∙ ap Some is) ∙ ap Some (sym (number_at members i it end.stands)))
+    ∙ (ap (option_map (λ (x : Member). x.number)) (found ∙ ap Some is)
+    ∙ ap Some (sym (number_at members i it end.stands)))
 
 pub no_end : (members : List Member) → AreOrdered (numbers_of members) → NoTotal members (length members)
     → end_of members ≡ None
@@ -234,15 +239,18 @@ candidates_up members ordered zero zero le within = omega arith
 candidates_up members ordered zero (suc q) le within =
     let n : length (after_each members) ≡ length members = length-map members (λ m. m.number + 1) in
     let k : length (numbers_of members) ≡ length members = length_numbers members in
-    let e : get_or (after_each members) q 0 ≡ get_or (numbers_of members) q 0 + 1 = after_at members q (omega arith) in
+    let e : get_or (after_each members) q 0 ≡ get_or (numbers_of members) q 0 + 1 =
+    after_at members q (omega arith) in
     let two : 2 ≤ get_or (numbers_of members) q 0 = ordered.from_two q (omega arith) in
     omega arith
 candidates_up members ordered (suc p) zero le within = absurd (omega arith)
 candidates_up members ordered (suc p) (suc q) le within =
     let n : length (after_each members) ≡ length members = length-map members (λ m. m.number + 1) in
     let k : length (numbers_of members) ≡ length members = length_numbers members in
-    let e : get_or (after_each members) p 0 ≡ get_or (numbers_of members) p 0 + 1 = after_at members p (omega arith) in
-    let f : get_or (after_each members) q 0 ≡ get_or (numbers_of members) q 0 + 1 = after_at members q (omega arith) in
+    let e : get_or (after_each members) p 0 ≡ get_or (numbers_of members) p 0 + 1 =
+    after_at members p (omega arith) in
+    let f : get_or (after_each members) q 0 ≡ get_or (numbers_of members) q 0 + 1 =
+    after_at members q (omega arith) in
     let up : get_or (numbers_of members) p 0 ≤ get_or (numbers_of members) q 0 =
     ordered.up p q (omega arith) (omega arith) in
     omega arith
@@ -251,7 +259,8 @@ candidate_is : (members : List Member) (i j : ℕ) → CountsUp (numbers_of memb
     → get_or (2 ∷ after_each members) j 0 ≡ j + 2
 candidate_is members i zero counts le within = refl
 candidate_is members i (suc j) counts le within =
-    let e : get_or (after_each members) j 0 ≡ get_or (numbers_of members) j 0 + 1 = after_at members j (omega arith) in
+    let e : get_or (after_each members) j 0 ≡ get_or (numbers_of members) j 0 + 1 =
+    after_at members j (omega arith) in
     let n : get_or (numbers_of members) j 0 ≡ j + 2 = counts.next j (omega arith) in
     omega arith
 
@@ -272,7 +281,8 @@ past_end n members k past =
 -- the number at a place isn't the next one, and nothing behind the place has that one
 missing_at : (members : List Member) (i : ℕ) → AreOrdered (numbers_of members)
     → Rises (numbers_of members) (length (numbers_of members)) → CountsUp (numbers_of members) i
-    → i < length (numbers_of members) → get_or (numbers_of members) i 0 ≢ i + 2 → i + 2 < get_or (numbers_of members) i 0
+    → i < length (numbers_of members) → get_or (numbers_of members) i 0 ≢ i + 2
+    → i + 2 < get_or (numbers_of members) i 0
 missing_at members zero ordered rises counts within other =
     let two : 2 ≤ get_or (numbers_of members) 0 0 = ordered.from_two 0 within in
     omega arith
@@ -317,7 +327,8 @@ first_absent members i ordered rises counts within other =
     let low : nat_le 2 (i + 2) ≡ true = grind (arith, nat_tests) in
     let high : nat_le (i + 2) n ≡ true = grind (arith, nat_tests) in
     let gap : is_absent n members (i + 2) ≡ true = and_from _ _ (and_from _ _ low high) none in
-    let at : get_or (2 ∷ after_each members) i 0 ≡ i + 2 = candidate_is members i i counts (omega arith) (omega arith) in
+    let at : get_or (2 ∷ after_each members) i 0 ≡ i + 2 =
+    candidate_is members i i counts (omega arith) (omega arith) in
     least_sorted (is_absent n members) (2 ∷ after_each members)
     (up_from (2 ∷ after_each members) (candidates_up members ordered))
     ∙ (first_found (is_absent n members) (2 ∷ after_each members) i 0 (omega arith)
@@ -347,7 +358,8 @@ none_absent_in members ordered counts some =
 
 -- ---- G5
 
-numbered_at : (members : List Member) (i : ℕ) (m : Member) → CountsUp (numbers_of members) (length (numbers_of members))
+numbered_at : (members : List Member) (i : ℕ) (m : Member)
+    → CountsUp (numbers_of members) (length (numbers_of members))
     → slice_get members i ≡ Some m → member_numbered members (i + 2) ≡ Some m
 numbered_at members i m counts at =
     let len : length (numbers_of members) ≡ length members = length_numbers members in
@@ -377,7 +389,8 @@ last_is members i counts last =
     let is : get_or (numbers_of members) i 0 ≡ i + 2 = counts.next i (omega arith) in
     omega arith
 
-pub total_is : (size : ℕ) (members : List Member) (i total : ℕ) → CountsUp (numbers_of members) (length (numbers_of members))
+pub total_is : (size : ℕ) (members : List Member) (i total : ℕ)
+    → CountsUp (numbers_of members) (length (numbers_of members))
     → IsEnd members i total → i + 1 ≡ length (numbers_of members)
     → has_total (get_or (numbers_of members) i 0) size members ≡ (total == size + sum_by (λ m. m.size) members)
 total_is size members i total counts end last =
@@ -386,19 +399,23 @@ total_is size members i total counts end last =
     let z : length members + 1 ≡ i + 2 = omega arith in
     let at : member_numbered members (length members + 1) ≡ Some end.it =
     ap (member_numbered members) z ∙ numbered_at members i end.it counts end.stands in
-    let totals : option_and_then (λ (m : Member). m.total) (member_numbered members (length members + 1)) ≡ Some total =
+    let totals : option_and_then (λ (m : Member). m.total) (member_numbered members (length members + 1))
+    ≡ Some total =
     ap (option_and_then (λ (m : Member). m.total)) at ∙ end.states in
     ap (λ (k : ℕ). has_total k size members) n
-    ∙ (ap (λ (o : Option ℕ). option_eq nat_eq o (Some (size + sum_by (λ (m : Member). m.size) (in_order (length members + 1) members)))) totals
+    ∙ (ap (λ (o : Option ℕ). option_eq nat_eq o (Some (size + sum_by (λ (m : Member). m.size) (in_order
+    (length members + 1) members)))) totals
     ∙ ap (λ (ms : List Member). total == (size + sum_by (λ (m : Member). m.size) ms)) (all_in_order members counts))
 
 -- ---- the gap
 
 pub gap_repeated : (size k : ℕ) (members : List Member) → least_repeated members ≡ Some k
     → gap_of size members ≡ Some (Repeated k)
-gap_repeated size k members e = ap (λ (o : Option ℕ). option_or (option_map Repeated o) (gap_to (end_of members) size members)) e
+gap_repeated size k members e =
+    ap (λ (o : Option ℕ). option_or (option_map Repeated o) (gap_to (end_of members) size members)) e
 
-gap_behind : (size : ℕ) (members : List Member) (end : Option ℕ) → least_repeated members ≡ None → end_of members ≡ end
+pub gap_behind : (size : ℕ) (members : List Member) (end : Option ℕ) → least_repeated members ≡ None
+    → end_of members ≡ end
     → gap_of size members ≡ gap_to end size members
 gap_behind size members end none e =
     ap (λ (o : Option ℕ). option_or (option_map Repeated o) (gap_to (end_of members) size members)) none
@@ -412,14 +429,16 @@ pub gap_after : (size n k : ℕ) (members : List Member) → least_repeated memb
     → least_after n members ≡ Some k → gap_of size members ≡ Some (AfterEnd k)
 gap_after size n k members none e f =
     gap_behind size members (Some n) none e
-    ∙ ap (λ (o : Option ℕ). option_or (option_map AfterEnd o) (absent_or_total (least_absent n members) n size members)) f
+    ∙ ap (λ (o : Option ℕ). option_or (option_map AfterEnd o) (absent_or_total
+    (least_absent n members) n size members)) f
 
 gap_within : (size n : ℕ) (members : List Member) (missing : Option ℕ) → least_repeated members ≡ None
     → end_of members ≡ Some n → least_after n members ≡ None → least_absent n members ≡ missing
     → gap_of size members ≡ absent_or_total missing n size members
 gap_within size n members missing none e f g =
     gap_behind size members (Some n) none e
-    ∙ (ap (λ (o : Option ℕ). option_or (option_map AfterEnd o) (absent_or_total (least_absent n members) n size members)) f
+    ∙ (ap (λ (o : Option ℕ). option_or (option_map AfterEnd o) (absent_or_total
+    (least_absent n members) n size members)) f
     ∙ ap (λ (o : Option ℕ). absent_or_total o n size members) g)
 
 pub gap_absent : (size n k : ℕ) (members : List Member) → least_repeated members ≡ None → end_of members ≡ Some n

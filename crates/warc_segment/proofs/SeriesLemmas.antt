@@ -151,7 +151,8 @@ least_absent_is n members o e =
     let test : ℕ → Bool = is_absent n members in
     subst (LeastIs test (candidates members)) e (least_of test (candidates members))
 
-none_absent : (n : ℕ) (members : List Member) → least_absent n members ≡ None → (k : ℕ) → is_absent n members k ≡ false
+none_absent : (n : ℕ) (members : List Member) → least_absent n members ≡ None → (k : ℕ)
+    → is_absent n members k ≡ false
 none_absent n members e k =
     let none : NoneOf (is_absent n members) (candidates members) = least_absent_is n members None e in
     none_before n members (suc k) (λ j at hit. absurd (true≢false (sym hit ∙ none j at))) k (omega arith)
@@ -162,7 +163,8 @@ least_absent_when n members k e =
     let is : IsLeastOf (is_absent n members) (candidates members) k = least_absent_is n members (Some k) e in
     record { absent = is.passes; first = none_before n members k is.least }
 
-is_least_absent : (n : ℕ) (members : List Member) (k : ℕ) → IsLeastAbsent n members k → least_absent n members ≡ Some k
+is_least_absent : (n : ℕ) (members : List Member) (k : ℕ) → IsLeastAbsent n members k
+    → least_absent n members ≡ Some k
 is_least_absent n members k is = by_least (least_absent n members) refl
   where
     by_least : (o : Option ℕ) → least_absent n members ≡ o → least_absent n members ≡ Some k
