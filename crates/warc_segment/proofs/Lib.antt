@@ -4,4 +4,5 @@ pub mod SeriesLemmas
 pub mod OrderedLemmas
 pub mod ContinuationLemmas
 pub mod SameLemmas
+pub mod KeptLemmas
 mod WorkedValues

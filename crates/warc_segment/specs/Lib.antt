@@ -3,4 +3,5 @@ pub mod Series
 pub mod Gaps
 pub mod SeriesLaws
 pub mod Ordered
+pub mod Kept
 pub mod Joined
