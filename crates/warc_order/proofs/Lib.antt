@@ -1,0 +1,7 @@
+pub mod EntryLemmas
+pub mod BlockLemmas
+pub mod PairLemmas
+pub mod RankLemmas
+pub mod StepLemmas
+pub mod FillLemmas
+pub mod OrderLemmas

@@ -1,0 +1,59 @@
+-- Entries: texts with marks and positions, and which of them a look-up finds.
+use Rattle.std.specs.Prelude.{◌≡◌, ℕ, Bool, true, false, not, ◌&&◌, ◌||◌, ◌==◌, nat_lt, List, [], slice_index_or}
+use Rattle.std.specs.List.{Contains}
+use Rattle.warc_order.specs.declared.mark.Mark.{Mark}
+
+-- a text, a mark and a position
+pub record Entry : Type 0 where
+  pub text : List ℕ
+  pub mark : Mark
+  pub position : ℕ
+
+abbrev pub no_entry : Entry
+no_entry = record { text = []; mark = record { major = 0; minor = 0 }; position = 0 }
+
+-- the i-th entry, the first being the 0th
+abbrev pub entry_at : List Entry → ℕ → Entry
+entry_at es i = slice_index_or es i no_entry
+
+-- a mark is below another: by its major number, then by its minor one
+abbrev pub mark_lt : Mark → Mark → Bool
+mark_lt a b = nat_lt a.major b.major || (a.major == b.major && nat_lt a.minor b.minor)
+
+-- an entry is later than another: by its mark, then by its position
+abbrev pub is_later : Entry → Entry → Bool
+is_later a b = mark_lt b.mark a.mark || (not (mark_lt a.mark b.mark) && nat_lt b.position a.position)
+
+-- entries of a text whose marks aren't above one, and those whose marks aren't below one
+pub record IsUpTo (text : List ℕ) (mark : Mark) (e : Entry) : Type 0 where
+  pub text_is : e.text ≡ text
+  pub up_to : mark_lt mark e.mark ≡ false
+
+pub record IsFrom (text : List ℕ) (mark : Mark) (e : Entry) : Type 0 where
+  pub text_is : e.text ≡ text
+  pub from : mark_lt e.mark mark ≡ false
+
+-- entries of the same text that are later than one, and those that it is later than
+pub record IsAfter (one e : Entry) : Type 0 where
+  pub text_is : e.text ≡ one.text
+  pub later : is_later e one ≡ true
+
+pub record IsBefore (one e : Entry) : Type 0 where
+  pub text_is : e.text ≡ one.text
+  pub later : is_later one e ≡ true
+
+-- an entry that passes and is later than no other that does
+pub record IsFirst (es : List Entry) (Passes : Entry → Type 0) (e : Entry) : Type 0 where
+  pub stands : Contains es e
+  pub passes : Passes e
+  pub first : (q : Entry) → Contains es q → Passes q → is_later e q ≡ false
+
+-- an entry that passes, and no other that does is later
+pub record IsLast (es : List Entry) (Passes : Entry → Type 0) (e : Entry) : Type 0 where
+  pub stands : Contains es e
+  pub passes : Passes e
+  pub last : (q : Entry) → Contains es q → Passes q → is_later q e ≡ false
+
+-- no entry passes
+abbrev pub IsNone : List Entry → (Entry → Type 0) → Type 0
+IsNone es Passes = (q : Entry) → Contains es q → Passes q → ⊥

@@ -1,0 +1,4 @@
+pub mod Heads
+pub mod Ranking
+pub mod Entries
+pub mod Layout

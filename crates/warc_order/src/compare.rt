@@ -1,0 +1,108 @@
+//! The order of slots: by the head of a text, then by the text, by mark, and by index.
+
+ghost use Rattle.std.specs.Prelude.{◌≡◌, ℕ, ◌+◌, ◌<◌, length, IsTrue, IfSome, IfNone};
+ghost use Rattle.std.specs.Ordering.{is_lt, is_le};
+ghost use Rattle.warc_order.specs.Heads.{head_of};
+ghost use Rattle.warc_order.specs.Ranking.{IsRanked};
+ghost use Rattle.warc_order.specs.Entries.{IsUpTo, IsFrom, IsAfter, IsBefore, IsFirst, IsLast, IsNone, entry_at};
+ghost use Rattle.warc_order.specs.Layout.{key_cmp, key_at, in_order};
+
+use crate::entries::Entries;
+use crate::mark::{Mark, compare_marks};
+use crate::slot::{Slot, SlotOrder, SlotTest};
+use std::alloc::Allocator;
+use std::cmp::Ordering;
+
+/// By the head of a text, then by the text, by mark and by index. Only where heads are equal a text is read.
+#[derive(Drop)]
+pub(crate) struct ByText<'a, A: Allocator> {
+    pub(crate) entries: &'a Entries<A>,
+}
+
+impl<A: Allocator + Copy> ByText<'_, A> {
+    /// Compares a slot with a key.
+    fn compare_key(&self, slot: Slot, head: u32, text: &[u8], mark: Mark) -> Ordering
+        ensures { result ≡ key_cmp (key_at self.now.entries.now.list slot) (record { head = head; text = text.now; mark = mark }) }
+    {
+        let index = slot.index as usize;
+        match slot.head.cmp(&head) {
+            Ordering::Equal => match self.entries.text(index).cmp(text) {
+                Ordering::Equal => compare_marks(self.entries.mark(index), mark),
+                other => other,
+            },
+            other => other,
+        }
+    }
+}
+
+impl<A: Allocator + Copy> SlotOrder for ByText<'_, A> {
+    ghost use Rattle.std.proofs.lemmas.Cmp.{then_total, on_total, nat_list_cmp_total, nat_cmp_total};
+    ghost use Rattle.warc_order.specs.declared.slot.Slot.{Slot};
+    ghost use Rattle.warc_order.specs.declared.mark.Mark.{Mark};
+    ghost use Rattle.warc_order.specs.Layout.{Key, key_at, in_order};
+
+    ghost compare = { λ s. in_order s.entries.now.list };
+
+    ghost total = { λ s. then_total
+        (on_total (key_at s.entries.now.list) (then_total
+        (then_total (on_total (λ (k : Key). k.head) nat_cmp_total) (on_total (λ (k : Key). k.text) nat_list_cmp_total))
+        (on_total (λ (k : Key). k.mark) (then_total (on_total (λ (m : Mark). m.major) nat_cmp_total)
+        (on_total (λ (m : Mark). m.minor) nat_cmp_total)))))
+        (on_total (λ (s : Slot). s.index) nat_cmp_total) };
+
+    fn compare(&self, a: Slot, b: Slot) -> Ordering {
+        match a.head.cmp(&b.head) {
+            Ordering::Equal => {
+                let other = b.index as usize;
+                let mark = self.entries.mark(other);
+                match self.compare_key(a, b.head, self.entries.text(other), mark) {
+                    Ordering::Equal => a.index.cmp(&b.index),
+                    unequal => unequal,
+                }
+            }
+            unequal => unequal,
+        }
+    }
+}
+
+/// The test of a key below another.
+#[derive(Drop)]
+pub(crate) struct Below<'a, A: Allocator> {
+    pub(crate) order: ByText<'a, A>,
+    pub(crate) head: u32,
+    pub(crate) text: &'a [u8],
+    pub(crate) mark: Mark,
+}
+
+impl<A: Allocator + Copy> SlotTest for Below<'_, A> {
+    ghost passes = { λ s slot. is_lt (key_cmp (key_at s.order.entries.now.list slot) (record { head = s.head; text = s.text.now; mark = s.mark })) };
+
+    fn passes(&self, slot: Slot) -> bool {
+        matches!(
+            self.order
+                .compare_key(slot, self.head, self.text, self.mark),
+            Ordering::Less
+        )
+    }
+}
+
+/// The test of a key that isn't above another.
+#[derive(Drop)]
+pub(crate) struct NotAbove<'a, A: Allocator> {
+    pub(crate) order: ByText<'a, A>,
+    pub(crate) head: u32,
+    pub(crate) text: &'a [u8],
+    pub(crate) mark: Mark,
+}
+
+impl<A: Allocator + Copy> SlotTest for NotAbove<'_, A> {
+    ghost passes = { λ s slot. is_le (key_cmp (key_at s.order.entries.now.list slot) (record { head = s.head; text = s.text.now; mark = s.mark })) };
+
+    fn passes(&self, slot: Slot) -> bool {
+        !matches!(
+            self.order
+                .compare_key(slot, self.head, self.text, self.mark),
+            Ordering::Greater
+        )
+    }
+}

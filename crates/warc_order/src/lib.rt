@@ -1,0 +1,225 @@
+//! Texts in order: entries of a text, a mark and a position, found by text and mark.
+//!
+//! An [`Order`] holds entries. Each is a text (any bytes), a [`Mark`] of two numbers, and the position of what it
+//! stands for in some list of the caller's. Entries are added by rising positions, and `forget_after` drops those from
+//! a position on. Look-ups give the last entry of a text whose mark isn't above one, the first whose mark isn't below
+//! one, and from an entry the next and the one before of its text, by mark, then by position.
+//!
+//! To a caller an `Order` is the plain list of its entries, in the order in which they were added: contracts speak of
+//! no other. Many entries at once are pushed to an [`Unordered`], which `into_order` puts in order: the value is the
+//! same as after adding them one by one, in about half the time or less.
+//!
+//! Each look-up halves, and takes no memory; a step from an entry to the next doesn't halve. An entry takes 24 bytes
+//! and its text, and 8 bytes of the order (up to 16 where entries are added one by one).
+#![tactic(auto)]
+
+ghost use Rattle.std.specs.Prelude.{◌≡◌, ℕ, ◌+◌, ◌<◌, [], ◌∷◌, ◌++◌, length, filter, nat_lt, OnOk, OnErr, IfOk, IfSome, IfNone, All};
+ghost use Rattle.std.specs.List.{sum_by};
+ghost use Rattle.warc_order.specs.Entries.{entry_at, IsUpTo, IsFrom, IsAfter, IsBefore, IsFirst, IsLast, IsNone};
+
+mod block;
+mod compare;
+mod entries;
+mod head;
+mod lookup;
+mod mark;
+mod ranked;
+mod slot;
+
+use entries::Entries;
+pub use mark::Mark;
+use ranked::{Place, Ranked};
+use std::alloc::{AllocError, Allocator, Global};
+use std::marker::Model;
+
+/// An entry that a look-up found: the number of those that were added before it. It also keeps where the entry stood
+/// in the order, so that a step from it needs no search.
+#[derive(Clone, Copy, Debug)]
+pub struct Found {
+    pub index: u32,
+    place: Place,
+}
+
+/// Entries that wait to be put in order.
+#[derive(Drop)]
+pub struct Unordered<A: Allocator = Global> {
+    entries: Entries<A>,
+}
+
+impl<A: Allocator> Model for Unordered<A> {
+    ghost use Rattle.std.specs.Prelude.{List};
+    ghost use Rattle.warc_order.specs.Entries.{Entry};
+    ghost use Rattle.warc_order.specs.Layout.{IsGrowing};
+
+    ghost Value = { List Entry };
+
+    ghost view = { λ s. s.entries.list };
+
+    ghost invariant = { λ s. IsGrowing s.entries.list };
+}
+
+impl<A: Allocator + Copy> Unordered<A> {
+    /// No entries.
+    pub fn new(alloc: A) -> Unordered<A>
+        ensures { result ≡ [] }
+    {
+        Unordered {
+            entries: Entries::new(alloc),
+        }
+    }
+
+    /// Adds an entry. Its position is above all positions so far. `Err`: no memory for it, or the position is 2^32 or
+    /// more; then nothing changes.
+    pub fn push(&mut self, text: &[u8], mark: Mark, position: usize) -> Result<(), AllocError>
+        requires { All (λ e. e.position < position) self.old }
+        ensures ok { OnOk result (self.new ≡ self.old ++ record { text = text.now; mark = mark; position = position } ∷ []) }
+        ensures err { OnErr result (self.new ≡ self.old) }
+    {
+        lookup::narrow(self.entries.len())?;
+        let position = lookup::narrow(position)?;
+        self.entries.reserve_for(text.len())?;
+        self.entries.push_reserved(text, mark, position);
+        Ok(())
+    }
+
+    /// Puts the entries in order. `Err`: no memory for it.
+    pub fn into_order(self) -> Result<Order<A>, AllocError>
+        ensures { IfOk result (λ order. order ≡ self) }
+    {
+        let Unordered { entries } = self;
+        let ranked = lookup::rank_all(&entries)?;
+        Ok(Order { entries, ranked })
+    }
+}
+
+/// Entries in order.
+#[derive(Drop)]
+pub struct Order<A: Allocator = Global> {
+    entries: Entries<A>,
+    ranked: Ranked<A>,
+}
+
+impl<A: Allocator> Model for Order<A> {
+    ghost use Rattle.std.specs.Prelude.{List};
+    ghost use Rattle.warc_order.specs.Entries.{Entry};
+    ghost use Rattle.warc_order.specs.Layout.{IsOrdered};
+
+    ghost Value = { List Entry };
+
+    ghost view = { λ s. s.entries.list };
+
+    ghost invariant = { λ s. IsOrdered s.entries.list s.ranked.list };
+}
+
+impl<A: Allocator + Copy> Order<A> {
+    /// No entries.
+    pub fn new(alloc: A) -> Order<A>
+        ensures { result ≡ [] }
+    {
+        Order {
+            entries: Entries::new(alloc),
+            ranked: Ranked::new(alloc),
+        }
+    }
+
+    /// How many entries there are.
+    pub fn len(&self) -> usize
+        ensures { result ≡ length self.now }
+    {
+        self.entries.len()
+    }
+
+    /// The bytes of all texts.
+    pub fn kept(&self) -> u64
+        ensures { result ≡ sum_by (λ e. length e.text) self.now }
+    {
+        self.entries.kept()
+    }
+
+    /// Adds an entry. Its position is above all positions so far. `Err`: no memory for it, or the position is 2^32 or
+    /// more; then nothing changes.
+    pub fn add(&mut self, text: &[u8], mark: Mark, position: usize) -> Result<(), AllocError>
+        requires { All (λ e. e.position < position) self.old }
+        ensures ok { OnOk result (self.new ≡ self.old ++ record { text = text.now; mark = mark; position = position } ∷ []) }
+        ensures err { OnErr result (self.new ≡ self.old) }
+    {
+        let index = lookup::narrow(self.entries.len())?;
+        let position = lookup::narrow(position)?;
+        self.entries.reserve_for(text.len())?;
+        self.ranked.reserve()?;
+        self.entries.push_reserved(text, mark, position);
+        lookup::rank_one(&mut self.ranked, &self.entries, index);
+        Ok(())
+    }
+
+    /// Drops all entries whose positions are `position` or above. It takes no memory.
+    pub fn forget_after(&mut self, position: usize)
+        ensures { self.new ≡ filter (λ e. nat_lt e.position position) self.old }
+    {
+        let count = self.entries.count_below(position);
+        self.entries.truncate(count);
+        self.ranked.forget_after(count);
+    }
+
+    /// The last entry of a text whose mark isn't above one.
+    pub fn last_up_to(&self, text: &[u8], mark: Mark) -> Option<Found>
+        ensures within { IfSome result (λ found. found.index < length self.now) }
+        ensures some { IfSome result (λ found. IsLast self.now (IsUpTo text.now mark) (entry_at self.now found.index)) }
+        ensures none { IfNone result (IsNone self.now (IsUpTo text.now mark)) }
+    {
+        lookup::last_up_to(&self.entries, &self.ranked, text, mark)
+    }
+
+    /// The first entry of a text whose mark isn't below one.
+    pub fn first_from(&self, text: &[u8], mark: Mark) -> Option<Found>
+        ensures within { IfSome result (λ found. found.index < length self.now) }
+        ensures some { IfSome result (λ found. IsFirst self.now (IsFrom text.now mark) (entry_at self.now found.index)) }
+        ensures none { IfNone result (IsNone self.now (IsFrom text.now mark)) }
+    {
+        lookup::first_from(&self.entries, &self.ranked, text, mark)
+    }
+
+    /// The next entry of the same text.
+    pub fn next(&self, found: Found) -> Option<Found>
+        requires { found.index < length self.now }
+        ensures within { IfSome result (λ next. next.index < length self.now) }
+        ensures some { IfSome result (λ next. IsFirst self.now (IsAfter (entry_at self.now found.index)) (entry_at self.now next.index)) }
+        ensures none { IfNone result (IsNone self.now (IsAfter (entry_at self.now found.index))) }
+    {
+        lookup::next(&self.entries, &self.ranked, found.index, found.place)
+    }
+
+    /// The entry of the same text before one.
+    pub fn previous(&self, found: Found) -> Option<Found>
+        requires { found.index < length self.now }
+        ensures within { IfSome result (λ next. next.index < length self.now) }
+        ensures some { IfSome result (λ next. IsLast self.now (IsBefore (entry_at self.now found.index)) (entry_at self.now next.index)) }
+        ensures none { IfNone result (IsNone self.now (IsBefore (entry_at self.now found.index))) }
+    {
+        lookup::previous(&self.entries, &self.ranked, found.index, found.place)
+    }
+
+    /// The text of an entry.
+    pub fn text(&self, found: Found) -> &[u8]
+        requires { found.index < length self.now }
+        ensures { result.now ≡ (entry_at self.now found.index).text }
+    {
+        self.entries.text(found.index as usize)
+    }
+
+    /// The mark of an entry.
+    pub fn mark(&self, found: Found) -> Mark
+        requires { found.index < length self.now }
+        ensures { result ≡ (entry_at self.now found.index).mark }
+    {
+        self.entries.mark(found.index as usize)
+    }
+
+    /// The position of an entry.
+    pub fn position(&self, found: Found) -> usize
+        requires { found.index < length self.now }
+        ensures { result ≡ (entry_at self.now found.index).position }
+    {
+        self.entries.position(found.index as usize)
+    }
+}

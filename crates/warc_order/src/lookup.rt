@@ -1,0 +1,205 @@
+//! Look-ups, and what puts slots in order.
+
+ghost use Rattle.std.specs.Prelude.{◌≡◌, ℕ, ◌+◌, ◌<◌, ◌≤◌, [], ◌∷◌, ◌++◌, length, OnOk, OnErr, IfOk, IfSome, IfNone, IsTrue, min};
+ghost use Rattle.std.specs.List.Sorted.{IsPermutation};
+ghost use Rattle.warc_order.specs.Ranking.{IsRanked};
+ghost use Rattle.warc_order.specs.Entries.{entry_at, IsUpTo, IsFrom, IsAfter, IsBefore, IsFirst, IsLast, IsNone};
+ghost use Rattle.warc_order.specs.Layout.{in_order, slot_for, slots_of, IsOrderOf, IsOrdered};
+
+use crate::Found;
+use crate::compare::{Below, ByText, NotAbove};
+use crate::entries::Entries;
+use crate::head::head_of;
+use crate::mark::Mark;
+use crate::ranked::{Place, Ranked, Standing};
+use crate::slot::{Slot, SlotOrder};
+use std::alloc::{AllocError, Allocator};
+
+/// A number of at most 4 bytes. `Err` where it is larger: as many things are never kept.
+pub(crate) fn narrow(number: usize) -> Result<u32, AllocError>
+    ensures { IfOk result (λ n. n ≡ number) }
+{
+    if number <= u32::MAX as usize {
+        Ok(number as u32)
+    } else {
+        Err(AllocError)
+    }
+}
+
+/// The slot of the entry at an index.
+fn slot_of<A: Allocator + Copy>(entries: &Entries<A>, index: u32) -> Slot
+    ensures { result ≡ slot_for entries.now.list index }
+{
+    Slot {
+        head: head_of(entries.text(index as usize)),
+        index,
+    }
+}
+
+/// What was found, as callers see it.
+fn found_at(standing: Standing) -> Found
+    ensures { result.index ≡ standing.slot.index }
+{
+    Found {
+        index: standing.slot.index,
+        place: standing.place,
+    }
+}
+
+/// Puts the slot of one more entry in order.
+pub(crate) fn rank_one<A: Allocator + Copy>(
+    ranked: &mut Ranked<A>,
+    entries: &Entries<A>,
+    index: u32,
+)
+    requires ready { IsTrue ranked.old.ready }
+    requires order { IsOrderOf entries.now.list index ranked.old.list }
+    ensures { IsOrderOf entries.now.list (index + 1) ranked.new.list }
+{
+    let order = ByText { entries };
+    ranked.add_reserved(&order, slot_of(entries, index));
+}
+
+/// The slots of all entries, in the order in which they were added.
+fn all_slots<A: Allocator + Copy>(entries: &Entries<A>) -> Result<Vec<Slot, A>, AllocError>
+    ensures { IfOk result (λ slots. slots.items ≡ slots_of entries.now.list (length entries.now.list)) }
+{
+    let mut slots = Vec::new(entries.allocator());
+    for i in 0..entries.len() {
+        slots.push(slot_of(entries, narrow(i)?))?;
+    }
+    Ok(slots)
+}
+
+/// Adds slots one by one. It is fast where they come in the order.
+#[tactic(auto, using(crate::proofs::FillLemmas::one_more))]
+fn add_all<O: SlotOrder, A: Allocator + Copy>(
+    ranked: &mut Ranked<A>,
+    order: &O,
+    slots: &[Slot],
+) -> Result<(), AllocError>
+    requires { IsRanked (O.compare order.now) ranked.old.list }
+    ensures ranked { IsRanked (O.compare order.now) ranked.new.list }
+    ensures members { OnOk result (IsPermutation (slots.now ++ ranked.old.list) ranked.new.list) }
+{
+    for slot in slots {
+        ranked.reserve()?;
+        ranked.add_reserved(order, *slot);
+    }
+    Ok(())
+}
+
+/// Sorts slots and adds them. That the result is in the order doesn't rest on the sort.
+fn fill<O: SlotOrder, A: Allocator + Copy>(
+    ranked: &mut Ranked<A>,
+    order: &O,
+    slots: &mut [Slot],
+) -> Result<(), AllocError>
+    requires { IsRanked (O.compare order.now) ranked.old.list }
+    ensures ranked { IsRanked (O.compare order.now) ranked.new.list }
+    ensures members { OnOk result (IsPermutation (slots.old ++ ranked.old.list) ranked.new.list) }
+{
+    slots.sort_unstable_by(|a, b| order.compare(*a, *b));
+    add_all(ranked, order, slots)
+}
+
+/// The slots of all entries in order.
+pub(crate) fn rank_all<A: Allocator + Copy>(entries: &Entries<A>) -> Result<Ranked<A>, AllocError>
+    ensures { IfOk result (λ ranked. IsOrderOf entries.now.list (length entries.now.list) ranked.list) }
+{
+    let mut slots = all_slots(entries)?;
+    let order = ByText { entries };
+    let mut ranked = Ranked::new(entries.allocator());
+    fill(&mut ranked, &order, &mut slots)?;
+    Ok(ranked)
+}
+
+/// The last entry of a text whose mark isn't above one.
+pub(crate) fn last_up_to<A: Allocator + Copy>(
+    entries: &Entries<A>,
+    ranked: &Ranked<A>,
+    text: &[u8],
+    mark: Mark,
+) -> Option<Found>
+    requires { IsOrdered entries.now.list ranked.now.list }
+    ensures within { IfSome result (λ found. found.index < length entries.now.list) }
+    ensures some { IfSome result (λ found. IsLast entries.now.list (IsUpTo text.now mark) (entry_at entries.now.list found.index)) }
+    ensures none { IfNone result (IsNone entries.now.list (IsUpTo text.now mark)) }
+{
+    let test = NotAbove {
+        order: ByText { entries },
+        head: head_of(text),
+        text,
+        mark,
+    };
+    match ranked.last_passing(&test) {
+        Some(s) if entries.text(s.slot.index as usize) == text => Some(found_at(s)),
+        _ => None,
+    }
+}
+
+/// The first entry of a text whose mark isn't below one.
+pub(crate) fn first_from<A: Allocator + Copy>(
+    entries: &Entries<A>,
+    ranked: &Ranked<A>,
+    text: &[u8],
+    mark: Mark,
+) -> Option<Found>
+    requires { IsOrdered entries.now.list ranked.now.list }
+    ensures within { IfSome result (λ found. found.index < length entries.now.list) }
+    ensures some { IfSome result (λ found. IsFirst entries.now.list (IsFrom text.now mark) (entry_at entries.now.list found.index)) }
+    ensures none { IfNone result (IsNone entries.now.list (IsFrom text.now mark)) }
+{
+    let test = Below {
+        order: ByText { entries },
+        head: head_of(text),
+        text,
+        mark,
+    };
+    match ranked.first_failing(&test) {
+        Some(s) if entries.text(s.slot.index as usize) == text => Some(found_at(s)),
+        _ => None,
+    }
+}
+
+/// The next entry of the same text. Where the place is right, nothing is searched.
+pub(crate) fn next<A: Allocator + Copy>(
+    entries: &Entries<A>,
+    ranked: &Ranked<A>,
+    index: u32,
+    place: Place,
+) -> Option<Found>
+    requires order { IsOrdered entries.now.list ranked.now.list }
+    requires index { index < length entries.now.list }
+    ensures within { IfSome result (λ found. found.index < length entries.now.list) }
+    ensures some { IfSome result (λ found. IsFirst entries.now.list (IsAfter (entry_at entries.now.list index)) (entry_at entries.now.list found.index)) }
+    ensures none { IfNone result (IsNone entries.now.list (IsAfter (entry_at entries.now.list index))) }
+{
+    let order = ByText { entries };
+    let text = entries.text(index as usize);
+    match ranked.next_after(&order, slot_of(entries, index), place) {
+        Some(s) if entries.text(s.slot.index as usize) == text => Some(found_at(s)),
+        _ => None,
+    }
+}
+
+/// The entry of the same text before one. Where the place is right, nothing is searched.
+pub(crate) fn previous<A: Allocator + Copy>(
+    entries: &Entries<A>,
+    ranked: &Ranked<A>,
+    index: u32,
+    place: Place,
+) -> Option<Found>
+    requires order { IsOrdered entries.now.list ranked.now.list }
+    requires index { index < length entries.now.list }
+    ensures within { IfSome result (λ found. found.index < length entries.now.list) }
+    ensures some { IfSome result (λ found. IsLast entries.now.list (IsBefore (entry_at entries.now.list index)) (entry_at entries.now.list found.index)) }
+    ensures none { IfNone result (IsNone entries.now.list (IsBefore (entry_at entries.now.list index))) }
+{
+    let order = ByText { entries };
+    let text = entries.text(index as usize);
+    match ranked.last_before(&order, slot_of(entries, index), place) {
+        Some(s) if entries.text(s.slot.index as usize) == text => Some(found_at(s)),
+        _ => None,
+    }
+}

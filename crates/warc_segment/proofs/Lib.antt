@@ -1,0 +1,8 @@
+pub mod LeastLemmas
+pub mod CountLemmas
+pub mod SeriesLemmas
+pub mod OrderedLemmas
+pub mod ContinuationLemmas
+pub mod SameLemmas
+pub mod KeptLemmas
+mod WorkedValues
