@@ -83,6 +83,7 @@ fn help_and_version_are_asked_for(rt: HostRuntime) {
             text.as_str()
                 .contains("Example: warc list examples/abc.warc")
         );
+        assert!(rt; text.as_str().contains("gunzip -c a.warc.gz | warc list /dev/stdin"));
     }
     for words in [
         ["warc", "list", "--help"].as_slice(),
@@ -96,10 +97,19 @@ fn help_and_version_are_asked_for(rt: HostRuntime) {
         assert!(rt; text.as_str().contains("Usage: warc list <archive>"));
         assert!(rt;
             text.as_str().contains(
-                "<archive>  The path of the archive; /dev/stdin is standard input"
+                "<archive>  The path of the archive; /dev/stdin is standard input, also a pipe"
             )
         );
+        assert!(rt; text.as_str().contains("A line has seven columns"));
+        assert!(rt; text.as_str().contains("Exit status: 0 listed; 2"));
     }
+    let Some((text, asked)) = answer(&rt, &["warc", "check", "--help"]) else {
+        assert!(rt; false);
+        return;
+    };
+    assert!(rt; asked);
+    assert!(rt; text.as_str().contains("'- N12' is an archive of no records"));
+    assert!(rt; text.as_str().contains("Exit status: 0 nothing was found; 1 something was"));
     let Some((text, asked)) = answer(&rt, &["warc", "--version"]) else {
         assert!(rt; false);
         return;

@@ -67,11 +67,31 @@ struct Word {
 
 const VERSION: &str = "0.1.0";
 
-const EXAMPLE: &str = "Example: warc list examples/abc.warc";
+const NOTES: &str =
+    "An archive is one file of uncompressed records, WARC/1.0 or WARC/1.1. A compressed one is read so:
+  gunzip -c a.warc.gz | warc list /dev/stdin      (at most 1 GiB)
+
+Exit status: 0 done; 1 something was found; 2 the archive is refused, with the first fault and its offset;
+3 the words are wrong, the file doesn't open, or a read, a write or memory failed.
+
+Example: warc list examples/abc.warc";
+
+const LIST_NOTES: &str =
+    "A line has seven columns, with a tab between two: the record's position from 0, its offset in bytes,
+the length of its block, its type, date, id and target; '-' for no target.
+
+Exit status: 0 listed; 2 the archive is refused, and nothing was written; 3 see 'warc --help'.";
+
+const CHECK_NOTES: &str =
+    "A line has the position of the record, the finding's number N1 to N12 and the name of the field that it is
+about, if it is about one; '- N12' is an archive of no records. A digest that can't be checked is no finding.
+
+Exit status: 0 nothing was found; 1 something was; 2 the archive is refused, and nothing was written;
+3 see 'warc --help'.";
 
 const ARCHIVE: Word = Word {
     name: "archive",
-    help: "The path of the archive; /dev/stdin is standard input",
+    help: "The path of the archive; /dev/stdin is standard input, also a pipe",
 };
 
 fn warc_parser<'a>(alloc: Global) -> Result<clap::Command<'a>, AllocError>
@@ -80,13 +100,14 @@ fn warc_parser<'a>(alloc: Global) -> Result<clap::Command<'a>, AllocError>
     let parser = clap::Command::new(alloc, "warc")
         .about("Reads archives in the WARC format")
         .version(VERSION)
-        .after_help(EXAMPLE)
+        .after_help(NOTES)
         .subcommand_required(true);
     let parser = with_command(
         parser,
         alloc,
         "list",
         "Prints a line for each record",
+        LIST_NOTES,
         &[ARCHIVE],
     )?;
     with_command(
@@ -94,6 +115,7 @@ fn warc_parser<'a>(alloc: Global) -> Result<clap::Command<'a>, AllocError>
         alloc,
         "check",
         "Prints a line for each finding: what is wrong with records that can be read",
+        CHECK_NOTES,
         &[ARCHIVE],
     )
 }
@@ -104,12 +126,15 @@ fn with_command<'a>(
     alloc: Global,
     name: &'static str,
     about: &'static str,
+    notes: &'static str,
     words: &[Word],
 ) -> Result<clap::Command<'a>, AllocError>
     ensures { (app : App) → app_of parser.entry ≡ app → IfOk result (λ c. app_of c
         ≡ with_layout app (record { name = name.entry.now; words = map (λ w. w.name.now) words.now })) }
 {
-    let mut command = clap::Command::new(alloc, name).about(about);
+    let mut command = clap::Command::new(alloc, name)
+        .about(about)
+        .after_help(notes);
     for word in words {
         command = with_word(command, alloc, word.name, word.help)?;
     }
