@@ -1,0 +1,18 @@
+//! Counts the records of an archive: a whole program that uses the library.
+#![tactic(auto)]
+
+use std::fs::File;
+use std::io;
+use warc::Archive;
+use warc_frame::FileSource;
+
+fn main(rt: HostRuntime) -> io::Result<()> {
+    let file = File::open(&rt, "abc.warc")?;
+    match Archive::open(rt.alloc(), FileSource::new(file)) {
+        Ok(archive) => {
+            let count = archive.count();
+            println!(rt; "records: {count}")
+        }
+        Err((fault, _)) => println!(rt; "refused: {fault}"),
+    }
+}
