@@ -26,10 +26,12 @@ use Rattle.warc_order.specs.Entries.{Entry, no_entry, entry_at, mark_lt, is_late
 use Rattle.warc_order.specs.Layout.{Key, mark_cmp, text_cmp, key_cmp, key_at, key_for, in_order, slot_for, slots_of, same_index, IsSlotOf, IsOrderOf, IsGrowing, IsOrdered}
 
 pub mark_total : IsTotalOrder mark_cmp
-mark_total = then_total (on_total (λ (m : Mark). m.major) nat_cmp_total) (on_total (λ (m : Mark). m.minor) nat_cmp_total)
+mark_total = then_total (on_total (λ (m : Mark). m.major) nat_cmp_total) (on_total (λ (m : Mark). m.minor)
+    nat_cmp_total)
 
 pub text_total : IsTotalOrder text_cmp
-text_total = then_total (on_total (λ (k : Key). k.head) nat_cmp_total) (on_total (λ (k : Key). k.text) nat_list_cmp_total)
+text_total = then_total (on_total (λ (k : Key). k.head) nat_cmp_total) (on_total (λ (k : Key). k.text)
+    nat_list_cmp_total)
 
 pub key_total : IsTotalOrder key_cmp
 key_total = then_total text_total (on_total (λ (k : Key). k.mark) mark_total)
@@ -100,33 +102,39 @@ then_tie_left Greater p e = cc
 pub same_text : (a b : Key) → is_gt (text_cmp a b) ≡ false → is_gt (text_cmp b a) ≡ false → a.text ≡ b.text
 same_text a b up down =
     let tie : text_cmp a b ≡ Equal = tie_of (text_cmp a b) up (lt_is_gt text_cmp text_total a b ∙ down) in
-    let texts : slice_cmp nat_cmp a.text b.text ≡ Equal = then_tie_left (nat_cmp a.head b.head) (slice_cmp nat_cmp a.text b.text) tie in
+    let texts : slice_cmp nat_cmp a.text b.text ≡ Equal = then_tie_left (nat_cmp a.head b.head) (slice_cmp nat_cmp
+    a.text b.text) tie in
     (bytes_eq-Decides a.text b.text).0 (sym (is_eq-slice_cmp a.text b.text) ∙ ap is_eq texts)
 
 -- keys of one text are in the order of their marks
 pub same_key_text : (text : List ℕ) (m w : Mark) → key_cmp (key_for text m) (key_for text w) ≡ mark_cmp m w
-same_key_text text m w = tie_then (text_cmp (key_for text m) (key_for text w)) (mark_cmp m w) (tied_itself text_total (key_for text m))
+same_key_text text m w = tie_then (text_cmp (key_for text m) (key_for text w)) (mark_cmp m w) (tied_itself text_total
+    (key_for text m))
 
 -- ---- where a test of keys ends
 
-pub cut_le : (es : List Entry) (ss : List Slot) (k : Key) → IsRanked (in_order es) ss → IsPartitionedBy (λ s. is_le (key_cmp (key_at es s) k)) ss
+pub cut_le : (es : List Entry) (ss : List Slot) (k : Key) → IsRanked (in_order es) ss →
+    IsPartitionedBy (λ s. is_le (key_cmp (key_at es s) k)) ss
 cut_le es ss k ranked i j d le lt hit = elim (cases_lt i j) [
   | inl low ↦
       let a : Slot = get_or ss i d in
       let b : Slot = get_or ss j d in
-      let up : is_gt (key_cmp (key_at es a) (key_at es b)) ≡ false = then_not_gt (key_cmp (key_at es a) (key_at es b)) (nat_cmp a.index b.index) (ranked i j d low lt) in
+      let up : is_gt (key_cmp (key_at es a) (key_at es b)) ≡ false =
+      then_not_gt (key_cmp (key_at es a) (key_at es b)) (nat_cmp a.index b.index) (ranked i j d low lt) in
       not_gt_le _ (upto key_total (key_at es a) (key_at es b) k up (le_not_gt _ hit))
   | inr high ↦
       let e : j ≡ i = omega arith in
       ap (λ n. is_le (key_cmp (key_at es (get_or ss n d)) k)) (sym e) ∙ hit
 ]
 
-pub cut_lt : (es : List Entry) (ss : List Slot) (k : Key) → IsRanked (in_order es) ss → IsPartitionedBy (λ s. is_lt (key_cmp (key_at es s) k)) ss
+pub cut_lt : (es : List Entry) (ss : List Slot) (k : Key) → IsRanked (in_order es) ss →
+    IsPartitionedBy (λ s. is_lt (key_cmp (key_at es s) k)) ss
 cut_lt es ss k ranked i j d le lt hit = elim (cases_lt i j) [
   | inl low ↦
       let a : Key = key_at es (get_or ss i d) in
       let b : Key = key_at es (get_or ss j d) in
-      let up : is_gt (key_cmp a b) ≡ false = then_not_gt (key_cmp a b) (nat_cmp (get_or ss i d).index (get_or ss j d).index) (ranked i j d low lt) in
+      let up : is_gt (key_cmp a b) ≡ false = then_not_gt (key_cmp a b) (nat_cmp (get_or ss i d).index (get_or ss j
+      d).index) (ranked i j d low lt) in
       elim (cases_Bool (is_lt (key_cmp a k))) [
         | inl good ↦ good
         | inr bad ↦
@@ -142,21 +150,34 @@ cut_lt es ss k ranked i j d le lt hit = elim (cases_lt i j) [
 -- ---- slots and entries
 
 -- the key of a slot of an order
-pub key_of_slot : (es : List Entry) (s : Slot) → s ≡ slot_for es s.index → key_at es s ≡ key_for (entry_at es s.index).text (entry_at es s.index).mark
-key_of_slot es s is = ap (λ h. record { head = h; text = (entry_at es s.index).text; mark = (entry_at es s.index).mark }) (ap (λ (f : Slot). f.head) is)
+pub key_of_slot : (es : List Entry) (s : Slot) → s ≡ slot_for es s.index →
+    key_at es s ≡ key_for (entry_at es s.index).text (entry_at es s.index).mark
+key_of_slot es s is = ap (λ h. record {
+  head = h;
+  text = (entry_at es s.index).text;
+  mark =
+      (entry_at es s.index).mark;
+}) (ap (λ (f : Slot). f.head) is)
 
 -- a slot of the text has the text's key
-pub key_with : (es : List Entry) (s : Slot) (text : List ℕ) → s ≡ slot_for es s.index → (entry_at es s.index).text ≡ text → key_at es s ≡ key_for text (entry_at es s.index).mark
+pub key_with : (es : List Entry) (s : Slot) (text : List ℕ) → s ≡ slot_for es s.index →
+    (entry_at es s.index).text ≡ text → key_at es s ≡ key_for text (entry_at es s.index).mark
 key_with es s text is same = key_of_slot es s is ∙ ap (λ t. key_for t (entry_at es s.index).mark) same
 
-pub cmp_with : (es : List Entry) (s : Slot) (text : List ℕ) (mark : Mark) → s ≡ slot_for es s.index → (entry_at es s.index).text ≡ text → key_cmp (key_at es s) (key_for text mark) ≡ mark_cmp (entry_at es s.index).mark mark
-cmp_with es s text mark is same = ap (λ k. key_cmp k (key_for text mark)) (key_with es s text is same) ∙ same_key_text text (entry_at es s.index).mark mark
+pub cmp_with : (es : List Entry) (s : Slot) (text : List ℕ) (mark : Mark) → s ≡ slot_for es s.index →
+    (entry_at es s.index).text ≡ text → key_cmp (key_at es s) (key_for text mark) ≡ mark_cmp (entry_at es s.index).mark
+    mark
+cmp_with es s text mark is same = ap (λ k. key_cmp k (key_for text mark)) (key_with es s text is same)
+    ∙ same_key_text text (entry_at es s.index).mark mark
 
 -- two slots of one text
-pub order_with : (es : List Entry) (s t : Slot) → s ≡ slot_for es s.index → t ≡ slot_for es t.index → (entry_at es s.index).text ≡ (entry_at es t.index).text → in_order es s t ≡ ordering_then (mark_cmp (entry_at es s.index).mark (entry_at es t.index).mark) (nat_cmp s.index t.index)
+pub order_with : (es : List Entry) (s t : Slot) → s ≡ slot_for es s.index → t ≡ slot_for es t.index →
+    (entry_at es s.index).text ≡ (entry_at es t.index).text → in_order es s t ≡ ordering_then (mark_cmp (entry_at es
+    s.index).mark (entry_at es t.index).mark) (nat_cmp s.index t.index)
 order_with es s t is it same =
     ap (λ o. ordering_then o (nat_cmp s.index t.index))
-    (ap (λ k. key_cmp (key_at es s) k) (key_of_slot es t it) ∙ cmp_with es s (entry_at es t.index).text (entry_at es t.index).mark is same)
+    (ap (λ k. key_cmp (key_at es s) k) (key_of_slot es t it) ∙ cmp_with es s (entry_at es t.index).text (entry_at es
+    t.index).mark is same)
 
 -- ---- marks and positions
 
@@ -166,7 +187,8 @@ mark_le a b = grind (arith, nat_tests)
 mark_less : (a b : Mark) → is_lt (mark_cmp a b) ≡ mark_lt a b
 mark_less a b = grind (arith, nat_tests)
 
-later_gt : (a b : Mark) (i j : ℕ) → is_gt (ordering_then (mark_cmp a b) (nat_cmp i j)) ≡ (mark_lt b a || (not (mark_lt a b) && nat_lt j i))
+later_gt : (a b : Mark) (i j : ℕ) → is_gt (ordering_then (mark_cmp a b) (nat_cmp i j)) ≡ (mark_lt b a || (not (mark_lt
+    a b) && nat_lt j i))
 later_gt a b i j = grind (arith, nat_tests)
 
 not_true : (b : Bool) → not b ≡ true → b ≡ false
@@ -185,27 +207,34 @@ lt_rises i j p q up down tie = elim (cases_lt i j) [
   ]
 ]
 
-positions_rise : (es : List Entry) (i j : ℕ) → IsGrowing es → i < length es → j < length es → nat_lt i j ≡ nat_lt (entry_at es i).position (entry_at es j).position
-positions_rise es i j growing h k = lt_rises i j (entry_at es i).position (entry_at es j).position (λ a. growing i j no_entry a k) (λ a. growing j i no_entry a h) (λ e. ap (λ n. (entry_at es n).position) e)
+positions_rise : (es : List Entry) (i j : ℕ) → IsGrowing es → i < length es → j < length es →
+    nat_lt i j ≡ nat_lt (entry_at es i).position (entry_at es j).position
+positions_rise es i j growing h k = lt_rises i j (entry_at es i).position (entry_at es j).position (λ a. growing i j
+    no_entry a k) (λ a. growing j i no_entry a h) (λ e. ap (λ n. (entry_at es n).position) e)
 
 -- the order of two slots of one text says which entry is later
-pub later_is : (es : List Entry) (s t : Slot) → IsGrowing es → IsSlotOf es (length es) s → IsSlotOf es (length es) t → (entry_at es s.index).text ≡ (entry_at es t.index).text → is_gt (in_order es s t) ≡ is_later (entry_at es s.index) (entry_at es t.index)
+pub later_is : (es : List Entry) (s t : Slot) → IsGrowing es → IsSlotOf es (length es) s → IsSlotOf es (length es) t →
+    (entry_at es s.index).text ≡ (entry_at es t.index).text → is_gt (in_order es s t) ≡ is_later (entry_at es s.index)
+    (entry_at es t.index)
 later_is es s t growing hs ht same =
     ap is_gt (order_with es s t hs.slot ht.slot same)
     ∙ (later_gt (entry_at es s.index).mark (entry_at es t.index).mark s.index t.index
-    ∙ ap (λ b. mark_lt (entry_at es t.index).mark (entry_at es s.index).mark || (not (mark_lt (entry_at es s.index).mark (entry_at es t.index).mark) && b))
+    ∙ ap (λ b. mark_lt (entry_at es t.index).mark (entry_at es s.index).mark || (not (mark_lt (entry_at es
+    s.index).mark (entry_at es t.index).mark) && b))
     (positions_rise es t.index s.index growing ht.index hs.index))
 
 -- ---- what an order holds
 
-pub slot_in_order : (es : List Entry) (ss : List Slot) (s : Slot) → IsOrderOf es (length es) ss → Contains ss s → IsSlotOf es (length es) s
+pub slot_in_order : (es : List Entry) (ss : List Slot) (s : Slot) → IsOrderOf es (length es) ss → Contains ss s →
+    IsSlotOf es (length es) s
 slot_in_order es ss s it c = All-contains (IsSlotOf es (length es)) ss s it.within c
 
 pub entry_stands : (es : List Entry) (i : ℕ) → i < length es → Contains es (entry_at es i)
 entry_stands es i h = (i, h, get_or_default es i (entry_at es i) no_entry h)
 
 -- what holds of every entry that has a slot holds of every entry
-by_index : (es : List Entry) (P : Entry → Type 0) → ((k : ℕ) → k < length es → P (entry_at es k)) → (q : Entry) → Contains es q → P q
+by_index : (es : List Entry) (P : Entry → Type 0) → ((k : ℕ) → k < length es → P (entry_at es k)) → (q : Entry) →
+    Contains es q → P q
 by_index es P all q (k, lt, e) = subst P (get_or_default es k no_entry q lt ∙ e) (all k lt)
 
 one_slot : (es : List Entry) (k : ℕ) → k < length es → IsSlotOf es (length es) (slot_for es k)
@@ -213,113 +242,183 @@ one_slot es k lt = record { index = lt; slot = refl }
 
 -- ---- the look-ups
 
-pub last_up_to : (es : List Entry) (ss : List Slot) (text : List ℕ) (mark : Mark) (s : Slot) → IsOrdered es ss → IsLastOf (in_order es) (λ f. is_le (key_cmp (key_at es f) (key_for text mark))) ss s → (entry_at es s.index).text ≡ text → IsLast es (IsUpTo text mark) (entry_at es s.index)
+pub last_up_to : (es : List Entry) (ss : List Slot) (text : List ℕ) (mark : Mark) (s : Slot) → IsOrdered es ss →
+    IsLastOf (in_order es) (λ f. is_le (key_cmp (key_at es f) (key_for text mark))) ss s →
+    (entry_at es s.index).text ≡ text → IsLast es (IsUpTo text mark) (entry_at es s.index)
 last_up_to es ss text mark s it last same =
     let here : IsSlotOf es (length es) s = slot_in_order es ss s it.order last.stands in
     record {
       stands = entry_stands es s.index here.index;
-      passes = record { text_is = same; up_to = not_true _ (sym (mark_le (entry_at es s.index).mark mark) ∙ (sym (ap is_le (cmp_with es s text mark here.slot same)) ∙ last.passes)) };
+      passes = record {
+        text_is = same;
+        up_to = not_true _ (sym (mark_le (entry_at es s.index).mark mark)
+            ∙ (sym (ap is_le (cmp_with es s text mark here.slot same)) ∙ last.passes));
+      };
       last = by_index es (λ q. IsUpTo text mark q → is_later q (entry_at es s.index) ≡ false) (λ k lt p.
           sym (later_is es (slot_for es k) s it.growing (one_slot es k lt) here (p.text_is ∙ sym same))
-          ∙ last.last (slot_for es k) (it.order.all k lt) (ap is_le (cmp_with es (slot_for es k) text mark refl p.text_is) ∙ (mark_le (entry_at es k).mark mark ∙ not_false _ p.up_to)));
+          ∙ last.last (slot_for es k) (it.order.all k lt) (ap is_le (cmp_with es (slot_for es k) text mark refl
+          p.text_is) ∙ (mark_le (entry_at es k).mark mark ∙ not_false _ p.up_to)));
     }
 
-pub none_up_to : (es : List Entry) (ss : List Slot) (text : List ℕ) (mark : Mark) → IsOrdered es ss → All (λ f. is_le (key_cmp (key_at es f) (key_for text mark)) ≡ false) ss → IsNone es (IsUpTo text mark)
+pub none_up_to : (es : List Entry) (ss : List Slot) (text : List ℕ) (mark : Mark) → IsOrdered es ss →
+    All (λ f. is_le (key_cmp (key_at es f) (key_for text mark)) ≡ false) ss → IsNone es (IsUpTo text mark)
 none_up_to es ss text mark it all = by_index es (λ q. IsUpTo text mark q → ⊥) (λ k lt p.
-    true≢false (sym (ap is_le (cmp_with es (slot_for es k) text mark refl p.text_is) ∙ (mark_le (entry_at es k).mark mark ∙ not_false _ p.up_to))
-    ∙ All-contains (λ f. is_le (key_cmp (key_at es f) (key_for text mark)) ≡ false) ss (slot_for es k) all (it.order.all k lt)))
+    true≢false (sym (ap is_le (cmp_with es (slot_for es k) text mark refl p.text_is)
+    ∙ (mark_le (entry_at es k).mark mark ∙ not_false _ p.up_to))
+    ∙ All-contains (λ f. is_le (key_cmp (key_at es f) (key_for text mark)) ≡ false) ss (slot_for es k) all
+    (it.order.all k lt)))
 
 -- a slot between two keys of one text has that text
-between : (es : List Entry) (s : Slot) (a b : Key) → a.text ≡ b.text → text_cmp a (key_at es s) ≡ text_cmp b (key_at es s) → is_gt (key_cmp a (key_at es s)) ≡ false → is_gt (key_cmp (key_at es s) b) ≡ false → (entry_at es s.index).text ≡ b.text
+between : (es : List Entry) (s : Slot) (a b : Key) → a.text ≡ b.text →
+    text_cmp a (key_at es s) ≡ text_cmp b (key_at es s) → is_gt (key_cmp a (key_at es s)) ≡ false →
+    is_gt (key_cmp (key_at es s) b) ≡ false → (entry_at es s.index).text ≡ b.text
 between es s a b same tie low high =
-    let up : is_gt (text_cmp (key_at es s) b) ≡ false = then_not_gt (text_cmp (key_at es s) b) (mark_cmp (key_at es s).mark b.mark) high in
-    let down : is_gt (text_cmp b (key_at es s)) ≡ false = sym (ap is_gt tie) ∙ then_not_gt (text_cmp a (key_at es s)) (mark_cmp a.mark (key_at es s).mark) low in
+    let up : is_gt (text_cmp (key_at es s) b) ≡ false = then_not_gt (text_cmp (key_at es s) b) (mark_cmp (key_at es
+    s).mark b.mark) high in
+    let down : is_gt (text_cmp b (key_at es s)) ≡ false = sym (ap is_gt tie)
+    ∙ then_not_gt (text_cmp a (key_at es s)) (mark_cmp a.mark (key_at es s).mark) low in
     same_text (key_at es s) b up down
 
-pub other_up_to : (es : List Entry) (ss : List Slot) (text : List ℕ) (mark : Mark) (s : Slot) → IsOrdered es ss → IsLastOf (in_order es) (λ f. is_le (key_cmp (key_at es f) (key_for text mark))) ss s → ((entry_at es s.index).text ≡ text → ⊥) → IsNone es (IsUpTo text mark)
+pub other_up_to : (es : List Entry) (ss : List Slot) (text : List ℕ) (mark : Mark) (s : Slot) → IsOrdered es ss →
+    IsLastOf (in_order es) (λ f. is_le (key_cmp (key_at es f) (key_for text mark))) ss s →
+    ((entry_at es s.index).text ≡ text → ⊥) → IsNone es (IsUpTo text mark)
 other_up_to es ss text mark s it last other = by_index es (λ q. IsUpTo text mark q → ⊥) (λ k lt p.
     let f : Slot = slot_for es k in
-    let quiet : is_gt (in_order es f s) ≡ false = last.last f (it.order.all k lt) (ap is_le (cmp_with es f text mark refl p.text_is) ∙ (mark_le (entry_at es k).mark mark ∙ not_false _ p.up_to)) in
-    let keys : is_gt (key_cmp (key_at es f) (key_at es s)) ≡ false = then_not_gt (key_cmp (key_at es f) (key_at es s)) (nat_cmp f.index s.index) quiet in
-    other (between es s (key_at es f) (key_for text mark) p.text_is (ap (λ u. text_cmp (key_for u mark) (key_at es s)) p.text_is) keys (le_not_gt _ last.passes)))
+    let quiet : is_gt (in_order es f s) ≡ false = last.last f (it.order.all k lt) (ap is_le (cmp_with es f text mark
+    refl p.text_is) ∙ (mark_le (entry_at es k).mark mark ∙ not_false _ p.up_to)) in
+    let keys : is_gt (key_cmp (key_at es f) (key_at es s)) ≡ false =
+    then_not_gt (key_cmp (key_at es f) (key_at es s)) (nat_cmp f.index s.index) quiet in
+    other (between es s (key_at es f) (key_for text mark) p.text_is (ap (λ u. text_cmp (key_for u mark) (key_at es s))
+    p.text_is) keys (le_not_gt _ last.passes)))
 
-pub first_from : (es : List Entry) (ss : List Slot) (text : List ℕ) (mark : Mark) (s : Slot) → IsOrdered es ss → IsFirstOf (in_order es) (λ f. is_lt (key_cmp (key_at es f) (key_for text mark))) ss s → (entry_at es s.index).text ≡ text → IsFirst es (IsFrom text mark) (entry_at es s.index)
+pub first_from : (es : List Entry) (ss : List Slot) (text : List ℕ) (mark : Mark) (s : Slot) → IsOrdered es ss →
+    IsFirstOf (in_order es) (λ f. is_lt (key_cmp (key_at es f) (key_for text mark))) ss s →
+    (entry_at es s.index).text ≡ text → IsFirst es (IsFrom text mark) (entry_at es s.index)
 first_from es ss text mark s it first same =
     let here : IsSlotOf es (length es) s = slot_in_order es ss s it.order first.stands in
     record {
       stands = entry_stands es s.index here.index;
-      passes = record { text_is = same; from = sym (mark_less (entry_at es s.index).mark mark) ∙ (sym (ap is_lt (cmp_with es s text mark here.slot same)) ∙ first.fails) };
+      passes = record {
+        text_is = same;
+        from = sym (mark_less (entry_at es s.index).mark mark)
+            ∙ (sym (ap is_lt (cmp_with es s text mark here.slot same)) ∙ first.fails);
+      };
       first = by_index es (λ q. IsFrom text mark q → is_later (entry_at es s.index) q ≡ false) (λ k lt p.
           sym (later_is es s (slot_for es k) it.growing here (one_slot es k lt) (same ∙ sym p.text_is))
-          ∙ first.first (slot_for es k) (it.order.all k lt) (ap is_lt (cmp_with es (slot_for es k) text mark refl p.text_is) ∙ (mark_less (entry_at es k).mark mark ∙ p.from)));
+          ∙ first.first (slot_for es k) (it.order.all k lt) (ap is_lt (cmp_with es (slot_for es k) text mark refl
+          p.text_is) ∙ (mark_less (entry_at es k).mark mark ∙ p.from)));
     }
 
-pub none_from : (es : List Entry) (ss : List Slot) (text : List ℕ) (mark : Mark) → IsOrdered es ss → All (λ f. is_lt (key_cmp (key_at es f) (key_for text mark)) ≡ true) ss → IsNone es (IsFrom text mark)
+pub none_from : (es : List Entry) (ss : List Slot) (text : List ℕ) (mark : Mark) → IsOrdered es ss →
+    All (λ f. is_lt (key_cmp (key_at es f) (key_for text mark)) ≡ true) ss → IsNone es (IsFrom text mark)
 none_from es ss text mark it all = by_index es (λ q. IsFrom text mark q → ⊥) (λ k lt p.
-    true≢false (sym (All-contains (λ f. is_lt (key_cmp (key_at es f) (key_for text mark)) ≡ true) ss (slot_for es k) all (it.order.all k lt))
-    ∙ (ap is_lt (cmp_with es (slot_for es k) text mark refl p.text_is) ∙ (mark_less (entry_at es k).mark mark ∙ p.from))))
+    true≢false (sym (All-contains (λ f. is_lt (key_cmp (key_at es f) (key_for text mark)) ≡ true) ss (slot_for es k)
+    all (it.order.all k lt))
+    ∙ (ap is_lt (cmp_with es (slot_for es k) text mark refl p.text_is) ∙ (mark_less (entry_at es k).mark mark
+    ∙ p.from))))
 
-pub other_from : (es : List Entry) (ss : List Slot) (text : List ℕ) (mark : Mark) (s : Slot) → IsOrdered es ss → IsFirstOf (in_order es) (λ f. is_lt (key_cmp (key_at es f) (key_for text mark))) ss s → ((entry_at es s.index).text ≡ text → ⊥) → IsNone es (IsFrom text mark)
+pub other_from : (es : List Entry) (ss : List Slot) (text : List ℕ) (mark : Mark) (s : Slot) → IsOrdered es ss →
+    IsFirstOf (in_order es) (λ f. is_lt (key_cmp (key_at es f) (key_for text mark))) ss s →
+    ((entry_at es s.index).text ≡ text → ⊥) → IsNone es (IsFrom text mark)
 other_from es ss text mark s it first other = by_index es (λ q. IsFrom text mark q → ⊥) (λ k lt p.
     let f : Slot = slot_for es k in
-    let quiet : is_gt (in_order es s f) ≡ false = first.first f (it.order.all k lt) (ap is_lt (cmp_with es f text mark refl p.text_is) ∙ (mark_less (entry_at es k).mark mark ∙ p.from)) in
-    let keys : is_gt (key_cmp (key_at es s) (key_at es f)) ≡ false = then_not_gt (key_cmp (key_at es s) (key_at es f)) (nat_cmp s.index f.index) quiet in
-    let past : is_gt (key_cmp (key_for text mark) (key_at es s)) ≡ false = sym (lt_is_gt key_cmp key_total (key_at es s) (key_for text mark)) ∙ first.fails in
-    other (between es s (key_for text mark) (key_at es f) (sym p.text_is) (ap (λ u. text_cmp (key_for u mark) (key_at es s)) (sym p.text_is)) past keys ∙ p.text_is))
+    let quiet : is_gt (in_order es s f) ≡ false = first.first f (it.order.all k lt) (ap is_lt (cmp_with es f text mark
+    refl p.text_is) ∙ (mark_less (entry_at es k).mark mark ∙ p.from)) in
+    let keys : is_gt (key_cmp (key_at es s) (key_at es f)) ≡ false =
+    then_not_gt (key_cmp (key_at es s) (key_at es f)) (nat_cmp s.index f.index) quiet in
+    let past : is_gt (key_cmp (key_for text mark) (key_at es s)) ≡ false =
+    sym (lt_is_gt key_cmp key_total (key_at es s) (key_for text mark)) ∙ first.fails in
+    other (between es s (key_for text mark) (key_at es f) (sym p.text_is) (ap (λ u. text_cmp (key_for u mark) (key_at
+    es s)) (sym p.text_is)) past keys ∙ p.text_is))
 
 -- ---- steps
 
-pub next_entry : (es : List Entry) (ss : List Slot) (i : ℕ) (s : Slot) → IsOrdered es ss → i < length es → IsFirstOf (in_order es) (λ f. is_le (in_order es f (slot_for es i))) ss s → (entry_at es s.index).text ≡ (entry_at es i).text → IsFirst es (IsAfter (entry_at es i)) (entry_at es s.index)
+pub next_entry : (es : List Entry) (ss : List Slot) (i : ℕ) (s : Slot) → IsOrdered es ss → i < length es →
+    IsFirstOf (in_order es) (λ f. is_le (in_order es f (slot_for es i))) ss s →
+    (entry_at es s.index).text ≡ (entry_at es i).text → IsFirst es (IsAfter (entry_at es i)) (entry_at es s.index)
 next_entry es ss i s it h first same =
     let here : IsSlotOf es (length es) s = slot_in_order es ss s it.order first.stands in
     record {
       stands = entry_stands es s.index here.index;
-      passes = record { text_is = same; later = sym (later_is es s (slot_for es i) it.growing here (one_slot es i h) same) ∙ not_le_gt _ first.fails };
+      passes = record {
+        text_is = same;
+        later = sym (later_is es s (slot_for es i) it.growing here (one_slot es i h)
+            same) ∙ not_le_gt _ first.fails;
+      };
       first = by_index es (λ q. IsAfter (entry_at es i) q → is_later (entry_at es s.index) q ≡ false) (λ k lt p.
           sym (later_is es s (slot_for es k) it.growing here (one_slot es k lt) (same ∙ sym p.text_is))
-          ∙ first.first (slot_for es k) (it.order.all k lt) (gt_not_le _ (later_is es (slot_for es k) (slot_for es i) it.growing (one_slot es k lt) (one_slot es i h) p.text_is ∙ p.later)));
+          ∙ first.first (slot_for es k) (it.order.all k lt) (gt_not_le _ (later_is es (slot_for es k) (slot_for es i)
+          it.growing (one_slot es k lt) (one_slot es i h) p.text_is ∙ p.later)));
     }
 
-pub none_next : (es : List Entry) (ss : List Slot) (i : ℕ) → IsOrdered es ss → i < length es → All (λ f. is_le (in_order es f (slot_for es i)) ≡ true) ss → IsNone es (IsAfter (entry_at es i))
+pub none_next : (es : List Entry) (ss : List Slot) (i : ℕ) → IsOrdered es ss → i < length es →
+    All (λ f. is_le (in_order es f (slot_for es i)) ≡ true) ss → IsNone es (IsAfter (entry_at es i))
 none_next es ss i it h all = by_index es (λ q. IsAfter (entry_at es i) q → ⊥) (λ k lt p.
-    true≢false (sym (All-contains (λ f. is_le (in_order es f (slot_for es i)) ≡ true) ss (slot_for es k) all (it.order.all k lt))
-    ∙ gt_not_le _ (later_is es (slot_for es k) (slot_for es i) it.growing (one_slot es k lt) (one_slot es i h) p.text_is ∙ p.later)))
+    true≢false (sym (All-contains (λ f. is_le (in_order es f (slot_for es i)) ≡ true) ss (slot_for es k) all
+    (it.order.all k lt))
+    ∙ gt_not_le _ (later_is es (slot_for es k) (slot_for es i) it.growing (one_slot es k lt) (one_slot es i h)
+    p.text_is ∙ p.later)))
 
-pub other_next : (es : List Entry) (ss : List Slot) (i : ℕ) (s : Slot) → IsOrdered es ss → i < length es → IsFirstOf (in_order es) (λ f. is_le (in_order es f (slot_for es i))) ss s → ((entry_at es s.index).text ≡ (entry_at es i).text → ⊥) → IsNone es (IsAfter (entry_at es i))
+pub other_next : (es : List Entry) (ss : List Slot) (i : ℕ) (s : Slot) → IsOrdered es ss → i < length es →
+    IsFirstOf (in_order es) (λ f. is_le (in_order es f (slot_for es i))) ss s →
+    ((entry_at es s.index).text ≡ (entry_at es i).text → ⊥) → IsNone es (IsAfter (entry_at es i))
 other_next es ss i s it h first other = by_index es (λ q. IsAfter (entry_at es i) q → ⊥) (λ k lt p.
     let f : Slot = slot_for es k in
     let a : Slot = slot_for es i in
-    let quiet : is_gt (in_order es s f) ≡ false = first.first f (it.order.all k lt) (gt_not_le _ (later_is es f a it.growing (one_slot es k lt) (one_slot es i h) p.text_is ∙ p.later)) in
-    let keys : is_gt (key_cmp (key_at es s) (key_at es f)) ≡ false = then_not_gt (key_cmp (key_at es s) (key_at es f)) (nat_cmp s.index f.index) quiet in
-    let past : is_gt (in_order es a s) ≡ false = lt_not_gt _ (lt_is_gt (in_order es) (in_order_total es) a s ∙ not_le_gt _ first.fails) in
-    let low : is_gt (key_cmp (key_at es a) (key_at es s)) ≡ false = then_not_gt (key_cmp (key_at es a) (key_at es s)) (nat_cmp a.index s.index) past in
-    other (between es s (key_at es a) (key_at es f) (sym p.text_is) (ap (λ u. text_cmp (key_for u (entry_at es i).mark) (key_at es s)) (sym p.text_is)) low keys ∙ p.text_is))
+    let quiet : is_gt (in_order es s f) ≡ false = first.first f (it.order.all k lt) (gt_not_le _ (later_is es f a
+    it.growing (one_slot es k lt) (one_slot es i h) p.text_is ∙ p.later)) in
+    let keys : is_gt (key_cmp (key_at es s) (key_at es f)) ≡ false =
+    then_not_gt (key_cmp (key_at es s) (key_at es f)) (nat_cmp s.index f.index) quiet in
+    let past : is_gt (in_order es a s) ≡ false = lt_not_gt _ (lt_is_gt (in_order es) (in_order_total es) a s
+    ∙ not_le_gt _ first.fails) in
+    let low : is_gt (key_cmp (key_at es a) (key_at es s)) ≡ false =
+    then_not_gt (key_cmp (key_at es a) (key_at es s)) (nat_cmp a.index s.index) past in
+    other (between es s (key_at es a) (key_at es f) (sym p.text_is) (ap (λ u. text_cmp (key_for u (entry_at es i).mark)
+    (key_at es s)) (sym p.text_is)) low keys ∙ p.text_is))
 
-pub previous_entry : (es : List Entry) (ss : List Slot) (i : ℕ) (s : Slot) → IsOrdered es ss → i < length es → IsLastOf (in_order es) (λ f. is_lt (in_order es f (slot_for es i))) ss s → (entry_at es s.index).text ≡ (entry_at es i).text → IsLast es (IsBefore (entry_at es i)) (entry_at es s.index)
+pub previous_entry : (es : List Entry) (ss : List Slot) (i : ℕ) (s : Slot) → IsOrdered es ss → i < length es →
+    IsLastOf (in_order es) (λ f. is_lt (in_order es f (slot_for es i))) ss s →
+    (entry_at es s.index).text ≡ (entry_at es i).text → IsLast es (IsBefore (entry_at es i)) (entry_at es s.index)
 previous_entry es ss i s it h last same =
     let here : IsSlotOf es (length es) s = slot_in_order es ss s it.order last.stands in
     record {
       stands = entry_stands es s.index here.index;
-      passes = record { text_is = same; later = sym (later_is es (slot_for es i) s it.growing (one_slot es i h) here (sym same)) ∙ (sym (lt_is_gt (in_order es) (in_order_total es) s (slot_for es i)) ∙ last.passes) };
+      passes = record {
+        text_is = same;
+        later = sym (later_is es (slot_for es i) s it.growing (one_slot es i h) here
+            (sym same)) ∙ (sym (lt_is_gt (in_order es) (in_order_total es) s (slot_for es i)) ∙ last.passes);
+      };
       last = by_index es (λ q. IsBefore (entry_at es i) q → is_later q (entry_at es s.index) ≡ false) (λ k lt p.
           sym (later_is es (slot_for es k) s it.growing (one_slot es k lt) here (p.text_is ∙ sym same))
-          ∙ last.last (slot_for es k) (it.order.all k lt) (lt_is_gt (in_order es) (in_order_total es) (slot_for es k) (slot_for es i) ∙ (later_is es (slot_for es i) (slot_for es k) it.growing (one_slot es i h) (one_slot es k lt) (sym p.text_is) ∙ p.later)));
+          ∙ last.last (slot_for es k) (it.order.all k lt) (lt_is_gt (in_order es) (in_order_total es) (slot_for es k)
+          (slot_for es i) ∙ (later_is es (slot_for es i) (slot_for es k) it.growing (one_slot es i h) (one_slot es
+          k lt) (sym p.text_is) ∙ p.later)));
     }
 
-pub none_previous : (es : List Entry) (ss : List Slot) (i : ℕ) → IsOrdered es ss → i < length es → All (λ f. is_lt (in_order es f (slot_for es i)) ≡ false) ss → IsNone es (IsBefore (entry_at es i))
+pub none_previous : (es : List Entry) (ss : List Slot) (i : ℕ) → IsOrdered es ss → i < length es →
+    All (λ f. is_lt (in_order es f (slot_for es i)) ≡ false) ss → IsNone es (IsBefore (entry_at es i))
 none_previous es ss i it h all = by_index es (λ q. IsBefore (entry_at es i) q → ⊥) (λ k lt p.
-    true≢false (sym (lt_is_gt (in_order es) (in_order_total es) (slot_for es k) (slot_for es i) ∙ (later_is es (slot_for es i) (slot_for es k) it.growing (one_slot es i h) (one_slot es k lt) (sym p.text_is) ∙ p.later))
+    true≢false (sym (lt_is_gt (in_order es) (in_order_total es) (slot_for es k) (slot_for es i)
+    ∙ (later_is es (slot_for es i) (slot_for es k) it.growing (one_slot es i h) (one_slot es k lt) (sym p.text_is)
+    ∙ p.later))
     ∙ All-contains (λ f. is_lt (in_order es f (slot_for es i)) ≡ false) ss (slot_for es k) all (it.order.all k lt)))
 
-pub other_previous : (es : List Entry) (ss : List Slot) (i : ℕ) (s : Slot) → IsOrdered es ss → i < length es → IsLastOf (in_order es) (λ f. is_lt (in_order es f (slot_for es i))) ss s → ((entry_at es s.index).text ≡ (entry_at es i).text → ⊥) → IsNone es (IsBefore (entry_at es i))
+pub other_previous : (es : List Entry) (ss : List Slot) (i : ℕ) (s : Slot) → IsOrdered es ss → i < length es →
+    IsLastOf (in_order es) (λ f. is_lt (in_order es f (slot_for es i))) ss s →
+    ((entry_at es s.index).text ≡ (entry_at es i).text → ⊥) → IsNone es (IsBefore (entry_at es i))
 other_previous es ss i s it h last other = by_index es (λ q. IsBefore (entry_at es i) q → ⊥) (λ k lt p.
     let f : Slot = slot_for es k in
     let a : Slot = slot_for es i in
-    let quiet : is_gt (in_order es f s) ≡ false = last.last f (it.order.all k lt) (lt_is_gt (in_order es) (in_order_total es) f a ∙ (later_is es a f it.growing (one_slot es i h) (one_slot es k lt) (sym p.text_is) ∙ p.later)) in
-    let low : is_gt (key_cmp (key_at es f) (key_at es s)) ≡ false = then_not_gt (key_cmp (key_at es f) (key_at es s)) (nat_cmp f.index s.index) quiet in
+    let quiet : is_gt (in_order es f s) ≡ false = last.last f (it.order.all k lt) (lt_is_gt (in_order es)
+    (in_order_total es) f a ∙ (later_is es a f it.growing (one_slot es i h) (one_slot es k lt) (sym p.text_is)
+    ∙ p.later)) in
+    let low : is_gt (key_cmp (key_at es f) (key_at es s)) ≡ false =
+    then_not_gt (key_cmp (key_at es f) (key_at es s)) (nat_cmp f.index s.index) quiet in
     let past : is_gt (in_order es s a) ≡ false = lt_not_gt _ last.passes in
-    let high : is_gt (key_cmp (key_at es s) (key_at es a)) ≡ false = then_not_gt (key_cmp (key_at es s) (key_at es a)) (nat_cmp s.index a.index) past in
-    other (between es s (key_at es f) (key_at es a) p.text_is (ap (λ u. text_cmp (key_for u (entry_at es i).mark) (key_at es s)) p.text_is) low high))
+    let high : is_gt (key_cmp (key_at es s) (key_at es a)) ≡ false =
+    then_not_gt (key_cmp (key_at es s) (key_at es a)) (nat_cmp s.index a.index) past in
+    other (between es s (key_at es f) (key_at es a) p.text_is (ap (λ u. text_cmp (key_for u (entry_at es i).mark)
+    (key_at es s)) p.text_is) low high))
 
 -- ---- slots apart
 
@@ -334,7 +433,8 @@ strict_order es n ss it i j d h k =
       | inl good ↦ good
       | inr bad ↦
           let tie : in_order es a b ≡ Equal = tie_of (in_order es a b) (it.ranked i j d h k) bad in
-          let indices : nat_cmp a.index b.index ≡ Equal = then_tie_left (key_cmp (key_at es a) (key_at es b)) (nat_cmp a.index b.index) tie in
+          let indices : nat_cmp a.index b.index ≡ Equal = then_tie_left (key_cmp (key_at es a) (key_at es b)) (nat_cmp
+          a.index b.index) tie in
           absurd (true≢false (sym (tie_is_same a.index b.index indices) ∙ it.distinct i j d h k))
     ]
 
@@ -345,16 +445,21 @@ lower_apart : (n i : ℕ) → i < n → (n == i) ≡ false
 lower_apart n i h = grind (arith, nat_tests)
 
 -- slots that are apart stay so when they change places
-pub apart_moved : (ss ts : List Slot) → IsPermutation ss ts → AllPairs (λ a b. same_index a b ≡ false) ss → AllPairs (λ a b. same_index a b ≡ false) ts
-apart_moved ss ts moved it i j d h k = apart_from_distinct same_index ts i j d (IsDistinct-IsPermutation same_index same_index_flips ss ts moved (IsDistinct-from_apart same_index ss it)) h k
+pub apart_moved : (ss ts : List Slot) → IsPermutation ss ts → AllPairs (λ a b. same_index a b ≡ false) ss →
+    AllPairs (λ a b. same_index a b ≡ false) ts
+apart_moved ss ts moved it i j d h k = apart_from_distinct same_index ts i j d (IsDistinct-IsPermutation same_index
+    same_index_flips ss ts moved (IsDistinct-from_apart same_index ss it)) h k
 
-pub new_apart : (es : List Entry) (n : ℕ) (ss : List Slot) → All (IsSlotOf es n) ss → AllPairs (λ a b. same_index a b ≡ false) ss → AllPairs (λ a b. same_index a b ≡ false) (slot_for es n ∷ ss)
-new_apart es n ss all it = AllPairs-cons (λ a b. same_index a b ≡ false) (slot_for es n) ss (All-weaker (IsSlotOf es n) (λ y. same_index (slot_for es n) y ≡ false) (λ s w. lower_apart n s.index w.index) ss all) it
+pub new_apart : (es : List Entry) (n : ℕ) (ss : List Slot) → All (IsSlotOf es n) ss →
+    AllPairs (λ a b. same_index a b ≡ false) ss → AllPairs (λ a b. same_index a b ≡ false) (slot_for es n ∷ ss)
+new_apart es n ss all it = AllPairs-cons (λ a b. same_index a b ≡ false) (slot_for es n) ss (All-weaker (IsSlotOf es n)
+    (λ y. same_index (slot_for es n) y ≡ false) (λ s w. lower_apart n s.index w.index) ss all) it
 
 -- ---- more entries and fewer
 
 -- the order over other entries that are the same as far as it reaches
-pub carried : (es fs : List Entry) (n : ℕ) (ss : List Slot) → ((q : ℕ) → q < n → entry_at fs q ≡ entry_at es q) → IsOrderOf es n ss → IsOrderOf fs n ss
+pub carried : (es fs : List Entry) (n : ℕ) (ss : List Slot) → ((q : ℕ) → q < n → entry_at fs q ≡ entry_at es q) →
+    IsOrderOf es n ss → IsOrderOf fs n ss
 carried es fs n ss same it = record {
   ranked = λ i j d h k.
       let a : (get_or ss i d).index < n = (it.within i d (omega arith)).index in
@@ -362,8 +467,19 @@ carried es fs n ss same it = record {
       rw (same (get_or ss i d).index a, same (get_or ss j d).index b) (it.ranked i j d h k);
   within = λ i d h.
       let w : IsSlotOf es n (get_or ss i d) = it.within i d h in
-      record { index = w.index; slot = w.slot ∙ ap (λ (e : Entry). record { head = head_of e.text; index = (get_or ss i d).index }) (sym (same (get_or ss i d).index w.index)) };
-  all = λ q h. subst (Contains ss) (ap (λ (e : Entry). record { head = head_of e.text; index = q }) (sym (same q h))) (it.all q h);
+      record {
+        index = w.index;
+        slot = w.slot ∙ ap (λ (e : Entry). record {
+          head = head_of e.text;
+          index =
+              (get_or ss i d).index;
+        }) (sym (same (get_or ss i d).index w.index));
+      };
+  all = λ q h. subst (Contains ss) (ap (λ (e : Entry). record {
+    head = head_of e.text;
+    index =
+        q;
+  }) (sym (same q h))) (it.all q h);
   distinct = it.distinct;
 }
 
@@ -386,15 +502,21 @@ contains_tail : (x : Slot) (xs : List Slot) (q : Slot) → Contains xs q → Con
 contains_tail x xs q (k, lt, e) = (suc k, omega arith, e)
 
 -- with one more
-pub order_more : (es : List Entry) (n : ℕ) (ss ts : List Slot) → IsOrderOf es n ss → IsRanked (in_order es) ts → IsPermutation (slot_for es n ∷ ss) ts → IsOrderOf es (n + 1) ts
+pub order_more : (es : List Entry) (n : ℕ) (ss ts : List Slot) → IsOrderOf es n ss → IsRanked (in_order es) ts →
+    IsPermutation (slot_for es n ∷ ss) ts → IsOrderOf es (n + 1) ts
 order_more es n ss ts it ranked moved = record {
   ranked = ranked;
   within = All-moved (IsSlotOf es (n + 1)) (slot_for es n ∷ ss) ts moved
       (All-cons (IsSlotOf es (n + 1)) (slot_for es n) ss (record { index = omega arith; slot = refl })
-      (All-weaker (IsSlotOf es n) (IsSlotOf es (n + 1)) (λ s w. let lt : s.index < n = w.index in record { index = omega arith; slot = w.slot }) ss it.within));
+      (All-weaker (IsSlotOf es n) (IsSlotOf es (n + 1)) (λ s w. let lt : s.index < n = w.index in record {
+        index =
+            omega arith;
+        slot = w.slot;
+      }) ss it.within));
   all = λ q h. Contains-permutation (slot_for es n ∷ ss) ts (slot_for es q) moved (elim (cases_lt q n) [
     | inl low ↦ contains_tail (slot_for es n) ss (slot_for es q) (it.all q low)
-    | inr high ↦ let e : n ≡ q = omega arith in subst (λ m. Contains (slot_for es n ∷ ss) (slot_for es m)) e (contains_head (slot_for es n) ss)
+    | inr high ↦ let e : n ≡ q = omega arith in subst (λ m. Contains (slot_for es n ∷ ss) (slot_for es m)) e
+        (contains_head (slot_for es n) ss)
   ]);
   distinct = apart_moved (slot_for es n ∷ ss) ts moved (new_apart es n ss it.within it.distinct);
 }
@@ -415,15 +537,19 @@ lt_holds q m e = grind (arith, nat_tests)
 holds_lt : (q m : ℕ) → q < m → nat_lt q m ≡ true
 holds_lt q m h = grind (arith, nat_tests)
 
-pub order_fewer : (es : List Entry) (n m : ℕ) (ss : List Slot) → IsOrderOf es n ss → IsOrderOf es (min m n) (filter (λ s. nat_lt s.index m) ss)
+pub order_fewer : (es : List Entry) (n m : ℕ) (ss : List Slot) → IsOrderOf es n ss →
+    IsOrderOf es (min m n) (filter (λ s. nat_lt s.index m) ss)
 order_fewer es n m ss it = record {
   ranked = AllPairs-filter (λ a b. is_gt (in_order es a b) ≡ false) (λ s. nat_lt s.index m) ss it.ranked;
   within = λ k d h.
-      let w : IsSlotOf es n (get_or (filter (λ s. nat_lt s.index m) ss) k d) = All-filter (λ s. nat_lt s.index m) (IsSlotOf es n) ss it.within k d h in
+      let w : IsSlotOf es n (get_or (filter (λ s. nat_lt s.index m) ss) k d) =
+      All-filter (λ s. nat_lt s.index m) (IsSlotOf es n) ss it.within k d h in
       let a : (get_or (filter (λ s. nat_lt s.index m) ss) k d).index < n = w.index in
-      let b : (get_or (filter (λ s. nat_lt s.index m) ss) k d).index < m = lt_holds _ m (filter_passes (λ s. nat_lt s.index m) ss k d h) in
+      let b : (get_or (filter (λ s. nat_lt s.index m) ss) k d).index < m =
+      lt_holds _ m (filter_passes (λ s. nat_lt s.index m) ss k d h) in
       record { index = omega arith; slot = w.slot };
-  all = λ q h. Contains-filter (λ s. nat_lt s.index m) ss (slot_for es q) (it.all q (omega arith)) (holds_lt q m (omega arith));
+  all = λ q h. Contains-filter (λ s. nat_lt s.index m) ss (slot_for es q) (it.all q (omega arith)) (holds_lt q m (omega
+      arith));
   distinct = AllPairs-filter (λ a b. same_index a b ≡ false) (λ s. nat_lt s.index m) ss it.distinct;
 }
 
@@ -436,21 +562,26 @@ entry_more : (es : List Entry) (e : Entry) (q : ℕ) → q < length es → entry
 entry_more es e q h = get_or_append_left es (e ∷ []) no_entry q h
 
 -- the slots stay in order where one more entry stands behind
-pub order_kept : (es fs : List Entry) (ss ts : List Slot) (e : Entry) (n : ℕ) → IsOrdered es ss → fs ≡ es ++ e ∷ [] → ts ≡ ss → n ≡ length es → IsOrderOf fs n ts
+pub order_kept : (es fs : List Entry) (ss ts : List Slot) (e : Entry) (n : ℕ) → IsOrdered es ss → fs ≡ es ++ e ∷ [] →
+    ts ≡ ss → n ≡ length es → IsOrderOf fs n ts
 order_kept es fs ss ts e n it f t l = rw (f, t, l) (carried es (es ++ e ∷ []) (length es) ss (entry_more es e) it.order)
 
-pub growing_more : (es : List Entry) (e : Entry) → IsGrowing es → All (λ f. f.position < e.position) es → IsGrowing (es ++ e ∷ [])
+pub growing_more : (es : List Entry) (e : Entry) → IsGrowing es → All (λ f. f.position < e.position) es →
+    IsGrowing (es ++ e ∷ [])
 growing_more es e growing all i j d h k =
     let more : length (es ++ e ∷ []) ≡ length es + 1 = length-append es (e ∷ []) in
     elim (cases_lt j (length es)) [
-      | inl low ↦ rw (get_or_append_left es (e ∷ []) d i (omega arith), get_or_append_left es (e ∷ []) d j low) (growing i j d h low)
+      | inl low ↦ rw (get_or_append_left es (e ∷ []) d i (omega arith), get_or_append_left es (e ∷ []) d j low)
+          (growing i j d h low)
       | inr high ↦
           let l : i < length es = omega arith in
           let at : get_or (es ++ e ∷ []) j d ≡ e = get_or_at es e [] d j (omega arith) in
           rw (get_or_append_left es (e ∷ []) d i l, at) (all i d l)
     ]
 
-pub ordered_more : (es fs : List Entry) (ss ts : List Slot) (e : Entry) (n : ℕ) → IsOrdered es ss → fs ≡ es ++ e ∷ [] → n ≡ length es → All (λ f. f.position < e.position) es → IsOrderOf fs (n + 1) ts → IsOrdered fs ts
+pub ordered_more : (es fs : List Entry) (ss ts : List Slot) (e : Entry) (n : ℕ) → IsOrdered es ss →
+    fs ≡ es ++ e ∷ [] → n ≡ length es → All (λ f. f.position < e.position) es → IsOrderOf fs (n + 1) ts →
+    IsOrdered fs ts
 ordered_more es fs ss ts e n it f l all order =
     let more : length (es ++ e ∷ []) ≡ length es + 1 = length-append es (e ∷ []) in
     let same : length fs ≡ n + 1 = ap length f ∙ (more ∙ ap (λ m. m + 1) (sym l)) in
@@ -460,31 +591,37 @@ ordered_more es fs ss ts e n it f l all order =
     }
 
 -- fewer entries
-pub ordered_fewer : (es fs : List Entry) (ss ts : List Slot) (m : ℕ) → IsOrdered es ss → fs ≡ take m es → ts ≡ filter (λ s. nat_lt s.index m) ss → IsOrdered fs ts
+pub ordered_fewer : (es fs : List Entry) (ss ts : List Slot) (m : ℕ) → IsOrdered es ss → fs ≡ take m es →
+    ts ≡ filter (λ s. nat_lt s.index m) ss → IsOrdered fs ts
 ordered_fewer es fs ss ts m it f t = rw (f, t) record {
   growing = λ i j d h k.
       let l : length (take m es) ≡ min m (length es) = length-take m es in
       rw (get_or-take m es i d (omega arith), get_or-take m es j d (omega arith)) (it.growing i j d h (omega arith));
-  order = rw (length-take m es) (carried es (take m es) (min m (length es)) (filter (λ s. nat_lt s.index m) ss) (λ q h. get_or-take m es q no_entry (omega arith)) (order_fewer es (length es) m ss it.order));
+  order = rw (length-take m es) (carried es (take m es) (min m (length es)) (filter (λ s. nat_lt s.index m) ss) (λ q h.
+      get_or-take m es q no_entry (omega arith)) (order_fewer es (length es) m ss it.order));
 }
 
 -- ---- all slots at once
 
 slots_within : (es : List Entry) (n m : ℕ) → n ≤ m → All (IsSlotOf es m) (slots_of es n)
 slots_within es zero m h = λ k d lt. absurd (omega arith)
-slots_within es (suc n) m h = All-push (IsSlotOf es m) (slots_of es n) (slot_for es n) (slots_within es n m (omega arith)) (record { index = omega arith; slot = refl })
+slots_within es (suc n) m h = All-push (IsSlotOf es m) (slots_of es n) (slot_for es n) (slots_within es n m (omega
+    arith)) (record { index = omega arith; slot = refl })
 
 pub length-slots_of : (es : List Entry) (n : ℕ) → length (slots_of es n) ≡ n
 length-slots_of es zero = refl
-length-slots_of es (suc n) = length-append (slots_of es n) (slot_for es n ∷ []) ∙ (ap (λ m. m + 1) (length-slots_of es n) ∙ omega arith)
+length-slots_of es (suc n) = length-append (slots_of es n) (slot_for es n ∷ [])
+    ∙ (ap (λ m. m + 1) (length-slots_of es n) ∙ omega arith)
 
 slot_at : (es : List Entry) (n q : ℕ) (d : Slot) → q < n → get_or (slots_of es n) q d ≡ slot_for es q
 slot_at es zero q d h = absurd (omega arith)
 slot_at es (suc n) q d h = elim (cases_lt q n) [
-  | inl low ↦ get_or_append_left (slots_of es n) (slot_for es n ∷ []) d q (subst (λ m. q < m) (sym (length-slots_of es n)) low) ∙ slot_at es n q d low
+  | inl low ↦ get_or_append_left (slots_of es n) (slot_for es n ∷ []) d q (subst (λ m. q < m) (sym (length-slots_of es
+      n)) low) ∙ slot_at es n q d low
   | inr high ↦
       let e : q ≡ n = omega arith in
-      ap (λ m. get_or (slots_of es (suc n)) m d) e ∙ (get_or_at (slots_of es n) (slot_for es n) [] d n (length-slots_of es n) ∙ ap (slot_for es) (sym e))
+      ap (λ m. get_or (slots_of es (suc n)) m d) e ∙ (get_or_at (slots_of es n) (slot_for es n) [] d n (length-slots_of
+      es n) ∙ ap (slot_for es) (sym e))
 ]
 
 slots_all : (es : List Entry) (n q : ℕ) → q < n → Contains (slots_of es n) (slot_for es q)
@@ -493,12 +630,15 @@ slots_all es n q h = (q, subst (λ m. q < m) (sym (length-slots_of es n)) h, slo
 slots_apart : (es : List Entry) (n : ℕ) → AllPairs (λ a b. same_index a b ≡ false) (slots_of es n)
 slots_apart es n i j d h k =
     let l : length (slots_of es n) ≡ n = length-slots_of es n in
-    rw (slot_at es n i d (omega arith), slot_at es n j d (omega arith)) (same_index_flips (slot_for es i) (slot_for es j) ∙ lower_apart j i h)
+    rw (slot_at es n i d (omega arith), slot_at es n j d (omega arith)) (same_index_flips (slot_for es i) (slot_for es
+    j) ∙ lower_apart j i h)
 
-pub order_of_all : (es : List Entry) (ss : List Slot) → IsRanked (in_order es) ss → IsPermutation (slots_of es (length es)) ss → IsOrderOf es (length es) ss
+pub order_of_all : (es : List Entry) (ss : List Slot) → IsRanked (in_order es) ss →
+    IsPermutation (slots_of es (length es)) ss → IsOrderOf es (length es) ss
 order_of_all es ss ranked moved = record {
   ranked = ranked;
-  within = All-moved (IsSlotOf es (length es)) (slots_of es (length es)) ss moved (slots_within es (length es) (length es) (omega arith));
+  within = All-moved (IsSlotOf es (length es)) (slots_of es (length es)) ss moved (slots_within es (length es) (length
+      es) (omega arith));
   all = λ q h. Contains-permutation (slots_of es (length es)) ss (slot_for es q) moved (slots_all es (length es) q h);
   distinct = apart_moved (slots_of es (length es)) ss moved (slots_apart es (length es));
 }

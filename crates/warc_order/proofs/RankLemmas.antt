@@ -20,7 +20,11 @@ abbrev pub EndsAt : (Slot → Bool) → List Slot → ℕ → Type 0
 EndsAt t xs c = IsPartitionPoint (λ p. t p ≡ true) (λ p. t p ≡ false) xs c
 
 front_rest : (t : Slot → Bool) (x : Slot) (xs : List Slot) (c : ℕ) → EndsAt t (x ∷ xs) (suc c) → EndsAt t xs c
-front_rest t x xs c it = (λ k d low lt. it.0 (suc k) d (omega arith) (omega arith), λ k d ge lt. it.1 (suc k) d (omega arith) (omega arith))
+front_rest t x xs c it = (
+  λ k d low lt. it.0 (suc k) d (omega arith) (omega arith),
+  λ k d ge lt. it.1 (suc k) d (omega
+      arith) (omega arith),
+)
 
 back_rest : (t : Slot → Bool) (x : Slot) (xs : List Slot) → EndsAt t (x ∷ xs) 0 → EndsAt t xs 0
 back_rest t x xs it = (λ k d low lt. absurd (omega arith), λ k d ge lt. it.1 (suc k) d (omega arith) (omega arith))
@@ -37,19 +41,25 @@ last_of_first found xs zero = found
 last_of_first found xs (suc c) = slice_get xs c
 
 -- the last that passes
-pub last_from-end : (t : Slot → Bool) (found : Option Slot) (xs : List Slot) (c : ℕ) → c ≤ length xs → EndsAt t xs c → last_from t found xs ≡ last_of_first found xs c
+pub last_from-end : (t : Slot → Bool) (found : Option Slot) (xs : List Slot) (c : ℕ) → c ≤ length xs → EndsAt t xs c →
+    last_from t found xs ≡ last_of_first found xs c
 last_from-end t found [] zero le it = refl
 last_from-end t found [] (suc c) le it = absurd (omega arith)
-last_from-end t found (x ∷ xs) zero le it = rw (it.1 0 x (omega arith) (omega arith)) (last_from-end t found xs zero (omega arith) (back_rest t x xs it))
-last_from-end t found (x ∷ xs) (suc zero) le it = rw (it.0 0 x (omega arith) (omega arith)) (last_from-end t (Some x) xs zero (omega arith) (front_rest t x xs 0 it))
-last_from-end t found (x ∷ xs) (suc (suc c)) le it = rw (it.0 0 x (omega arith) (omega arith)) (last_from-end t (Some x) xs (suc c) (omega arith) (front_rest t x xs (suc c) it))
+last_from-end t found (x ∷ xs) zero le it = rw (it.1 0 x (omega arith) (omega arith)) (last_from-end t found xs zero
+    (omega arith) (back_rest t x xs it))
+last_from-end t found (x ∷ xs) (suc zero) le it = rw (it.0 0 x (omega arith) (omega arith)) (last_from-end t (Some x)
+    xs zero (omega arith) (front_rest t x xs 0 it))
+last_from-end t found (x ∷ xs) (suc (suc c)) le it = rw (it.0 0 x (omega arith) (omega arith)) (last_from-end t (Some
+    x) xs (suc c) (omega arith) (front_rest t x xs (suc c) it))
 
 -- one more index goes where the test of comparing less ends
-pub placed-end : (compare : Slot → Slot → Ordering) (xs : List Slot) (q : Slot) (c : ℕ) → c ≤ length xs → EndsAt (λ p. is_lt (compare p q)) xs c → placed compare xs q ≡ insert xs c q
+pub placed-end : (compare : Slot → Slot → Ordering) (xs : List Slot) (q : Slot) (c : ℕ) → c ≤ length xs →
+    EndsAt (λ p. is_lt (compare p q)) xs c → placed compare xs q ≡ insert xs c q
 placed-end compare [] q zero le it = refl
 placed-end compare [] q (suc c) le it = absurd (omega arith)
 placed-end compare (x ∷ xs) q zero le it = rw (it.1 0 x (omega arith) (omega arith)) refl
-placed-end compare (x ∷ xs) q (suc c) le it = rw (it.0 0 x (omega arith) (omega arith)) (ap (λ us. x ∷ us) (placed-end compare xs q c (omega arith) (front_rest (λ p. is_lt (compare p q)) x xs c it)))
+placed-end compare (x ∷ xs) q (suc c) le it = rw (it.0 0 x (omega arith) (omega arith)) (ap (λ us. x ∷ us) (placed-end
+    compare xs q c (omega arith) (front_rest (λ p. is_lt (compare p q)) x xs c it)))
 
 -- ---- orders
 
@@ -59,7 +69,8 @@ lt_reverse Equal = refl
 lt_reverse Greater = refl
 
 -- one is less where the other is greater
-pub lt_is_gt : (compare : Slot → Slot → Ordering) → IsTotalOrder compare → (a b : Slot) → is_lt (compare a b) ≡ is_gt (compare b a)
+pub lt_is_gt : (compare : Slot → Slot → Ordering) → IsTotalOrder compare → (a b : Slot) →
+    is_lt (compare a b) ≡ is_gt (compare b a)
 lt_is_gt compare total a b = ap is_lt (total.antisymm a b) ∙ lt_reverse (compare b a)
 
 not_both : (o : Ordering) → is_lt o ≡ true → is_gt o ≡ false
@@ -68,13 +79,15 @@ not_both Equal e = refl
 not_both Greater e = absurd (true≢false (sym e))
 
 -- the test of comparing less ends for good, on indices in the order
-pub ranked_ends : (compare : Slot → Slot → Ordering) (xs : List Slot) (q : Slot) → IsTotalOrder compare → IsRanked compare xs → IsPartitionedBy (λ p. is_lt (compare p q)) xs
+pub ranked_ends : (compare : Slot → Slot → Ordering) (xs : List Slot) (q : Slot) → IsTotalOrder compare →
+    IsRanked compare xs → IsPartitionedBy (λ p. is_lt (compare p q)) xs
 ranked_ends compare xs q total ranked i j d le lt hit = elim (cases_lt i j) [
   | inl low ↦ elim (cases_Bool (is_lt (compare (get_or xs i d) q))) [
     | inl good ↦ good
     | inr bad ↦
         let back : is_gt (compare q (get_or xs i d)) ≡ false = sym (lt_is_gt compare total (get_or xs i d) q) ∙ bad in
-        let far : is_gt (compare q (get_or xs j d)) ≡ false = upto total q (get_or xs i d) (get_or xs j d) back (ranked i j d low lt) in
+        let far : is_gt (compare q (get_or xs j d)) ≡ false = upto total q (get_or xs i d) (get_or xs j d) back (ranked
+        i j d low lt) in
         absurd (true≢false (sym hit ∙ (lt_is_gt compare total (get_or xs j d) q ∙ far)))
   ]
   | inr high ↦
@@ -93,7 +106,8 @@ from_le Equal e = refl
 from_le Greater e = absurd (true≢false (sym e))
 
 -- the test of not coming behind ends for good too
-pub upto_ends : (compare : Slot → Slot → Ordering) (xs : List Slot) (q : Slot) → IsTotalOrder compare → IsRanked compare xs → IsPartitionedBy (λ p. is_le (compare p q)) xs
+pub upto_ends : (compare : Slot → Slot → Ordering) (xs : List Slot) (q : Slot) → IsTotalOrder compare →
+    IsRanked compare xs → IsPartitionedBy (λ p. is_le (compare p q)) xs
 upto_ends compare xs q total ranked i j d le lt hit = elim (cases_lt i j) [
   | inl low ↦ le_from _ (upto total (get_or xs i d) (get_or xs j d) q (ranked i j d low lt) (from_le _ hit))
   | inr high ↦
@@ -101,36 +115,44 @@ upto_ends compare xs q total ranked i j d le lt hit = elim (cases_lt i j) [
       ap (λ n. is_le (compare (get_or xs n d) q)) (sym e) ∙ hit
 ]
 
-ranked_head : (compare : Slot → Slot → Ordering) (x : Slot) (xs : List Slot) → IsRanked compare (x ∷ xs) → All (λ y. is_gt (compare x y) ≡ false) xs
+ranked_head : (compare : Slot → Slot → Ordering) (x : Slot) (xs : List Slot) → IsRanked compare (x ∷ xs) →
+    All (λ y. is_gt (compare x y) ≡ false) xs
 ranked_head compare x xs ranked k d h = ranked 0 (suc k) d (omega arith) (omega arith)
 
-ranked_tail : (compare : Slot → Slot → Ordering) (x : Slot) (xs : List Slot) → IsRanked compare (x ∷ xs) → IsRanked compare xs
+ranked_tail : (compare : Slot → Slot → Ordering) (x : Slot) (xs : List Slot) → IsRanked compare (x ∷ xs) →
+    IsRanked compare xs
 ranked_tail compare x xs ranked i j d h k = ranked (suc i) (suc j) d (omega arith) (omega arith)
 
-All-placed : (compare : Slot → Slot → Ordering) (P : Slot → Type 0) (xs : List Slot) (q : Slot) → All P xs → P q → All P (placed compare xs q)
+All-placed : (compare : Slot → Slot → Ordering) (P : Slot → Type 0) (xs : List Slot) (q : Slot) → All P xs → P q →
+    All P (placed compare xs q)
 All-placed compare P [] q all one = All-cons P q [] one all
 All-placed compare P (x ∷ xs) q all one = elim (cases_Bool (is_lt (compare x q))) [
-  | inl before ↦ rw before (All-cons P x (placed compare xs q) (All-head P x xs all) (All-placed compare P xs q (All-tail P x xs all) one))
+  | inl before ↦ rw before (All-cons P x (placed compare xs q) (All-head P x xs all) (All-placed compare P xs q
+      (All-tail P x xs all) one))
   | inr behind ↦ rw behind (All-cons P q (x ∷ xs) one all)
 ]
 
 -- they stay in the order
-pub ranked_placed : (compare : Slot → Slot → Ordering) → IsTotalOrder compare → (xs : List Slot) (q : Slot) → IsRanked compare xs → IsRanked compare (placed compare xs q)
+pub ranked_placed : (compare : Slot → Slot → Ordering) → IsTotalOrder compare → (xs : List Slot) (q : Slot) →
+    IsRanked compare xs → IsRanked compare (placed compare xs q)
 ranked_placed compare total [] q ranked = λ i j d h k. absurd (omega arith)
 ranked_placed compare total (x ∷ xs) q ranked = elim (cases_Bool (is_lt (compare x q))) [
   | inl before ↦
       rw before (AllPairs-cons (λ a b. is_gt (compare a b) ≡ false) x (placed compare xs q)
-      (All-placed compare (λ y. is_gt (compare x y) ≡ false) xs q (ranked_head compare x xs ranked) (not_both (compare x q) before))
+      (All-placed compare (λ y. is_gt (compare x y) ≡ false) xs q (ranked_head compare x xs ranked) (not_both (compare
+      x q) before))
       (ranked_placed compare total xs q (ranked_tail compare x xs ranked)))
   | inr behind ↦
       let first : is_gt (compare q x) ≡ false = sym (lt_is_gt compare total x q) ∙ behind in
       rw behind (AllPairs-cons (λ a b. is_gt (compare a b) ≡ false) q (x ∷ xs)
-      (All-cons (λ y. is_gt (compare q y) ≡ false) x xs first (All-weaker (λ y. is_gt (compare x y) ≡ false) (λ y. is_gt (compare q y) ≡ false) (λ y h. upto total q x y first h) xs (ranked_head compare x xs ranked)))
+      (All-cons (λ y. is_gt (compare q y) ≡ false) x xs first (All-weaker (λ y. is_gt (compare x y) ≡ false) (λ y.
+      is_gt (compare q y) ≡ false) (λ y h. upto total q x y first h) xs (ranked_head compare x xs ranked)))
       ranked)
 ]
 
 -- nothing is lost, and nothing else added
-pub placed_members : (compare : Slot → Slot → Ordering) (xs : List Slot) (q : Slot) → IsPermutation (q ∷ xs) (placed compare xs q)
+pub placed_members : (compare : Slot → Slot → Ordering) (xs : List Slot) (q : Slot) →
+    IsPermutation (q ∷ xs) (placed compare xs q)
 placed_members compare [] q = IsPermutation-refl (q ∷ [])
 placed_members compare (x ∷ xs) q = elim (cases_Bool (is_lt (compare x q))) [
   | inl before ↦
@@ -160,7 +182,8 @@ contains_tail : (x : Slot) (xs : List Slot) (q : Slot) → Contains xs q → Con
 contains_tail x xs q (k, lt, e) = (suc k, omega arith, e)
 
 -- the first of a list that fails is the first in the order
-first_at_head : (compare : Slot → Slot → Ordering) → IsTotalOrder compare → (t : Slot → Bool) (x : Slot) (xs : List Slot) → IsRanked compare (x ∷ xs) → t x ≡ false → IsFirstOf compare t (x ∷ xs) x
+first_at_head : (compare : Slot → Slot → Ordering) → IsTotalOrder compare → (t : Slot →
+    Bool) (x : Slot) (xs : List Slot) → IsRanked compare (x ∷ xs) → t x ≡ false → IsFirstOf compare t (x ∷ xs) x
 first_at_head compare total t x xs ranked miss = record {
   stands = contains_head x xs;
   fails = miss;
@@ -170,7 +193,8 @@ first_at_head compare total t x xs ranked miss = record {
   ];
 }
 
-first_behind : (compare : Slot → Slot → Ordering) (t : Slot → Bool) (x : Slot) (xs : List Slot) (p : Slot) → t x ≡ true → IsFirstOf compare t xs p → IsFirstOf compare t (x ∷ xs) p
+first_behind : (compare : Slot → Slot → Ordering) (t : Slot → Bool) (x : Slot) (xs : List Slot) (p : Slot) →
+    t x ≡ true → IsFirstOf compare t xs p → IsFirstOf compare t (x ∷ xs) p
 first_behind compare t x xs p hit it = record {
   stands = contains_tail x xs p it.stands;
   fails = it.fails;
@@ -180,11 +204,13 @@ first_behind compare t x xs p hit it = record {
   ];
 }
 
-pub first_found : (compare : Slot → Slot → Ordering) → IsTotalOrder compare → (t : Slot → Bool) (xs : List Slot) → IsRanked compare xs → (p : Slot) → find (λ x. not (t x)) xs ≡ Some p → IsFirstOf compare t xs p
+pub first_found : (compare : Slot → Slot → Ordering) → IsTotalOrder compare → (t : Slot → Bool) (xs : List Slot) →
+    IsRanked compare xs → (p : Slot) → find (λ x. not (t x)) xs ≡ Some p → IsFirstOf compare t xs p
 first_found compare total t [] ranked p e = cc
 first_found compare total t (x ∷ xs) ranked p e = elim (cases_Bool (t x)) [
   | inl hit ↦
-      let f : find (λ x. not (t x)) xs ≡ Some p = sym (ap (λ b. cond (not b) (Some x) (find (λ x. not (t x)) xs)) hit) ∙ e in
+      let f : find (λ x. not (t x)) xs ≡ Some p = sym (ap (λ b. cond (not b) (Some x) (find (λ x. not (t x)) xs)) hit)
+      ∙ e in
       first_behind compare t x xs p hit (first_found compare total t xs (ranked_tail compare x xs ranked) p f)
   | inr miss ↦
       let f : Some x ≡ Some p = sym (ap (λ b. cond (not b) (Some x) (find (λ x. not (t x)) xs)) miss) ∙ e in
@@ -196,7 +222,8 @@ pub none_found : (t : Slot → Bool) (xs : List Slot) → find (λ x. not (t x))
 none_found t [] e = λ k d h. absurd (omega arith)
 none_found t (x ∷ xs) e = elim (cases_Bool (t x)) [
   | inl hit ↦
-      let f : find (λ x. not (t x)) xs ≡ None = sym (ap (λ b. cond (not b) (Some x) (find (λ x. not (t x)) xs)) hit) ∙ e in
+      let f : find (λ x. not (t x)) xs ≡ None = sym (ap (λ b. cond (not b) (Some x) (find (λ x. not (t x)) xs)) hit)
+      ∙ e in
       All-cons (λ x. t x ≡ true) x xs hit (none_found t xs f)
   | inr miss ↦
       let f : Some x ≡ None = sym (ap (λ b. cond (not b) (Some x) (find (λ x. not (t x)) xs)) miss) ∙ e in
@@ -204,7 +231,9 @@ none_found t (x ∷ xs) e = elim (cases_Bool (t x)) [
 ]
 
 -- the last of a list that passes is the last in the order
-last_with : (compare : Slot → Slot → Ordering) → IsTotalOrder compare → (t : Slot → Bool) (f : Slot) (xs : List Slot) → IsRanked compare (f ∷ xs) → t f ≡ true → (p : Slot) → last_from t (Some f) xs ≡ Some p → IsLastOf compare t (f ∷ xs) p
+last_with : (compare : Slot → Slot → Ordering) → IsTotalOrder compare → (t : Slot →
+    Bool) (f : Slot) (xs : List Slot) → IsRanked compare (f ∷ xs) → t f ≡ true → (p : Slot) →
+    last_from t (Some f) xs ≡ Some p → IsLastOf compare t (f ∷ xs) p
 last_with compare total t f [] ranked hit p e =
     let same : f ≡ p = (cc) in
     subst (IsLastOf compare t (f ∷ [])) same record {
@@ -218,19 +247,22 @@ last_with compare total t f [] ranked hit p e =
 last_with compare total t f (x ∷ xs) ranked hit p e = elim (cases_Bool (t x)) [
   | inl more ↦
       let g : last_from t (Some x) xs ≡ Some p = sym (ap (λ b. last_from t (cond b (Some x) (Some f)) xs) more) ∙ e in
-      let it : IsLastOf compare t (x ∷ xs) p = last_with compare total t x xs (ranked_tail compare f (x ∷ xs) ranked) more p g in
+      let it : IsLastOf compare t (x ∷ xs) p = last_with compare total t x xs (ranked_tail compare f (x ∷ xs) ranked)
+      more p g in
       record {
         stands = contains_tail f (x ∷ xs) p it.stands;
         passes = it.passes;
         last = λ q c h. elim (contains_cons f (x ∷ xs) q c) [
-          | inl e ↦ ap (λ r. is_gt (compare r p)) (sym e) ∙ All-contains (λ y. is_gt (compare f y) ≡ false) (x ∷ xs) p (ranked_head compare f (x ∷ xs) ranked) it.stands
+          | inl e ↦ ap (λ r. is_gt (compare r p)) (sym e) ∙ All-contains (λ y. is_gt (compare f y) ≡ false) (x ∷ xs) p
+              (ranked_head compare f (x ∷ xs) ranked) it.stands
           | inr c' ↦ it.last q c' h
         ];
       }
   | inr miss ↦
       let g : last_from t (Some f) xs ≡ Some p = sym (ap (λ b. last_from t (cond b (Some x) (Some f)) xs) miss) ∙ e in
       let fewer : IsRanked compare (f ∷ xs) =
-      AllPairs-cons (λ a b. is_gt (compare a b) ≡ false) f xs (All-tail (λ y. is_gt (compare f y) ≡ false) x xs (ranked_head compare f (x ∷ xs) ranked)) (ranked_tail compare x xs (ranked_tail compare f (x ∷ xs) ranked)) in
+      AllPairs-cons (λ a b. is_gt (compare a b) ≡ false) f xs (All-tail (λ y. is_gt (compare f y) ≡ false) x xs
+      (ranked_head compare f (x ∷ xs) ranked)) (ranked_tail compare x xs (ranked_tail compare f (x ∷ xs) ranked)) in
       let it : IsLastOf compare t (f ∷ xs) p = last_with compare total t f xs fewer hit p g in
       record {
         stands = elim (contains_cons f xs p it.stands) [
@@ -248,7 +280,8 @@ last_with compare total t f (x ∷ xs) ranked hit p e = elim (cases_Bool (t x)) 
       }
 ]
 
-pub last_found : (compare : Slot → Slot → Ordering) → IsTotalOrder compare → (t : Slot → Bool) (xs : List Slot) → IsRanked compare xs → (p : Slot) → find_last t xs ≡ Some p → IsLastOf compare t xs p
+pub last_found : (compare : Slot → Slot → Ordering) → IsTotalOrder compare → (t : Slot → Bool) (xs : List Slot) →
+    IsRanked compare xs → (p : Slot) → find_last t xs ≡ Some p → IsLastOf compare t xs p
 last_found compare total t [] ranked p e = cc
 last_found compare total t (x ∷ xs) ranked p e = elim (cases_Bool (t x)) [
   | inl hit ↦
@@ -278,5 +311,6 @@ pub none_last : (t : Slot → Bool) (xs : List Slot) → find_last t xs ≡ None
 none_last t [] e = λ k d h. absurd (omega arith)
 none_last t (x ∷ xs) e = elim (cases_Bool (t x)) [
   | inl hit ↦ absurd (some_stays t x xs (sym (ap (λ b. last_from t (cond b (Some x) None) xs) hit) ∙ e))
-  | inr miss ↦ All-cons (λ x. t x ≡ false) x xs miss (none_last t xs (sym (ap (λ b. last_from t (cond b (Some x) None) xs) miss) ∙ e))
+  | inr miss ↦ All-cons (λ x. t x ≡ false) x xs miss (none_last t xs (sym (ap (λ b. last_from t (cond b (Some x) None)
+      xs) miss) ∙ e))
 ]

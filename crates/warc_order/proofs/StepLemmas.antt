@@ -38,26 +38,33 @@ pub ranked_of_strict : (compare : Slot → Slot → Ordering) (xs : List Slot) �
 ranked_of_strict compare xs strict i j d h k = lt_not_gt _ (strict i j d h k)
 
 -- the test of not coming behind the p-th ends behind it
-pub ends_behind : (compare : Slot → Slot → Ordering) → IsTotalOrder compare → (xs : List Slot) (p : ℕ) (s : Slot) → IsStrict compare xs → p < length xs → ((d : Slot) → get_or xs p d ≡ s) → EndsAt (λ q. is_le (compare q s)) xs (p + 1)
+pub ends_behind : (compare : Slot → Slot → Ordering) → IsTotalOrder compare → (xs : List Slot) (p : ℕ) (s : Slot) →
+    IsStrict compare xs → p < length xs → ((d : Slot) → get_or xs p d ≡ s) →
+    EndsAt (λ q. is_le (compare q s)) xs (p + 1)
 ends_behind compare total xs p s strict lt is = (
   λ k d low h. elim (cases_lt k p) [
     | inl less ↦ ap (λ x. is_le (compare (get_or xs k d) x)) (sym (is d)) ∙ lt_le _ (strict k p d less lt)
     | inr same ↦
         let e : k ≡ p = omega arith in
-        ap (λ n. is_le (compare (get_or xs n d) s)) e ∙ (ap (λ x. is_le (compare x s)) (is d) ∙ ap is_le (tied_itself total s))
+        ap (λ n. is_le (compare (get_or xs n d) s)) e ∙ (ap (λ x. is_le (compare x s)) (is d)
+        ∙ ap is_le (tied_itself total s))
   ],
-  λ k d ge h. gt_not_le _ (sym (lt_is_gt compare total s (get_or xs k d)) ∙ (ap (λ x. is_lt (compare x (get_or xs k d))) (sym (is d)) ∙ strict p k d (omega arith) h)),
+  λ k d ge h. gt_not_le _ (sym (lt_is_gt compare total s (get_or xs k d))
+      ∙ (ap (λ x. is_lt (compare x (get_or xs k d))) (sym (is d)) ∙ strict p k d (omega arith) h)),
 )
 
 -- the test of coming before the p-th ends there
-pub ends_before : (compare : Slot → Slot → Ordering) → IsTotalOrder compare → (xs : List Slot) (p : ℕ) (s : Slot) → IsStrict compare xs → p < length xs → ((d : Slot) → get_or xs p d ≡ s) → EndsAt (λ q. is_lt (compare q s)) xs p
+pub ends_before : (compare : Slot → Slot → Ordering) → IsTotalOrder compare → (xs : List Slot) (p : ℕ) (s : Slot) →
+    IsStrict compare xs → p < length xs → ((d : Slot) → get_or xs p d ≡ s) → EndsAt (λ q. is_lt (compare q s)) xs p
 ends_before compare total xs p s strict lt is = (
   λ k d low h. ap (λ x. is_lt (compare (get_or xs k d) x)) (sym (is d)) ∙ strict k p d h lt,
   λ k d ge h. elim (cases_lt p k) [
-    | inl more ↦ gt_not_lt _ (sym (lt_is_gt compare total s (get_or xs k d)) ∙ (ap (λ x. is_lt (compare x (get_or xs k d))) (sym (is d)) ∙ strict p k d more h))
+    | inl more ↦ gt_not_lt _ (sym (lt_is_gt compare total s (get_or xs k d))
+        ∙ (ap (λ x. is_lt (compare x (get_or xs k d))) (sym (is d)) ∙ strict p k d more h))
     | inr same ↦
         let e : k ≡ p = omega arith in
-        ap (λ n. is_lt (compare (get_or xs n d) s)) e ∙ (ap (λ x. is_lt (compare x s)) (is d) ∙ ap is_lt (tied_itself total s))
+        ap (λ n. is_lt (compare (get_or xs n d) s)) e ∙ (ap (λ x. is_lt (compare x s)) (is d)
+        ∙ ap is_lt (tied_itself total s))
   ],
 )
 
@@ -67,55 +74,74 @@ before_is xs (suc c) = refl
 
 -- ---- as clauses
 
-pub some_first : (t : Slot → Bool) (xs : List Slot) (r : Option Standing) → slot_in r ≡ find (λ x. not (t x)) xs → (compare : Slot → Slot → Ordering) → IsTotalOrder compare → IsRanked compare xs → IfSome r (λ s. IsFirstOf compare t xs s.slot)
+pub some_first : (t : Slot → Bool) (xs : List Slot) (r : Option Standing) → slot_in r ≡ find (λ x. not (t x)) xs →
+    (compare : Slot → Slot → Ordering) → IsTotalOrder compare → IsRanked compare xs →
+    IfSome r (λ s. IsFirstOf compare t xs s.slot)
 some_first t xs None e compare total ranked = tt
 some_first t xs (Some p) e compare total ranked = first_found compare total t xs ranked p.slot (sym e)
 
-pub none_first : (t : Slot → Bool) (xs : List Slot) (r : Option Standing) → slot_in r ≡ find (λ x. not (t x)) xs → IfNone r (All (λ x. t x ≡ true) xs)
+pub none_first : (t : Slot → Bool) (xs : List Slot) (r : Option Standing) → slot_in r ≡ find (λ x. not (t x)) xs →
+    IfNone r (All (λ x. t x ≡ true) xs)
 none_first t xs None e = none_found t xs (sym e)
 none_first t xs (Some p) e = tt
 
-pub some_last : (t : Slot → Bool) (xs : List Slot) (r : Option Standing) → slot_in r ≡ find_last t xs → (compare : Slot → Slot → Ordering) → IsTotalOrder compare → IsRanked compare xs → IfSome r (λ s. IsLastOf compare t xs s.slot)
+pub some_last : (t : Slot → Bool) (xs : List Slot) (r : Option Standing) → slot_in r ≡ find_last t xs →
+    (compare : Slot → Slot → Ordering) → IsTotalOrder compare → IsRanked compare xs →
+    IfSome r (λ s. IsLastOf compare t xs s.slot)
 some_last t xs None e compare total ranked = tt
 some_last t xs (Some p) e compare total ranked = last_found compare total t xs ranked p.slot (sym e)
 
-pub none_past : (t : Slot → Bool) (xs : List Slot) (r : Option Standing) → slot_in r ≡ find_last t xs → IfNone r (All (λ x. t x ≡ false) xs)
+pub none_past : (t : Slot → Bool) (xs : List Slot) (r : Option Standing) → slot_in r ≡ find_last t xs →
+    IfNone r (All (λ x. t x ≡ false) xs)
 none_past t xs None e = none_last t xs (sym e)
 none_past t xs (Some p) e = tt
 
 -- ---- places
 
-pub stands_there : (ls : List (List Slot)) (b o : ℕ) (s : Slot) → b < length ls → o < length (get_or ls b []) → get_or (get_or ls b []) o blank ≡ s → (d : Slot) → get_or (joined ls) (start_of ls b + o) d ≡ s
+pub stands_there : (ls : List (List Slot)) (b o : ℕ) (s : Slot) → b < length ls → o < length (get_or ls b []) →
+    get_or (get_or ls b []) o blank ≡ s → (d : Slot) → get_or (joined ls) (start_of ls b + o) d ≡ s
 stands_there ls b o s h k is d = at_place ls b o d h k ∙ (get_or_default (get_or ls b []) o d blank k ∙ is)
 
-pub place_inside : (ls : List (List Slot)) (b o : ℕ) → b < length ls → o < length (get_or ls b []) → start_of ls b + o < length (joined ls)
+pub place_inside : (ls : List (List Slot)) (b o : ℕ) → b < length ls → o < length (get_or ls b []) →
+    start_of ls b + o < length (joined ls)
 place_inside ls b o h k =
     let more : start_of ls (b + 1) ≡ start_of ls b + length (get_or ls b []) = start_of-more ls b h in
     let within : start_of ls (b + 1) ≤ length (joined ls) = start_of-within ls (b + 1) in
     omega arith
 
 -- the end of the block before one
-pub end_before : (ls : List (List Slot)) (b o : ℕ) → 0 < b → b < length ls → o ≡ 0 → 0 < length (get_or ls (b - 1) []) → start_of ls b + o ≡ suc (start_of ls (b - 1) + (length (get_or ls (b - 1) []) - 1))
+pub end_before : (ls : List (List Slot)) (b o : ℕ) → 0 < b → b < length ls → o ≡ 0 →
+    0 < length (get_or ls (b - 1) []) → start_of ls b + o ≡ suc (start_of ls (b - 1) + (length (get_or ls (b - 1) []) -
+    1))
 end_before ls b o some h z more =
     let one : (b - 1) + 1 ≡ b = omega arith in
-    let next : start_of ls ((b - 1) + 1) ≡ start_of ls (b - 1) + length (get_or ls (b - 1) []) = start_of-more ls (b - 1) (omega arith) in
+    let next : start_of ls ((b - 1) + 1) ≡ start_of ls (b - 1) + length (get_or ls (b - 1) []) =
+    start_of-more ls (b - 1) (omega arith) in
     let same : start_of ls ((b - 1) + 1) ≡ start_of ls b = ap (start_of ls) one in
     omega arith
 
-pub next_found : (compare : Slot → Slot → Ordering) → IsTotalOrder compare → (ls : List (List Slot)) (b o : ℕ) (s : Slot) → IsStrict compare (joined ls) → b < length ls → o < length (get_or ls b []) → get_or (get_or ls b []) o blank ≡ s → slice_get (joined ls) (start_of ls b + (o + 1)) ≡ find (λ p. not (is_le (compare p s))) (joined ls)
+pub next_found : (compare : Slot → Slot → Ordering) → IsTotalOrder compare →
+    (ls : List (List Slot)) (b o : ℕ) (s : Slot) → IsStrict compare (joined ls) → b < length ls →
+    o < length (get_or ls b []) → get_or (get_or ls b []) o blank ≡ s →
+    slice_get (joined ls) (start_of ls b + (o + 1)) ≡ find (λ p. not (is_le (compare p s))) (joined ls)
 next_found compare total ls b o s strict h k is =
     ap (slice_get (joined ls)) (omega arith)
     ∙ sym (find-end (λ p. is_le (compare p s)) (joined ls) ((start_of ls b + o) + 1)
-    (ends_behind compare total (joined ls) (start_of ls b + o) s strict (place_inside ls b o h k) (stands_there ls b o s h k is)))
+    (ends_behind compare total (joined ls) (start_of ls b + o) s strict (place_inside ls b o h k) (stands_there ls b o
+    s h k is)))
 
-pub previous_found : (compare : Slot → Slot → Ordering) → IsTotalOrder compare → (ls : List (List Slot)) (b o : ℕ) (s : Slot) → IsStrict compare (joined ls) → b < length ls → o < length (get_or ls b []) → get_or (get_or ls b []) o blank ≡ s → before_in (joined ls) (start_of ls b + o) ≡ find_last (λ p. is_lt (compare p s)) (joined ls)
+pub previous_found : (compare : Slot → Slot → Ordering) → IsTotalOrder compare →
+    (ls : List (List Slot)) (b o : ℕ) (s : Slot) → IsStrict compare (joined ls) → b < length ls →
+    o < length (get_or ls b []) → get_or (get_or ls b []) o blank ≡ s →
+    before_in (joined ls) (start_of ls b + o) ≡ find_last (λ p. is_lt (compare p s)) (joined ls)
 previous_found compare total ls b o s strict h k is =
     let lt : start_of ls b + o < length (joined ls) = place_inside ls b o h k in
     sym (last_from-end (λ p. is_lt (compare p s)) None (joined ls) (start_of ls b + o) (omega arith)
     (ends_before compare total (joined ls) (start_of ls b + o) s strict lt (stands_there ls b o s h k is))
     ∙ before_is (joined ls) (start_of ls b + o))
 
-pub fews : (limit : ℕ) (bs : List Held) → All (IsBlock limit) bs → (k : ℕ) → k < length bs → length (get_or (lists_of bs) k []) < limit
+pub fews : (limit : ℕ) (bs : List Held) → All (IsBlock limit) bs → (k : ℕ) → k < length bs →
+    length (get_or (lists_of bs) k []) < limit
 fews limit [] all k h = absurd (omega arith)
 fews limit (b ∷ bs) all zero h = (All-head (IsBlock limit) b bs all).few
 fews limit (b ∷ bs) all (suc k) h = fews limit bs (All-tail (IsBlock limit) b bs all) k (omega arith)

@@ -12,6 +12,9 @@ pub record Entry : Type 0 where
 abbrev pub no_entry : Entry
 no_entry = record { text = []; mark = record { major = 0; minor = 0 }; position = 0 }
 
+abbrev pub entry_of : List ℕ → Mark → ℕ → Entry
+entry_of text mark position = record { text = text; mark = mark; position = position }
+
 -- the i-th entry, the first being the 0th
 abbrev pub entry_at : List Entry → ℕ → Entry
 entry_at es i = slice_index_or es i no_entry

@@ -1,6 +1,8 @@
 //! Some slots, heads and indices apart.
 
-ghost use Rattle.std.specs.Prelude.{◌≡◌, ℕ, ◌+◌, ◌<◌, ◌≤◌, true, false, [], length, take, drop, slice_index, slice_index_or, slice_set, OnOk, filter, insert, min, nat_lt, vec_capacity, if◌then◌else◌};
+ghost use Rattle.std.specs.Prelude.{◌≡◌, ℕ, ◌+◌, ◌<◌, ◌≤◌, true, false, [], length, take, drop, slice_index};
+ghost use Rattle.std.specs.Prelude.{slice_index_or, slice_set, OnOk, filter, insert, min, nat_lt, vec_capacity};
+ghost use Rattle.std.specs.Prelude.{if◌then◌else◌};
 ghost use Rattle.std.specs.List.Sorted.{IsPartitionedBy};
 ghost use Rattle.warc_order.specs.Ranking.{blank, paired, IsKept};
 
@@ -42,8 +44,10 @@ fn cut<T: SlotTest>(heads: &[u32], indices: &[u32], test: &T) -> usize
     requires same { length heads.now ≡ length indices.now }
     requires order { IsPartitionedBy (T.passes test.now) (paired heads.now indices.now) }
     ensures bound { result ≤ length (paired heads.now indices.now) }
-    ensures front { (k : ℕ) → k < result → T.passes test.now (slice_index_or (paired heads.now indices.now) k blank) ≡ true }
-    ensures back { (k : ℕ) → result ≤ k → k < length (paired heads.now indices.now) → T.passes test.now (slice_index_or (paired heads.now indices.now) k blank) ≡ false }
+    ensures front { (k : ℕ) → k < result → T.passes test.now (slice_index_or (paired heads.now indices.now) k blank) ≡
+        true }
+    ensures back { (k : ℕ) → result ≤ k → k < length (paired heads.now indices.now) →
+        T.passes test.now (slice_index_or (paired heads.now indices.now) k blank) ≡ false }
 {
     let mut low = 0;
     let mut high = heads.len();
@@ -81,7 +85,8 @@ fn insert_slot<A: Allocator>(
 )
     requires same { length heads.old.items ≡ length indices.old.items }
     requires within { i ≤ length (paired heads.old.items indices.old.items) }
-    requires room { length (paired heads.old.items indices.old.items) < min (vec_capacity heads.old) (vec_capacity indices.old) }
+    requires room { length (paired heads.old.items indices.old.items) < min (vec_capacity heads.old)
+        (vec_capacity indices.old) }
     ensures same { length heads.new.items ≡ length indices.new.items }
     ensures list { paired heads.new.items indices.new.items ≡ insert (paired heads.old.items indices.old.items) i slot }
     ensures heads { vec_capacity heads.new ≡ vec_capacity heads.old }
@@ -120,11 +125,13 @@ fn move_slots<A: Allocator>(
     requires same_tail { length tail_heads.old.items ≡ length tail_indices.old.items }
     requires middle { middle ≤ length (paired heads.old.items indices.old.items) }
     requires empty { paired tail_heads.old.items tail_indices.old.items ≡ [] }
-    requires room { length (paired heads.old.items indices.old.items) ≤ min (vec_capacity tail_heads.old) (vec_capacity tail_indices.old) }
+    requires room { length (paired heads.old.items indices.old.items) ≤ min (vec_capacity tail_heads.old)
+        (vec_capacity tail_indices.old) }
     ensures same { length heads.new.items ≡ length indices.new.items }
     ensures same_tail { length tail_heads.new.items ≡ length tail_indices.new.items }
     ensures front { paired heads.new.items indices.new.items ≡ take middle (paired heads.old.items indices.old.items) }
-    ensures back { paired tail_heads.new.items tail_indices.new.items ≡ drop middle (paired heads.old.items indices.old.items) }
+    ensures back { paired tail_heads.new.items tail_indices.new.items ≡
+        drop middle (paired heads.old.items indices.old.items) }
     ensures heads { vec_capacity heads.new ≡ vec_capacity heads.old }
     ensures indices { vec_capacity indices.new ≡ vec_capacity indices.old }
     ensures tail_heads { vec_capacity tail_heads.old ≤ vec_capacity tail_heads.new }
@@ -146,8 +153,10 @@ fn keep_at<A: Allocator>(
     requires kept { kept ≤ i }
     requires heads { i < length heads.old.items }
     requires indices { i < length indices.old.items }
-    ensures heads { heads.new.items ≡ (if nat_lt (slice_index indices.old.items i) count then slice_set heads.old.items kept (slice_index heads.old.items i) else heads.old.items) }
-    ensures indices { indices.new.items ≡ (if nat_lt (slice_index indices.old.items i) count then slice_set indices.old.items kept (slice_index indices.old.items i) else indices.old.items) }
+    ensures heads { heads.new.items ≡ (if nat_lt (slice_index indices.old.items i) count
+        then slice_set heads.old.items kept (slice_index heads.old.items i) else heads.old.items) }
+    ensures indices { indices.new.items ≡ (if nat_lt (slice_index indices.old.items i) count
+        then slice_set indices.old.items kept (slice_index indices.old.items i) else indices.old.items) }
     ensures kept { result ≡ (if nat_lt (slice_index indices.old.items i) count then kept + 1 else kept) }
     ensures room_heads { vec_capacity heads.new ≡ vec_capacity heads.old }
     ensures room_indices { vec_capacity indices.new ≡ vec_capacity indices.old }
@@ -166,7 +175,8 @@ fn keep_at<A: Allocator>(
 /// Moves the slots whose indices are below a number to the front, and counts them.
 fn gather<A: Allocator>(heads: &mut Vec<u32, A>, indices: &mut Vec<u32, A>, count: usize) -> usize
     requires { length heads.old.items ≡ length indices.old.items }
-    ensures kept { IsKept count heads.old.items indices.old.items heads.new.items indices.new.items (length heads.old.items) result }
+    ensures kept { IsKept count heads.old.items indices.old.items heads.new.items indices.new.items
+        (length heads.old.items) result }
     ensures heads { vec_capacity heads.new ≡ vec_capacity heads.old }
     ensures indices { vec_capacity indices.new ≡ vec_capacity indices.old }
 {
@@ -181,8 +191,10 @@ fn gather<A: Allocator>(heads: &mut Vec<u32, A>, indices: &mut Vec<u32, A>, coun
 fn keep_slots<A: Allocator>(heads: &mut Vec<u32, A>, indices: &mut Vec<u32, A>, count: usize)
     requires { length heads.old.items ≡ length indices.old.items }
     ensures same { length heads.new.items ≡ length indices.new.items }
-    ensures list { paired heads.new.items indices.new.items ≡ filter (λ e. nat_lt e.index count) (paired heads.old.items indices.old.items) }
-    ensures bound { length (paired heads.new.items indices.new.items) ≤ length (paired heads.old.items indices.old.items) }
+    ensures list { paired heads.new.items indices.new.items ≡
+        filter (λ e. nat_lt e.index count) (paired heads.old.items indices.old.items) }
+    ensures bound { length (paired heads.new.items indices.new.items) ≤ length
+        (paired heads.old.items indices.old.items) }
     ensures heads { vec_capacity heads.new ≡ vec_capacity heads.old }
     ensures indices { vec_capacity indices.new ≡ vec_capacity indices.old }
 {
@@ -204,7 +216,10 @@ impl<A: Allocator> Model for Block<A> {
 
     ghost Value = { Held };
 
-    ghost view = { λ s. record { list = paired s.heads.items s.indices.items; room = min (vec_capacity s.heads) (vec_capacity s.indices) } };
+    ghost view = { λ s. record {
+      list = paired s.heads.items s.indices.items;
+      room = min (vec_capacity s.heads) (vec_capacity s.indices);
+    } };
 
     ghost invariant = { λ s. length s.heads.items ≡ length s.indices.items };
 }
@@ -227,7 +242,8 @@ impl<A: Allocator> Block<A> {
         requires { IsPartitionedBy (T.passes test.now) self.now.list }
         ensures bound { result ≤ length self.now.list }
         ensures front { (k : ℕ) → k < result → T.passes test.now (slice_index_or self.now.list k blank) ≡ true }
-        ensures back { (k : ℕ) → result ≤ k → k < length self.now.list → T.passes test.now (slice_index_or self.now.list k blank) ≡ false }
+        ensures back { (k : ℕ) → result ≤ k → k < length self.now.list →
+            T.passes test.now (slice_index_or self.now.list k blank) ≡ false }
     {
         cut(&self.heads, &self.indices, test)
     }

@@ -22,7 +22,11 @@ pub(crate) struct ByText<'a, A: Allocator> {
 impl<A: Allocator + Copy> ByText<'_, A> {
     /// Compares a slot with a key.
     fn compare_key(&self, slot: Slot, head: u32, text: &[u8], mark: Mark) -> Ordering
-        ensures { result ≡ key_cmp (key_at self.now.entries.now.list slot) (record { head = head; text = text.now; mark = mark }) }
+        ensures { result ≡ key_cmp (key_at self.now.entries.now.list slot) (record {
+          head = head;
+          text = text.now;
+          mark = mark;
+        }) }
     {
         let index = slot.index as usize;
         match slot.head.cmp(&head) {
@@ -75,7 +79,11 @@ pub(crate) struct Below<'a, A: Allocator> {
 }
 
 impl<A: Allocator + Copy> SlotTest for Below<'_, A> {
-    ghost passes = { λ s slot. is_lt (key_cmp (key_at s.order.entries.now.list slot) (record { head = s.head; text = s.text.now; mark = s.mark })) };
+    ghost passes = { λ s slot. is_lt (key_cmp (key_at s.order.entries.now.list slot) (record {
+      head = s.head;
+      text = s.text.now;
+      mark = s.mark;
+    })) };
 
     fn passes(&self, slot: Slot) -> bool {
         matches!(
@@ -96,7 +104,11 @@ pub(crate) struct NotAbove<'a, A: Allocator> {
 }
 
 impl<A: Allocator + Copy> SlotTest for NotAbove<'_, A> {
-    ghost passes = { λ s slot. is_le (key_cmp (key_at s.order.entries.now.list slot) (record { head = s.head; text = s.text.now; mark = s.mark })) };
+    ghost passes = { λ s slot. is_le (key_cmp (key_at s.order.entries.now.list slot) (record {
+      head = s.head;
+      text = s.text.now;
+      mark = s.mark;
+    })) };
 
     fn passes(&self, slot: Slot) -> bool {
         !matches!(

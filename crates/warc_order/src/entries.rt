@@ -1,8 +1,9 @@
 //! Entries one after another, in the order in which they were added.
 
-ghost use Rattle.std.specs.Prelude.{◌≡◌, ℕ, ◌+◌, ◌<◌, ◌≤◌, [], ◌∷◌, ◌++◌, length, take, filter, nat_lt, slice_range, OnOk};
+ghost use Rattle.std.specs.Prelude.{◌≡◌, ℕ, ◌+◌, ◌<◌, ◌≤◌, [], ◌∷◌, ◌++◌, length, take, filter, nat_lt, slice_range};
+ghost use Rattle.std.specs.Prelude.{OnOk};
 ghost use Rattle.std.specs.List.{concat, sum_by};
-ghost use Rattle.warc_order.specs.Entries.{entry_at};
+ghost use Rattle.warc_order.specs.Entries.{entry_of, entry_at};
 ghost use Rattle.warc_order.specs.Layout.{texts_of, IsGrowing};
 
 use crate::mark::Mark;
@@ -157,7 +158,7 @@ impl<A: Allocator + Copy> Entries<A> {
     pub(crate) fn push_reserved(&mut self, text: &[u8], mark: Mark, position: u32)
         requires lines { 0 < self.old.free_lines }
         requires bytes { length text.now ≤ self.old.free_bytes }
-        ensures { self.new.list ≡ self.old.list ++ record { text = text.now; mark = mark; position = position } ∷ [] }
+        ensures { self.new.list ≡ self.old.list ++ entry_of text.now mark position ∷ [] }
     {
         match self.bytes.extend_from_slice(text) {
             Ok(()) => {}

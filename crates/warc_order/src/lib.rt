@@ -13,9 +13,11 @@
 //! and its text, and 8 bytes of the order (up to 16 where entries are added one by one).
 #![tactic(auto)]
 
-ghost use Rattle.std.specs.Prelude.{◌≡◌, ℕ, ◌+◌, ◌<◌, [], ◌∷◌, ◌++◌, length, filter, nat_lt, OnOk, OnErr, IfOk, IfSome, IfNone, All};
+ghost use Rattle.std.specs.Prelude.{◌≡◌, ℕ, ◌+◌, ◌<◌, [], ◌∷◌, ◌++◌, length, filter, nat_lt, OnOk, OnErr, IfOk, IfSome};
+ghost use Rattle.std.specs.Prelude.{IfNone, All};
 ghost use Rattle.std.specs.List.{sum_by};
-ghost use Rattle.warc_order.specs.Entries.{entry_at, IsUpTo, IsFrom, IsAfter, IsBefore, IsFirst, IsLast, IsNone};
+ghost use Rattle.warc_order.specs.Entries.{entry_of, entry_at, IsUpTo, IsFrom, IsAfter, IsBefore, IsFirst, IsLast};
+ghost use Rattle.warc_order.specs.Entries.{IsNone};
 
 mod block;
 mod compare;
@@ -72,7 +74,7 @@ impl<A: Allocator + Copy> Unordered<A> {
     /// more; then nothing changes.
     pub fn push(&mut self, text: &[u8], mark: Mark, position: usize) -> Result<(), AllocError>
         requires { All (λ e. e.position < position) self.old }
-        ensures ok { OnOk result (self.new ≡ self.old ++ record { text = text.now; mark = mark; position = position } ∷ []) }
+        ensures ok { OnOk result (self.new ≡ self.old ++ entry_of text.now mark position ∷ []) }
         ensures err { OnErr result (self.new ≡ self.old) }
     {
         lookup::narrow(self.entries.len())?;
@@ -140,7 +142,7 @@ impl<A: Allocator + Copy> Order<A> {
     /// more; then nothing changes.
     pub fn add(&mut self, text: &[u8], mark: Mark, position: usize) -> Result<(), AllocError>
         requires { All (λ e. e.position < position) self.old }
-        ensures ok { OnOk result (self.new ≡ self.old ++ record { text = text.now; mark = mark; position = position } ∷ []) }
+        ensures ok { OnOk result (self.new ≡ self.old ++ entry_of text.now mark position ∷ []) }
         ensures err { OnErr result (self.new ≡ self.old) }
     {
         let index = lookup::narrow(self.entries.len())?;
@@ -173,7 +175,8 @@ impl<A: Allocator + Copy> Order<A> {
     /// The first entry of a text whose mark isn't below one.
     pub fn first_from(&self, text: &[u8], mark: Mark) -> Option<Found>
         ensures within { IfSome result (λ found. found.index < length self.now) }
-        ensures some { IfSome result (λ found. IsFirst self.now (IsFrom text.now mark) (entry_at self.now found.index)) }
+        ensures some { IfSome result (λ found. IsFirst self.now (IsFrom text.now mark)
+            (entry_at self.now found.index)) }
         ensures none { IfNone result (IsNone self.now (IsFrom text.now mark)) }
     {
         lookup::first_from(&self.entries, &self.ranked, text, mark)
@@ -183,7 +186,8 @@ impl<A: Allocator + Copy> Order<A> {
     pub fn next(&self, found: Found) -> Option<Found>
         requires { found.index < length self.now }
         ensures within { IfSome result (λ next. next.index < length self.now) }
-        ensures some { IfSome result (λ next. IsFirst self.now (IsAfter (entry_at self.now found.index)) (entry_at self.now next.index)) }
+        ensures some { IfSome result (λ next. IsFirst self.now (IsAfter (entry_at self.now found.index))
+            (entry_at self.now next.index)) }
         ensures none { IfNone result (IsNone self.now (IsAfter (entry_at self.now found.index))) }
     {
         lookup::next(&self.entries, &self.ranked, found.index, found.place)
@@ -193,7 +197,8 @@ impl<A: Allocator + Copy> Order<A> {
     pub fn previous(&self, found: Found) -> Option<Found>
         requires { found.index < length self.now }
         ensures within { IfSome result (λ next. next.index < length self.now) }
-        ensures some { IfSome result (λ next. IsLast self.now (IsBefore (entry_at self.now found.index)) (entry_at self.now next.index)) }
+        ensures some { IfSome result (λ next. IsLast self.now (IsBefore (entry_at self.now found.index))
+            (entry_at self.now next.index)) }
         ensures none { IfNone result (IsNone self.now (IsBefore (entry_at self.now found.index))) }
     {
         lookup::previous(&self.entries, &self.ranked, found.index, found.place)

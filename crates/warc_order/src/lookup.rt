@@ -1,6 +1,7 @@
 //! Look-ups, and what puts slots in order.
 
-ghost use Rattle.std.specs.Prelude.{◌≡◌, ℕ, ◌+◌, ◌<◌, ◌≤◌, [], ◌∷◌, ◌++◌, length, OnOk, OnErr, IfOk, IfSome, IfNone, IsTrue, min};
+ghost use Rattle.std.specs.Prelude.{◌≡◌, ℕ, ◌+◌, ◌<◌, ◌≤◌, [], ◌∷◌, ◌++◌, length, OnOk, OnErr, IfOk, IfSome, IfNone};
+ghost use Rattle.std.specs.Prelude.{IsTrue, min};
 ghost use Rattle.std.specs.List.Sorted.{IsPermutation};
 ghost use Rattle.warc_order.specs.Ranking.{IsRanked};
 ghost use Rattle.warc_order.specs.Entries.{entry_at, IsUpTo, IsFrom, IsAfter, IsBefore, IsFirst, IsLast, IsNone};
@@ -123,7 +124,8 @@ pub(crate) fn last_up_to<A: Allocator + Copy>(
 ) -> Option<Found>
     requires { IsOrdered entries.now.list ranked.now.list }
     ensures within { IfSome result (λ found. found.index < length entries.now.list) }
-    ensures some { IfSome result (λ found. IsLast entries.now.list (IsUpTo text.now mark) (entry_at entries.now.list found.index)) }
+    ensures some { IfSome result (λ found. IsLast entries.now.list (IsUpTo text.now mark)
+        (entry_at entries.now.list found.index)) }
     ensures none { IfNone result (IsNone entries.now.list (IsUpTo text.now mark)) }
 {
     let test = NotAbove {
@@ -147,7 +149,8 @@ pub(crate) fn first_from<A: Allocator + Copy>(
 ) -> Option<Found>
     requires { IsOrdered entries.now.list ranked.now.list }
     ensures within { IfSome result (λ found. found.index < length entries.now.list) }
-    ensures some { IfSome result (λ found. IsFirst entries.now.list (IsFrom text.now mark) (entry_at entries.now.list found.index)) }
+    ensures some { IfSome result (λ found. IsFirst entries.now.list (IsFrom text.now mark)
+        (entry_at entries.now.list found.index)) }
     ensures none { IfNone result (IsNone entries.now.list (IsFrom text.now mark)) }
 {
     let test = Below {
@@ -172,7 +175,8 @@ pub(crate) fn next<A: Allocator + Copy>(
     requires order { IsOrdered entries.now.list ranked.now.list }
     requires index { index < length entries.now.list }
     ensures within { IfSome result (λ found. found.index < length entries.now.list) }
-    ensures some { IfSome result (λ found. IsFirst entries.now.list (IsAfter (entry_at entries.now.list index)) (entry_at entries.now.list found.index)) }
+    ensures some { IfSome result (λ found. IsFirst entries.now.list (IsAfter (entry_at entries.now.list index))
+        (entry_at entries.now.list found.index)) }
     ensures none { IfNone result (IsNone entries.now.list (IsAfter (entry_at entries.now.list index))) }
 {
     let order = ByText { entries };
@@ -193,7 +197,8 @@ pub(crate) fn previous<A: Allocator + Copy>(
     requires order { IsOrdered entries.now.list ranked.now.list }
     requires index { index < length entries.now.list }
     ensures within { IfSome result (λ found. found.index < length entries.now.list) }
-    ensures some { IfSome result (λ found. IsLast entries.now.list (IsBefore (entry_at entries.now.list index)) (entry_at entries.now.list found.index)) }
+    ensures some { IfSome result (λ found. IsLast entries.now.list (IsBefore (entry_at entries.now.list index))
+        (entry_at entries.now.list found.index)) }
     ensures none { IfNone result (IsNone entries.now.list (IsBefore (entry_at entries.now.list index))) }
 {
     let order = ByText { entries };

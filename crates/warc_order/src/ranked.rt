@@ -1,10 +1,14 @@
 //! Slots kept in an order, in blocks.
-ghost use Rattle.std.specs.Prelude.{◌≡◌, ℕ, ◌+◌, ◌-◌, ◌<◌, ◌≤◌, Bool, true, false, not, [], ◌∷◌, ◌++◌, length, take, drop, slice_get, slice_set, slice_index, slice_index_or, OnOk, OnErr, IsTrue, IfSome, IfNone, All, find, filter, insert, map, swap, reverse, nat_lt, vec_len, vec_capacity};
+ghost use Rattle.std.specs.Prelude.{◌≡◌, ℕ, ◌+◌, ◌-◌, ◌<◌, ◌≤◌, Bool, true, false, not, [], ◌∷◌, ◌++◌, length, take};
+ghost use Rattle.std.specs.Prelude.{drop, slice_get, slice_set, slice_index, slice_index_or, OnOk, OnErr, IsTrue};
+ghost use Rattle.std.specs.Prelude.{IfSome, IfNone, All, find, filter, insert, map, swap, reverse, nat_lt, vec_len};
+ghost use Rattle.std.specs.Prelude.{vec_capacity};
 ghost use Rattle.std.specs.List.Sorted.{IsPartitionedBy, IsPartitionPoint, IsPermutation};
 ghost use Rattle.std.specs.Cmp.{IsTotalOrder};
 ghost use Rattle.std.specs.Ordering.{is_lt, is_gt, is_le};
 ghost use Rattle.std.specs.declared.cmp.Ordering.{Ordering};
-ghost use Rattle.warc_order.specs.Ranking.{joined, blank, IsRanked, IsFirstOf, IsLastOf, IsStrict, placed, find_last, before_in, slot_in, lists_of, start_of, IsBlock, IsWide};
+ghost use Rattle.warc_order.specs.Ranking.{joined, blank, IsRanked, IsFirstOf, IsLastOf, IsStrict, placed, find_last};
+ghost use Rattle.warc_order.specs.Ranking.{before_in, slot_in, lists_of, start_of, IsBlock, IsWide};
 
 use crate::block::Block;
 use crate::slot::{Slot, SlotOrder, SlotTest};
@@ -16,7 +20,7 @@ use std::mem;
 /// The most indices of a block.
 const LIMIT: usize = 512;
 
-/// The test of coming before a index.
+/// The test of coming before an index.
 #[derive(Drop)]
 struct Before<'a, O> {
     order: &'a O,
@@ -31,7 +35,7 @@ impl<O: SlotOrder> SlotTest for Before<'_, O> {
     }
 }
 
-/// The test of not coming behind a index.
+/// The test of not coming behind an index.
 #[derive(Drop)]
 struct UpTo<'a, O> {
     order: &'a O,
@@ -68,8 +72,10 @@ fn cut_within<T: SlotTest, A: Allocator>(blocks: &[Block<A>], block: usize, test
     requires block { block < length blocks.now }
     requires order { IsPartitionedBy (T.passes test.now) (slice_index_or (lists_of blocks.now) block []) }
     ensures bound { result ≤ length (slice_index_or (lists_of blocks.now) block []) }
-    ensures front { (k : ℕ) → k < result → T.passes test.now (slice_index_or (slice_index_or (lists_of blocks.now) block []) k blank) ≡ true }
-    ensures back { (k : ℕ) → result ≤ k → k < length (slice_index_or (lists_of blocks.now) block []) → T.passes test.now (slice_index_or (slice_index_or (lists_of blocks.now) block []) k blank) ≡ false }
+    ensures front { (k : ℕ) → k < result → T.passes test.now (slice_index_or (slice_index_or
+        (lists_of blocks.now) block []) k blank) ≡ true }
+    ensures back { (k : ℕ) → result ≤ k → k < length (slice_index_or (lists_of blocks.now) block []) →
+        T.passes test.now (slice_index_or (slice_index_or (lists_of blocks.now) block []) k blank) ≡ false }
 {
     blocks[block].cut(test)
 }
@@ -77,10 +83,14 @@ fn cut_within<T: SlotTest, A: Allocator>(blocks: &[Block<A>], block: usize, test
 /// How many blocks at the front begin with one that passes.
 fn cut_blocks<T: SlotTest, A: Allocator>(blocks: &[Block<A>], test: &T) -> usize
     requires some { (k : ℕ) → k < length blocks.now → 0 < length (slice_index_or (lists_of blocks.now) k []) }
-    requires order { (i j : ℕ) → i ≤ j → j < length blocks.now → T.passes test.now (slice_index_or (slice_index_or (lists_of blocks.now) j []) 0 blank) ≡ true → T.passes test.now (slice_index_or (slice_index_or (lists_of blocks.now) i []) 0 blank) ≡ true }
+    requires order { (i j : ℕ) → i ≤ j → j < length blocks.now →
+        T.passes test.now (slice_index_or (slice_index_or (lists_of blocks.now) j []) 0 blank) ≡ true →
+        T.passes test.now (slice_index_or (slice_index_or (lists_of blocks.now) i []) 0 blank) ≡ true }
     ensures bound { result ≤ length blocks.now }
-    ensures front { (k : ℕ) → k < result → T.passes test.now (slice_index_or (slice_index_or (lists_of blocks.now) k []) 0 blank) ≡ true }
-    ensures back { (k : ℕ) → result ≤ k → k < length blocks.now → T.passes test.now (slice_index_or (slice_index_or (lists_of blocks.now) k []) 0 blank) ≡ false }
+    ensures front { (k : ℕ) → k < result → T.passes test.now (slice_index_or (slice_index_or
+        (lists_of blocks.now) k []) 0 blank) ≡ true }
+    ensures back { (k : ℕ) → result ≤ k → k < length blocks.now →
+        T.passes test.now (slice_index_or (slice_index_or (lists_of blocks.now) k []) 0 blank) ≡ false }
 {
     let mut low = 0;
     let mut high = blocks.len();
@@ -127,7 +137,8 @@ fn slot_behind<A: Allocator>(blocks: &[Block<A>], place: Place) -> Option<Standi
     requires blocks { All (IsBlock LIMIT) blocks.now }
     requires block { place.block < length blocks.now }
     requires within { place.offset ≤ length (slice_index_or (lists_of blocks.now) place.block []) }
-    ensures { slot_in result ≡ slice_get (joined (lists_of blocks.now)) (start_of (lists_of blocks.now) place.block + place.offset) }
+    ensures { slot_in result ≡ slice_get (joined (lists_of blocks.now)) (start_of
+        (lists_of blocks.now) place.block + place.offset) }
 {
     if place.offset < length_of(blocks, place.block) {
         Some(standing_at(blocks, place.block, place.offset))
@@ -143,7 +154,8 @@ fn slot_before<A: Allocator>(blocks: &[Block<A>], place: Place) -> Option<Standi
     requires blocks { All (IsBlock LIMIT) blocks.now }
     requires block { place.block < length blocks.now }
     requires within { place.offset ≤ length (slice_index_or (lists_of blocks.now) place.block []) }
-    ensures { slot_in result ≡ before_in (joined (lists_of blocks.now)) (start_of (lists_of blocks.now) place.block + place.offset) }
+    ensures { slot_in result ≡ before_in (joined (lists_of blocks.now)) (start_of
+        (lists_of blocks.now) place.block + place.offset) }
 {
     if place.offset > 0 {
         Some(standing_at(blocks, place.block, place.offset - 1))
@@ -160,7 +172,8 @@ fn slot_before<A: Allocator>(blocks: &[Block<A>], place: Place) -> Option<Standi
 fn stands_at<A: Allocator>(blocks: &[Block<A>], place: Place, slot: Slot) -> bool
     ensures block { IsTrue result → place.block < length blocks.now }
     ensures offset { IsTrue result → place.offset < length (slice_index_or (lists_of blocks.now) place.block []) }
-    ensures slot { IsTrue result → slice_index_or (slice_index_or (lists_of blocks.now) place.block []) place.offset blank ≡ slot }
+    ensures slot { IsTrue result → slice_index_or (slice_index_or
+        (lists_of blocks.now) place.block []) place.offset blank ≡ slot }
 {
     place.block < blocks.len()
         && place.offset < length_of(blocks, place.block)
@@ -175,7 +188,8 @@ fn find_place<T: SlotTest, A: Allocator>(blocks: &[Block<A>], test: &T) -> Place
     ensures block { result.block < length blocks.now }
     ensures within { result.offset ≤ length (slice_index_or (lists_of blocks.now) result.block []) }
     ensures start { result.offset ≡ 0 → result.block ≡ 0 }
-    ensures point { IsPartitionPoint (λ p. T.passes test.now p ≡ true) (λ p. T.passes test.now p ≡ false) (joined (lists_of blocks.now)) (start_of (lists_of blocks.now) result.block + result.offset) }
+    ensures point { IsPartitionPoint (λ p. T.passes test.now p ≡ true) (λ p. T.passes test.now p ≡
+        false) (joined (lists_of blocks.now)) (start_of (lists_of blocks.now) result.block + result.offset) }
 {
     let count = cut_blocks(blocks, test);
     let block = count.saturating_sub(1);
@@ -262,7 +276,7 @@ fn middle_of(last: bool, offset: usize) -> usize
     }
 }
 
-/// Puts a index at a place. A block that is full then is cut in two.
+/// Puts an index at a place. A block that is full then is cut in two.
 fn put<A: Allocator + Copy>(
     blocks: &mut Vec<Block<A>, A>,
     place: Place,
@@ -277,7 +291,9 @@ fn put<A: Allocator + Copy>(
     requires spare_room { LIMIT ≤ spare.old.room }
     ensures blocks { All (IsBlock LIMIT) blocks.new.items }
     ensures spare { spare.new.list ≡ [] }
-    ensures list { joined (lists_of blocks.new.items) ≡ insert (joined (lists_of blocks.old.items)) (start_of (lists_of blocks.old.items) place.block + place.offset) slot }
+    ensures list { joined (lists_of blocks.new.items) ≡
+        insert (joined (lists_of blocks.old.items)) (start_of
+        (lists_of blocks.old.items) place.block + place.offset) slot }
 {
     let last = place.block + 1 == blocks.len();
     let block = &mut blocks[place.block];
@@ -294,20 +310,21 @@ fn put<A: Allocator + Copy>(
     }
 }
 
-/// Where a index goes: behind those that come before it.
+/// Where an index goes: behind those that come before it.
 fn place_for<O: SlotOrder, A: Allocator>(blocks: &[Block<A>], order: &O, slot: Slot) -> Place
     requires any { 0 < length blocks.now }
     requires blocks { All (IsBlock LIMIT) blocks.now }
     requires ranked { IsRanked (O.compare order.now) (joined (lists_of blocks.now)) }
     ensures block { result.block < length blocks.now }
     ensures within { result.offset ≤ length (slice_index_or (lists_of blocks.now) result.block []) }
-    ensures place { placed (O.compare order.now) (joined (lists_of blocks.now)) slot ≡ insert (joined (lists_of blocks.now)) (start_of (lists_of blocks.now) result.block + result.offset) slot }
+    ensures place { placed (O.compare order.now) (joined (lists_of blocks.now)) slot ≡
+        insert (joined (lists_of blocks.now)) (start_of (lists_of blocks.now) result.block + result.offset) slot }
 {
     let test = Before { order, slot };
     find_place(blocks, &test)
 }
 
-/// Adds a index behind those that come before it.
+/// Adds an index behind those that come before it.
 fn add_in<O: SlotOrder, A: Allocator + Copy>(
     blocks: &mut Vec<Block<A>, A>,
     order: &O,
@@ -321,7 +338,8 @@ fn add_in<O: SlotOrder, A: Allocator + Copy>(
     requires ranked { IsRanked (O.compare order.now) (joined (lists_of blocks.old.items)) }
     ensures blocks { All (IsBlock LIMIT) blocks.new.items }
     ensures spare { spare.new.list ≡ [] }
-    ensures list { joined (lists_of blocks.new.items) ≡ placed (O.compare order.now) (joined (lists_of blocks.old.items)) slot }
+    ensures list { joined (lists_of blocks.new.items) ≡
+        placed (O.compare order.now) (joined (lists_of blocks.old.items)) slot }
 {
     if blocks.is_empty() {
         let alloc = spare.allocator();
@@ -337,7 +355,8 @@ fn add_in<O: SlotOrder, A: Allocator + Copy>(
 /// Drops the indices from a number on in every block.
 fn keep_all_below<A: Allocator>(blocks: &mut Vec<Block<A>, A>, count: usize)
     requires { All (IsWide LIMIT) blocks.old.items }
-    ensures lists { lists_of blocks.new.items ≡ map (λ ps. filter (λ e. nat_lt e.index count) ps) (lists_of blocks.old.items) }
+    ensures lists { lists_of blocks.new.items ≡ map (λ ps. filter (λ e. nat_lt e.index count) ps)
+        (lists_of blocks.old.items) }
     ensures wide { All (IsWide LIMIT) blocks.new.items }
 {
     for i in 0..blocks.len() {
@@ -369,7 +388,10 @@ impl<A: Allocator> Model for Ranked<A> {
 
     ghost Value = { Ranking };
 
-    ghost view = { λ s. record { list = joined (lists_of s.blocks.items); ready = nat_lt (vec_len s.blocks) (vec_capacity s.blocks) && nat_le 512 s.spare.room } };
+    ghost view = { λ s. record {
+      list = joined (lists_of s.blocks.items);
+      ready = nat_lt (vec_len s.blocks) (vec_capacity s.blocks) && nat_le 512 s.spare.room;
+    } };
 
     ghost invariant = { λ s. record { blocks : All (IsBlock 512) s.blocks.items; spare : s.spare.list ≡ [] } };
 }
@@ -393,7 +415,7 @@ impl<A: Allocator + Copy> Ranked<A> {
         self.spare.reserve(LIMIT)
     }
 
-    /// Adds a index for which there is room.
+    /// Adds an index for which there is room.
     pub fn add_reserved<O: SlotOrder>(&mut self, order: &O, slot: Slot)
         requires ready { IsTrue self.old.ready }
         requires ranked { IsRanked (O.compare order.now) self.old.list }
@@ -407,7 +429,8 @@ impl<A: Allocator + Copy> Ranked<A> {
     /// The first slot that fails a test, which those behind it fail too.
     pub fn first_failing<T: SlotTest>(&self, test: &T) -> Option<Standing>
         requires { IsPartitionedBy (T.passes test.now) self.now.list }
-        ensures some { (compare : Slot → Slot → Ordering) → IsTotalOrder compare → IsRanked compare self.now.list → IfSome result (λ s. IsFirstOf compare (T.passes test.now) self.now.list s.slot) }
+        ensures some { (compare : Slot → Slot → Ordering) → IsTotalOrder compare → IsRanked compare self.now.list →
+            IfSome result (λ s. IsFirstOf compare (T.passes test.now) self.now.list s.slot) }
         ensures none { IfNone result (All (λ p. T.passes test.now p ≡ true) self.now.list) }
     {
         first_in(&self.blocks, test)
@@ -416,7 +439,8 @@ impl<A: Allocator + Copy> Ranked<A> {
     /// The last slot that passes a test, which those before it pass too.
     pub fn last_passing<T: SlotTest>(&self, test: &T) -> Option<Standing>
         requires { IsPartitionedBy (T.passes test.now) self.now.list }
-        ensures some { (compare : Slot → Slot → Ordering) → IsTotalOrder compare → IsRanked compare self.now.list → IfSome result (λ s. IsLastOf compare (T.passes test.now) self.now.list s.slot) }
+        ensures some { (compare : Slot → Slot → Ordering) → IsTotalOrder compare → IsRanked compare self.now.list →
+            IfSome result (λ s. IsLastOf compare (T.passes test.now) self.now.list s.slot) }
         ensures none { IfNone result (All (λ p. T.passes test.now p ≡ false) self.now.list) }
     {
         last_in(&self.blocks, test)
@@ -425,7 +449,8 @@ impl<A: Allocator + Copy> Ranked<A> {
     /// The first slot that stands behind one in the order.
     pub fn next_after<O: SlotOrder>(&self, order: &O, slot: Slot, place: Place) -> Option<Standing>
         requires { IsStrict (O.compare order.now) self.now.list }
-        ensures some { IfSome result (λ s. IsFirstOf (O.compare order.now) (λ p. is_le (O.compare order.now p slot)) self.now.list s.slot) }
+        ensures some { IfSome result (λ s. IsFirstOf (O.compare order.now) (λ p. is_le
+            (O.compare order.now p slot)) self.now.list s.slot) }
         ensures none { IfNone result (All (λ p. is_le (O.compare order.now p slot) ≡ true) self.now.list) }
     {
         next_in(&self.blocks, order, slot, place)
@@ -434,7 +459,8 @@ impl<A: Allocator + Copy> Ranked<A> {
     /// The last slot that stands before one in the order.
     pub fn last_before<O: SlotOrder>(&self, order: &O, slot: Slot, place: Place) -> Option<Standing>
         requires { IsStrict (O.compare order.now) self.now.list }
-        ensures some { IfSome result (λ s. IsLastOf (O.compare order.now) (λ p. is_lt (O.compare order.now p slot)) self.now.list s.slot) }
+        ensures some { IfSome result (λ s. IsLastOf (O.compare order.now) (λ p. is_lt
+            (O.compare order.now p slot)) self.now.list s.slot) }
         ensures none { IfNone result (All (λ p. is_lt (O.compare order.now p slot) ≡ false) self.now.list) }
     {
         previous_in(&self.blocks, order, slot, place)

@@ -7,7 +7,8 @@ invariant-loop-low g l = record {
   order : l.low ≤ l.high;
   bound : l.high ≤ length l.heads;
   front : (k : ℕ) → k < l.low → g.T.SlotTest.passes l.test (get_or (paired l.heads l.indices) k blank) ≡ true;
-  back : (k : ℕ) → l.high ≤ k → k < length l.heads → g.T.SlotTest.passes l.test (get_or (paired l.heads l.indices) k blank) ≡ false;
+  back : (k : ℕ) → l.high ≤ k → k < length l.heads → g.T.SlotTest.passes l.test (get_or (paired l.heads l.indices) k
+      blank) ≡ false;
 }
 
 abbrev pub decreases-loop-low : goal.decreases-loop-low

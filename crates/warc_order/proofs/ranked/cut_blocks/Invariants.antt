@@ -7,7 +7,8 @@ invariant-loop-low g l = record {
   order : l.low ≤ l.high;
   bound : l.high ≤ length l.blocks;
   front : (k : ℕ) → k < l.low → g.T.SlotTest.passes l.test (get_or (get_or (lists_of l.blocks) k []) 0 blank) ≡ true;
-  back : (k : ℕ) → l.high ≤ k → k < length l.blocks → g.T.SlotTest.passes l.test (get_or (get_or (lists_of l.blocks) k []) 0 blank) ≡ false;
+  back : (k : ℕ) → l.high ≤ k → k < length l.blocks → g.T.SlotTest.passes l.test (get_or (get_or (lists_of l.blocks) k
+      []) 0 blank) ≡ false;
 }
 
 abbrev pub decreases-loop-low : goal.decreases-loop-low

@@ -16,10 +16,12 @@ some_items b e = grind (arith, nat_tests)
 
 pub returns-clause-list : goal.returns-clause-list
 returns-clause-list g c =
-    ap (λ bs. joined (lists_of bs)) (filter_same _ (λ b. nat_lt 0 (length b.list)) _ (λ x b f' k. search rules) _ _ c.retain.ensures.filtered)
+    ap (λ bs. joined (lists_of bs)) (filter_same _ (λ b. nat_lt 0 (length b.list)) _ (λ x b f' k. search rules) _ _
+    c.retain.ensures.filtered)
     ∙ joined-kept c.args.blocks.now.items (λ b. nat_lt 0 (length b.list)) empty_items
 
 pub returns-clause-blocks : goal.returns-clause-blocks
 returns-clause-blocks g c =
-    All-same (IsBlock 512) _ _ (filter_same _ (λ b. nat_lt 0 (length b.list)) _ (λ x b f' k. search rules) _ _ c.retain.ensures.filtered)
+    All-same (IsBlock 512) _ _ (filter_same _ (λ b. nat_lt 0 (length b.list)) _ (λ x b f' k. search rules) _ _
+    c.retain.ensures.filtered)
     (blocks_kept 512 c.args.blocks.now.items (λ b. nat_lt 0 (length b.list)) some_items c.requires)

@@ -9,18 +9,25 @@ cut_blocks-count-requires g c =
     let n : length (lists_of c.args.blocks.now) ≡ length c.args.blocks.now = length-map _ _ in
     record {
       some = somes 512 c.args.blocks.now c.requires.blocks;
-      order = λ i j le lt. order_of_firsts (g.T.SlotTest.passes c.args.test.now) (lists_of c.args.blocks.now) (λ k h. somes 512 c.args.blocks.now c.requires.blocks k (omega (arith, n))) c.requires.order i j le (omega (arith, n));
+      order = λ i j le lt. order_of_firsts (g.T.SlotTest.passes c.args.test.now) (lists_of c.args.blocks.now) (λ k h.
+          somes 512 c.args.blocks.now c.requires.blocks k (omega (arith, n))) c.requires.order i j le (omega (
+            arith,
+            n,
+          ));
     }
 
 pub cut_within-offset-requires-clause-order : goal.cut_within-offset-requires-clause-order
 cut_within-offset-requires-clause-order g c =
     let n : length (lists_of c.args.blocks.now) ≡ length c.args.blocks.now = length-map _ _ in
-    order_within (g.T.SlotTest.passes c.args.test.now) (lists_of c.args.blocks.now) c.saturating_sub-block.result (omega (arith, n)) c.requires.order
+    order_within (g.T.SlotTest.passes c.args.test.now) (lists_of c.args.blocks.now) c.saturating_sub-block.result
+    (omega (arith, n)) c.requires.order
 
 pub returns-clause-start : goal.returns-clause-start
 returns-clause-start g c =
     let n : length (lists_of c.args.blocks.now) ≡ length c.args.blocks.now = length-map _ _ in
-    start_is_first (g.T.SlotTest.passes c.args.test.now) (lists_of c.args.blocks.now) c.cut_blocks-count.result c.saturating_sub-block.result c.cut_within-offset.result (λ k h. somes 512 c.args.blocks.now c.requires.blocks k (omega (arith, n))) record {
+    start_is_first (g.T.SlotTest.passes c.args.test.now) (lists_of c.args.blocks.now) c.cut_blocks-count.result
+    c.saturating_sub-block.result c.cut_within-offset.result (λ k h. somes 512 c.args.blocks.now c.requires.blocks
+    k (omega (arith, n))) record {
       block = omega (arith, n);
       within = c.cut_within-offset.ensures.bound;
       up = omega arith;
@@ -34,7 +41,9 @@ returns-clause-start g c =
 pub returns-clause-point : goal.returns-clause-point
 returns-clause-point g c =
     let n : length (lists_of c.args.blocks.now) ≡ length c.args.blocks.now = length-map _ _ in
-    point (g.T.SlotTest.passes c.args.test.now) (lists_of c.args.blocks.now) c.cut_blocks-count.result c.saturating_sub-block.result c.cut_within-offset.result (λ k h. somes 512 c.args.blocks.now c.requires.blocks k (omega (arith, n))) c.requires.order record {
+    point (g.T.SlotTest.passes c.args.test.now) (lists_of c.args.blocks.now) c.cut_blocks-count.result
+    c.saturating_sub-block.result c.cut_within-offset.result (λ k h. somes 512 c.args.blocks.now c.requires.blocks
+    k (omega (arith, n))) c.requires.order record {
       block = omega (arith, n);
       within = c.cut_within-offset.ensures.bound;
       up = omega arith;

@@ -6,4 +6,5 @@ use Rattle.warc_order.proofs.ranked.first_in.Goals as goal
 pub returns : goal.returns
 returns g c =
     c.slot_behind.ensures
-    ∙ sym (find-end (g.T.SlotTest.passes c.args.test.now) (joined (lists_of c.args.blocks.now)) _ c.find_place-place.ensures.point)
+    ∙ sym (find-end (g.T.SlotTest.passes c.args.test.now) (joined (lists_of c.args.blocks.now)) _
+    c.find_place-place.ensures.point)

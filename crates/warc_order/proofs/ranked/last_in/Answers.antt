@@ -12,6 +12,8 @@ returns g c =
     c.slot_before.ensures
     ∙ sym (last_from-end (g.T.SlotTest.passes c.args.test.now) None (joined (lists_of c.args.blocks.now))
     (start_of (lists_of c.args.blocks.now) c.find_place-place.result.block + c.find_place-place.result.offset)
-    (place_within (lists_of c.args.blocks.now) c.find_place-place.result.block c.find_place-place.result.offset (omega (arith, n)) c.find_place-place.ensures.within)
+    (place_within (lists_of c.args.blocks.now) c.find_place-place.result.block c.find_place-place.result.offset (omega
+    (arith, n)) c.find_place-place.ensures.within)
     c.find_place-place.ensures.point
-    ∙ before_is (joined (lists_of c.args.blocks.now)) (start_of (lists_of c.args.blocks.now) c.find_place-place.result.block + c.find_place-place.result.offset))
+    ∙ before_is (joined (lists_of c.args.blocks.now)) (start_of (lists_of c.args.blocks.now)
+    c.find_place-place.result.block + c.find_place-place.result.offset))

@@ -8,16 +8,25 @@ use Rattle.warc_order.proofs.ranked.next_in.Goals as goal
 
 pub overflow_add-behind : goal.overflow_add-behind
 overflow_add-behind g c =
-    let few : length (slice_index_or (lists_of c.args.blocks.now) c.args.place.block []) < 512 = fews 512 c.args.blocks.now c.requires.blocks c.args.place.block (c.stands_at.ensures.block c.if-stands_at.true) in
+    let few : length (slice_index_or (lists_of c.args.blocks.now) c.args.place.block []) < 512 =
+    fews 512 c.args.blocks.now c.requires.blocks c.args.place.block (c.stands_at.ensures.block c.if-stands_at.true)
+    in
     omega (arith, (c.stands_at.ensures.offset c.if-stands_at.true))
 
 pub first_in-requires-clause-order : goal.first_in-requires-clause-order
 first_in-requires-clause-order g c =
-    upto_ends (g.O.SlotOrder.compare c.args.order.now) (joined (lists_of c.args.blocks.now)) c.args.slot (g.met.O.SlotOrder.total c.args.order.now)
+    upto_ends (g.O.SlotOrder.compare c.args.order.now) (joined (lists_of c.args.blocks.now)) c.args.slot
+    (g.met.O.SlotOrder.total c.args.order.now)
     (ranked_of_strict (g.O.SlotOrder.compare c.args.order.now) (joined (lists_of c.args.blocks.now)) c.requires.strict)
 
 pub returns-then-stands_at : goal.returns-then-stands_at
 returns-then-stands_at g c =
     let n : length (lists_of c.args.blocks.now) ≡ length c.args.blocks.now = length-map _ _ in
     c.slot_behind.ensures
-    ∙ next_found (g.O.SlotOrder.compare c.args.order.now) (g.met.O.SlotOrder.total c.args.order.now) (lists_of c.args.blocks.now) c.args.place.block c.args.place.offset c.args.slot c.requires.strict (omega (arith, n, (c.stands_at.ensures.block c.if-stands_at.true))) (c.stands_at.ensures.offset c.if-stands_at.true) (c.stands_at.ensures.slot c.if-stands_at.true)
+    ∙ next_found (g.O.SlotOrder.compare c.args.order.now) (g.met.O.SlotOrder.total c.args.order.now) (lists_of
+    c.args.blocks.now) c.args.place.block c.args.place.offset c.args.slot c.requires.strict (omega (
+      arith,
+      n,
+      (c.stands_at.ensures.block c.if-stands_at.true),
+    )) (c.stands_at.ensures.offset c.if-stands_at.true)
+    (c.stands_at.ensures.slot c.if-stands_at.true)

@@ -6,7 +6,8 @@ use Rattle.warc_order.proofs.BlockLemmas.{somes, some_at, next_at, none_at}
 use Rattle.warc_order.proofs.ranked.slot_behind.Goals as goal
 
 pub standing_at-requires-then-place-blocks-clause-offset : goal.standing_at-requires-then-place-blocks-clause-offset
-standing_at-requires-then-place-blocks-clause-offset g c = somes 512 c.args.blocks.now c.requires.blocks (c.args.place.block + 1) c.if-place-blocks.true
+standing_at-requires-then-place-blocks-clause-offset g c = somes 512 c.args.blocks.now c.requires.blocks
+    (c.args.place.block + 1) c.if-place-blocks.true
 
 pub returns-then-place-length_of : goal.returns-then-place-length_of
 returns-then-place-length_of g c =
@@ -18,10 +19,15 @@ pub returns-then-place-blocks : goal.returns-then-place-blocks
 returns-then-place-blocks g c =
     let n : length (lists_of c.args.blocks.now) ≡ length c.args.blocks.now = length-map _ _ in
     ap Some c.standing_at-then-place-blocks.ensures
-    ∙ sym (ap (slice_get (joined (lists_of c.args.blocks.now))) (next_at (lists_of c.args.blocks.now) c.args.place.block c.args.place.offset (omega (arith, n)) (omega arith))
-    ∙ some_at (lists_of c.args.blocks.now) (c.args.place.block + 1) 0 (omega (arith, n)) (somes 512 c.args.blocks.now c.requires.blocks (c.args.place.block + 1) c.if-place-blocks.true))
+    ∙ sym (ap (slice_get (joined (lists_of c.args.blocks.now))) (next_at (lists_of c.args.blocks.now)
+    c.args.place.block c.args.place.offset (omega (arith, n)) (omega arith))
+    ∙ some_at (lists_of c.args.blocks.now) (c.args.place.block + 1) 0 (omega (arith, n)) (somes 512 c.args.blocks.now
+    c.requires.blocks (c.args.place.block + 1) c.if-place-blocks.true))
 
 pub returns-else-place-blocks : goal.returns-else-place-blocks
 returns-else-place-blocks g c =
     let n : length (lists_of c.args.blocks.now) ≡ length c.args.blocks.now = length-map _ _ in
-    sym (none_at (lists_of c.args.blocks.now) c.args.place.block c.args.place.offset (omega (arith, n)) (omega (arith, n)) (omega arith))
+    sym (none_at (lists_of c.args.blocks.now) c.args.place.block c.args.place.offset (omega (arith, n)) (omega (
+      arith,
+      n,
+    )) (omega arith))

@@ -8,13 +8,15 @@ use Rattle.warc_order.proofs.entries.Entries.mark.Goals as goal
 
 pub index-line-requires : goal.index-line-requires
 index-line-requires g c =
-    let n : length c.self.inside.lines.items ≡ length c.args.self.now.list = length_seen _ _ _ (ap (λ v. v.list) c.self.view_is) in
+    let n : length c.self.inside.lines.items ≡ length c.args.self.now.list =
+    length_seen _ _ _ (ap (λ v. v.list) c.self.view_is) in
     omega (arith, n, c.self.inside.lines.ok.0)
 
 abbrev mark_in : (l : Line) → Mark
 mark_in l = record { major = l.major; minor = l.minor }
 
-read : (ls : List Line) (es : List Entry) (i : ℕ) (d : Line) → ls ≡ lines_of 0 es → i < length es → mark_in (get_or ls i d) ≡ (entry_at es i).mark
+read : (ls : List Line) (es : List Entry) (i : ℕ) (d : Line) → ls ≡ lines_of 0 es → i < length es →
+    mark_in (get_or ls i d) ≡ (entry_at es i).mark
 read ls es i d e lt = ap mark_in (ap (λ us. get_or us i d) e ∙ line_at 0 i d es lt)
 
 pub returns-then-i-len : goal.returns-then-i-len

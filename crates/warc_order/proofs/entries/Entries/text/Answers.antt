@@ -8,7 +8,8 @@ use Rattle.warc_order.proofs.entries.Entries.text.Goals as goal
 
 pub part-requires : goal.part-requires
 part-requires g c =
-    let bytes : c.deref.result.now ≡ concat (texts_of c.args.self.now.list) = c.deref.ensures.value ∙ (held _ _ _ c.self.invariant (ap (λ v. v.list) c.self.view_is)).bytes in
+    let bytes : c.deref.result.now ≡ concat (texts_of c.args.self.now.list) = c.deref.ensures.value
+    ∙ (held _ _ _ c.self.invariant (ap (λ v. v.list) c.self.view_is)).bytes in
     record {
       order = omega (arith, starts_rise c.args.i c.args.self.now.list);
       end = omega (arith, ap length bytes, starts_within (c.args.i + 1) c.args.self.now.list);
@@ -16,8 +17,11 @@ part-requires g c =
 
 pub returns-then-i-len : goal.returns-then-i-len
 returns-then-i-len g c =
-    let bytes : c.deref.result.now ≡ concat (texts_of c.args.self.now.list) = c.deref.ensures.value ∙ (held _ _ _ c.self.invariant (ap (λ v. v.list) c.self.view_is)).bytes in
-    rw (c.part.ensures, bytes, c.start-start.ensures, c.start-end.ensures) (part c.args.i c.args.self.now.list (omega arith))
+    let bytes : c.deref.result.now ≡ concat (texts_of c.args.self.now.list) = c.deref.ensures.value
+    ∙ (held _ _ _ c.self.invariant (ap (λ v. v.list) c.self.view_is)).bytes in
+    rw (c.part.ensures, bytes, c.start-start.ensures, c.start-end.ensures) (part c.args.i c.args.self.now.list (omega
+    arith))
 
 pub returns-else-i-len : goal.returns-else-i-len
-returns-else-i-len g c = ap (λ (e : Entry). e.text) (sym (get_or_past c.args.self.now.list c.args.i no_entry (omega arith)))
+returns-else-i-len g c = ap (λ (e : Entry). e.text) (sym (get_or_past c.args.self.now.list c.args.i no_entry (omega
+    arith)))
