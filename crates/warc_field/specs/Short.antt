@@ -3,6 +3,6 @@ use Rattle.std.specs.Prelude.{ℕ, List}
 use Rattle.warc_field.specs.declared.short.Bytes.{Bytes}
 use Rattle.warc_field.specs.declared.short.Bytes.TheVariants.{Short, Long}
 
-abbrev pub bytes_of : {A : Type 0} → Bytes A → List ℕ
-bytes_of (Short bytes) = bytes.items
-bytes_of (Long bytes) = bytes.items
+abbrev pub held_bytes : {A : Type 0} → Bytes A → List ℕ
+held_bytes (Short bytes) = bytes.items
+held_bytes (Long bytes) = bytes.items

@@ -1,6 +1,6 @@
 //! The bytes of a name or of a value.
 ghost use Rattle.std.specs.Prelude.{◌≡◌, ◌≤◌, IfOk, IsOk, length};
-ghost use Rattle.warc_field.specs.Short.{bytes_of};
+ghost use Rattle.warc_field.specs.Short.{held_bytes};
 
 use arrayvec::ArrayVec;
 use std::alloc::{AllocError, Allocator};
@@ -18,7 +18,7 @@ pub(crate) enum Bytes<A: Allocator> {
 impl<A: Allocator> Bytes<A> {
     /// A copy of these bytes, which takes memory where there are more than 48.
     pub(crate) fn copied(alloc: A, bytes: &[u8]) -> Result<Bytes<A>, AllocError>
-        ensures value { IfOk result (λ copy. bytes_of copy ≡ bytes.now) }
+        ensures value { IfOk result (λ copy. held_bytes copy ≡ bytes.now) }
         ensures short { length bytes.now ≤ SHORT → IsOk result }
     {
         match ArrayVec::try_from(bytes) {
@@ -28,7 +28,7 @@ impl<A: Allocator> Bytes<A> {
     }
 
     pub(crate) fn as_slice(&self) -> &[u8]
-        ensures { result.now ≡ bytes_of self.now }
+        ensures { result.now ≡ held_bytes self.now }
     {
         match self {
             Bytes::Short(short) => short.as_slice(),

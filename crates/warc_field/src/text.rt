@@ -20,13 +20,13 @@ pub struct Name<A: Allocator = Global> {
 impl<A: Allocator> Model for Name<A> {
     ghost use Rattle.std.specs.Prelude.{List, ℕ, ◌≡◌, true};
     ghost use Rattle.warc_field.specs.Text.{is_name};
-    ghost use Rattle.warc_field.specs.Short.{bytes_of};
+    ghost use Rattle.warc_field.specs.Short.{held_bytes};
 
     ghost Value = { List ℕ };
 
-    ghost view = { λ n. bytes_of n.token };
+    ghost view = { λ n. held_bytes n.token };
 
-    ghost invariant = { λ n. is_name (bytes_of n.token) ≡ true };
+    ghost invariant = { λ n. is_name (held_bytes n.token) ≡ true };
 }
 
 /// A field's value. Contracts see its bytes. A value of at most 48 bytes takes no memory, unless it was read from folded lines.
@@ -38,13 +38,13 @@ pub struct Value<A: Allocator = Global> {
 impl<A: Allocator> Model for Value<A> {
     ghost use Rattle.std.specs.Prelude.{List, ℕ, ◌≡◌, true};
     ghost use Rattle.warc_field.specs.Text.{is_value};
-    ghost use Rattle.warc_field.specs.Short.{bytes_of};
+    ghost use Rattle.warc_field.specs.Short.{held_bytes};
 
     ghost Value = { List ℕ };
 
-    ghost view = { λ v. bytes_of v.text };
+    ghost view = { λ v. held_bytes v.text };
 
-    ghost invariant = { λ v. is_value (bytes_of v.text) ≡ true };
+    ghost invariant = { λ v. is_value (held_bytes v.text) ≡ true };
 }
 
 /// Why a text makes no name or no value.

@@ -14,7 +14,7 @@ use Rattle.warc_frame.specs.declared.fault.Mandatory.TheVariants.{ContentLength}
 use Rattle.warc_frame.specs.declared.fault.Fault.{Fault}
 use Rattle.warc_frame.specs.Record.{Record, canonical_len, block_len, block_number, or_length, content_length, max_head, max_block, max_archive}
 use Rattle.warc_frame.specs.Spelling.{Spells}
-use Rattle.warc_frame.specs.Reading.{◌>>=◌, Head, any_fields, fault, begins, version_of, head_len, head_of, block_at, record_of, refuses, at_front, fields_or_line, OrMemory, Gives}
+use Rattle.warc_frame.specs.Reading.{◌>>=◌, Head, any_fields, fault, begins, version_of, head_len, head_of, block_at, record_of, refuses, at_front, fields_or_line, OrMemory, AnswersAs}
 use Rattle.warc_frame.specs.Faults.{within_limit, goes_on, behind, ReadsAs, limited, IsFrameFault}
 use Rattle.warc_frame.proofs.EmptyLineLemmas.{true_or_false}
 use Rattle.warc_frame.proofs.FramedLemmas.{number_small}
@@ -168,13 +168,13 @@ or_memory Memory at P Q f h = h
 or_memory k at P Q f h = f h
 
 -- what a call answers is the frame fault
-pub fault_at : (x : Result (Record × ℕ) Fault) (t : List ℕ) → t ≢ [] → Gives (λ y. y) x (record_of any_fields t) → IfErr x (λ f. OrMemory f.kind f.offset (IsFrameFault 0 t f))
+pub fault_at : (x : Result (Record × ℕ) Fault) (t : List ℕ) → t ≢ [] → AnswersAs (λ y. y) x (record_of any_fields t) → IfErr x (λ f. OrMemory f.kind f.offset (IsFrameFault 0 t f))
 fault_at (Ok y) t some h = tt
 fault_at (Err f) t some h = or_memory f.kind f.offset _ _ (front-fault t f some) h
 
-pub found_at : (x : Result (Record × ℕ) Fault) (t : List ℕ) → Gives (λ y. y) x (record_of any_fields t) → IfOk x (λ y. (y.1 ≤ length t) × Spells y.0 (take y.1 t))
+pub found_at : (x : Result (Record × ℕ) Fault) (t : List ℕ) → AnswersAs (λ y. y) x (record_of any_fields t) → IfOk x (λ y. (y.1 ≤ length t) × Spells y.0 (take y.1 t))
 found_at (Ok (r, n)) t h = let is = record-spelled any_fields t r n h in (is.0, is.1)
 found_at (Err e) t h = tt
 
-pub only_at : (x : Result (Record × ℕ) Fault) (t : List ℕ) (r : Record) (front rest : List ℕ) → Gives (λ y. y) x (record_of any_fields t) → Spells r front → t ≡ front ++ rest → Gives (λ y. y) x (Ok (r, length front))
-only_at x t r front rest h s e = subst (λ c. Gives (λ y. y) x c) (ap (record_of any_fields) e ∙ record-read any_fields r front rest s refl) h
+pub only_at : (x : Result (Record × ℕ) Fault) (t : List ℕ) (r : Record) (front rest : List ℕ) → AnswersAs (λ y. y) x (record_of any_fields t) → Spells r front → t ≡ front ++ rest → AnswersAs (λ y. y) x (Ok (r, length front))
+only_at x t r front rest h s e = subst (λ c. AnswersAs (λ y. y) x c) (ap (record_of any_fields) e ∙ record-read any_fields r front rest s refl) h

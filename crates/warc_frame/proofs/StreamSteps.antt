@@ -17,7 +17,7 @@ use Rattle.warc_frame.specs.declared.fault.Fault.{Fault}
 use Rattle.warc_frame.specs.Record.{Record, max_head, max_archive}
 use Rattle.warc_frame.specs.VersionLine.{version_line}
 use Rattle.warc_frame.specs.Spelling.{Spells, SpellsAll}
-use Rattle.warc_frame.specs.Reading.{Head, any_fields, begins, version_of, empty_line, head_len, head_of, fault, Gives}
+use Rattle.warc_frame.specs.Reading.{Head, any_fields, begins, version_of, empty_line, head_len, head_of, fault, AnswersAs}
 use Rattle.warc_frame.specs.Faults.{within_limit, goes_on, behind, IsFrameFault}
 use Rattle.warc_frame.specs.Told.{Unclosed, Told, nothing, opened, tell, with_bytes, ended, IsWhole, IsHeadOf, Lies, IsExact, EndsThere, IfTold, Refutes, WantsMemory, RefusesAs, Refuses}
 use Rattle.warc_frame.specs.Decoding.{State, closing, InHead, InBlock, PhaseIs, IsAt, IsSound, IsWithin, Takes, Finishes}
@@ -520,8 +520,8 @@ finishes_cut at taken told d s low some =
     let P : Fault → Type 0 = λ f. IsFrameFault at taken f in
     (same, subst P (sym same) (truncated any_fields at taken told (omega (arith, s.position_is, low)) (all_told told) (lies_as at taken told d s) (rest_some at taken told d s some)))
 
-pub gives_ok : {X Y : Type 0} (view : X → Y) (r : Result X Fault) (read : Result Y Fault) (x : X) → r ≡ Ok x → Gives view r read → read ≡ Ok (view x)
-gives_ok view r read x e h = subst (λ q. Gives view q read) e h
+pub gives_ok : {X Y : Type 0} (view : X → Y) (r : Result X Fault) (read : Result Y Fault) (x : X) → r ≡ Ok x → AnswersAs view r read → read ≡ Ok (view x)
+gives_ok view r read x e h = subst (λ q. AnswersAs view q read) e h
 
 pub extended : {E : Type 0} (r : Result (Unit {0}) E) (a b x : List ℕ) → is_err r ≡ false → x ≡ (if is_ok r then a else b) → x ≡ a
 extended (Ok u) a b x h e = e

@@ -116,6 +116,6 @@ OrMemory Memory offset P = offset ≡ 0
 OrMemory kind offset P = P
 
 -- what a call answered, seen by view, is what reading gives, unless memory ran out
-abbrev pub Gives : {X Y : Type 0} → (X → Y) → Result X Fault → Result Y Fault → Type 0
-Gives view (Ok x) read = read ≡ Ok (view x)
-Gives view (Err f) read = OrMemory f.kind f.offset (read ≡ Err f)
+abbrev pub AnswersAs : {X Y : Type 0} → (X → Y) → Result X Fault → Result Y Fault → Type 0
+AnswersAs view (Ok x) read = read ≡ Ok (view x)
+AnswersAs view (Err f) read = OrMemory f.kind f.offset (read ≡ Err f)

@@ -2,7 +2,7 @@ ghost use Rattle.std.specs.Prelude.{◌≡◌, ◌≢◌, ◌<◌, ◌+◌, ◌�
 ghost use Rattle.warc_frame.specs.declared.version.Version.{Version};
 ghost use Rattle.warc_frame.specs.Record.{Record, canonical_len, block_len, kind_of, max_block, max_head};
 ghost use Rattle.warc_frame.specs.Spelling.{Spells};
-ghost use Rattle.warc_frame.specs.Reading.{any_fields, begins, block_at, empty_line, head_front, head_len, head_of, record_of, version_of, Gives, OrMemory};
+ghost use Rattle.warc_frame.specs.Reading.{any_fields, begins, block_at, empty_line, head_front, head_len, head_of, record_of, version_of, AnswersAs, OrMemory};
 ghost use Rattle.warc_frame.specs.Faults.{IsFrameFault};
 
 use crate::ends::{begins_as, version_across};
@@ -111,7 +111,7 @@ pub(crate) fn read_fields<A: Allocator + Copy>(
 ) -> Result<Head<A>, Fault>
     requires version { version_of text.now ≡ Some version }
     requires len { head_len text.now ≡ Some len }
-    ensures exact { Gives (λ h. record { version = h.version; fields = h.fields; len = h.len; block_len = h.block_len })
+    ensures exact { AnswersAs (λ h. record { version = h.version; fields = h.fields; len = h.len; block_len = h.block_len })
         result (head_of any_fields text.now) }
     ensures within { IfOk result (λ h. (h.len ≤ length text.now) × (h.block_len ≤ max_block)) }
     ensures by { IfErr result (λ f. f.offset ≤ length text.now) }
@@ -144,7 +144,7 @@ pub(crate) fn read_fields<A: Allocator + Copy>(
 /// of memory is told at 0.
 #[tactic(auto, unfolding(crate::specs::Reading::head_of))]
 pub fn read_head<A: Allocator + Copy>(alloc: A, text: &[u8]) -> Result<Head<A>, Fault>
-    ensures exact { Gives (λ h. record { version = h.version; fields = h.fields; len = h.len; block_len = h.block_len })
+    ensures exact { AnswersAs (λ h. record { version = h.version; fields = h.fields; len = h.len; block_len = h.block_len })
         result (head_of any_fields text.now) }
     ensures within { IfOk result (λ h. (h.len ≤ length text.now) × (h.block_len ≤ max_block)) }
     ensures by { IfErr result (λ f. f.offset ≤ length text.now) }
@@ -168,7 +168,7 @@ pub fn read_head<A: Allocator + Copy>(alloc: A, text: &[u8]) -> Result<Head<A>, 
 #[tactic(auto, unfolding(crate::specs::Reading::block_at))]
 fn read_block(head_len: usize, block_len: u64, text: &[u8]) -> Result<&[u8], Fault>
     requires { head_len ≤ length text.now }
-    ensures value { Gives (λ block. block.now) result (block_at head_len block_len text.now) }
+    ensures value { AnswersAs (λ block. block.now) result (block_at head_len block_len text.now) }
     ensures within { OnOk result (head_len + block_len + 4 ≤ length text.now) }
     ensures by { IfErr result (λ f. f.offset ≤ length text.now) }
 {
@@ -196,7 +196,7 @@ fn read_block(head_len: usize, block_len: u64, text: &[u8]) -> Result<&[u8], Fau
 /// The record at the front of a text, and its length.
 #[tactic(auto, unfolding(crate::specs::Reading::record_of))]
 fn read_front<A: Allocator + Copy>(alloc: A, text: &[u8]) -> Result<(Framed<A>, usize), Fault>
-    ensures exact { Gives (λ x. x) result (record_of any_fields text.now) }
+    ensures exact { AnswersAs (λ x. x) result (record_of any_fields text.now) }
     ensures by { IfErr result (λ f. f.offset ≤ length text.now) }
 {
     let head = read_head(alloc, text)?;
@@ -214,13 +214,13 @@ pub fn read_one<A: Allocator + Copy>(alloc: A, text: &[u8]) -> Result<(Framed<A>
 
     // A record that the text begins with is read, unless memory runs out.
     ensures only { (r : Record) (front rest : List ℕ) → Spells r front → text.now ≡ front ++ rest
-        → Gives (λ x. x) result (Ok (r, length front)) }
+        → AnswersAs (λ x. x) result (Ok (r, length front)) }
 
     // Where none stands there, the text has this frame fault, unless memory ran out.
     ensures fault { text.now ≢ [] → IfErr result (λ f. OrMemory f.kind f.offset (IsFrameFault 0 text.now f)) }
 
     // It is the first row of the table that fits.
-    ensures exact { Gives (λ x. x) result (record_of any_fields text.now) }
+    ensures exact { AnswersAs (λ x. x) result (record_of any_fields text.now) }
     ensures bound { IfErr result (λ f. f.offset ≤ length text.now) }
 {
     read_front(alloc, text)

@@ -12,7 +12,7 @@ use Rattle.warc_record.specs.declared.checks.TableCheck.TheVariants.{Lacks, HasF
 use Rattle.warc_record.specs.Kinds.{is_known}
 use Rattle.warc_record.specs.Readings.{Reading}
 use Rattle.warc_record.specs.Table.{Rule, rules}
-use Rattle.warc_record.specs.Findings.{Found, about, once, fits, number_of, by_table, not_utf8, is_not_utf8, has_bad_segment, lacks_content_type, has_unknown_profile, has_bare_id, lacks_origin, findings_by}
+use Rattle.warc_record.specs.Findings.{Found, about, once, is_broken, check_number, by_table, not_utf8, is_not_utf8, has_bad_segment, lacks_content_type, has_unknown_profile, has_bare_id, lacks_origin, findings_by}
 use Rattle.warc_record.specs.FindingLaws.{IsByTable, IsOnce, IsNotUtf8, IsFinding, sentences, ListedWhereTheyHold, NumbersNeverFall}
 
 -- ---- which stand in the list
@@ -83,11 +83,11 @@ utf8_from fields f m =
     subst (λ z. Contains (not_utf8 fields) z) (sym m.3) made
 
 table_to : (check : TableCheck) (kind : Kind) (fields : List Pair) (f : Found) → Contains (by_table check kind fields) f → IsByTable check kind fields f
-table_to check kind fields f h = made_to (fits check kind fields) (λ (rule : Rule). about (number_of check) rule.name) rules f h
+table_to check kind fields f h = made_to (is_broken check kind fields) (λ (rule : Rule). about (check_number check) rule.name) rules f h
 
 table_from : (check : TableCheck) (kind : Kind) (fields : List Pair) (f : Found) → IsByTable check kind fields f → Contains (by_table check kind fields) f
 table_from check kind fields f m =
-    let made = made_from (fits check kind fields) (λ (rule : Rule). about (number_of check) rule.name) rules m.0 m.1 m.2 in
+    let made = made_from (is_broken check kind fields) (λ (rule : Rule). about (check_number check) rule.name) rules m.0 m.1 m.2 in
     subst (λ z. Contains (by_table check kind fields) z) (sym m.3) made
 
 or_else : {X P : Type 0} (xs ys : List X) (x : X) → (Contains xs x → P) → (Contains ys x → P) → Contains (xs ++ ys) x → P
@@ -300,9 +300,9 @@ more_rises top n xs (y ∷ ys) x le e =
     subst (λ l. Rises n l) (append_assoc xs (y ∷ []) ys)
     (more_rises n n (xs ++ y ∷ []) ys one (omega arith) (All-tail (λ f. f.number ≡ n) y ys e))
 
-table_numbers : (check : TableCheck) (kind : Kind) (fields : List Pair) → All (λ f. f.number ≡ number_of check) (by_table check kind fields)
+table_numbers : (check : TableCheck) (kind : Kind) (fields : List Pair) → All (λ f. f.number ≡ check_number check) (by_table check kind fields)
 table_numbers check kind fields =
-    All-map (λ f. f.number ≡ number_of check) (λ (rule : Rule). about (number_of check) rule.name) (filter (fits check kind fields) rules)
+    All-map (λ f. f.number ≡ check_number check) (λ (rule : Rule). about (check_number check) rule.name) (filter (is_broken check kind fields) rules)
     (λ k d lt. refl)
 
 utf8_numbers : (fields : List Pair) → All (λ f. f.number ≡ 9) (not_utf8 fields)

@@ -9,13 +9,13 @@ use Rattle.warc_record.specs.declared.checks.TableCheck.{TableCheck}
 use Rattle.warc_record.specs.Kinds.{is_known}
 use Rattle.warc_record.specs.Readings.{Reading}
 use Rattle.warc_record.specs.Table.{Rule, rules}
-use Rattle.warc_record.specs.Findings.{Found, about, fits, number_of, has_bad_segment, lacks_content_type, has_unknown_profile, has_bare_id, lacks_origin, findings_by}
+use Rattle.warc_record.specs.Findings.{Found, about, is_broken, check_number, has_bad_segment, lacks_content_type, has_unknown_profile, has_bare_id, lacks_origin, findings_by}
 
 -- it is about the field of a rule of the table, which is absent, forbidden or repeated
 abbrev pub IsByTable : TableCheck → Kind → List Pair → Found → Type 0
 IsByTable check kind fields found =
-    (rule : Rule) × Contains rules rule × IsTrue (fits check kind fields rule)
-    × (found ≡ about (number_of check) rule.name)
+    (rule : Rule) × Contains rules rule × IsTrue (is_broken check kind fields rule)
+    × (found ≡ about (check_number check) rule.name)
 
 -- it is about a field of the record whose value isn't UTF-8
 abbrev pub IsNotUtf8 : List Pair → Found → Type 0

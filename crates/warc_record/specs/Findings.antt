@@ -33,19 +33,19 @@ stands name fields =
     else is_some (present_value name fields)
 
 -- N1: a required field is absent. N2: a forbidden one isn't. N3: a field that may not be repeated is.
-abbrev pub fits : TableCheck → Kind → List Pair → Rule → Bool
-fits Lacks kind fields rule = is_among kind rule.required && not (stands rule.name fields)
-fits HasForbidden kind fields rule = is_among kind rule.forbidden && stands rule.name fields
-fits Repeats kind fields rule = is_known kind && not rule.repeats && nat_lt 1 (count_of rule.name fields)
+abbrev pub is_broken : TableCheck → Kind → List Pair → Rule → Bool
+is_broken Lacks kind fields rule = is_among kind rule.required && not (stands rule.name fields)
+is_broken HasForbidden kind fields rule = is_among kind rule.forbidden && stands rule.name fields
+is_broken Repeats kind fields rule = is_known kind && not rule.repeats && nat_lt 1 (count_of rule.name fields)
 
-abbrev pub number_of : TableCheck → ℕ
-number_of Lacks = 1
-number_of HasForbidden = 2
-number_of Repeats = 3
+abbrev pub check_number : TableCheck → ℕ
+check_number Lacks = 1
+check_number HasForbidden = 2
+check_number Repeats = 3
 
 abbrev pub by_table : TableCheck → Kind → List Pair → List Found
 by_table check kind fields =
-    map (λ (rule : Rule). about (number_of check) rule.name) (filter (fits check kind fields) rules)
+    map (λ (rule : Rule). about (check_number check) rule.name) (filter (is_broken check kind fields) rules)
 
 -- N5: a segment number that is none, or is less than 2 in a continuation, or isn't 1 in another kind; or, in a
 -- continuation, a total that is no number

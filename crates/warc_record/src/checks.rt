@@ -4,7 +4,7 @@ ghost use Rattle.warc_record.specs.Kinds.{is_known};
 ghost use Rattle.warc_record.specs.Readings.{reading_of};
 ghost use Rattle.warc_record.specs.Seen.{said};
 ghost use Rattle.warc_record.specs.Table.{rule_seen};
-ghost use Rattle.warc_record.specs.Findings.{stands, fits, number_of, by_table, once, finding_seen, is_bad_number, has_bad_segment, lacks_content_type, has_unknown_profile, lacks_origin, stands_in_brackets, not_utf8, findings_of};
+ghost use Rattle.warc_record.specs.Findings.{stands, is_broken, check_number, by_table, once, finding_seen, is_bad_number, has_bad_segment, lacks_content_type, has_unknown_profile, lacks_origin, stands_in_brackets, not_utf8, findings_of};
 
 use crate::head::Typed;
 use crate::ids::bare;
@@ -34,7 +34,7 @@ enum TableCheck {
 
 impl TableCheck {
     fn number(self) -> u8
-        ensures { result ≡ number_of self }
+        ensures { result ≡ check_number self }
     {
         match self {
             TableCheck::Lacks => 1,
@@ -57,8 +57,13 @@ fn stands<A: Allocator>(fields: &Fields<A>, name: &[u8]) -> bool
 }
 
 /// Whether the rule of a field finds what is asked.
-fn fits<A: Allocator>(check: TableCheck, kind: Kind, fields: &Fields<A>, rule: &FieldRule) -> bool
-    ensures { result ≡ fits check kind fields.now (rule_seen rule.now) }
+fn is_broken<A: Allocator>(
+    check: TableCheck,
+    kind: Kind,
+    fields: &Fields<A>,
+    rule: &FieldRule,
+) -> bool
+    ensures { result ≡ is_broken check kind fields.now (rule_seen rule.now) }
 {
     let name = rule.name.as_bytes();
     match check {
@@ -79,7 +84,7 @@ fn add_by_table<'a, A: Allocator>(
         (map finding_seen found.new.items ≡ map finding_seen found.old.items ++ by_table check kind fields.now) }
 {
     for rule in field_rules() {
-        if fits(check, kind, fields, rule) {
+        if is_broken(check, kind, fields, rule) {
             found.push(Finding {
                 number: check.number(),
                 field: Some(rule.name.as_bytes()),

@@ -1,7 +1,7 @@
 -- What each byte stands for in base32, tried one by one.
 use Rattle.std.proofs.Common.{◌≡◌, ℕ, zero, suc, ◌+◌, ◌-◌, ◌<◌, Bool, true, false, ◌&&◌, nat_eq, nat_le, Option, Some, None, refl, arith, if◌then◌else◌}
 use Rattle.std.proofs.lemmas.Grind.{common_steps}
-use Rattle.warc_value.specs.Base32.{value_of}
+use Rattle.warc_value.specs.Base32.{symbol_value}
 
 -- a test passes each number below another one
 abbrev pub all_below : (ℕ → Bool) → ℕ → Bool
@@ -28,9 +28,9 @@ value_by_ranges c =
     else if nat_le 50 c && nat_le c 55 then Some (c - 50 + 26)
     else None
 
-pub value_of-ranges : (c : ℕ) → c < 256 → value_of c ≡ value_by_ranges c
-unfolding value_of
-value_of-ranges c below = same_code _ _ (passes_below (λ c. nat_eq (code_of (value_of c)) (code_of (value_by_ranges c))) 256 refl c below)
+pub symbol_value-ranges : (c : ℕ) → c < 256 → symbol_value c ≡ value_by_ranges c
+unfolding symbol_value
+symbol_value-ranges c below = same_code _ _ (passes_below (λ c. nat_eq (code_of (symbol_value c)) (code_of (value_by_ranges c))) 256 refl c below)
 
 -- both of two tests
 pub both-left : (a b : Bool) → (a && b) ≡ true → a ≡ true

@@ -6,7 +6,7 @@ use Rattle.std.proofs.lemmas.Grind.{common_steps}
 use Rattle.std.proofs.lemmas.List.{take-append-le, take-append-drop, length-take-le, length-drop, append_assoc, append-nil, take_all, drop_all}
 use Rattle.std.proofs.lemmas.List.Folds.{list_all-append}
 use Rattle.std.proofs.Math.Seq.{take-add, drop-drop, take-append-add, take-length}
-use Rattle.warc_value.specs.Base32.{bits_of, number_of_bits, fives, eights, symbol_of, value_of, is_symbol, base32_of, bytes_of, decoded_of, unbase32_of}
+use Rattle.warc_value.specs.Base32.{bits_of, number_of_bits, fives, eights, symbol_of, symbol_value, is_symbol, base32_of, bytes_of, decoded_of, unbase32_of}
 
 first-five : (a : ℕ) → a < 256 → a / 128 % 2 * 16 + (a / 64 % 2 * 8 + (a / 32 % 2 * 4 + (a / 16 % 2 * 2 + (a / 8 % 2 * 1 + 0)))) ≡ a / 8
 first-five a h = omega arith
@@ -121,8 +121,8 @@ bytes_of-nil = refl
 
 -- eight characters with their values before others, as five bytes before the others'
 pub bytes_of-group : (p q r s t u v w a b c d e f g h : ℕ) (rest : List ℕ)
-    → value_of p ≡ Some a → value_of q ≡ Some b → value_of r ≡ Some c → value_of s ≡ Some d
-    → value_of t ≡ Some e → value_of u ≡ Some f → value_of v ≡ Some g → value_of w ≡ Some h
+    → symbol_value p ≡ Some a → symbol_value q ≡ Some b → symbol_value r ≡ Some c → symbol_value s ≡ Some d
+    → symbol_value t ≡ Some e → symbol_value u ≡ Some f → symbol_value v ≡ Some g → symbol_value w ≡ Some h
     → a < 32 → b < 32 → c < 32 → d < 32 → e < 32 → f < 32 → g < 32 → h < 32
     → bytes_of (p ∷ q ∷ r ∷ s ∷ t ∷ u ∷ v ∷ w ∷ rest) ≡ (a * 8 + b / 4) ∷ (b % 4 * 64 + c * 2 + d / 16) ∷ (d % 16 * 16 + e / 2) ∷ (e % 2 * 128 + f * 4 + g / 8) ∷ (g % 8 * 32 + h) ∷ bytes_of rest
 unfolding bytes_of eights bits_of number_of_bits
@@ -131,8 +131,8 @@ bytes_of-group p q r s t u v w a b c d e f g h rest va vb vc vd ve vf vg vh ha h
     (same-five (bytes_of rest) (first-byte a b ha hb) (second-byte b c d hc hd) (third-byte d e he) (fourth-byte e f g hf hg) (fifth-byte g h hh))
 
 decoded-chars : (p q r s t u v w a b c d e f g h : ℕ)
-    → value_of p ≡ Some a → value_of q ≡ Some b → value_of r ≡ Some c → value_of s ≡ Some d
-    → value_of t ≡ Some e → value_of u ≡ Some f → value_of v ≡ Some g → value_of w ≡ Some h
+    → symbol_value p ≡ Some a → symbol_value q ≡ Some b → symbol_value r ≡ Some c → symbol_value s ≡ Some d
+    → symbol_value t ≡ Some e → symbol_value u ≡ Some f → symbol_value v ≡ Some g → symbol_value w ≡ Some h
     → a < 32 → b < 32 → c < 32 → d < 32 → e < 32 → f < 32 → g < 32 → h < 32
     → decoded_of (p ∷ q ∷ r ∷ s ∷ t ∷ u ∷ v ∷ w ∷ []) ≡ Some ((a * 8 + b / 4) ∷ (b % 4 * 64 + c * 2 + d / 16) ∷ (d % 16 * 16 + e / 2) ∷ (e % 2 * 128 + f * 4 + g / 8) ∷ (g % 8 * 32 + h) ∷ [])
 decoded-chars p q r s t u v w a b c d e f g h va vb vc vd ve vf vg vh ha hb hc hd he hf hg hh =
@@ -140,8 +140,8 @@ decoded-chars p q r s t u v w a b c d e f g h va vb vc vd ve vf vg vh ha hb hc h
 
 -- eight characters with their values, as five bytes
 pub decoded_of-eight : (xs : List ℕ) (a b c d e f g h : ℕ) → length xs ≡ 8
-    → value_of (get_or xs 0 0) ≡ Some a → value_of (get_or xs 1 0) ≡ Some b → value_of (get_or xs 2 0) ≡ Some c → value_of (get_or xs 3 0) ≡ Some d
-    → value_of (get_or xs 4 0) ≡ Some e → value_of (get_or xs 5 0) ≡ Some f → value_of (get_or xs 6 0) ≡ Some g → value_of (get_or xs 7 0) ≡ Some h
+    → symbol_value (get_or xs 0 0) ≡ Some a → symbol_value (get_or xs 1 0) ≡ Some b → symbol_value (get_or xs 2 0) ≡ Some c → symbol_value (get_or xs 3 0) ≡ Some d
+    → symbol_value (get_or xs 4 0) ≡ Some e → symbol_value (get_or xs 5 0) ≡ Some f → symbol_value (get_or xs 6 0) ≡ Some g → symbol_value (get_or xs 7 0) ≡ Some h
     → a < 32 → b < 32 → c < 32 → d < 32 → e < 32 → f < 32 → g < 32 → h < 32
     → Some ((a * 8 + b / 4) ∷ (b % 4 * 64 + c * 2 + d / 16) ∷ (d % 16 * 16 + e / 2) ∷ (e % 2 * 128 + f * 4 + g / 8) ∷ (g % 8 * 32 + h) ∷ []) ≡ decoded_of xs
 decoded_of-eight xs a b c d e f g h long va vb vc vd ve vf vg vh ha hb hc hd he hf hg hh =

@@ -7,22 +7,22 @@ use Rattle.std.proofs.lemmas.Bool.{eqb-true}
 use Rattle.std.proofs.lemmas.Bool.Decides.{nat_tests}
 use Rattle.std.proofs.lemmas.Grind.{common_steps}
 use Rattle.std.specs.Char.{to_ascii_uppercase}
-use Rattle.warc_value.specs.Base32.{fives, eights, alphabet, symbol_of, value_of, is_symbol, base32_of, bytes_of, unbase32_of}
+use Rattle.warc_value.specs.Base32.{fives, eights, alphabet, symbol_of, symbol_value, is_symbol, base32_of, bytes_of, unbase32_of}
 use Rattle.warc_value.specs.declared.hash.Wanted.TheVariants.{Sha1}
 use Rattle.warc_value.specs.Digests.{wanted_digest}
 use Rattle.warc_value.proofs.Alphabet.{all_below, passes_below, code_of, same_code, both-left, both-right}
 use Rattle.warc_value.proofs.Bits.{base32_of-group, bytes_of-group, same-eight}
 
 -- Characters and their numbers.
-all-symbols : all_below (λ n. nat_eq (code_of (value_of (symbol_of n))) (code_of (Some n))) 32 ≡ true
-unfolding value_of symbol_of
+all-symbols : all_below (λ n. nat_eq (code_of (symbol_value (symbol_of n))) (code_of (Some n))) 32 ≡ true
+unfolding symbol_value symbol_of
 all-symbols = refl
 
-value_of-symbol_of : (n : ℕ) → n < 32 → value_of (symbol_of n) ≡ Some n
-value_of-symbol_of n below = same_code _ _ (passes_below (λ n. nat_eq (code_of (value_of (symbol_of n))) (code_of (Some n))) 32 all-symbols n below)
+symbol_value-symbol_of : (n : ℕ) → n < 32 → symbol_value (symbol_of n) ≡ Some n
+symbol_value-symbol_of n below = same_code _ _ (passes_below (λ n. nat_eq (code_of (symbol_value (symbol_of n))) (code_of (Some n))) 32 all-symbols n below)
 
 symbol_is : (n : ℕ) → n < 32 → is_symbol (symbol_of n) ≡ true
-symbol_is n below = rw (value_of-symbol_of n below) refl
+symbol_is n below = rw (symbol_value-symbol_of n below) refl
 
 -- Five bytes of eight numbers of five bytes.
 back-five : (a b c d e : ℕ) (rest : List ℕ) → a < 256 → b < 256 → c < 256 → d < 256 → e < 256
@@ -67,8 +67,8 @@ read-group k a b c d e rest ha hb hc hd he later =
     record {
       back = ap (λ (text : List ℕ). bytes_of text) is
           ∙ bytes_of-group _ _ _ _ _ _ _ _ _ _ _ _ _ _ _ _ (base32_of rest)
-          (value_of-symbol_of _ n1) (value_of-symbol_of _ n2) (value_of-symbol_of _ n3) (value_of-symbol_of _ n4)
-          (value_of-symbol_of _ n5) (value_of-symbol_of _ n6) (value_of-symbol_of _ n7) (value_of-symbol_of _ n8)
+          (symbol_value-symbol_of _ n1) (symbol_value-symbol_of _ n2) (symbol_value-symbol_of _ n3) (symbol_value-symbol_of _ n4)
+          (symbol_value-symbol_of _ n5) (symbol_value-symbol_of _ n6) (symbol_value-symbol_of _ n7) (symbol_value-symbol_of _ n8)
           n1 n2 n3 n4 n5 n6 n7 n8
           ∙ back-five a b c d e (bytes_of (base32_of rest)) ha hb hc hd he
           ∙ ap (λ (bytes : List ℕ). a ∷ b ∷ c ∷ d ∷ e ∷ bytes) later.back;
@@ -95,9 +95,9 @@ base32_is_undone bytes long small =
     rw (length_is, read.symbols, read.back) refl
 
 -- A character that stands for a number is that number's, but for its case.
-symbol_of-value_of : (c n : ℕ) → value_of c ≡ Some n → (n < 32) × (symbol_of n ≡ to_ascii_uppercase c)
-unfolding value_of symbol_of
-symbol_of-value_of c n is =
+symbol_of-symbol_value : (c n : ℕ) → symbol_value c ≡ Some n → (n < 32) × (symbol_of n ≡ to_ascii_uppercase c)
+unfolding symbol_value symbol_of
+symbol_of-symbol_value c n is =
     let at = position-Some (λ symbol. nat_eq symbol (to_ascii_uppercase c)) alphabet n 0 is in
     (at.0, eqb-true _ _ at.1)
 
@@ -105,8 +105,8 @@ some-value : (found : Option ℕ) → is_some found ≡ true → (n : ℕ) × (f
 some-value None e = absurd (cc)
 some-value (Some n) e = (n, refl)
 
-value-in : (c : ℕ) → is_symbol c ≡ true → (n : ℕ) × (value_of c ≡ Some n)
-value-in c symbol = some-value (value_of c) symbol
+value-in : (c : ℕ) → is_symbol c ≡ true → (n : ℕ) × (symbol_value c ≡ Some n)
+value-in c symbol = some-value (symbol_value c) symbol
 
 -- Eight numbers of the five bytes of eight numbers.
 back-eight : (a b c d e f g h : ℕ) (rest : List ℕ) → a < 32 → b < 32 → c < 32 → d < 32 → e < 32 → f < 32 → g < 32 → h < 32
@@ -137,19 +137,19 @@ unfolding base32_of fives bytes_of eights
 write-none = refl
 
 write-group : (p q r s t u v w a b c d e f g h : ℕ) (rest : List ℕ)
-    → value_of p ≡ Some a → value_of q ≡ Some b → value_of r ≡ Some c → value_of s ≡ Some d
-    → value_of t ≡ Some e → value_of u ≡ Some f → value_of v ≡ Some g → value_of w ≡ Some h
+    → symbol_value p ≡ Some a → symbol_value q ≡ Some b → symbol_value r ≡ Some c → symbol_value s ≡ Some d
+    → symbol_value t ≡ Some e → symbol_value u ≡ Some f → symbol_value v ≡ Some g → symbol_value w ≡ Some h
     → base32_of (bytes_of rest) ≡ map to_ascii_uppercase rest
     → base32_of (bytes_of (p ∷ q ∷ r ∷ s ∷ t ∷ u ∷ v ∷ w ∷ rest)) ≡ map to_ascii_uppercase (p ∷ q ∷ r ∷ s ∷ t ∷ u ∷ v ∷ w ∷ rest)
 write-group p q r s t u v w a b c d e f g h rest va vb vc vd ve vf vg vh later =
-    let sa = symbol_of-value_of p a va in
-    let sb = symbol_of-value_of q b vb in
-    let sc = symbol_of-value_of r c vc in
-    let sd = symbol_of-value_of s d vd in
-    let se = symbol_of-value_of t e ve in
-    let sf = symbol_of-value_of u f vf in
-    let sg = symbol_of-value_of v g vg in
-    let sh = symbol_of-value_of w h vh in
+    let sa = symbol_of-symbol_value p a va in
+    let sb = symbol_of-symbol_value q b vb in
+    let sc = symbol_of-symbol_value r c vc in
+    let sd = symbol_of-symbol_value s d vd in
+    let se = symbol_of-symbol_value t e ve in
+    let sf = symbol_of-symbol_value u f vf in
+    let sg = symbol_of-symbol_value v g vg in
+    let sh = symbol_of-symbol_value w h vh in
     ap (λ (bytes : List ℕ). base32_of bytes) (bytes_of-group p q r s t u v w a b c d e f g h rest va vb vc vd ve vf vg vh sa.0 sb.0 sc.0 sd.0 se.0 sf.0 sg.0 sh.0)
     ∙ back-eight a b c d e f g h (bytes_of rest) sa.0 sb.0 sc.0 sd.0 se.0 sf.0 sg.0 sh.0
     ∙ cons-eight sa.1 sb.1 sc.1 sd.1 se.1 sf.1 sg.1 sh.1 later
@@ -212,5 +212,5 @@ seen c s range is = grind (arith, nat_tests, common_steps)
 pub symbol_is_visible : (c : ℕ) → is_symbol c ≡ true → (nat_lt 32 c && nat_lt c 127) ≡ true
 symbol_is_visible c symbol =
     let is = value-in c symbol in
-    let at = symbol_of-value_of c is.0 is.1 in
+    let at = symbol_of-symbol_value c is.0 is.1 in
     seen c (symbol_of is.0) (passes_below (λ n. nat_le 50 (symbol_of n) && nat_le (symbol_of n) 90) 32 all-visible is.0 at.0) at.1

@@ -9,7 +9,7 @@ use Rattle.std.proofs.lemmas.Grind.{common_steps}
 use Rattle.std.proofs.lemmas.List.Folds.{list_all-append}
 use Rattle.warc_field.specs.Text.{is_value}
 use Rattle.warc_field.proofs.VisibleLemmas.{visible_text_is_value}
-use Rattle.warc_value.specs.Base32.{alphabet, value_of, is_symbol, base32_of, decoded_of, unbase32_of, bytes_of}
+use Rattle.warc_value.specs.Base32.{alphabet, symbol_value, is_symbol, base32_of, decoded_of, unbase32_of, bytes_of}
 use Rattle.warc_value.specs.Dates.{Instant, fits_place, fits, forms, date_of, date_in, instant_of, instant_if_valid}
 use Rattle.warc_value.specs.declared.date.Date.{Date}
 use Rattle.warc_value.proofs.LawLemmas.{base32_symbols, symbol_is_visible}

@@ -6,7 +6,7 @@ use Rattle.sha1.specs.Sha1.{sha1, digest_bytes, hash_after, compress, rounds, sc
 use Rattle.warc_value.specs.declared.hash.Wanted.TheVariants.{Sha1, Unchecked}
 use Rattle.warc_value.specs.declared.hash.Verdict.TheVariants.{Good, Bad, Unchecked as NotChecked}
 use Rattle.warc_value.specs.Dates.{forms, fits, date_in, date_of, is_before, instant_of}
-use Rattle.warc_value.specs.Base32.{bits_of, number_of_bits, fives, eights, symbol_of, value_of, base32_of, bytes_of, unbase32_of}
+use Rattle.warc_value.specs.Base32.{bits_of, number_of_bits, fives, eights, symbol_of, symbol_value, base32_of, bytes_of, unbase32_of}
 use Rattle.warc_value.specs.Digests.{wanted_digest, verdict_of}
 
 -- dates
@@ -149,51 +149,51 @@ unfolding base32_of bits_of number_of_bits fives symbol_of
 each_its_index = refl
 
 back_to_the_index : unbase32_of (codes "AAAQEAYEAUDAOCAJBIFQYDIOB4IBCEQT") ≡ Some (0 ∷ 1 ∷ 2 ∷ 3 ∷ 4 ∷ 5 ∷ 6 ∷ 7 ∷ 8 ∷ 9 ∷ 10 ∷ 11 ∷ 12 ∷ 13 ∷ 14 ∷ 15 ∷ 16 ∷ 17 ∷ 18 ∷ 19 ∷ [])
-unfolding bytes_of bits_of number_of_bits eights value_of
+unfolding bytes_of bits_of number_of_bits eights symbol_value
 back_to_the_index = refl
 
 in_either_case : unbase32_of (codes "aaaqeayeAUDAOCAJbifqydioB4IBCEQT") ≡ Some (0 ∷ 1 ∷ 2 ∷ 3 ∷ 4 ∷ 5 ∷ 6 ∷ 7 ∷ 8 ∷ 9 ∷ 10 ∷ 11 ∷ 12 ∷ 13 ∷ 14 ∷ 15 ∷ 16 ∷ 17 ∷ 18 ∷ 19 ∷ [])
-unfolding bytes_of bits_of number_of_bits eights value_of
+unfolding bytes_of bits_of number_of_bits eights symbol_value
 in_either_case = refl
 
 one_character_less : unbase32_of (codes "AAAAAAAAAAAAAAAAAAAAAAAAAAAAAAA") ≡ None
-unfolding bytes_of bits_of number_of_bits eights value_of
+unfolding bytes_of bits_of number_of_bits eights symbol_value
 one_character_less = refl
 
 one_character_more : unbase32_of (codes "AAAAAAAAAAAAAAAAAAAAAAAAAAAAAAAAA") ≡ None
-unfolding bytes_of bits_of number_of_bits eights value_of
+unfolding bytes_of bits_of number_of_bits eights symbol_value
 one_character_more = refl
 
 no_digit_1 : unbase32_of (codes "AAAAAAAAAAAAAAAAAAAAAAAAAAAAAAA1") ≡ None
-unfolding bytes_of bits_of number_of_bits eights value_of
+unfolding bytes_of bits_of number_of_bits eights symbol_value
 no_digit_1 = refl
 
 no_digit_8 : unbase32_of (codes "8AAAAAAAAAAAAAAAAAAAAAAAAAAAAAAA") ≡ None
-unfolding bytes_of bits_of number_of_bits eights value_of
+unfolding bytes_of bits_of number_of_bits eights symbol_value
 no_digit_8 = refl
 
 no_padding : unbase32_of (codes "AAAAAAAAAAAAAAAAAAAAAAAAAAAAAAA=") ≡ None
-unfolding bytes_of bits_of number_of_bits eights value_of
+unfolding bytes_of bits_of number_of_bits eights symbol_value
 no_padding = refl
 
 -- digests
 abc_is_wanted : wanted_digest (codes "sha1:VGMT4NSHA2AWVOR6EVYXQUGCNSONBWE5") ≡ Sha1 (sha1 (codes "abc"))
-unfolding bytes_of bits_of number_of_bits eights value_of sha1 digest_bytes hash_after compress rounds schedule first_words
+unfolding bytes_of bits_of number_of_bits eights symbol_value sha1 digest_bytes hash_after compress rounds schedule first_words
 abc_is_wanted = refl
 
 in_any_case : wanted_digest (codes "ShA1:vgmt4nsha2awvor6evyxqugcnsonbwe5") ≡ wanted_digest (codes "sha1:VGMT4NSHA2AWVOR6EVYXQUGCNSONBWE5")
-unfolding bytes_of bits_of number_of_bits eights value_of
+unfolding bytes_of bits_of number_of_bits eights symbol_value
 in_any_case = refl
 
 no_other_algorithm : wanted_digest (codes "sha2:VGMT4NSHA2AWVOR6EVYXQUGCNSONBWE5") ≡ Unchecked
 no_other_algorithm = refl
 
 no_hexadecimal : wanted_digest (codes "sha1:a9993e364706816aba3e25717850c26c9cd0d89d") ≡ Unchecked
-unfolding bytes_of bits_of number_of_bits eights value_of
+unfolding bytes_of bits_of number_of_bits eights symbol_value
 no_hexadecimal = refl
 
 no_blank_behind_the_colon : wanted_digest (codes "sha1: VGMT4NSHA2AWVOR6EVYXQUGCNSONBWE5") ≡ Unchecked
-unfolding bytes_of bits_of number_of_bits eights value_of
+unfolding bytes_of bits_of number_of_bits eights symbol_value
 no_blank_behind_the_colon = refl
 
 nothing_is_wanted : verdict_of Unchecked (codes "abc") ≡ NotChecked

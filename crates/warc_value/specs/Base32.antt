@@ -31,11 +31,11 @@ unfoldable pub symbol_of : ℕ → ℕ
 symbol_of n = slice_index alphabet n
 
 -- the number that a character stands for, in either case
-unfoldable pub value_of : ℕ → Option ℕ
-value_of c = position (λ symbol. symbol == to_ascii_uppercase c) alphabet
+unfoldable pub symbol_value : ℕ → Option ℕ
+symbol_value c = position (λ symbol. symbol == to_ascii_uppercase c) alphabet
 
 abbrev pub is_symbol : ℕ → Bool
-is_symbol c = is_some (value_of c)
+is_symbol c = is_some (symbol_value c)
 
 -- the text of bytes, of which there are a multiple of five: their bits, five a character
 unfoldable pub base32_of : List ℕ → List ℕ
@@ -43,7 +43,7 @@ base32_of bytes = map (λ five. symbol_of (number_of_bits five)) (fives (flat_ma
 
 -- the bytes of characters, of which there are a multiple of eight: their bits, eight a byte
 unfoldable pub bytes_of : List ℕ → List ℕ
-bytes_of text = map number_of_bits (eights (flat_map (λ c. bits_of 5 (unwrap_or (value_of c) 0)) text))
+bytes_of text = map number_of_bits (eights (flat_map (λ c. bits_of 5 (unwrap_or (symbol_value c) 0)) text))
 
 -- the same, where each is a character of base32
 abbrev pub decoded_of : List ℕ → Option (List ℕ)

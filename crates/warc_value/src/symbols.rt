@@ -1,5 +1,5 @@
 ghost use Rattle.std.specs.Prelude.{◌≡◌, ◌<◌, ◌≤◌, length, IfSome};
-ghost use Rattle.warc_value.specs.Base32.{symbol_of, value_of, base32_of, decoded_of, unbase32_of};
+ghost use Rattle.warc_value.specs.Base32.{symbol_of, symbol_value, base32_of, decoded_of, unbase32_of};
 
 /// The characters that stand for 0 to 31.
 const SYMBOLS: [u8; 32] = *b"ABCDEFGHIJKLMNOPQRSTUVWXYZ234567";
@@ -15,7 +15,7 @@ fn symbol(bits: u8) -> u8
 
 /// The five bits that a character stands for.
 fn value(symbol: u8) -> Option<u8>
-    ensures value { result ≡ value_of symbol }
+    ensures value { result ≡ symbol_value symbol }
     ensures below { IfSome result (λ bits. bits < 32) }
 {
     match symbol {
