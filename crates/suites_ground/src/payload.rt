@@ -3,7 +3,7 @@
 use std::alloc::{AllocError, Allocator};
 use std::process::Abort;
 use std::test::Fail;
-use warc_payload::{BadHead, HeadInfo, MOST_HEAD_BYTES, body_start};
+use warc_payload::{BadHead, HeadInfo, MOST_HEAD_BYTES, body_start, front};
 
 /// A text, and what is told of it.
 type Case = (&'static [u8], Result<HeadInfo, BadHead>);
@@ -179,5 +179,20 @@ fn heads_that_are_refused(rt: HostRuntime) -> Result<(), Fail> {
         BadHead.to_string(rt.alloc())?.as_str(),
         "no whole HTTP head"
     );
+    Ok(())
+}
+
+#[test]
+fn the_front_of_a_block(rt: HostRuntime) -> Result<(), Fail> {
+    let block = Vec::from_elem(rt.alloc(), b'x', 70_000)?;
+    for (len, expected) in [
+        (0, 0),
+        (3, 3),
+        (65_536, 65_536),
+        (65_537, 65_536),
+        (70_000, 65_536),
+    ] {
+        assert_eq!(rt; front(&block[..len]).len(), expected);
+    }
     Ok(())
 }
