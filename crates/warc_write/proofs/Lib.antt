@@ -2,3 +2,5 @@ mod RenderLemmas
 mod ConversionLemmas
 mod PartLemmas
 mod WorkedValues
+mod TextLemmas
+mod MakeLemmas
