@@ -4,3 +4,4 @@ mod PartLemmas
 mod WorkedValues
 mod TextLemmas
 mod MakeLemmas
+mod SplitLemmas

@@ -3,3 +3,4 @@ pub mod Written
 pub mod Rendering
 pub mod Conversion
 pub mod Making
+pub mod Splitting

@@ -6,8 +6,10 @@ pub mod laws;
 mod making;
 mod parts;
 mod sending;
+mod splitting;
 mod written;
 
 pub use conversion::convert;
 pub use making::{MakeFault, make};
 pub use sending::render;
+pub use splitting::{Part, SplitFault, segment_head, splittable};

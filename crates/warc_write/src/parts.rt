@@ -85,6 +85,20 @@ impl Label {
     }
 }
 
+/// Adds a field at the end, by its name and its value.
+pub(crate) fn add_copy<A: Allocator + Copy>(
+    alloc: A,
+    fields: &mut Fields<A>,
+    name: &[u8],
+    value: &[u8],
+) -> Result<(), AllocError>
+    requires named { is_name name.now ≡ true }
+    requires valued { is_value value.now ≡ true }
+    ensures { OnOk result (fields.new ≡ fields.old ++ (name.now, value.now) ∷ []) }
+{
+    fields.push(name_of(alloc, name)?, value_of(alloc, value)?)
+}
+
 /// Adds a field at the end, by its value.
 pub(crate) fn add_field<A: Allocator + Copy>(
     alloc: A,
@@ -95,7 +109,21 @@ pub(crate) fn add_field<A: Allocator + Copy>(
     requires { is_value value.now ≡ true }
     ensures { OnOk result (fields.new ≡ fields.old ++ (label_text label, value.now) ∷ []) }
 {
-    fields.push(name_of(alloc, label.name())?, value_of(alloc, value)?)
+    add_copy(alloc, fields, label.name(), value)
+}
+
+/// Adds a field at the end, by its name and the number that its value writes.
+pub(crate) fn add_digits<A: Allocator + Copy>(
+    alloc: A,
+    fields: &mut Fields<A>,
+    name: &[u8],
+    number: u64,
+) -> Result<(), AllocError>
+    requires { is_name name.now ≡ true }
+    ensures { OnOk result (fields.new ≡ fields.old ++ (name.now, decimal number) ∷ []) }
+{
+    let mut digits = Buffer::new();
+    add_copy(alloc, fields, name, digits.format(number).as_bytes())
 }
 
 /// Adds a field at the end, by the number that its value writes.
@@ -107,6 +135,5 @@ pub(crate) fn add_number<A: Allocator + Copy>(
 ) -> Result<(), AllocError>
     ensures { OnOk result (fields.new ≡ fields.old ++ (label_text label, decimal number) ∷ []) }
 {
-    let mut digits = Buffer::new();
-    add_field(alloc, fields, label, digits.format(number).as_bytes())
+    add_digits(alloc, fields, label.name(), number)
 }

@@ -1,7 +1,0 @@
-use Rattle.std.proofs.Common.{rules, ap, ◌∙◌}
-use Rattle.warc_field.specs.Text.{is_value}
-use Rattle.warc_write.proofs.TextLemmas.{decimal_is_value}
-use Rattle.warc_write.proofs.parts.add_number.Goals as goal
-
-pub add_field-requires : goal.add_field-requires
-add_field-requires g c = ap is_value (c.as_bytes.ensures.value ∙ c.format.ensures.text) ∙ decimal_is_value c.args.number (search rules)
