@@ -154,7 +154,7 @@ pub(crate) fn is_bare_id(bare: &[u8]) -> bool
 }
 
 /// The bytes of the UUID that a text is, behind `urn:uuid:` in any case.
-fn urn_uuid(text: &[u8]) -> Option<[u8; 16]>
+pub fn urn_uuid(text: &[u8]) -> Option<[u8; 16]>
     ensures { result ≡ parsed_urn text.now }
 {
     if text.len() != 45 {

@@ -12,7 +12,7 @@ mod types;
 
 pub use checks::{ArchiveFacts, Finding, all_findings, findings};
 pub use head::{NamedPair, Reference, Segment, Typed, type_head};
-pub use ids::{IdKey, bare, id_key};
+pub use ids::{IdKey, bare, id_key, urn_uuid};
 pub use readings::SegmentNumber;
 pub use table::{FieldRule, field_rules};
 pub use types::Kind;

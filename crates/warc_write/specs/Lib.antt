@@ -1,2 +1,6 @@
+pub mod Refusals
+pub mod Written
 pub mod Rendering
 pub mod Conversion
+pub mod Making
+pub mod Splitting

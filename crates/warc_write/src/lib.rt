@@ -1,10 +1,15 @@
-//! Records written: their canonical texts sent out, and records converted.
+//! Records written: their canonical texts sent out, and records made, split and converted.
 #![tactic(auto)]
 
 mod conversion;
 pub mod laws;
+mod making;
 mod parts;
 mod sending;
+mod splitting;
+mod written;
 
 pub use conversion::convert;
+pub use making::{MakeFault, make};
 pub use sending::render;
+pub use splitting::{Part, SplitFault, segment_head, splittable};

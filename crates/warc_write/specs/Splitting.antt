@@ -1,0 +1,186 @@
+-- Records that are split into segments (ISO 28500:2017, 7; its fields 5.20 to 5.22; UUIDs of version 5 by RFC 9562, 5.5). Which
+-- fields a segment has, their order, and the refusals are this project's own.
+use Rattle.std.specs.Prelude.{◌≡◌, ⊤, ℕ, ◌+◌, ◌-◌, ◌*◌, ◌/◌, Bool, true, false, not, ◌||◌, ◌==◌, nat_le, nat_lt}
+use Rattle.std.specs.Prelude.{List, [], ◌∷◌, ◌++◌, length, take, drop, map, filter, codes, decimal}
+use Rattle.std.specs.Prelude.{Option, Some, None, is_some, is_none, unwrap_or, Result, Ok, Err, if◌then◌else◌}
+use Rattle.std.specs.List.{list_all, range_with_len}
+use Rattle.sha1.specs.Sha1.{sha1}
+use Rattle.uuid.specs.declared.Variant.TheVariants.{RFC4122}
+use Rattle.uuid.specs.declared.Version.TheVariants.{Sha1}
+use Rattle.uuid.specs.Parts.{with_variant, with_version}
+use Rattle.uuid.specs.Text.{parsed_urn}
+use Rattle.warc_field.specs.Text.{same}
+use Rattle.warc_field.specs.Area.{Pair, first_value}
+use Rattle.warc_value.specs.Digests.{verdict_of}
+use Rattle.warc_value.specs.declared.hash.Verdict.{Verdict}
+use Rattle.warc_value.specs.declared.hash.Verdict.TheVariants.{Good, Bad, Unchecked}
+use Rattle.warc_frame.specs.Record.{Record, canonical_len, content_length, max_head}
+use Rattle.warc_record.specs.declared.types.Kind.{Kind}
+use Rattle.warc_record.specs.declared.types.Kind.TheVariants.{Warcinfo, Response, Resource, Request, Metadata, Revisit}
+use Rattle.warc_record.specs.declared.types.Kind.TheVariants.{Conversion, Continuation, Other}
+use Rattle.warc_record.specs.Heads.{head_fault}
+use Rattle.warc_record.specs.Ids.{bare_text}
+use Rattle.warc_record.specs.Readings.{digest_wanted, kind_of, target_of}
+use Rattle.warc_write.specs.declared.splitting.Part.{Part}
+use Rattle.warc_write.specs.declared.splitting.SplitFault.{SplitFault}
+use Rattle.warc_write.specs.declared.splitting.SplitFault.TheVariants.{NotUuid, AlreadySegmented, Kind as BadKind, Size}
+use Rattle.warc_write.specs.declared.splitting.SplitFault.TheVariants.{Memory, TooLong, BadDigest}
+use Rattle.warc_write.specs.Refusals.{◌>>=◌, checks, needs}
+use Rattle.warc_write.specs.Written.{digest_text, id_text}
+
+-- the kinds that are split
+abbrev pub may_be_split : Kind → Bool
+may_be_split Response = true
+may_be_split Resource = true
+may_be_split Request = true
+may_be_split Metadata = true
+may_be_split Revisit = true
+may_be_split Conversion = true
+may_be_split Warcinfo = false
+may_be_split Continuation = false
+may_be_split Other = false
+
+abbrev pub has_field : List ℕ → List Pair → Bool
+has_field name fields = is_some (first_value name fields)
+
+-- a field of segments stands
+abbrev pub is_segmented : List Pair → Bool
+is_segmented fields =
+    has_field (codes "WARC-Segment-Number") fields
+    || has_field (codes "WARC-Segment-Origin-ID") fields
+    || has_field (codes "WARC-Segment-Total-Length") fields
+
+-- the first value of a name, or nothing
+abbrev pub value_in : List ℕ → List Pair → List ℕ
+value_in name fields = unwrap_or (first_value name fields) []
+
+-- the UUID of a head that may be split into segments of n bytes, or the first refusal, in the order S4, S3, S2, S1
+unfoldable pub splittable : List Pair → ℕ → Result (List ℕ) SplitFault
+splittable fields n = do
+  _ ← checks (nat_lt 0 n) Size
+  _ ← checks (is_none (head_fault fields)) BadKind
+  _ ← checks (may_be_split (kind_of fields)) BadKind
+  _ ← checks (is_some (target_of fields)) BadKind
+  _ ← checks (not (is_segmented fields)) AlreadySegmented
+  needs (parsed_urn (bare_text (value_in (codes "WARC-Record-ID") fields))) NotUuid
+
+-- the UUID of version 5 of a name in a UUID's namespace
+abbrev pub version_5 : List ℕ → List ℕ → List ℕ
+version_5 space name = with_version (with_variant (take 16 (sha1 (space ++ name))) RFC4122) Sha1
+
+-- the fields of the first segment: those given, in their order, without block digests, the length that of the segment;
+-- then its number, and its digest
+abbrev pub with_len : ℕ → Pair → Pair
+with_len len field = if same field.0 content_length then (field.0, decimal len) else field
+
+abbrev pub is_kept : Pair → Bool
+is_kept field = not (same field.0 (codes "WARC-Block-Digest"))
+
+abbrev pub kept : ℕ → List Pair → List Pair
+kept len given = map (with_len len) (filter is_kept given)
+
+abbrev pub first_fields : List Pair → Part → List Pair
+first_fields given part =
+    kept part.len given
+    ++ (codes "WARC-Segment-Number", codes "1")
+    ∷ (codes "WARC-Block-Digest", digest_text part.digest)
+    ∷ []
+
+-- the fields of a further segment of the record with these fields and this UUID
+abbrev pub origin_fields : List Pair → List ℕ → ℕ → List Pair
+origin_fields given uuid number =
+    (codes "WARC-Type", codes "continuation")
+    ∷ (codes "WARC-Record-ID", id_text (version_5 uuid (decimal number)))
+    ∷ (codes "WARC-Date", value_in (codes "WARC-Date") given)
+    ∷ (codes "WARC-Target-URI", bare_text (value_in (codes "WARC-Target-URI") given))
+    ∷ (codes "WARC-Segment-Origin-ID", value_in (codes "WARC-Record-ID") given)
+    ∷ []
+
+abbrev pub total_fields : Option ℕ → List Pair
+total_fields None = []
+total_fields (Some total) = (codes "WARC-Segment-Total-Length", decimal total) ∷ []
+
+abbrev pub next_fields : List Pair → List ℕ → Part → List Pair
+next_fields given uuid part =
+    origin_fields given uuid part.number
+    ++ (codes "WARC-Segment-Number", decimal part.number)
+    ∷ total_fields part.total
+    ++ (codes "WARC-Block-Digest", digest_text part.digest)
+    ∷ (codes "Content-Length", decimal part.len)
+    ∷ []
+
+abbrev pub segment_fields : List Pair → List ℕ → Part → List Pair
+segment_fields given uuid part = if part.number == 1 then first_fields given part else next_fields given uuid part
+
+-- how many pieces of n bytes, the last one shorter or equal, a block that isn't empty is cut into, and the piece at a place,
+-- counted from 0
+abbrev pub count_of : ℕ → ℕ → ℕ
+count_of n len = (len - 1) / n + 1
+
+abbrev pub piece_at : ℕ → List ℕ → ℕ → List ℕ
+piece_at n block at = take n (drop (at * n) block)
+
+-- the segment at a place: the last one alone states the length of the block
+abbrev pub total_at : ℕ → ℕ → ℕ → Option ℕ
+total_at n len at = if at + 1 == count_of n len then Some len else None
+
+abbrev pub part_of : ℕ → ℕ → List ℕ → ℕ → Part
+part_of n len piece at =
+    record { number = at + 1; total = total_at n len at; len = length piece; digest = sha1 piece }
+
+abbrev pub segment_of : Record → List ℕ → ℕ → ℕ → Record
+segment_of r uuid n at =
+    let piece = piece_at n r.block at in
+    record { version = r.version; fields = segment_fields r.fields uuid (part_of n (length r.block) piece at); block = piece }
+
+abbrev pub segments_of : Record → List ℕ → ℕ → List Record
+segments_of r uuid n = map (segment_of r uuid n) (range_with_len 0 (count_of n (length r.block)))
+
+abbrev pub has_room : Record → Bool
+has_room r = nat_le (canonical_len r.version r.fields) max_head
+
+-- the record itself where its block has at most n bytes, or else its segments, if each head is short enough
+abbrev pub cut_of : Record → List ℕ → ℕ → Result (List Record) SplitFault
+cut_of r uuid n =
+    if nat_le (length r.block) n then Ok (r ∷ [])
+    else if list_all has_room (segments_of r uuid n) then Ok (segments_of r uuid n)
+    else Err TooLong
+
+-- a digest was checked and differs
+abbrev pub is_bad : Verdict → Bool
+is_bad Good = false
+is_bad Bad = true
+is_bad Unchecked = false
+
+-- the records that a record is split into, or the first refusal, in the order S4, S3, S2, S1, S7, S6
+unfoldable pub split_of : Record → ℕ → Result (List Record) SplitFault
+split_of r n = do
+  uuid ← splittable r.fields n
+  _ ← checks (not (is_bad (verdict_of (digest_wanted r.fields) r.block))) BadDigest
+  cut_of r uuid n
+
+-- what a call answered is that, unless memory ran out
+abbrev pub Splits : {X : Type 0} → Result X SplitFault → Result X SplitFault → Type 0
+Splits (Ok x) split = split ≡ Ok x
+Splits (Err Memory) split = ⊤
+Splits (Err fault) split = split ≡ Err fault
+
+-- a head is refused as such, or for want of memory
+abbrev pub RefusesHead : Bool → SplitFault → Type 0
+RefusesHead good BadKind = good ≡ false
+RefusesHead good Memory = ⊤
+RefusesHead good NotUuid = ⊥
+RefusesHead good AlreadySegmented = ⊥
+RefusesHead good Size = ⊥
+RefusesHead good TooLong = ⊥
+RefusesHead good BadDigest = ⊥
+
+-- the texts of refusals
+abbrev pub split_fault_text : SplitFault → List ℕ
+split_fault_text NotUuid = codes "S1 NotUuid"
+split_fault_text AlreadySegmented = codes "S2 AlreadySegmented"
+split_fault_text BadKind = codes "S3 Kind"
+split_fault_text Size = codes "S4 Size"
+split_fault_text Memory = codes "S5 Memory"
+split_fault_text TooLong = codes "S6 TooLong"
+split_fault_text BadDigest = codes "S7 BadDigest"

@@ -1,0 +1,310 @@
+//! Records split into segments.
+ghost use Rattle.std.specs.Prelude.{◌≡◌, [], ◌∷◌, ◌++◌, true, IfOk, IfErr, OnOk, Some, is_none, is_some, decimal};
+ghost use Rattle.warc_field.specs.Text.{is_value};
+ghost use Rattle.warc_record.specs.Heads.{head_fault};
+ghost use Rattle.warc_record.specs.Readings.{kind_of, target_of};
+ghost use Rattle.warc_write.specs.Splitting.{RefusesHead, Splits, first_fields, is_segmented, kept, may_be_split, next_fields, origin_fields};
+ghost use Rattle.warc_write.specs.Splitting.{segment_fields, split_fault_text, splittable, total_fields, value_in, version_5};
+
+use crate::parts::{Label, add_copy, add_digits, add_field, add_number};
+use crate::written::{digest_text, id_text};
+use itoa::Buffer;
+use std::alloc::{AllocError, Allocator};
+use std::fmt;
+use thiserror::Error;
+use uuid::Uuid;
+use warc_field::{Fields, Name, Value};
+use warc_frame::FaultKind;
+use warc_record::laws::bare_texts_of_values;
+use warc_record::{Kind, bare, type_head, urn_uuid};
+
+/// Why a record isn't split: S1 to S7.
+#[derive(Clone, Copy, PartialEq, Eq, Debug, Error)]
+pub enum SplitFault {
+    /// The id is no UUID.
+    NotUuid,
+
+    /// A field of segments stands.
+    AlreadySegmented,
+
+    /// The head isn't good; or the record is a continuation, a warcinfo or of no known kind; or it has no target.
+    Kind,
+
+    /// The size is 0.
+    Size,
+
+    /// A growth of the memory was refused.
+    Memory,
+
+    /// A segment's head would pass 65,536 bytes.
+    TooLong,
+
+    /// The block's digest is checked and differs.
+    BadDigest,
+}
+
+impl fmt::Display for SplitFault {
+    ghost output = { λ fault. Some (split_fault_text fault) };
+
+    fn fmt<W: fmt::Write>(&self, f: &mut fmt::Formatter<W>) -> fmt::Result {
+        match self {
+            SplitFault::NotUuid => write!(f, "S1 NotUuid"),
+            SplitFault::AlreadySegmented => write!(f, "S2 AlreadySegmented"),
+            SplitFault::Kind => write!(f, "S3 Kind"),
+            SplitFault::Size => write!(f, "S4 Size"),
+            SplitFault::Memory => write!(f, "S5 Memory"),
+            SplitFault::TooLong => write!(f, "S6 TooLong"),
+            SplitFault::BadDigest => write!(f, "S7 BadDigest"),
+        }
+    }
+}
+
+impl From<AllocError> for SplitFault {
+    ghost use Rattle.warc_write.specs.declared.splitting.SplitFault.TheVariants.{Memory};
+
+    ghost from_gives = { λ _ fault. fault ≡ Memory };
+
+    fn from(_: AllocError) -> SplitFault {
+        SplitFault::Memory
+    }
+}
+
+/// What a segment's head says of the segment, beside what it takes from the head of the record that is split.
+#[derive(Clone, Copy, Debug)]
+pub struct Part {
+    /// Its number, from 1 on.
+    pub number: u64,
+
+    /// The length of the whole block in bytes, in the last segment alone.
+    pub total: Option<u64>,
+
+    /// How many bytes of the block it has.
+    pub len: u64,
+
+    /// The SHA-1 of these bytes.
+    pub digest: [u8; 20],
+}
+
+/// Whether records of this kind are split.
+fn may_be_split(kind: Kind) -> bool
+    ensures { result ≡ may_be_split kind }
+{
+    match kind {
+        Kind::Response
+        | Kind::Resource
+        | Kind::Request
+        | Kind::Metadata
+        | Kind::Revisit
+        | Kind::Conversion => true,
+        Kind::Warcinfo | Kind::Continuation | Kind::Other => false,
+    }
+}
+
+/// Whether a field of segments stands.
+fn is_segmented<A: Allocator>(fields: &Fields<A>) -> bool
+    ensures { result ≡ is_segmented fields.now }
+{
+    fields.first(b"WARC-Segment-Number").is_some()
+        || fields.first(b"WARC-Segment-Origin-ID").is_some()
+        || fields.first(b"WARC-Segment-Total-Length").is_some()
+}
+
+/// The first value of a name, or nothing.
+fn value_in<'a, A: Allocator>(fields: &'a Fields<A>, name: &[u8]) -> &'a [u8]
+    ensures text { result.now ≡ value_in name.now fields.now }
+    ensures value { is_value result.now ≡ true }
+{
+    match fields.first(name) {
+        Some(value) => value.bytes(),
+        None => b"",
+    }
+}
+
+/// The kind of a good head, and whether it has a target.
+fn read_kind<A: Allocator + Copy>(alloc: A, fields: &Fields<A>) -> Result<(Kind, bool), SplitFault>
+    ensures good { OnOk result (is_none (head_fault fields.now) ≡ true) }
+    ensures kind { IfOk result (λ r. r.0 ≡ kind_of fields.now) }
+    ensures target { IfOk result (λ r. r.1 ≡ is_some (target_of fields.now)) }
+    ensures bad { IfErr result (RefusesHead (is_none (head_fault fields.now))) }
+{
+    match type_head(alloc, fields) {
+        Ok(typed) => Ok((typed.kind, typed.target.is_some())),
+        Err(FaultKind::Memory) => Err(SplitFault::Memory),
+        Err(_) => Err(SplitFault::Kind),
+    }
+}
+
+/// The sixteen bytes of the UUID of a head that may be split into segments of so many bytes. The refusals come in the order S4,
+/// S3, S2, S1, and S5 where memory is refused.
+pub fn splittable<A: Allocator + Copy>(
+    alloc: A,
+    fields: &Fields<A>,
+    size: u64,
+) -> Result<[u8; 16], SplitFault>
+    ensures { Splits result (splittable fields.now size) }
+{
+    if size == 0 {
+        return Err(SplitFault::Size);
+    }
+    let (kind, has_target) = read_kind(alloc, fields)?;
+    if !may_be_split(kind) {
+        return Err(SplitFault::Kind);
+    }
+    if !has_target {
+        return Err(SplitFault::Kind);
+    }
+    if is_segmented(fields) {
+        return Err(SplitFault::AlreadySegmented);
+    }
+    urn_uuid(bare(value_in(fields, b"WARC-Record-ID"))).ok_or(SplitFault::NotUuid)
+}
+
+/// The id of the segment with this number, of the record with this UUID.
+fn segment_id(uuid: &[u8; 16], number: u64) -> Uuid
+    ensures { result ≡ version_5 uuid.now (decimal number) }
+{
+    let mut digits = Buffer::new();
+    Uuid::new_v5(&Uuid::from_bytes(*uuid), digits.format(number).as_bytes())
+}
+
+/// Adds what a first segment keeps of a field.
+fn add_kept_field<A: Allocator + Copy>(
+    alloc: A,
+    name: &Name<A>,
+    value: &Value<A>,
+    len: u64,
+    fields: &mut Fields<A>,
+) -> Result<(), AllocError>
+    ensures { OnOk result (fields.new ≡ fields.old ++ kept len ((name.now, value.now) ∷ [])) }
+{
+    if name.is(b"WARC-Block-Digest") {
+        return Ok(());
+    }
+    if name.is(b"Content-Length") {
+        return add_digits(alloc, fields, name.bytes(), len);
+    }
+    add_copy(alloc, fields, name.bytes(), value.bytes())
+}
+
+/// Adds what a first segment keeps of the fields given.
+fn add_kept<A: Allocator + Copy>(
+    alloc: A,
+    given: &[(Name<A>, Value<A>)],
+    len: u64,
+    fields: &mut Fields<A>,
+) -> Result<(), AllocError>
+    ensures { OnOk result (fields.new ≡ fields.old ++ kept len given.now) }
+{
+    for field in given {
+        add_kept_field(alloc, &field.0, &field.1, len, fields)?;
+    }
+    Ok(())
+}
+
+/// The fields of a first segment.
+fn first_fields<A: Allocator + Copy>(
+    alloc: A,
+    given: &Fields<A>,
+    part: &Part,
+) -> Result<Fields<A>, AllocError>
+    ensures { IfOk result (λ fields. fields ≡ first_fields given.now part.now) }
+{
+    let mut fields = Fields::new(alloc);
+    add_kept(alloc, given.as_slice(), part.len, &mut fields)?;
+    add_field(alloc, &mut fields, Label::SegmentNumber, b"1")?;
+    add_field(
+        alloc,
+        &mut fields,
+        Label::BlockDigest,
+        &digest_text(&part.digest),
+    )?;
+    Ok(fields)
+}
+
+/// The fields that tell a further segment's own id and that of its record.
+fn origin_fields<A: Allocator + Copy>(
+    alloc: A,
+    given: &Fields<A>,
+    uuid: &[u8; 16],
+    number: u64,
+) -> Result<Fields<A>, AllocError>
+    ensures { IfOk result (λ fields. fields ≡ origin_fields given.now uuid.now number) }
+{
+    bare_texts_of_values();
+    let target = bare(value_in(given, b"WARC-Target-URI"));
+    let mut fields = Fields::new(alloc);
+    add_field(alloc, &mut fields, Label::Type, b"continuation")?;
+    add_field(
+        alloc,
+        &mut fields,
+        Label::RecordId,
+        &id_text(&segment_id(uuid, number)),
+    )?;
+    add_field(
+        alloc,
+        &mut fields,
+        Label::Date,
+        value_in(given, b"WARC-Date"),
+    )?;
+    add_field(alloc, &mut fields, Label::TargetUri, target)?;
+    add_field(
+        alloc,
+        &mut fields,
+        Label::SegmentOriginId,
+        value_in(given, b"WARC-Record-ID"),
+    )?;
+    Ok(fields)
+}
+
+/// Adds the length of the whole block, where it is told.
+fn add_total<A: Allocator + Copy>(
+    alloc: A,
+    total: Option<u64>,
+    fields: &mut Fields<A>,
+) -> Result<(), AllocError>
+    ensures { OnOk result (fields.new ≡ fields.old ++ total_fields total) }
+{
+    match total {
+        Some(total) => add_number(alloc, fields, Label::SegmentTotalLength, total),
+        None => Ok(()),
+    }
+}
+
+/// The fields of a further segment.
+fn next_fields<A: Allocator + Copy>(
+    alloc: A,
+    given: &Fields<A>,
+    uuid: &[u8; 16],
+    part: &Part,
+) -> Result<Fields<A>, AllocError>
+    ensures { IfOk result (λ fields. fields ≡ next_fields given.now uuid.now part.now) }
+{
+    let mut fields = origin_fields(alloc, given, uuid, part.number)?;
+    add_number(alloc, &mut fields, Label::SegmentNumber, part.number)?;
+    add_total(alloc, part.total, &mut fields)?;
+    add_field(
+        alloc,
+        &mut fields,
+        Label::BlockDigest,
+        &digest_text(&part.digest),
+    )?;
+    add_number(alloc, &mut fields, Label::ContentLength, part.len)?;
+    Ok(fields)
+}
+
+/// The fields of a segment, without a block in memory: from the fields of the record that is split, the bytes of its UUID, and
+/// what is to be said of the segment. It fails only where memory is refused.
+pub fn segment_head<A: Allocator + Copy>(
+    alloc: A,
+    given: &Fields<A>,
+    uuid: &[u8; 16],
+    part: &Part,
+) -> Result<Fields<A>, AllocError>
+    ensures { IfOk result (λ fields. fields ≡ segment_fields given.now uuid.now part.now) }
+{
+    if part.number == 1 {
+        first_fields(alloc, given, part)
+    } else {
+        next_fields(alloc, given, uuid, part)
+    }
+}
