@@ -289,7 +289,8 @@ fn a_failed_write_is_told(rt: HostRuntime) -> Result<(), Fail> {
         let mut out = BrokenWriter::new(alloc, number, how).taking(1);
         let mut err = MemSink::new(Vec::new(alloc));
         let source = MemSource::new(text.to_vec(alloc)?, usize::MAX);
-        let answer = perform(alloc, &CHECK, source, &mut out, &mut err);
+        let (answer, source) = perform(alloc, &CHECK, source, &mut out, &mut err);
+        assert_eq!(rt; source.into_inner().as_slice(), text.as_slice());
         assert_eq!(rt;
             (out.bytes(), err.bytes(), answer),
             (written.as_bytes(), line.as_bytes(), status)

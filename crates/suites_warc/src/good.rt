@@ -172,6 +172,15 @@ fn a_refused_source_is_handed_back(rt: HostRuntime) -> Result<(), Fail> {
     let (fault, source) = Archive::open(alloc, source).err().ok_or("a refusal")?;
     assert_eq!(rt; (fault.kind, fault.offset), (FaultKind::Date, 0));
     assert_eq!(rt; source.into_inner().as_slice(), text.as_slice());
+
+    // An archive gives it back too.
+    let text = ONE_RESOURCE.text(alloc)?;
+    let source = MemSource::new(text.to_vec(alloc)?, 7);
+    let archive = Archive::open(alloc, source).ok().ok_or("an archive")?;
+    assert_eq!(rt;
+        archive.into_source().into_inner().as_slice(),
+        text.as_slice()
+    );
     Ok(())
 }
 

@@ -35,7 +35,7 @@ pub(crate) fn run<S: Source + Drop, A: Allocator + Copy>(
 ) -> Ended {
     let mut out = MemSink::new(Vec::new(alloc));
     let mut err = MemSink::new(Vec::new(alloc));
-    let status = perform(heap, command, source, &mut out, &mut err);
+    let (status, _) = perform(heap, command, source, &mut out, &mut err);
     Ended {
         out: out.into_inner(),
         err: err.into_inner(),

@@ -1,5 +1,5 @@
 -- The heads of records that bytes spell stand where the records' places say.
-use Rattle.std.proofs.Common.{◌≡◌, ℕ, zero, suc, ◌+◌, ◌-◌, ◌≤◌, List, [], ◌∷◌, ◌++◌, length, take, drop, slice_range, Some, None, Ok, append_assoc, length-append, refl, sym, ap, subst, ◌∙◌, arith}
+use Rattle.std.proofs.Common.{◌≡◌, ℕ, zero, suc, ◌+◌, ◌-◌, ◌≤◌, List, [], ◌∷◌, ◌++◌, length, take, drop, slice_range, Option, Some, None, Ok, append_assoc, length-append, refl, sym, ap, subst, ◌∙◌, arith}
 use Rattle.std.proofs.Math.Seq.{drop-append_seam}
 use Rattle.std.proofs.lemmas.List.{take-append-le}
 use Rattle.std.specs.List.{slice_get}
@@ -63,8 +63,15 @@ checkable law bytes rows are = record {
   rows_are = are.rows_are;
 }
 
-pub checkable_archive : HeadsAreRead → (bytes : List ℕ) (archive : Contents) (is : IsArchiveOf bytes archive) (rows : List Row) → rows ≡ archive.rows
-    → AreCheckable bytes is.rows.records rows
-checkable_archive law bytes archive is rows same =
-    let P : List Row → Type 0 = λ l. AreCheckable bytes is.rows.records l in
-    subst P (sym same) (checkable law bytes archive.rows is.rows)
+pub checkable_archive : HeadsAreRead → (bytes : List ℕ) (holds : Option (List ℕ)) (seen : List Row) (is : IsArchiveOf bytes holds seen) (rows : List Row) → rows ≡ seen
+    → AreCheckable bytes is.are.records rows
+checkable_archive law bytes holds seen is rows same =
+    let P : List Row → Type 0 = λ l. AreCheckable bytes is.are.records l in
+    subst P (sym same) (checkable law bytes seen is.are)
+
+-- what two equal archives have
+pub same_rows : {S : Type 0} {a b : Contents S} → a ≡ b → a.rows ≡ b.rows
+same_rows {S} same = ap (λ (c : Contents S). c.rows) same
+
+pub same_source : {S : Type 0} {a b : Contents S} → a ≡ b → a.source ≡ b.source
+same_source {S} same = ap (λ (c : Contents S). c.source) same

@@ -1,25 +1,33 @@
 -- How a run ends, from what its calls answered.
-use Rattle.std.proofs.Common.{◌≡◌, ℕ, ◌⊎◌, inl, inr, List, [], ◌∷◌, length, min, refl, subst, arith}
+use Rattle.std.proofs.Common.{◌≡◌, ℕ, List, [], ◌∷◌, length, min, Option, Err, refl, subst, arith}
 use Rattle.warc_frame.specs.Count.{capped}
-use Rattle.warc_frame.specs.declared.fault.FaultKind.{FaultKind}
-use Rattle.warc_frame.specs.declared.fault.FaultKind.TheVariants.{Memory, Read}
-use Rattle.warc.specs.Archive.{RefusesBy}
+use Rattle.warc_frame.specs.declared.fault.OutFault.{OutFault}
+use Rattle.warc.specs.Archive.{IsArchiveOf, contents}
 use Rattle.warc.specs.Checking.{Line}
-use Rattle.warc.specs.Program.{IsRefused, IsUnread, Seen, status_of_findings, Tells, fault_line, status_of_kind}
+use Rattle.warc.specs.Failing.{HasFailedBy, MayHaveFailedBy}
+use Rattle.warc.specs.Program.{AreGoodRecordsOf, AreLinesOf, Seen, status_of_findings, Tells}
+use Rattle.warc.specs.Row.{Row}
+use Rattle.warc.proofs.StreamLemmas.{spells_all}
 
--- an archive that isn't opened
-module _ (A B : Type 0) (bytes : List ℕ) (out out' err err' : Seen) (status : ℕ) where
-  abbrev Ends : Type 0
-  Ends = A ⊎ (IsRefused bytes out out' err err' status ⊎ (IsUnread out out' err err' status ⊎ B))
+-- what is known of an archive's rows
+pub lines_of : {bytes : List ℕ} {holds : Option (List ℕ)} {rows : List Row} → IsArchiveOf bytes holds rows → AreLinesOf bytes rows
+lines_of is = record { short = is.short; are = is.are }
 
-  pub not_opened : (kind : FaultKind) (offset : ℕ) → RefusesBy kind bytes (record { kind = kind; offset = offset }) → out' ≡ out
-      → Tells (fault_line (record { kind = kind; offset = offset })) err err' → status ≡ status_of_kind kind → Ends
-  not_opened Read offset is same told status_is =
-      inr (inr (inl (record { fault = record { kind = Read; offset = offset }; kind = inl refl; untouched = same; told = told; status_is = status_is })))
-  not_opened Memory offset is same told status_is =
-      inr (inr (inl (record { fault = record { kind = Memory; offset = offset }; kind = inr refl; untouched = same; told = told; status_is = status_is })))
-  not_opened kind offset is same told status_is =
-      inr (inl (record { fault = record { kind = kind; offset = offset }; is = is; untouched = same; told = told; status_is = status_is }))
+pub good_records_of : {bytes : List ℕ} {holds : Option (List ℕ)} {rows : List Row} (is : IsArchiveOf bytes holds rows) → AreGoodRecordsOf bytes (contents is.are.records)
+good_records_of {bytes} is = record { short = is.short; spelled = spells_all 0 is.are.records bytes is.are.spelled; good = is.are.good }
+
+-- how often a source has failed, by equal counts
+pub has_failed : (f : OutFault) (old new other now : ℕ) → old ≡ other → new ≡ now → HasFailedBy {X = ℕ} (Err f) old new → HasFailedBy {X = ℕ} (Err f) other now
+has_failed f old new other now a b is =
+    let P : ℕ → Type 0 = λ n. HasFailedBy {X = ℕ} (Err f) n now in
+    let Q : ℕ → Type 0 = λ n. HasFailedBy {X = ℕ} (Err f) old n in
+    subst P a (subst Q b is)
+
+pub may_have_failed : (f : OutFault) (old new other now : ℕ) → old ≡ other → new ≡ now → MayHaveFailedBy {X = ℕ} (Err f) old new → MayHaveFailedBy {X = ℕ} (Err f) other now
+may_have_failed f old new other now a b is =
+    let P : ℕ → Type 0 = λ n. MayHaveFailedBy {X = ℕ} (Err f) n now in
+    let Q : ℕ → Type 0 = λ n. MayHaveFailedBy {X = ℕ} (Err f) old n in
+    subst P a (subst Q b is)
 
 -- the same line
 pub told_as : {line other : List ℕ} {old new : Seen} → line ≡ other → Tells line old new → Tells other old new

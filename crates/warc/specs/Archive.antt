@@ -1,5 +1,5 @@
 -- An archive as one value, and what it says of the bytes of its source.
-use Rattle.std.specs.Prelude.{◌≡◌, ℕ, ◌+◌, ◌≤◌, List, [], ◌∷◌, ◌++◌, length, map, Option, Some}
+use Rattle.std.specs.Prelude.{◌≡◌, ℕ, ◌+◌, ◌≤◌, List, [], ◌∷◌, ◌++◌, length, map, Option, Some, Result, Ok, Err}
 use Rattle.warc_frame.specs.Count.{raised}
 use Rattle.warc_frame.specs.Faults.{AllAccepted, IsFirstFault}
 use Rattle.warc_frame.specs.Record.{Record, max_archive}
@@ -10,11 +10,9 @@ use Rattle.warc_frame.specs.declared.fault.FaultKind.TheVariants.{Read, Memory}
 use Rattle.warc_record.specs.Heads.{head_fault}
 use Rattle.warc.specs.Row.{Placed, Row, row_of}
 
--- what its source holds, how often that has failed and was read, and a row for each record
-pub record Contents : Type 0 where
-  pub holds : Option (List ℕ)
-  pub faults : ℕ
-  pub reads : ℕ
+-- its source, and a row for each record
+pub record Contents (S : Type 0) : Type 0 where
+  pub source : S
   pub rows : List Row
 
 -- a text that begins at offset q is a concatenation of texts that spell the records in order, each with its block where it
@@ -35,11 +33,11 @@ pub record AreRowsOf (bytes : List ℕ) (rows : List Row) : Type 0 where
   pub good : AllAccepted head_fault (contents records)
   pub rows_are : rows ≡ map row_of records
 
--- an archive of these bytes, which its source holds
-pub record IsArchiveOf (bytes : List ℕ) (archive : Contents) : Type 0 where
-  pub held : archive.holds ≡ Some bytes
+-- the rows of an archive whose source holds these bytes
+pub record IsArchiveOf (bytes : List ℕ) (holds : Option (List ℕ)) (rows : List Row) : Type 0 where
+  pub held : holds ≡ Some bytes
   pub short : length bytes ≤ max_archive
-  pub rows : AreRowsOf bytes archive.rows
+  pub are : AreRowsOf bytes rows
 
 -- a record ends here, or the bytes begin; all records before it are good
 pub record IsRecordEnd (bytes : List ℕ) (offset : ℕ) : Type 0 where
@@ -63,6 +61,11 @@ RefusesBy kind bytes f = IsFaultOf bytes f
 
 abbrev pub IsRefusalOf : List ℕ → Fault → Type 0
 IsRefusalOf bytes f = RefusesBy f.kind bytes f
+
+-- the source that opening leaves: the archive's, or the one that is handed back
+abbrev pub source_of : {S : Type 0} → Result (Contents S) (Fault × S) → S
+source_of (Ok archive) = archive.source
+source_of (Err refused) = refused.1
 
 -- how often a source has failed after a refusal
 abbrev pub faults_after : FaultKind → ℕ → ℕ

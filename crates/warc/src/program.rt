@@ -1,8 +1,8 @@
 //! What the program does with a command, a source and two sinks.
-ghost use Rattle.std.specs.Prelude.{◌≡◌, ◌≤◌, ◌⊎◌, ◌++◌, ℕ, List, Some, decimal, length, min};
+ghost use Rattle.std.specs.Prelude.{◌≡◌, ◌≤◌, ◌⊎◌, ◌++◌, decimal, length, min};
 ghost use Rattle.warc_frame.specs.FaultText.{out_fault_text};
 ghost use Rattle.warc_frame.specs.Send.{sent_of};
-ghost use Rattle.warc.specs.Program.{CheckEnds, Ends, FaultEnds, IsShown, IsStatusOf, ListEnds, Tells, fault_line, status_of_kind, told_line};
+ghost use Rattle.warc.specs.Program.{CheckEnds, Ends, FaultEnds, IsShown, IsStatusOf, ListEnds, Tells, devices, fault_line, seen, status_of_kind, tapped, told_line};
 
 use crate::reader::Archive;
 use crate::words::{Command, CommandFault};
@@ -27,29 +27,32 @@ const FAILED: u8 = 3;
 const LINE: usize = 96;
 
 /// Does what a command says. The output goes to `out` and a line on what went wrong to `err`, where
-/// failures to write are ignored. The answer is the exit status: 0 done, 1 checked and something was
-/// found, 2 the archive is refused, 3 a read, a write or a growth of the memory failed.
+/// failures to write are ignored. The answer is the exit status, 0 done, 1 checked and something was
+/// found, 2 the archive is refused, 3 a read, a write or a growth of the memory failed; and the source.
 pub fn perform<A, S, W, E>(
     alloc: A,
     command: &Command<'_>,
     source: S,
     out: &mut W,
     err: &mut E,
-) -> u8
+) -> (u8, S)
 where
     A: Allocator + Copy,
     S: Source + Drop,
     W: Sink,
     E: Sink,
-    ensures ends { (bytes : List ℕ) → S.holds source ≡ Some bytes →
-        Ends command.now bytes (record { tells = W.tells out.old; faults = W.faults out.old })
-        (record { tells = W.tells out.new; faults = W.faults out.new })
-        (record { tells = E.tells err.old; faults = E.faults err.old })
-        (record { tells = E.tells err.new; faults = E.faults err.new }) result }
+    ensures ends { Ends command.now (S.holds source)
+        (devices (tapped (S.faults source) (S.asked source))
+        (seen (W.tells out.old) (W.faults out.old)) (seen (E.tells err.old) (E.faults err.old)))
+        (devices (tapped (S.faults result.1) (S.asked result.1))
+        (seen (W.tells out.new) (W.faults out.new)) (seen (E.tells err.new) (E.faults err.new))) result.0 }
+
+    // The source still holds what it held.
+    ensures kept { S.holds result.1 ≡ S.holds source }
 
     // Nothing is written where the archive is refused, whatever the source holds.
-    ensures refused { result ≡ 2 → (W.tells out.new ≡ W.tells out.old) × (W.faults out.new ≡ W.faults out.old) }
-    ensures answers { IsStatusOf command.now result }
+    ensures refused { result.0 ≡ 2 → (W.tells out.new ≡ W.tells out.old) × (W.faults out.new ≡ W.faults out.old) }
+    ensures answers { IsStatusOf command.now result.0 }
 {
     match command {
         Command::List { archive: _ } => list(alloc, source, out, err),
@@ -57,51 +60,57 @@ where
     }
 }
 
-fn list<A, S, W, E>(alloc: A, source: S, out: &mut W, err: &mut E) -> u8
+fn list<A, S, W, E>(alloc: A, source: S, out: &mut W, err: &mut E) -> (u8, S)
 where
     A: Allocator + Copy,
     S: Source + Drop,
     W: Sink,
     E: Sink,
-    ensures ends { (bytes : List ℕ) → S.holds source ≡ Some bytes →
-        ListEnds bytes (record { tells = W.tells out.old; faults = W.faults out.old })
-        (record { tells = W.tells out.new; faults = W.faults out.new })
-        (record { tells = E.tells err.old; faults = E.faults err.old })
-        (record { tells = E.tells err.new; faults = E.faults err.new }) result }
-    ensures refused { result ≡ 2 → (W.tells out.new ≡ W.tells out.old) × (W.faults out.new ≡ W.faults out.old) }
-    ensures answers { (result ≡ 0) ⊎ ((result ≡ 2) ⊎ (result ≡ 3)) }
+    ensures ends { ListEnds (S.holds source)
+        (devices (tapped (S.faults source) (S.asked source))
+        (seen (W.tells out.old) (W.faults out.old)) (seen (E.tells err.old) (E.faults err.old)))
+        (devices (tapped (S.faults result.1) (S.asked result.1))
+        (seen (W.tells out.new) (W.faults out.new)) (seen (E.tells err.new) (E.faults err.new))) result.0 }
+
+    // The source still holds what it held.
+    ensures kept { S.holds result.1 ≡ S.holds source }
+    ensures refused { result.0 ≡ 2 → (W.tells out.new ≡ W.tells out.old) × (W.faults out.new ≡ W.faults out.old) }
+    ensures answers { (result.0 ≡ 0) ⊎ ((result.0 ≡ 2) ⊎ (result.0 ≡ 3)) }
 {
     let archive = match Archive::open(alloc, source) {
         Ok(archive) => archive,
-        Err((fault, _)) => return tell_refusal(fault, err),
+        Err((fault, source)) => return (tell_refusal(fault, err), source),
     };
     match archive.list(out) {
-        Ok(()) => DONE,
-        Err(fault) => tell_cut(fault, err),
+        Ok(()) => (DONE, archive.into_source()),
+        Err(fault) => (tell_cut(fault, err), archive.into_source()),
     }
 }
 
-fn check<A, S, W, E>(alloc: A, source: S, out: &mut W, err: &mut E) -> u8
+fn check<A, S, W, E>(alloc: A, source: S, out: &mut W, err: &mut E) -> (u8, S)
 where
     A: Allocator + Copy,
     S: Source + Drop,
     W: Sink,
     E: Sink,
-    ensures ends { (bytes : List ℕ) → S.holds source ≡ Some bytes →
-        CheckEnds bytes (record { tells = W.tells out.old; faults = W.faults out.old })
-        (record { tells = W.tells out.new; faults = W.faults out.new })
-        (record { tells = E.tells err.old; faults = E.faults err.old })
-        (record { tells = E.tells err.new; faults = E.faults err.new }) result }
-    ensures refused { result ≡ 2 → (W.tells out.new ≡ W.tells out.old) × (W.faults out.new ≡ W.faults out.old) }
-    ensures answers { (result ≡ 0) ⊎ ((result ≡ 1) ⊎ ((result ≡ 2) ⊎ (result ≡ 3))) }
+    ensures ends { CheckEnds (S.holds source)
+        (devices (tapped (S.faults source) (S.asked source))
+        (seen (W.tells out.old) (W.faults out.old)) (seen (E.tells err.old) (E.faults err.old)))
+        (devices (tapped (S.faults result.1) (S.asked result.1))
+        (seen (W.tells out.new) (W.faults out.new)) (seen (E.tells err.new) (E.faults err.new))) result.0 }
+
+    // The source still holds what it held.
+    ensures kept { S.holds result.1 ≡ S.holds source }
+    ensures refused { result.0 ≡ 2 → (W.tells out.new ≡ W.tells out.old) × (W.faults out.new ≡ W.faults out.old) }
+    ensures answers { (result.0 ≡ 0) ⊎ ((result.0 ≡ 1) ⊎ ((result.0 ≡ 2) ⊎ (result.0 ≡ 3))) }
 {
     let mut archive = match Archive::open(alloc, source) {
         Ok(archive) => archive,
-        Err((fault, _)) => return tell_refusal(fault, err),
+        Err((fault, source)) => return (tell_refusal(fault, err), source),
     };
     match archive.check(out) {
-        Ok(count) => status_of_count(count),
-        Err(fault) => tell_cut(fault, err),
+        Ok(count) => (status_of_count(count), archive.into_source()),
+        Err(fault) => (tell_cut(fault, err), archive.into_source()),
     }
 }
 
@@ -115,8 +124,8 @@ fn status_of_count(count: usize) -> u8
 
 /// Tells why an archive isn't opened, and answers the exit status.
 fn tell_refusal<E: Sink>(fault: Fault, err: &mut E) -> u8
-    ensures told { Tells (fault_line fault) (record { tells = E.tells err.old; faults = E.faults err.old })
-        (record { tells = E.tells err.new; faults = E.faults err.new }) }
+    ensures told { Tells (fault_line fault) (seen (E.tells err.old) (E.faults err.old))
+        (seen (E.tells err.new) (E.faults err.new)) }
     ensures status { result ≡ status_of_kind fault.kind }
 {
     tell(line_of_fault(fault).as_str(), err);
@@ -125,8 +134,8 @@ fn tell_refusal<E: Sink>(fault: Fault, err: &mut E) -> u8
 
 /// Tells why an output ends early, and answers the exit status.
 fn tell_cut<E: Sink>(fault: OutFault, err: &mut E) -> u8
-    ensures told { Tells (told_line (out_fault_text fault)) (record { tells = E.tells err.old; faults = E.faults err.old })
-        (record { tells = E.tells err.new; faults = E.faults err.new }) }
+    ensures told { Tells (told_line (out_fault_text fault)) (seen (E.tells err.old) (E.faults err.old))
+        (seen (E.tells err.new) (E.faults err.new)) }
     ensures status { result ≡ 3 }
 {
     tell(line_of_cut(fault).as_str(), err);
@@ -145,8 +154,8 @@ fn status_of(kind: FaultKind) -> u8
 
 /// Writes a line, as far as the sink takes it.
 fn tell<E: Sink>(line: &str, err: &mut E)
-    ensures { Tells line.now (record { tells = E.tells err.old; faults = E.faults err.old })
-        (record { tells = E.tells err.new; faults = E.faults err.new }) }
+    ensures { Tells line.now (seen (E.tells err.old) (E.faults err.old))
+        (seen (E.tells err.new) (E.faults err.new)) }
 {
     let _ = send_all(err, line.as_bytes());
 }
@@ -195,10 +204,10 @@ fn line_of_cut(fault: OutFault) -> ArrayString<LINE>
 /// Tells why words name no command: where `clap`'s text was asked for it goes to `out`, and else to
 /// `err`. The answer is the exit status: 0 where it was asked for and written, else 3.
 pub fn refuse<W: Sink, E: Sink>(fault: &CommandFault, out: &mut W, err: &mut E) -> u8
-    ensures { FaultEnds fault.now (record { tells = W.tells out.old; faults = W.faults out.old })
-        (record { tells = W.tells out.new; faults = W.faults out.new })
-        (record { tells = E.tells err.old; faults = E.faults err.old })
-        (record { tells = E.tells err.new; faults = E.faults err.new }) result }
+    ensures { FaultEnds fault.now (seen (W.tells out.old) (W.faults out.old))
+        (seen (W.tells out.new) (W.faults out.new))
+        (seen (E.tells err.old) (E.faults err.old))
+        (seen (E.tells err.new) (E.faults err.new)) result }
 {
     match fault {
         CommandFault::Usage { text, asked: true } => show(text.as_str(), out, err),
@@ -212,10 +221,10 @@ pub fn refuse<W: Sink, E: Sink>(fault: &CommandFault, out: &mut W, err: &mut E) 
 
 /// Writes a text that was asked for.
 fn show<W: Sink, E: Sink>(text: &str, out: &mut W, err: &mut E) -> u8
-    ensures { IsShown text.now (record { tells = W.tells out.old; faults = W.faults out.old })
-        (record { tells = W.tells out.new; faults = W.faults out.new })
-        (record { tells = E.tells err.old; faults = E.faults err.old })
-        (record { tells = E.tells err.new; faults = E.faults err.new }) result }
+    ensures { IsShown text.now (seen (W.tells out.old) (W.faults out.old))
+        (seen (W.tells out.new) (W.faults out.new))
+        (seen (E.tells err.old) (E.faults err.old))
+        (seen (E.tells err.new) (E.faults err.new)) result }
 {
     match send_all(out, text.as_bytes()) {
         Ok(()) => DONE,

@@ -3,7 +3,7 @@ ghost use Rattle.std.specs.Prelude.{◌≡◌, ℕ, ◌+◌, ◌≤◌, List, le
 ghost use Rattle.std.specs.Io.KnownBytes.{append_known};
 ghost use Rattle.warc_frame.specs.Count.{capped, raised};
 ghost use Rattle.warc_frame.specs.Send.{WentOut, sent_of};
-ghost use Rattle.warc.specs.Archive.{IsArchiveOf, IsRefusalOf, contents, faults_after};
+ghost use Rattle.warc.specs.Archive.{IsArchiveOf, IsRefusalOf, contents, faults_after, source_of};
 ghost use Rattle.warc.specs.Checking.{check_text, findings_of_archive};
 ghost use Rattle.warc.specs.Failing.{HasFailedBy, MayHaveFailedBy, failed_by};
 ghost use Rattle.warc.specs.Listing.{listing};
@@ -17,8 +17,7 @@ use std::marker::Model;
 use warc_frame::laws::head_of_spelled;
 use warc_frame::{Fault, FaultKind, OutBuffer, OutFault, Sink, Source};
 
-/// An archive and the source of its bytes. Contracts see what the source holds, how often it failed
-/// and was read, and a row for each record.
+/// An archive and the source of its bytes. Contracts see the source, and a row for each record.
 #[derive(Drop)]
 pub struct Archive<S: Source, A: Allocator = Global> {
     source: S,
@@ -28,14 +27,9 @@ pub struct Archive<S: Source, A: Allocator = Global> {
 impl<S: Source, A: Allocator> Model for Archive<S, A> {
     ghost use Rattle.warc.specs.Archive.{Contents};
 
-    ghost Value = { Contents };
+    ghost Value = { Contents S };
 
-    ghost view = { λ a. record {
-      holds = S.holds a.source;
-      faults = S.faults a.source;
-      reads = S.reads a.source;
-      rows = a.rows;
-    } };
+    ghost view = { λ a. record { source = a.source; rows = a.rows } };
 }
 
 impl<S: Source, A: Allocator> Archive<S, A> {
@@ -44,6 +38,13 @@ impl<S: Source, A: Allocator> Archive<S, A> {
         ensures { result ≡ length self.now.rows }
     {
         self.rows.len()
+    }
+
+    /// Gives the source back.
+    pub fn into_source(self) -> S
+        ensures { result ≡ self.source }
+    {
+        self.source
     }
 
     /// Writes a line for each record: its position and offset, the length of its block, its type,
@@ -71,22 +72,22 @@ impl<S: Source, A: Allocator + Copy> Archive<S, A> {
     /// no block. A refusal hands the source back: `Read` where a read failed, at the offset that was asked
     /// for, `Memory` at the record for which it didn't suffice, and else the first fault of the bytes.
     pub fn open(alloc: A, source: S) -> Result<Archive<S, A>, (Fault, S)>
-        ensures accepted { (bytes : List ℕ) → S.holds source ≡ Some bytes → IfOk result (IsArchiveOf bytes) }
+        ensures accepted { (bytes : List ℕ) → S.holds source ≡ Some bytes →
+            IfOk result (λ a. IsArchiveOf bytes (S.holds a.source) a.rows) }
         ensures refused { (bytes : List ℕ) → S.holds source ≡ Some bytes →
             IfErr result (λ e. IsRefusalOf bytes e.0) }
 
         // The source still holds what it held.
-        ensures kept { MatchResult result (λ a. a.holds ≡ S.holds source) (λ e. S.holds e.1 ≡ S.holds source) }
+        ensures kept { S.holds (source_of result) ≡ S.holds source }
 
         // It has failed once more exactly where the answer is a read fault.
-        ensures cause { MatchResult result (λ a. a.faults ≡ S.faults source)
+        ensures cause { MatchResult result (λ a. S.faults a.source ≡ S.faults source)
             (λ e. S.faults e.1 ≡ faults_after e.0.kind (S.faults source)) }
         ensures asked { IfErr result (λ e. e.0.kind ≡ FaultKind.Read → e.0.offset ≡ S.asked e.1) }
 
         // At most a read for each byte, and one more.
         ensures cost { (bytes : List ℕ) → S.holds source ≡ Some bytes →
-            MatchResult result (λ a. a.reads ≤ S.reads source + length bytes + 1)
-            (λ e. S.reads e.1 ≤ S.reads source + length bytes + 1) }
+            S.reads (source_of result) ≤ S.reads source + length bytes + 1 }
     {
         let mut source = source;
         match read_rows(alloc, &mut source) {
@@ -103,22 +104,23 @@ impl<S: Source, A: Allocator + Copy> Archive<S, A> {
     /// write that fails is `Write`, and a refused growth of the memory `Memory`. Each tells how many
     /// bytes went out, which are the first of the output.
     pub fn check<W: Sink>(&mut self, out: &mut W) -> Result<usize, OutFault>
-        ensures told { (bytes : List ℕ) (is : IsArchiveOf bytes self.old) →
-            OnOk result (W.tells out.new ≡ append_known (W.tells out.old) (check_text (contents is.rows.records))) }
-        ensures number { (bytes : List ℕ) (is : IsArchiveOf bytes self.old) →
-            IfOk result (λ n. n ≡ capped (length (findings_of_archive (contents is.rows.records)))) }
-        ensures cut { (bytes : List ℕ) (is : IsArchiveOf bytes self.old) →
-            IfErr result (λ e. WentOut (W.tells out.old) (check_text (contents is.rows.records)) (W.tells out.new) (sent_of e)) }
+        ensures told { (bytes : List ℕ) (is : IsArchiveOf bytes (S.holds self.old.source) self.old.rows) →
+            OnOk result (W.tells out.new ≡ append_known (W.tells out.old) (check_text (contents is.are.records))) }
+        ensures number { (bytes : List ℕ) (is : IsArchiveOf bytes (S.holds self.old.source) self.old.rows) →
+            IfOk result (λ n. n ≡ capped (length (findings_of_archive (contents is.are.records)))) }
+        ensures cut { (bytes : List ℕ) (is : IsArchiveOf bytes (S.holds self.old.source) self.old.rows) →
+            IfErr result (λ e. WentOut (W.tells out.old) (check_text (contents is.are.records)) (W.tells out.new) (sent_of e)) }
 
         // The source still holds what it held, and the rows stay.
-        ensures kept { self.new.holds ≡ self.old.holds }
+        ensures kept { S.holds self.new.source ≡ S.holds self.old.source }
         ensures rows { self.new.rows ≡ self.old.rows }
 
         // The sink has failed once more exactly where the answer is `Write`, and the source where it is
         // `Read`, unless it told of other bytes than it held.
         ensures cause { W.faults out.new ≡ failed_by result (W.faults out.old) }
-        ensures may { MayHaveFailedBy result self.old.faults self.new.faults }
-        ensures failed { (bytes : List ℕ) → IsArchiveOf bytes self.old → HasFailedBy result self.old.faults self.new.faults }
+        ensures may { MayHaveFailedBy result (S.faults self.old.source) (S.faults self.new.source) }
+        ensures failed { (bytes : List ℕ) → IsArchiveOf bytes (S.holds self.old.source) self.old.rows →
+            HasFailedBy result (S.faults self.old.source) (S.faults self.new.source) }
     {
         head_of_spelled();
         let alloc = self.rows.allocator();

@@ -47,13 +47,17 @@ fn run_command<W: Sink, E: Sink>(
         match standard_input(rt) {
             Ok(bytes) if bytes.len() as u64 <= MOST_INPUT => {
                 let source = MemSource::new(bytes, usize::MAX);
-                perform(rt.alloc(), command, source, out, err)
+                let (status, _) = perform(rt.alloc(), command, source, out, err);
+                status
             }
             _ => fail("warc: read failed after 0\n", err),
         }
     } else {
         match File::open(rt, command.path()) {
-            Ok(file) => perform(rt.alloc(), command, FileSource::new(file), out, err),
+            Ok(file) => {
+                let (status, _) = perform(rt.alloc(), command, FileSource::new(file), out, err);
+                status
+            }
             Err(_) => fail("warc: open failed\n", err),
         }
     }

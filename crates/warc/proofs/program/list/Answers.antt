@@ -1,24 +1,39 @@
-use Rattle.std.proofs.Common.{inr, refl, ap}
+use Rattle.std.proofs.Common.{inl, inr, refl, ap, ◌∙◌}
 use Rattle.warc_frame.specs.FaultText.{out_fault_text}
 use Rattle.warc_frame.specs.Send.{sent_of}
 use Rattle.warc.specs.Program.{told_line}
-use Rattle.warc.proofs.ProgramLemmas.{not_opened, told_as}
+use Rattle.warc.proofs.ProgramLemmas.{lines_of, told_as}
 use Rattle.warc.proofs.program.list.Goals as goal
 
 pub returns-in-Err-clause-ends : goal.returns-in-Err-clause-ends
-returns-in-Err-clause-ends g c = λ bytes held.
-    not_opened _ _ bytes _ _ _ _ _ c.in-Err.fault.kind c.in-Err.fault.offset (c.in-Err.ensures.refused bytes held) refl c.tell_refusal.ensures.told c.tell_refusal.ensures.status
+returns-in-Err-clause-ends g c = inr (inl (record {
+  fault = c.in-Err.fault;
+  is = c.in-Err.ensures.refused;
+  failed = c.in-Err.ensures.cause;
+  asked = c.in-Err.ensures.asked;
+  untouched = refl;
+  told = c.tell_refusal.ensures.told;
+  status_is = c.tell_refusal.ensures.status;
+}))
 
-pub returns-clause-ends : goal.returns-clause-ends
-returns-clause-ends g c = λ bytes held.
-    let archive = c.in-Ok.ensures.accepted bytes held in
-    inr (inr (inr (record {
-      rows = c.in-Ok.archive.rows;
-      short = archive.short;
-      are = archive.rows;
-      sent = sent_of c.in-Err-list.fault;
-      front = c.in-Err-list.ensures.cut;
-      failed = c.in-Err-list.ensures.cause;
-      told = told_as (ap (λ e. told_line (out_fault_text e)) c.in-Err-list.ensures.write) c.tell_cut.ensures.told;
-      status_is = c.tell_cut.ensures.status;
-    })))
+pub returns-in-Ok-list-clause-ends : goal.returns-in-Ok-list-clause-ends
+returns-in-Ok-list-clause-ends g c = inl (record {
+  rows = c.in-Ok.archive.rows;
+  are = λ bytes held. lines_of (c.in-Ok.ensures.accepted bytes held);
+  told = c.in-Ok-list.ensures.told;
+  sound = ap g.S.Source.faults c.into_source.ensures ∙ c.in-Ok.ensures.cause;
+  silent = refl;
+  status_is = refl;
+})
+
+pub returns-in-Err-list-clause-ends : goal.returns-in-Err-list-clause-ends
+returns-in-Err-list-clause-ends g c = inr (inr (record {
+  rows = c.in-Ok.archive.rows;
+  are = λ bytes held. lines_of (c.in-Ok.ensures.accepted bytes held);
+  sent = sent_of c.in-Err-list.fault;
+  front = c.in-Err-list.ensures.cut;
+  failed = c.in-Err-list.ensures.cause;
+  sound = ap g.S.Source.faults c.into_source-in-Err-list.ensures ∙ c.in-Ok.ensures.cause;
+  told = told_as (ap (λ e. told_line (out_fault_text e)) c.in-Err-list.ensures.write) c.tell_cut.ensures.told;
+  status_is = c.tell_cut.ensures.status;
+}))

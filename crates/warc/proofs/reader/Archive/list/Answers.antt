@@ -1,8 +1,8 @@
 use Rattle.std.proofs.Common.{rules, ◌≡◌, ◌+◌, Some, refl, sym, ap, ◌∙◌}
 use Rattle.std.specs.List.{slice_get}
-use Rattle.warc.specs.Archive.{Contents}
 use Rattle.warc.specs.Listing.{listing}
 use Rattle.warc.proofs.LineLemmas.{longer, listing_front, listing_next, same_out, same_staged}
+use Rattle.warc.proofs.PlaceLemmas.{same_rows}
 use Rattle.warc.proofs.reader.Archive.list.Goals as goal
 
 pub listing-init : goal.listing-init
@@ -15,7 +15,7 @@ listing-init g c = record {
 pub returns-in_err-put_line-clause-cut : goal.returns-in_err-put_line-clause-cut
 returns-in_err-put_line-clause-cut g c =
     let i = c.listing.position in
-    let rows = ap (λ (a : Contents). a.rows) c.self.view_is in
+    let rows = same_rows c.self.view_is in
     let at : slice_get c.args.self.now.rows i ≡ Some c.in-Some.row = ap (λ l. slice_get l i) (sym rows) ∙ sym c.get.ensures ∙ c.in-Some.is in
     let next = listing_next c.args.self.now.rows i c.in-Some.row at in
     let out = longer _ (same_out next (c.in_err-put_line.ensures.cut _ _ c.listing.invariant.staged)) in
@@ -25,7 +25,7 @@ returns-in_err-put_line-clause-cut g c =
 pub listing-preserved : goal.listing-preserved
 listing-preserved g c =
     let i = c.listing.position in
-    let rows = ap (λ (a : Contents). a.rows) c.self.view_is in
+    let rows = same_rows c.self.view_is in
     let at : slice_get c.args.self.now.rows i ≡ Some c.in-Some.row = ap (λ l. slice_get l i) (sym rows) ∙ sym c.get.ensures ∙ c.in-Some.is in
     let next = listing_next c.args.self.now.rows i c.in-Some.row at in
     record {
