@@ -299,10 +299,26 @@ fn a_failed_write_is_told(rt: HostRuntime) -> Result<(), Fail> {
     Ok(())
 }
 
+/// How often memory is asked for until an archive is open.
+fn requests(alloc: Global, text: &[u8]) -> Result<u64, Fail> {
+    for number in 1..1000u64 {
+        let heap = RefusingAllocator::new(alloc, number);
+        let source = MemSource::new(text.to_vec(alloc)?, usize::MAX);
+        if Archive::open(&heap, source).is_ok() {
+            return Ok(number - 1);
+        }
+    }
+    Ok(0)
+}
+
+/// It is told at the record for which it was wanted: the first, as long as an archive of that record alone asks
+/// for memory.
 #[test]
 fn a_refused_growth_is_told(rt: HostRuntime) -> Result<(), Fail> {
     let alloc = rt.alloc();
     let text = archive_text(alloc, &[WARCINFO, WARCINFO])?;
+    let first = requests(alloc, &archive_text(alloc, &[WARCINFO])?)?;
+    assert!(rt; first > 0 && first < requests(alloc, &text)?);
     let mut was_opened = false;
     for number in 1..1000u64 {
         let heap = RefusingAllocator::new(alloc, number);
@@ -313,8 +329,12 @@ fn a_refused_growth_is_told(rt: HostRuntime) -> Result<(), Fail> {
             break;
         }
         let is_check = told.is("", "warc: out of memory after 0\n", 3);
-        let is_open = told.is("", "warc: F14 Memory at 0\n", 3)
-            || told.is("", "warc: F14 Memory at 177\n", 3);
+        let line = if number > first {
+            "warc: F14 Memory at 177\n"
+        } else {
+            "warc: F14 Memory at 0\n"
+        };
+        let is_open = told.is("", line, 3);
         assert!(rt; is_check || is_open && !was_opened, "at {number}");
         was_opened |= is_check;
     }

@@ -5,6 +5,7 @@ pub mod HeadLemmas
 pub mod KindLemmas
 pub mod LineLemmas
 pub mod MetLemmas
+pub mod OpeningLemmas
 pub mod PlaceLemmas
 pub mod ProgramLemmas
 pub mod RangeLemmas

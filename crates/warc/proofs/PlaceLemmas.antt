@@ -1,5 +1,5 @@
 -- The heads of records that bytes spell stand where the records' places say.
-use Rattle.std.proofs.Common.{◌≡◌, ℕ, zero, suc, ◌+◌, ◌-◌, ◌≤◌, List, [], ◌∷◌, ◌++◌, length, take, drop, slice_range, Option, Some, None, Ok, append_assoc, length-append, refl, sym, ap, subst, ◌∙◌, arith}
+use Rattle.std.proofs.Common.{◌≡◌, ℕ, zero, suc, ◌+◌, ◌-◌, ◌≤◌, List, [], ◌∷◌, ◌++◌, length, take, drop, slice_range, Some, None, Ok, append_assoc, length-append, refl, sym, ap, subst, ◌∙◌, arith}
 use Rattle.std.proofs.Math.Seq.{drop-append_seam}
 use Rattle.std.proofs.lemmas.List.{take-append-le}
 use Rattle.std.specs.List.{slice_get}
@@ -63,9 +63,9 @@ checkable law bytes rows are = record {
   rows_are = are.rows_are;
 }
 
-pub checkable_archive : HeadsAreRead → (bytes : List ℕ) (holds : Option (List ℕ)) (seen : List Row) (is : IsArchiveOf bytes holds seen) (rows : List Row) → rows ≡ seen
+pub checkable_archive : HeadsAreRead → (bytes : List ℕ) (seen : List Row) (is : IsArchiveOf bytes seen) (rows : List Row) → rows ≡ seen
     → AreCheckable bytes is.are.records rows
-checkable_archive law bytes holds seen is rows same =
+checkable_archive law bytes seen is rows same =
     let P : List Row → Type 0 = λ l. AreCheckable bytes is.are.records l in
     subst P (sym same) (checkable law bytes seen is.are)
 

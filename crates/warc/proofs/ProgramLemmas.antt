@@ -1,19 +1,17 @@
 -- How a run ends, from what its calls answered.
-use Rattle.std.proofs.Common.{◌≡◌, ℕ, List, [], ◌∷◌, length, min, Option, Err, refl, subst, arith}
+use Rattle.std.proofs.Common.{◌≡◌, ℕ, List, [], ◌∷◌, length, min, Err, refl, subst, arith}
 use Rattle.warc_frame.specs.Count.{capped}
 use Rattle.warc_frame.specs.declared.fault.OutFault.{OutFault}
 use Rattle.warc.specs.Archive.{IsArchiveOf, contents}
 use Rattle.warc.specs.Checking.{Line}
 use Rattle.warc.specs.Failing.{HasFailedBy, MayHaveFailedBy}
-use Rattle.warc.specs.Program.{AreGoodRecordsOf, AreLinesOf, Seen, status_of_findings, Tells}
+use Rattle.warc.specs.Program.{AreGoodRecordsOf, status_of_findings, Tells}
 use Rattle.warc.specs.Row.{Row}
+use Rattle.warc.specs.Seen.{Seen}
 use Rattle.warc.proofs.StreamLemmas.{spells_all}
 
--- what is known of an archive's rows
-pub lines_of : {bytes : List ℕ} {holds : Option (List ℕ)} {rows : List Row} → IsArchiveOf bytes holds rows → AreLinesOf bytes rows
-lines_of is = record { short = is.short; are = is.are }
-
-pub good_records_of : {bytes : List ℕ} {holds : Option (List ℕ)} {rows : List Row} (is : IsArchiveOf bytes holds rows) → AreGoodRecordsOf bytes (contents is.are.records)
+-- the records of an archive
+pub good_records_of : {bytes : List ℕ} {rows : List Row} (is : IsArchiveOf bytes rows) → AreGoodRecordsOf bytes (contents is.are.records)
 good_records_of {bytes} is = record { short = is.short; spelled = spells_all 0 is.are.records bytes is.are.spelled; good = is.are.good }
 
 -- how often a source has failed, by equal counts

@@ -13,7 +13,7 @@ use Rattle.warc_frame.proofs.JudgedLemmas.{judged_refuted, judged_head}
 use Rattle.warc_frame.proofs.LawLemmas.{faults_are_stable}
 use Rattle.warc_record.specs.Heads.{head_fault}
 use Rattle.warc_record.specs.Seen.{RefusesFor}
-use Rattle.warc.specs.Archive.{IsFaultOf, IsRecordEnd, IsRefusalOf, RefusesBy}
+use Rattle.warc.specs.Archive.{IsFaultOf, IsRecordEnd}
 use Rattle.warc.specs.Stream.{HasRead, StaysBy, StaysRefused}
 use Rattle.warc.specs.declared.reading.Reading.{Reading}
 use Rattle.warc.proofs.KindLemmas.{head_kind, is_of_head, limited_kind}
@@ -40,15 +40,6 @@ stays_by kind offset text more is = faults_are_stable head_fault 0 text more (fa
 -- a refusal stays whatever follows
 pub stays_more : (text more : List ℕ) (f : Fault) → StaysRefused text f → StaysRefused (text ++ more) f
 stays_more text more f is = stays_by f.kind f.offset text more is
-
-refusal_by : (kind : FaultKind) (offset : ℕ) (text : List ℕ) → StaysBy kind text (fault kind offset) → RefusesBy kind text (fault kind offset)
-refusal_by Memory offset text is = is
-refusal_by Read offset text is = absurd is
-refusal_by Truncated offset text is = absurd is
-refusal_by kind offset text is = is
-
-pub refusal_of : (text : List ℕ) (f : Fault) → StaysRefused text f → IsRefusalOf text f
-refusal_of text f is = refusal_by f.kind f.offset text is
 
 not_read_by : (kind : FaultKind) (offset : ℕ) (text : List ℕ) → StaysBy kind text (fault kind offset) → kind ≢ Read
 not_read_by Memory offset text is e = cc e

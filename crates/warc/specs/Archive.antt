@@ -1,12 +1,9 @@
 -- An archive as one value, and what it says of the bytes of its source.
-use Rattle.std.specs.Prelude.{◌≡◌, ℕ, ◌+◌, ◌≤◌, List, [], ◌∷◌, ◌++◌, length, map, Option, Some, Result, Ok, Err}
-use Rattle.warc_frame.specs.Count.{raised}
+use Rattle.std.specs.Prelude.{◌≡◌, ℕ, ◌+◌, ◌≤◌, List, [], ◌∷◌, ◌++◌, length, map, Result, Ok, Err}
 use Rattle.warc_frame.specs.Faults.{AllAccepted, IsFirstFault}
 use Rattle.warc_frame.specs.Record.{Record, max_archive}
 use Rattle.warc_frame.specs.Spelling.{Spells, SpellsAll}
 use Rattle.warc_frame.specs.declared.fault.Fault.{Fault}
-use Rattle.warc_frame.specs.declared.fault.FaultKind.{FaultKind}
-use Rattle.warc_frame.specs.declared.fault.FaultKind.TheVariants.{Read, Memory}
 use Rattle.warc_record.specs.Heads.{head_fault}
 use Rattle.warc.specs.Row.{Placed, Row, row_of}
 
@@ -33,9 +30,8 @@ pub record AreRowsOf (bytes : List ℕ) (rows : List Row) : Type 0 where
   pub good : AllAccepted head_fault (contents records)
   pub rows_are : rows ≡ map row_of records
 
--- the rows of an archive whose source holds these bytes
-pub record IsArchiveOf (bytes : List ℕ) (holds : Option (List ℕ)) (rows : List Row) : Type 0 where
-  pub held : holds ≡ Some bytes
+-- the rows are those of an archive of these bytes, which are no more than an archive may have
+pub record IsArchiveOf (bytes : List ℕ) (rows : List Row) : Type 0 where
   pub short : length bytes ≤ max_archive
   pub are : AreRowsOf bytes rows
 
@@ -53,21 +49,12 @@ pub record IsRecordEnd (bytes : List ℕ) (offset : ℕ) : Type 0 where
 abbrev pub IsFaultOf : List ℕ → Fault → Type 0
 IsFaultOf bytes f = IsFirstFault head_fault 0 bytes f
 
--- why bytes aren't opened: a read or a growth of the memory failed, or else this is their first fault
-abbrev pub RefusesBy : FaultKind → List ℕ → Fault → Type 0
-RefusesBy Read bytes f = Unit {0}
-RefusesBy Memory bytes f = IsRecordEnd bytes f.offset
-RefusesBy kind bytes f = IsFaultOf bytes f
-
-abbrev pub IsRefusalOf : List ℕ → Fault → Type 0
-IsRefusalOf bytes f = RefusesBy f.kind bytes f
+-- the rows that opening gives, or why it gives none
+abbrev pub rows_of : {S : Type 0} → Result (Contents S) (Fault × S) → Result (List Row) Fault
+rows_of (Ok archive) = Ok archive.rows
+rows_of (Err refused) = Err refused.0
 
 -- the source that opening leaves: the archive's, or the one that is handed back
 abbrev pub source_of : {S : Type 0} → Result (Contents S) (Fault × S) → S
 source_of (Ok archive) = archive.source
 source_of (Err refused) = refused.1
-
--- how often a source has failed after a refusal
-abbrev pub faults_after : FaultKind → ℕ → ℕ
-faults_after Read n = raised n
-faults_after kind n = n

@@ -5,7 +5,9 @@ pub mod CommandLine
 pub mod Examining
 pub mod Failing
 pub mod Listing
+pub mod Opening
 pub mod Program
 pub mod Row
 pub mod Rows
+pub mod Seen
 pub mod Stream

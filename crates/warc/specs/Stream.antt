@@ -1,12 +1,14 @@
 -- What is kept of an archive while it is read as a stream.
-use Rattle.std.specs.Prelude.{◌≡◌, ℕ, ◌+◌, List, [], ◌++◌, length, map, Option, Some, None, unwrap_or}
+use Rattle.std.specs.Prelude.{◌≡◌, ℕ, ◌+◌, ◌<◌, ◌≤◌, ◌⊎◌, Bool, List, [], ◌++◌, length, map, take, Option, Some, None, unwrap_or, if◌then◌else◌}
 use Rattle.warc_field.specs.Area.{Pair}
 use Rattle.warc_value.specs.Digests.{verdict_of}
 use Rattle.warc_value.specs.Running.{HasTaken}
 use Rattle.warc_value.specs.declared.hash.Wanted.{Wanted}
 use Rattle.warc_value.specs.declared.hash.Wanted.TheVariants.{Sha1, Unchecked}
+use Rattle.warc_frame.specs.Count.{raised}
 use Rattle.warc_frame.specs.Decoding.{State, IsAt}
 use Rattle.warc_frame.specs.Faults.{AllAccepted}
+use Rattle.warc_frame.specs.Record.{max_archive}
 use Rattle.warc_frame.specs.Told.{Told, Unclosed, IsHeadOf}
 use Rattle.warc_frame.specs.declared.fault.Fault.{Fault}
 use Rattle.warc_frame.specs.declared.fault.FaultKind.{FaultKind}
@@ -16,6 +18,7 @@ use Rattle.warc_record.specs.Readings.{reading_of}
 use Rattle.warc_record.specs.Seen.{said}
 use Rattle.warc.specs.Archive.{SpellsFrom, contents, IsFaultOf, IsRecordEnd}
 use Rattle.warc.specs.Row.{Placed, Row, row_of}
+use Rattle.warc.specs.Seen.{AsksOnly, IfHeld, Tapped}
 use Rattle.warc.specs.declared.reading.BlockDigest.{BlockDigest}
 use Rattle.warc.specs.declared.reading.Current.{Current}
 use Rattle.warc.specs.declared.reading.Reading.{Reading}
@@ -93,3 +96,30 @@ StaysBy kind bytes f = IsFaultOf bytes f
 
 abbrev pub StaysRefused : List ℕ → Fault → Type 0
 StaysRefused bytes f = StaysBy f.kind bytes f
+
+-- behind this text the record that is being read is still the same, or it begins behind the text
+abbrev pub BeginsSince : List ℕ → ℕ → ℕ → Type 0
+BeginsSince text old new = (new ≡ old) ⊎ (length text ≤ new)
+
+-- memory was wanted while a piece behind this text was taken: for the record that was being read, or one that begins behind
+-- the text; and for one that begins before the piece ends
+abbrev pub WantsSince : List ℕ → List ℕ → ℕ → Fault → Type 0
+WantsSince text piece begin f = f.kind ≡ Memory → BeginsSince text begin f.offset × (f.offset < length (text ++ piece))
+
+-- a read of a source at this offset, which failed or not
+pub record IsReadAt (at : ℕ) (failed : Bool) (old new : Tapped) : Type 0 where
+  pub kept : new.holds ≡ old.holds
+  pub cause : new.faults ≡ (if failed then raised old.faults else old.faults)
+  pub counted : new.reads ≡ raised old.reads
+  pub asked : new.asked ≡ at
+  pub watched : new.watches ≡ old.watches
+  pub strayed : new.strays ≡ (if old.watches at then raised old.strays else old.strays)
+
+-- this text was read of a source, from its front on, with at most one read for each byte
+pub record HasGiven (old new : Tapped) (text : List ℕ) : Type 0 where
+  pub front : IfHeld old.holds (λ bytes. text ≡ take (length text) bytes)
+  pub kept : new.holds ≡ old.holds
+  pub sound : new.faults ≡ old.faults
+  pub cost : new.reads ≤ old.reads + length text
+  pub watched : new.watches ≡ old.watches
+  pub near : AsksOnly (λ at. at ≤ max_archive) old new

@@ -2,7 +2,8 @@
 ghost use Rattle.std.specs.Prelude.{◌≡◌, ◌≤◌, ◌⊎◌, ◌++◌, decimal, length, min};
 ghost use Rattle.warc_frame.specs.FaultText.{out_fault_text};
 ghost use Rattle.warc_frame.specs.Send.{sent_of};
-ghost use Rattle.warc.specs.Program.{CheckEnds, Ends, FaultEnds, IsShown, IsStatusOf, ListEnds, Tells, devices, fault_line, seen, status_of_kind, tapped, told_line};
+ghost use Rattle.warc.specs.Program.{CheckEnds, Ends, FaultEnds, IsShown, IsStatusOf, ListEnds, Tells, fault_line, status_of_kind, told_line};
+ghost use Rattle.warc.specs.Seen.{devices, seen, tapped};
 
 use crate::reader::Archive;
 use crate::words::{Command, CommandFault};
@@ -41,11 +42,12 @@ where
     S: Source + Drop,
     W: Sink,
     E: Sink,
-    ensures ends { Ends command.now (S.holds source)
-        (devices (tapped (S.faults source) (S.asked source))
-        (seen (W.tells out.old) (W.faults out.old)) (seen (E.tells err.old) (E.faults err.old)))
-        (devices (tapped (S.faults result.1) (S.asked result.1))
-        (seen (W.tells out.new) (W.faults out.new)) (seen (E.tells err.new) (E.faults err.new))) result.0 }
+    ensures ends { Ends command.now
+        (devices (tapped (S.holds source) (S.faults source) (S.reads source) (S.asked source) (S.watches source)
+        (S.strays source)) (seen (W.tells out.old) (W.faults out.old)) (seen (E.tells err.old) (E.faults err.old)))
+        (devices (tapped (S.holds result.1) (S.faults result.1) (S.reads result.1) (S.asked result.1) (S.watches result.1)
+        (S.strays result.1)) (seen (W.tells out.new) (W.faults out.new)) (seen (E.tells err.new) (E.faults err.new)))
+        result.0 }
 
     // The source still holds what it held.
     ensures kept { S.holds result.1 ≡ S.holds source }
@@ -66,11 +68,12 @@ where
     S: Source + Drop,
     W: Sink,
     E: Sink,
-    ensures ends { ListEnds (S.holds source)
-        (devices (tapped (S.faults source) (S.asked source))
-        (seen (W.tells out.old) (W.faults out.old)) (seen (E.tells err.old) (E.faults err.old)))
-        (devices (tapped (S.faults result.1) (S.asked result.1))
-        (seen (W.tells out.new) (W.faults out.new)) (seen (E.tells err.new) (E.faults err.new))) result.0 }
+    ensures ends { ListEnds
+        (devices (tapped (S.holds source) (S.faults source) (S.reads source) (S.asked source) (S.watches source)
+        (S.strays source)) (seen (W.tells out.old) (W.faults out.old)) (seen (E.tells err.old) (E.faults err.old)))
+        (devices (tapped (S.holds result.1) (S.faults result.1) (S.reads result.1) (S.asked result.1) (S.watches result.1)
+        (S.strays result.1)) (seen (W.tells out.new) (W.faults out.new)) (seen (E.tells err.new) (E.faults err.new)))
+        result.0 }
 
     // The source still holds what it held.
     ensures kept { S.holds result.1 ≡ S.holds source }
@@ -93,11 +96,12 @@ where
     S: Source + Drop,
     W: Sink,
     E: Sink,
-    ensures ends { CheckEnds (S.holds source)
-        (devices (tapped (S.faults source) (S.asked source))
-        (seen (W.tells out.old) (W.faults out.old)) (seen (E.tells err.old) (E.faults err.old)))
-        (devices (tapped (S.faults result.1) (S.asked result.1))
-        (seen (W.tells out.new) (W.faults out.new)) (seen (E.tells err.new) (E.faults err.new))) result.0 }
+    ensures ends { CheckEnds
+        (devices (tapped (S.holds source) (S.faults source) (S.reads source) (S.asked source) (S.watches source)
+        (S.strays source)) (seen (W.tells out.old) (W.faults out.old)) (seen (E.tells err.old) (E.faults err.old)))
+        (devices (tapped (S.holds result.1) (S.faults result.1) (S.reads result.1) (S.asked result.1) (S.watches result.1)
+        (S.strays result.1)) (seen (W.tells out.new) (W.faults out.new)) (seen (E.tells err.new) (E.faults err.new)))
+        result.0 }
 
     // The source still holds what it held.
     ensures kept { S.holds result.1 ≡ S.holds source }

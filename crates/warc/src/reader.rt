@@ -1,12 +1,14 @@
 //! An archive over the source that holds its bytes.
-ghost use Rattle.std.specs.Prelude.{◌≡◌, ℕ, ◌+◌, ◌≤◌, List, length, Some, IfOk, IfErr, OnOk, MatchResult, is_err, if◌then◌else◌};
+ghost use Rattle.std.specs.Prelude.{◌≡◌, ℕ, List, length, Some, IfOk, IfErr, OnOk, is_err, if◌then◌else◌};
 ghost use Rattle.std.specs.Io.KnownBytes.{append_known};
 ghost use Rattle.warc_frame.specs.Count.{capped, raised};
 ghost use Rattle.warc_frame.specs.Send.{WentOut, sent_of};
-ghost use Rattle.warc.specs.Archive.{IsArchiveOf, IsRefusalOf, contents, faults_after, source_of};
+ghost use Rattle.warc.specs.Archive.{IsArchiveOf, contents, rows_of, source_of};
 ghost use Rattle.warc.specs.Checking.{check_text, findings_of_archive};
 ghost use Rattle.warc.specs.Failing.{HasFailedBy, MayHaveFailedBy, failed_by};
 ghost use Rattle.warc.specs.Listing.{listing};
+ghost use Rattle.warc.specs.Opening.{Opens};
+ghost use Rattle.warc.specs.Seen.{tapped};
 
 use crate::check::check_rows;
 use crate::reading::read_rows;
@@ -15,7 +17,7 @@ use crate::rows::Rows;
 use std::alloc::{Allocator, Global};
 use std::marker::Model;
 use warc_frame::laws::head_of_spelled;
-use warc_frame::{Fault, FaultKind, OutBuffer, OutFault, Sink, Source};
+use warc_frame::{Fault, OutBuffer, OutFault, Sink, Source};
 
 /// An archive and the source of its bytes. Contracts see the source, and a row for each record.
 #[derive(Drop)]
@@ -72,22 +74,11 @@ impl<S: Source, A: Allocator + Copy> Archive<S, A> {
     /// no block. A refusal hands the source back: `Read` where a read failed, at the offset that was asked
     /// for, `Memory` at the record for which it didn't suffice, and else the first fault of the bytes.
     pub fn open(alloc: A, source: S) -> Result<Archive<S, A>, (Fault, S)>
-        ensures accepted { (bytes : List ℕ) → S.holds source ≡ Some bytes →
-            IfOk result (λ a. IsArchiveOf bytes (S.holds a.source) a.rows) }
-        ensures refused { (bytes : List ℕ) → S.holds source ≡ Some bytes →
-            IfErr result (λ e. IsRefusalOf bytes e.0) }
-
-        // The source still holds what it held.
-        ensures kept { S.holds (source_of result) ≡ S.holds source }
-
-        // It has failed once more exactly where the answer is a read fault.
-        ensures cause { MatchResult result (λ a. S.faults a.source ≡ S.faults source)
-            (λ e. S.faults e.1 ≡ faults_after e.0.kind (S.faults source)) }
-        ensures asked { IfErr result (λ e. e.0.kind ≡ FaultKind.Read → e.0.offset ≡ S.asked e.1) }
-
-        // At most a read for each byte, and one more.
-        ensures cost { (bytes : List ℕ) → S.holds source ≡ Some bytes →
-            S.reads (source_of result) ≤ S.reads source + length bytes + 1 }
+        ensures { Opens
+            (tapped (S.holds source) (S.faults source) (S.reads source) (S.asked source) (S.watches source)
+            (S.strays source))
+            (tapped (S.holds (source_of result)) (S.faults (source_of result)) (S.reads (source_of result))
+            (S.asked (source_of result)) (S.watches (source_of result)) (S.strays (source_of result))) (rows_of result) }
     {
         let mut source = source;
         match read_rows(alloc, &mut source) {
@@ -104,11 +95,11 @@ impl<S: Source, A: Allocator + Copy> Archive<S, A> {
     /// write that fails is `Write`, and a refused growth of the memory `Memory`. Each tells how many
     /// bytes went out, which are the first of the output.
     pub fn check<W: Sink>(&mut self, out: &mut W) -> Result<usize, OutFault>
-        ensures told { (bytes : List ℕ) (is : IsArchiveOf bytes (S.holds self.old.source) self.old.rows) →
+        ensures told { (bytes : List ℕ) → S.holds self.old.source ≡ Some bytes → (is : IsArchiveOf bytes self.old.rows) →
             OnOk result (W.tells out.new ≡ append_known (W.tells out.old) (check_text (contents is.are.records))) }
-        ensures number { (bytes : List ℕ) (is : IsArchiveOf bytes (S.holds self.old.source) self.old.rows) →
+        ensures number { (bytes : List ℕ) → S.holds self.old.source ≡ Some bytes → (is : IsArchiveOf bytes self.old.rows) →
             IfOk result (λ n. n ≡ capped (length (findings_of_archive (contents is.are.records)))) }
-        ensures cut { (bytes : List ℕ) (is : IsArchiveOf bytes (S.holds self.old.source) self.old.rows) →
+        ensures cut { (bytes : List ℕ) → S.holds self.old.source ≡ Some bytes → (is : IsArchiveOf bytes self.old.rows) →
             IfErr result (λ e. WentOut (W.tells out.old) (check_text (contents is.are.records)) (W.tells out.new) (sent_of e)) }
 
         // The source still holds what it held, and the rows stay.
@@ -119,7 +110,7 @@ impl<S: Source, A: Allocator + Copy> Archive<S, A> {
         // `Read`, unless it told of other bytes than it held.
         ensures cause { W.faults out.new ≡ failed_by result (W.faults out.old) }
         ensures may { MayHaveFailedBy result (S.faults self.old.source) (S.faults self.new.source) }
-        ensures failed { (bytes : List ℕ) → IsArchiveOf bytes (S.holds self.old.source) self.old.rows →
+        ensures failed { (bytes : List ℕ) → S.holds self.old.source ≡ Some bytes → IsArchiveOf bytes self.old.rows →
             HasFailedBy result (S.faults self.old.source) (S.faults self.new.source) }
     {
         head_of_spelled();

@@ -1,11 +1,12 @@
 //! Reads the good records of a source as a stream, and keeps a row of each.
-ghost use Rattle.std.specs.Prelude.{◌≡◌, ℕ, ◌+◌, ◌<◌, ◌≤◌, List, [], ◌∷◌, ◌++◌, length, take, Some, None, unwrap_or, IfOk, IfErr, OnOk, MatchResult};
+ghost use Rattle.std.specs.Prelude.{◌≡◌, ℕ, ◌<◌, ◌≤◌, List, [], ◌∷◌, ◌++◌, length, take, Some, None, unwrap_or, IfOk, IfErr, OnOk, MatchResult};
 ghost use Rattle.warc_value.specs.Digests.{verdict_of};
-ghost use Rattle.warc_frame.specs.Record.{max_archive};
 ghost use Rattle.warc_record.specs.Heads.{head_fault};
 ghost use Rattle.warc_record.specs.Seen.{RefusesFor};
-ghost use Rattle.warc.specs.Archive.{AreRowsOf, IsFaultOf, IsRefusalOf, faults_after};
-ghost use Rattle.warc.specs.Stream.{HasRead, HasSeen, IsHead, Stands, StaysRefused, row_by};
+ghost use Rattle.warc.specs.Archive.{IsArchiveOf, IsFaultOf};
+ghost use Rattle.warc.specs.Opening.{Opens};
+ghost use Rattle.warc.specs.Seen.{tapped};
+ghost use Rattle.warc.specs.Stream.{BeginsSince, HasSeen, WantsSince, IsHead, Stands, StaysRefused, row_by};
 ghost use Rattle.warc.specs.declared.reading.Current.{Current as Kept};
 
 use crate::rows::{Row, Rows};
@@ -177,6 +178,8 @@ fn take_front<A: Allocator + Copy>(
     requires { 0 < length piece.now }
     ensures history { (text : List ℕ) → Stands text decoder.old reading.old → MatchResult result
         (λ took. Stands (text ++ take took piece.now) decoder.new reading.new) (StaysRefused (text ++ piece.now)) }
+    ensures begins { (text : List ℕ) → Stands text decoder.old reading.old → MatchResult result
+        (λ _. BeginsSince text reading.old.begin reading.new.begin) (WantsSince text piece.now reading.old.begin) }
     ensures within { IfOk result (λ took. (0 < took) × (took ≤ length piece.now)) }
 {
     let (took, event) = decoder.step(piece)?;
@@ -212,8 +215,10 @@ fn take_piece<A: Allocator + Copy>(
     reading: &mut Reading<A>,
     piece: &[u8],
 ) -> Result<(), Fault>
-    ensures { (text : List ℕ) → Stands text decoder.old reading.old → MatchResult result
+    ensures history { (text : List ℕ) → Stands text decoder.old reading.old → MatchResult result
         (λ _. Stands (text ++ piece.now) decoder.new reading.new) (StaysRefused (text ++ piece.now)) }
+    ensures memory { (text : List ℕ) → Stands text decoder.old reading.old →
+        IfErr result (WantsSince text piece.now reading.old.begin) }
 {
     let mut from = 0;
     'taking: while from < piece.len() {
@@ -225,7 +230,7 @@ fn take_piece<A: Allocator + Copy>(
 /// The rows, where the stream ended behind a record. Else it is truncated.
 fn rows_of<A: Allocator + Copy>(decoder: &Decoder<A>, reading: Reading<A>) -> Result<Rows<A>, Fault>
     ensures { (text : List ℕ) → Stands text decoder.now reading → MatchResult result
-        (λ rows. (length text ≤ max_archive) × AreRowsOf text rows) (λ fault. (fault.kind ≡ FaultKind.Truncated) × IsFaultOf text fault) }
+        (IsArchiveOf text) (λ fault. (fault.kind ≡ FaultKind.Truncated) × IsFaultOf text fault) }
 {
     let end = decoder.position();
     match decoder.finish() {
@@ -244,15 +249,11 @@ fn read_through<S: Source, A: Allocator + Copy>(
     buf: &mut [u8],
 ) -> Result<Rows<A>, Fault>
     requires { 0 < length buf.old }
-    ensures accepted { (bytes : List ℕ) → S.holds source.old ≡ Some bytes →
-        IfOk result (λ rows. (length bytes ≤ max_archive) × AreRowsOf bytes rows) }
-    ensures refused { (bytes : List ℕ) → S.holds source.old ≡ Some bytes → IfErr result (IsRefusalOf bytes) }
-    ensures kept { S.holds source.new ≡ S.holds source.old }
-    ensures cause { MatchResult result (λ _. S.faults source.new ≡ S.faults source.old)
-        (λ e. S.faults source.new ≡ faults_after e.kind (S.faults source.old)) }
-    ensures asked { IfErr result (λ e. e.kind ≡ FaultKind.Read → e.offset ≡ S.asked source.new) }
-    ensures cost { (bytes : List ℕ) → S.holds source.old ≡ Some bytes →
-        S.reads source.new ≤ S.reads source.old + length bytes + 1 }
+    ensures { Opens
+        (tapped (S.holds source.old) (S.faults source.old) (S.reads source.old) (S.asked source.old)
+        (S.watches source.old) (S.strays source.old))
+        (tapped (S.holds source.new) (S.faults source.new) (S.reads source.new) (S.asked source.new)
+        (S.watches source.new) (S.strays source.new)) result }
 {
     let mut decoder = Decoder::new(alloc, 0);
     let mut reading = Reading::new(alloc);
@@ -278,15 +279,11 @@ pub(crate) fn read_rows<S: Source, A: Allocator + Copy>(
     alloc: A,
     source: &mut S,
 ) -> Result<Rows<A>, Fault>
-    ensures accepted { (bytes : List ℕ) → S.holds source.old ≡ Some bytes →
-        IfOk result (λ rows. (length bytes ≤ max_archive) × AreRowsOf bytes rows) }
-    ensures refused { (bytes : List ℕ) → S.holds source.old ≡ Some bytes → IfErr result (IsRefusalOf bytes) }
-    ensures kept { S.holds source.new ≡ S.holds source.old }
-    ensures cause { MatchResult result (λ _. S.faults source.new ≡ S.faults source.old)
-        (λ e. S.faults source.new ≡ faults_after e.kind (S.faults source.old)) }
-    ensures asked { IfErr result (λ e. e.kind ≡ FaultKind.Read → e.offset ≡ S.asked source.new) }
-    ensures cost { (bytes : List ℕ) → S.holds source.old ≡ Some bytes →
-        S.reads source.new ≤ S.reads source.old + length bytes + 1 }
+    ensures { Opens
+        (tapped (S.holds source.old) (S.faults source.old) (S.reads source.old) (S.asked source.old)
+        (S.watches source.old) (S.strays source.old))
+        (tapped (S.holds source.new) (S.faults source.new) (S.reads source.new) (S.asked source.new)
+        (S.watches source.new) (S.strays source.new)) result }
 {
     let Ok(mut buf) = vec![in alloc; 0u8; PIECE] else {
         return Err(Fault {

@@ -1,5 +1,5 @@
 //! Where bytes come from.
-ghost use Rattle.std.specs.Prelude.{◌≡◌, ℕ, ◌-◌, ◌<◌, ◌≤◌, List, length, take, min, Option, Some, None, Ok, IfOk, is_err, if◌then◌else◌};
+ghost use Rattle.std.specs.Prelude.{◌≡◌, ℕ, ◌-◌, ◌<◌, ◌≤◌, List, length, take, min, Bool, false, Option, Some, None, Ok, IfOk, is_err, if◌then◌else◌};
 ghost use Rattle.warc_frame.specs.Count.{raised};
 ghost use Rattle.warc_frame.specs.Device.{Gives};
 
@@ -38,6 +38,13 @@ pub trait Source {
     /// The offset that was asked for last.
     ghost asked: { Self → ℕ };
 
+    /// The offsets that it watches, whichever they are.
+    ghost watches: { Self → ℕ → Bool };
+
+    /// How often it was asked for one that it watches. So a call that leaves this count as it was, whatever
+    /// a source watches outside some offsets, asks for those alone.
+    ghost strays: { Self → ℕ };
+
     /// Reads bytes at the offset into the front of the buffer, and answers how many.
     fn read_at(&mut self, at: u64, buf: &mut [u8]) -> Result<usize, ReadFault>
         ensures bound { IfOk result (λ n. n ≤ length buf.new) }
@@ -45,7 +52,9 @@ pub trait Source {
         ensures kept { holds self.new ≡ holds self.old }
         ensures cause { faults self.new ≡ (if is_err result then raised (faults self.old) else faults self.old) }
         ensures counted { reads self.new ≡ raised (reads self.old) }
-        ensures asked { asked self.new ≡ at };
+        ensures asked { asked self.new ≡ at }
+        ensures watched { watches self.new ≡ watches self.old }
+        ensures strayed { strays self.new ≡ (if watches self.old at then raised (strays self.old) else strays self.old) };
 }
 
 /// Bytes in memory, of which each read gives at most `most`.
@@ -101,6 +110,10 @@ impl<A: Allocator> Source for MemSource<A> {
     ghost reads = { λ s. s.reads };
 
     ghost asked = { λ s. s.asked };
+
+    ghost watches = { λ _ _. false };
+
+    ghost strays = { λ _. 0 };
 
     /// It never fails, and gives as many bytes as there are, up to `most` and the buffer's length.
     fn read_at(&mut self, at: u64, buf: &mut [u8]) -> Result<usize, ReadFault>
@@ -189,6 +202,10 @@ impl<F: Read + Seek> Source for FileSource<F> {
     ghost reads = { λ s. s.reads };
 
     ghost asked = { λ s. s.asked };
+
+    ghost watches = { λ _ _. false };
+
+    ghost strays = { λ _. 0 };
 
     /// Any error of the seek or the read is a failure, and nothing is tried again.
     fn read_at(&mut self, at: u64, buf: &mut [u8]) -> Result<usize, ReadFault> {

@@ -2,7 +2,7 @@ use Rattle.std.proofs.Common.{inl, inr, refl, ap, ◌∙◌}
 use Rattle.warc_frame.specs.FaultText.{out_fault_text}
 use Rattle.warc_frame.specs.Send.{sent_of}
 use Rattle.warc.specs.Program.{told_line}
-use Rattle.warc.proofs.ProgramLemmas.{lines_of, told_as}
+use Rattle.warc.proofs.ProgramLemmas.{told_as}
 use Rattle.warc.proofs.program.list.Goals as goal
 
 pub returns-in-Err-clause-ends : goal.returns-in-Err-clause-ends
@@ -19,7 +19,7 @@ returns-in-Err-clause-ends g c = inr (inl (record {
 pub returns-in-Ok-list-clause-ends : goal.returns-in-Ok-list-clause-ends
 returns-in-Ok-list-clause-ends g c = inl (record {
   rows = c.in-Ok.archive.rows;
-  are = λ bytes held. lines_of (c.in-Ok.ensures.accepted bytes held);
+  are = c.in-Ok.ensures.accepted;
   told = c.in-Ok-list.ensures.told;
   sound = ap g.S.Source.faults c.into_source.ensures ∙ c.in-Ok.ensures.cause;
   silent = refl;
@@ -29,7 +29,7 @@ returns-in-Ok-list-clause-ends g c = inl (record {
 pub returns-in-Err-list-clause-ends : goal.returns-in-Err-list-clause-ends
 returns-in-Err-list-clause-ends g c = inr (inr (record {
   rows = c.in-Ok.archive.rows;
-  are = λ bytes held. lines_of (c.in-Ok.ensures.accepted bytes held);
+  are = c.in-Ok.ensures.accepted;
   sent = sent_of c.in-Err-list.fault;
   front = c.in-Err-list.ensures.cut;
   failed = c.in-Err-list.ensures.cause;

@@ -1,16 +1,18 @@
-use Rattle.std.proofs.Common.{◌≡◌, ℕ, ◌+◌, ◌-◌, ◌≤◌, ◌^◌, List, length, take, Some}
-use Rattle.warc.specs.Stream.{Stands}
+use Rattle.std.proofs.Common.{◌≡◌, ℕ, ◌+◌, ◌-◌, ◌^◌, List, length}
+use Rattle.warc.specs.Seen.{tapped}
+use Rattle.warc.specs.Stream.{HasGiven, Stands}
 use Rattle.warc.proofs.reading.read_through.Given as goal
 
--- some text was taken, a front of the bytes that the source holds, with at most a read for each byte
+-- some text was read of the source's front
 abbrev pub invariant-reading : goal.invariant-reading
 invariant-reading g l = record {
   text : List ℕ;
   stands : Stands text l.decoder l.reading;
-  front : (bytes : List ℕ) → g.S.Source.holds l.fn.source ≡ Some bytes → text ≡ take (length text) bytes;
-  kept : g.S.Source.holds l.source ≡ g.S.Source.holds l.fn.source;
-  sound : g.S.Source.faults l.source ≡ g.S.Source.faults l.fn.source;
-  cost : g.S.Source.reads l.source ≤ g.S.Source.reads l.fn.source + length text;
+  given : HasGiven
+      (tapped (g.S.Source.holds l.fn.source) (g.S.Source.faults l.fn.source) (g.S.Source.reads l.fn.source) (g.S.Source.asked l.fn.source) (g.S.Source.watches l.fn.source)
+      (g.S.Source.strays l.fn.source))
+      (tapped (g.S.Source.holds l.source) (g.S.Source.faults l.source) (g.S.Source.reads l.source) (g.S.Source.asked l.source) (g.S.Source.watches l.source) (g.S.Source.strays l.source))
+      text;
   room : length l.buf ≡ length l.fn.buf;
 }
 

@@ -12,7 +12,10 @@ pub returns-in-Ok : goal.returns-in-Ok
 returns-in-Ok g c = λ text stands.
     let (end, lies) = c.position-end.ensures.history 0 text stands.told stands.is_at in
     let (none, spelled) = c.in-Ok.ensures.history 0 text stands.told stands.is_at in
-    (omega (arith, end, c.position-end.ensures.limit), rows_whole text stands.told c.args.reading stands.has spelled)
+    record {
+      short = omega (arith, end, c.position-end.ensures.limit);
+      are = rows_whole text stands.told c.args.reading stands.has spelled;
+    }
 
 pub returns-in-Err : goal.returns-in-Err
 returns-in-Err g c = λ text stands.

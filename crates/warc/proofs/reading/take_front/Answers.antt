@@ -1,5 +1,6 @@
-use Rattle.std.proofs.Common.{◌≡◌, ℕ, List, ◌++◌, length, take, sym, ap, ◌∙◌, arith}
+use Rattle.std.proofs.Common.{◌≡◌, ℕ, List, ◌++◌, length, take, inl, inr, sym, ap, ◌∙◌, arith, length-append}
 use Rattle.std.proofs.lemmas.Result.{err_from_is_err_and}
+use Rattle.warc.proofs.OpeningLemmas.{step_wants}
 use Rattle.warc.proofs.RefusalLemmas.{step_refused}
 use Rattle.warc.proofs.StepLemmas.{end_stands, head_stands, head_stops, memory_stops, more_stands, ok_then, part_stands, refused_then}
 use Rattle.warc.proofs.reading.take_front.Goals as goal
@@ -56,4 +57,23 @@ returns-in-Err-kept-clause-history g c = λ text stands.
       | in-End+in-Ok w ↦ cc (sym c.in-Err-kept.is ∙ w.kept-is)
       | in-End+in-Err w ↦
           memory_stops text piece stands.told old stands.has c.in-Err-kept.kind (cc (sym c.in-Err-kept.is ∙ w.kept-is))
+    ]
+
+pub returns-in_err-took-clause-begins : goal.returns-in_err-took-clause-begins
+returns-in_err-took-clause-begins g c =
+    let p = err_from_is_err_and c.from_residual.result c.from_residual.ensures.1 in
+    rw (p.1, p.2) (λ text stands.
+    step_wants text c.args.piece.now stands.told c.args.reading.now c.in_err-took.field-0.0 stands.has c.requires (c.in_err-took.ensures.history 0 text stands.told stands.is_at))
+
+pub returns-in-Ok-kept-clause-begins : goal.returns-in-Ok-kept-clause-begins
+returns-in-Ok-kept-clause-begins g c = λ text stands.
+    let takes = c.in_ok-took.ensures.history 0 text stands.told stands.is_at in
+    let part : List ℕ = take c.in_ok-took.took c.args.piece.now in
+    let at = (c.position-position.ensures.history 0 (text ++ part) _ takes.is_at).0 in
+    elim c.match-event.branch [
+      | in-More w ↦ inl (ap (λ r. r.begin) w.reading-is)
+      | in-Head w ↦ inl (ap (λ r. r.begin) w.reading-is ∙ w.begin_block-kept.ensures.begin)
+      | in-Part w ↦ inl (ap (λ r. r.begin) w.reading-is ∙ w.take_part.ensures.begin)
+      | in-End+in-Ok w ↦ inr (omega (arith, at, ap (λ r. r.begin) w.reading-is ∙ w.in-Ok.ensures.begin, length-append text part))
+      | in-End+in-Err w ↦ cc (sym c.in-Ok-kept.is ∙ w.kept-is)
     ]

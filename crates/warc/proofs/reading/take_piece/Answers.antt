@@ -1,8 +1,9 @@
-use Rattle.std.proofs.Common.{◌≡◌, ℕ, ◌+◌, ◌-◌, List, ◌++◌, length, take, drop, sym, ap, subst, ◌∙◌, arith}
+use Rattle.std.proofs.Common.{◌≡◌, ℕ, ◌+◌, ◌-◌, List, ◌++◌, length, take, drop, inl, refl, sym, ap, subst, ◌∙◌, arith}
 use Rattle.std.proofs.lemmas.List.{append_assoc, append-nil, length-drop, take-append-drop, take_all, take_rest}
 use Rattle.std.proofs.lemmas.Result.{err_from_is_err_and}
 use Rattle.warc.specs.Stream.{Stands, StaysRefused}
 use Rattle.std.proofs.Math.Seq.{take-add}
+use Rattle.warc.proofs.OpeningLemmas.{begins_behind, wants_before}
 use Rattle.warc.proofs.reading.take_piece.Goals as goal
 
 pub taking-init : goal.taking-init
@@ -11,10 +12,11 @@ taking-init g c = record {
   stands = λ text is.
       let P : List ℕ → Type 0 = λ t. Stands t c.args.decoder.now c.args.reading.now in
       subst P (sym (append-nil text)) is;
+  begins = λ text is. inl refl;
 }
 
-pub returns-in_err-from : goal.returns-in_err-from
-returns-in_err-from g c =
+pub returns-in_err-from-clause-history : goal.returns-in_err-from-clause-history
+returns-in_err-from-clause-history g c =
     let p = err_from_is_err_and c.from_residual.result c.from_residual.ensures.1 in
     let piece : List ℕ = c.args.piece.now in
     let from : ℕ = c.taking.from in
@@ -24,6 +26,17 @@ returns-in_err-from g c =
     let whole : done ++ rest ≡ text ++ piece = ap (λ x. done ++ x) (take_rest piece from) ∙ append_assoc text (take from piece) (drop from piece) ∙ ap (λ x. text ++ x) (take-append-drop from piece) in
     let P : List ℕ → Type 0 = λ t. StaysRefused t c.in_err-from.field-0.0 in
     subst P whole (c.in_err-from.ensures.history done (c.taking.invariant.stands text is)))
+
+pub returns-in_err-from-clause-memory : goal.returns-in_err-from-clause-memory
+returns-in_err-from-clause-memory g c =
+    let p = err_from_is_err_and c.from_residual.result c.from_residual.ensures.1 in
+    let piece : List ℕ = c.args.piece.now in
+    let from : ℕ = c.taking.from in
+    rw (p.1, p.2) (λ text is.
+    let done : List ℕ = text ++ take from piece in
+    let rest : List ℕ = take (length piece - from) (drop from piece) in
+    wants_before text (take from piece) rest piece _ _ c.in_err-from.field-0.0 (ap (λ x. take from piece ++ x) (take_rest piece from) ∙ take-append-drop from piece)
+    (c.taking.invariant.begins text is) (c.in_err-from.ensures.begins done (c.taking.invariant.stands text is)))
 
 pub taking-preserved : goal.taking-preserved
 taking-preserved g c =
@@ -41,9 +54,11 @@ taking-preserved g c =
           append_assoc text (take from piece) (take took rest) ∙ ap (λ x. text ++ (take from piece ++ take took x)) (take_rest piece from)
           ∙ ap (λ x. text ++ x) (sym (take-add from took piece)) in
           subst P whole (c.in_ok-from.ensures.history done (c.taking.invariant.stands text is));
+      begins = λ text is.
+          begins_behind text (take from piece) _ _ _ (c.taking.invariant.begins text is) (c.in_ok-from.ensures.begins (text ++ take from piece) (c.taking.invariant.stands text is));
     }
 
-pub returns : goal.returns
-returns g c = λ text is.
+pub returns-clause-history : goal.returns-clause-history
+returns-clause-history g c = λ text is.
     let P : List ℕ → Type 0 = λ t. Stands t c.taking.decoder c.taking.reading in
     subst P (ap (λ x. text ++ x) (take_all c.taking.from c.args.piece.now (omega (arith, c.taking-test.false)))) (c.taking.invariant.stands text is)
