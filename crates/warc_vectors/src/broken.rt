@@ -50,6 +50,10 @@ impl<A: Allocator> Source for BrokenSource<A> {
 
     ghost asked = { λ s. s.asked };
 
+    ghost watches = { λ _ _. false };
+
+    ghost strays = { λ _. 0 };
+
     /// It fails at the read of its number, and at no other.
     fn read_at(&mut self, at: u64, buf: &mut [u8]) -> Result<usize, ReadFault>
         ensures bound { IfOk result (λ n. n ≤ length buf.new) }
@@ -135,6 +139,10 @@ impl<A: Allocator> Source for ChangingSource<A> {
     ghost reads = { λ s. s.reads };
 
     ghost asked = { λ s. s.asked };
+
+    ghost watches = { λ _ _. false };
+
+    ghost strays = { λ _. 0 };
 
     /// It never fails.
     fn read_at(&mut self, at: u64, buf: &mut [u8]) -> Result<usize, ReadFault> {
