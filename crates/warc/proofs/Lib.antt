@@ -9,6 +9,7 @@ pub mod OpeningLemmas
 pub mod PlaceLemmas
 pub mod ProgramLemmas
 pub mod RangeLemmas
+pub mod ReadLemmas
 pub mod RecordsLemmas
 pub mod RefusalLemmas
 pub mod RowLemmas

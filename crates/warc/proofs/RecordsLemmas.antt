@@ -45,7 +45,7 @@ take_suc [] i x is = absurd (cc is)
 take_suc (y ∷ ys) zero x is = let same : y ≡ x = cc is in ap (λ z. z ∷ []) same
 take_suc (y ∷ ys) (suc i) x is = ap (λ l. y ∷ l) (take_suc ys i x is)
 
-take_one : {X : Type 0} (xs : List X) (i : ℕ) (x : X) → slice_get xs i ≡ Some x → take (i + 1) xs ≡ take i xs ++ x ∷ []
+pub take_one : {X : Type 0} (xs : List X) (i : ℕ) (x : X) → slice_get xs i ≡ Some x → take (i + 1) xs ≡ take i xs ++ x ∷ []
 take_one xs i x is = let e : i + 1 ≡ suc i = omega arith in ap (λ n. take n xs) e ∙ take_suc xs i x is
 
 enumerate_from-append : {X : Type 0} (n : ℕ) (xs ys : List X) → enumerate_from n (xs ++ ys) ≡ enumerate_from n xs ++ enumerate_from (n + length xs) ys

@@ -4,6 +4,7 @@ pub mod Command
 pub mod CommandLine
 pub mod Examining
 pub mod Failing
+pub mod Heads
 pub mod Listing
 pub mod Opening
 pub mod Program

@@ -123,3 +123,9 @@ pub record HasGiven (old new : Tapped) (text : List ℕ) : Type 0 where
   pub cost : new.reads ≤ old.reads + length text
   pub watched : new.watches ≡ old.watches
   pub near : AsksOnly (λ at. at ≤ max_archive) old new
+
+-- so many bytes from this offset on were read, with at most one read for each
+pub record HasFilled (at filled : ℕ) (old new : Tapped) : Type 0 where
+  pub near : AsksOnly (λ q. (at ≤ q) × (q < at + filled)) old new
+  pub bound : new.reads ≤ old.reads + filled
+  pub watched : new.watches ≡ old.watches

@@ -11,6 +11,8 @@ ghost use Rattle.warc.specs.Archive.{contents};
 ghost use Rattle.warc.specs.Row.{Placed, row_of};
 ghost use Rattle.warc.specs.Checking.{about_record, check_text, findings_of_archive, findings_of_records, is_bad, line_text, numbered_line};
 ghost use Rattle.warc.specs.Examining.{HasFailed, HasHead, HasMet, AreCheckable, IsExamined, MayHaveFailed, found_by, record_text, records_text};
+ghost use Rattle.warc.specs.Heads.{ReadsHeads};
+ghost use Rattle.warc.specs.Seen.{tapped};
 ghost use Rattle.warc.specs.Failing.{HasFailedBy, MayHaveFailedBy, failed_by, is_read};
 
 use crate::heads::{Halt, Reread, read_again};
@@ -60,6 +62,11 @@ fn examine<S: Source, A: Allocator + Copy>(
         OnOk result (HasMet (before ++ p.content ∷ []) met.new) }
     ensures kept { S.holds source.new ≡ S.holds source.old }
     ensures sound { OnOk result (S.faults source.new ≡ S.faults source.old) }
+    ensures heads { ReadsHeads (row.now ∷ [])
+        (tapped (S.holds source.old) (S.faults source.old) (S.reads source.old) (S.asked source.old)
+        (S.watches source.old) (S.strays source.old))
+        (tapped (S.holds source.new) (S.faults source.new) (S.reads source.new) (S.asked source.new)
+        (S.watches source.new) (S.strays source.new)) }
     ensures may { IfErr result (λ halt. MayHaveFailed halt (S.faults source.old) (S.faults source.new)) }
     ensures failed { (bytes : List ℕ) (p : Placed) → S.holds source.old ≡ Some bytes → HasHead bytes p → row.now ≡ row_of p →
         IfErr result (λ halt. HasFailed halt (S.faults source.old) (S.faults source.new)) }
@@ -229,6 +236,11 @@ fn put_records<S: Source, A: Allocator + Copy, W: Sink>(
         IfErr result (λ e. WentOut start (output ++ records_text (contents records)) (W.tells out.new) (sent_of e)) }
     ensures kept { S.holds source.new ≡ S.holds source.old }
     ensures cause { W.faults out.new ≡ failed_by result (W.faults out.old) }
+    ensures heads { ReadsHeads rows.now
+        (tapped (S.holds source.old) (S.faults source.old) (S.reads source.old) (S.asked source.old)
+        (S.watches source.old) (S.strays source.old))
+        (tapped (S.holds source.new) (S.faults source.new) (S.reads source.new) (S.asked source.new)
+        (S.watches source.new) (S.strays source.new)) }
     ensures may { MayHaveFailedBy result (S.faults source.old) (S.faults source.new) }
     ensures failed { (bytes : List ℕ) (records : List Placed) →
         S.holds source.old ≡ Some bytes → AreCheckable bytes records rows.now →
@@ -278,6 +290,11 @@ fn put_archive<S: Source, A: Allocator + Copy, W: Sink>(
         IfErr result (λ e. WentOut start (output ++ check_text (contents records)) (W.tells out.new) (sent_of e)) }
     ensures kept { S.holds source.new ≡ S.holds source.old }
     ensures cause { W.faults out.new ≡ failed_by result (W.faults out.old) }
+    ensures heads { ReadsHeads rows.now
+        (tapped (S.holds source.old) (S.faults source.old) (S.reads source.old) (S.asked source.old)
+        (S.watches source.old) (S.strays source.old))
+        (tapped (S.holds source.new) (S.faults source.new) (S.reads source.new) (S.asked source.new)
+        (S.watches source.new) (S.strays source.new)) }
     ensures may { MayHaveFailedBy result (S.faults source.old) (S.faults source.new) }
     ensures failed { (bytes : List ℕ) (records : List Placed) →
         S.holds source.old ≡ Some bytes → AreCheckable bytes records rows.now →
@@ -313,6 +330,11 @@ pub(crate) fn check_rows<S: Source, A: Allocator + Copy, W: Sink>(
         IfErr result (λ e. WentOut (W.tells out.old) (check_text (contents records)) (W.tells out.new) (sent_of e)) }
     ensures kept { S.holds source.new ≡ S.holds source.old }
     ensures cause { W.faults out.new ≡ failed_by result (W.faults out.old) }
+    ensures heads { ReadsHeads rows.now
+        (tapped (S.holds source.old) (S.faults source.old) (S.reads source.old) (S.asked source.old)
+        (S.watches source.old) (S.strays source.old))
+        (tapped (S.holds source.new) (S.faults source.new) (S.reads source.new) (S.asked source.new)
+        (S.watches source.new) (S.strays source.new)) }
     ensures may { MayHaveFailedBy result (S.faults source.old) (S.faults source.new) }
     ensures failed { (bytes : List ℕ) (records : List Placed) → S.holds source.old ≡ Some bytes → AreCheckable bytes records rows.now →
         HasFailedBy result (S.faults source.old) (S.faults source.new) }

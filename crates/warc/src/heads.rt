@@ -1,12 +1,15 @@
 //! The heads of records, read again through the source.
-ghost use Rattle.std.specs.Prelude.{◌≡◌, ℕ, ◌+◌, ◌-◌, ◌^◌, ◌<◌, ◌≤◌, ◌⊎◌, List, length, take, drop, Ok, Some, None, IfOk, IfErr, IfSome, OnOk, OnErr, MatchResult};
+ghost use Rattle.std.specs.Prelude.{◌≡◌, ℕ, ◌+◌, ◌-◌, ◌^◌, ◌<◌, ◌≤◌, ◌⊎◌, List, [], ◌∷◌, length, take, drop, Ok, Some, None, IfOk, IfErr, IfSome, OnOk, OnErr, MatchResult};
 ghost use Rattle.warc_frame.specs.Count.{raised};
 ghost use Rattle.warc_frame.specs.Reading.{any_fields, head_of};
 ghost use Rattle.warc_frame.specs.Record.{Record, max_head};
 ghost use Rattle.warc_record.specs.Heads.{head_fault};
 ghost use Rattle.warc_record.specs.Readings.{reading_of};
 ghost use Rattle.warc_record.specs.Seen.{said};
+ghost use Rattle.warc.specs.Heads.{ReadsHeads};
 ghost use Rattle.warc.specs.Row.{Placed, row_of};
+ghost use Rattle.warc.specs.Seen.{tapped};
+ghost use Rattle.warc.specs.Stream.{HasFilled};
 ghost use Rattle.warc.specs.Examining.{HasFailed, HasHead, MayHaveFailed, halt_of, halted};
 
 use crate::rows::Row;
@@ -44,6 +47,13 @@ fn read_range<S: Source>(source: &mut S, at: u64, buf: &mut [u8]) -> Result<(), 
         OnOk result (buf.new ≡ take (length buf.old) (drop at bytes)) }
     ensures kept { S.holds source.new ≡ S.holds source.old }
     ensures sound { OnOk result (S.faults source.new ≡ S.faults source.old) }
+
+    // It asks for no byte outside, and reads at most once for each.
+    ensures filled { HasFilled at (length buf.old)
+        (tapped (S.holds source.old) (S.faults source.old) (S.reads source.old) (S.asked source.old)
+        (S.watches source.old) (S.strays source.old))
+        (tapped (S.holds source.new) (S.faults source.new) (S.reads source.new) (S.asked source.new)
+        (S.watches source.new) (S.strays source.new)) }
 
     // An error is a failure of the source, unless it gives too little.
     ensures may { OnErr result ((S.faults source.new ≡ S.faults source.old) ⊎ (S.faults source.new ≡ raised (S.faults source.old))) }
@@ -124,6 +134,11 @@ pub(crate) fn read_again<S: Source, A: Allocator + Copy>(
         IfOk result (λ x. x.fields ≡ p.content.fields) }
     ensures kept { S.holds source.new ≡ S.holds source.old }
     ensures sound { OnOk result (S.faults source.new ≡ S.faults source.old) }
+    ensures heads { ReadsHeads (row.now ∷ [])
+        (tapped (S.holds source.old) (S.faults source.old) (S.reads source.old) (S.asked source.old)
+        (S.watches source.old) (S.strays source.old))
+        (tapped (S.holds source.new) (S.faults source.new) (S.reads source.new) (S.asked source.new)
+        (S.watches source.new) (S.strays source.new)) }
     ensures may { IfErr result (λ halt. MayHaveFailed halt (S.faults source.old) (S.faults source.new)) }
 
     // Over bytes that hold the head it stops for a failed read or for want of memory alone.

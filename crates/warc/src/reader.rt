@@ -6,6 +6,7 @@ ghost use Rattle.warc_frame.specs.Send.{WentOut, sent_of};
 ghost use Rattle.warc.specs.Archive.{IsArchiveOf, contents, rows_of, source_of};
 ghost use Rattle.warc.specs.Checking.{check_text, findings_of_archive};
 ghost use Rattle.warc.specs.Failing.{HasFailedBy, MayHaveFailedBy, failed_by};
+ghost use Rattle.warc.specs.Heads.{ReadsHeads};
 ghost use Rattle.warc.specs.Listing.{listing};
 ghost use Rattle.warc.specs.Opening.{Opens};
 ghost use Rattle.warc.specs.Seen.{tapped};
@@ -105,6 +106,13 @@ impl<S: Source, A: Allocator + Copy> Archive<S, A> {
         // The source still holds what it held, and the rows stay.
         ensures kept { S.holds self.new.source ≡ S.holds self.old.source }
         ensures rows { self.new.rows ≡ self.old.rows }
+
+        // It asks for no byte outside the heads, and reads at most once for each of theirs.
+        ensures heads { ReadsHeads self.old.rows
+            (tapped (S.holds self.old.source) (S.faults self.old.source) (S.reads self.old.source)
+            (S.asked self.old.source) (S.watches self.old.source) (S.strays self.old.source))
+            (tapped (S.holds self.new.source) (S.faults self.new.source) (S.reads self.new.source)
+            (S.asked self.new.source) (S.watches self.new.source) (S.strays self.new.source)) }
 
         // The sink has failed once more exactly where the answer is `Write`, and the source where it is
         // `Read`, unless it told of other bytes than it held.

@@ -6,6 +6,7 @@ use Rattle.warc.specs.Checking.{line_text}
 use Rattle.warc.specs.Examining.{findings_of_first, first_text}
 use Rattle.warc.specs.Row.{Row}
 use Rattle.warc.proofs.LineLemmas.{same_out, same_staged}
+use Rattle.warc.proofs.ReadLemmas.{reads_all, reads_more}
 use Rattle.warc.proofs.RecordsLemmas.{failed_halted, first_all, met_one, number_more, record_at, rest_text, sent_halted, text_more, text_rest}
 use Rattle.warc.proofs.check.put_records.Goals as goal
 
@@ -48,6 +49,21 @@ returns-in_err-number-clause-cut g c = λ bytes records start output held can is
     let whole = same_out (ap (λ l. l ++ rest_text (i + 1) rs) more ∙ text_rest rs (i + 1) output) longer in
     search rules
 
+pub returns-clause-heads : goal.returns-clause-heads
+returns-clause-heads g c = reads_all c.args.rows.now c.checking.position _ _ c.checking.invariant.heads
+
+pub returns-in-Err-clause-heads : goal.returns-in-Err-clause-heads
+returns-in-Err-clause-heads g c =
+    let row_is : slice_get c.args.rows.now c.checking.position ≡ Some c.in-Some.row = sym c.get.ensures ∙ c.in-Some.is in
+    let more = reads_more c.args.rows.now c.checking.position c.in-Some.row _ _ _ row_is c.checking.invariant.heads c.examine.ensures.heads in
+    reads_all c.args.rows.now (c.checking.position + 1) _ _ more
+
+pub returns-in_err-number-clause-heads : goal.returns-in_err-number-clause-heads
+returns-in_err-number-clause-heads g c =
+    let row_is : slice_get c.args.rows.now c.checking.position ≡ Some c.in-Some.row = sym c.get.ensures ∙ c.in-Some.is in
+    let more = reads_more c.args.rows.now c.checking.position c.in-Some.row _ _ _ row_is c.checking.invariant.heads c.examine.ensures.heads in
+    reads_all c.args.rows.now (c.checking.position + 1) _ _ more
+
 pub checking-preserved : goal.checking-preserved
 checking-preserved g c =
     let i = c.checking.position in
@@ -74,6 +90,7 @@ checking-preserved g c =
           c.saturating_add-count.ensures ∙ ap (λ n. capped (n + c.in_ok-number.number)) (c.checking.invariant.number bytes records held can)
           ∙ ap (λ n. capped (capped (length (findings_of_first i rs)) + n)) c.in_ok-number.ensures.number
           ∙ number_more records i at.0 c.in-Ok.examined.reread.fields c.row.inside.block_len c.in-Ok.examined.facts at.1 examined len;
+      heads = reads_more c.args.rows.now i c.in-Some.row _ _ _ row_is c.checking.invariant.heads c.examine.ensures.heads;
       kept = search rules;
       sound = search rules;
       silent = search rules;

@@ -5,6 +5,8 @@ use Rattle.warc_frame.specs.Send.{IsStaged}
 use Rattle.warc.specs.Archive.{contents}
 use Rattle.warc.specs.Row.{Placed}
 use Rattle.warc.specs.Examining.{AreCheckable, HasMet, findings_of_first, first_text}
+use Rattle.warc.specs.Heads.{ReadsHeads}
+use Rattle.warc.specs.Seen.{tapped}
 use Rattle.warc.proofs.check.put_records.Given as goal
 
 -- the lines of the records so far are staged, their ids are met, and nothing has failed
@@ -18,6 +20,9 @@ invariant-checking g l = record {
       → HasMet (take l.position (contents records)) l.met;
   number : (bytes : List ℕ) (records : List Placed) → g.S.Source.holds l.fn.source ≡ Some bytes → AreCheckable bytes records l.rows
       → l.count ≡ capped (length (findings_of_first l.position (contents records)));
+  heads : ReadsHeads (take l.position l.rows)
+      (tapped (g.S.Source.holds l.fn.source) (g.S.Source.faults l.fn.source) (g.S.Source.reads l.fn.source) (g.S.Source.asked l.fn.source) (g.S.Source.watches l.fn.source) (g.S.Source.strays l.fn.source))
+      (tapped (g.S.Source.holds l.source) (g.S.Source.faults l.source) (g.S.Source.reads l.source) (g.S.Source.asked l.source) (g.S.Source.watches l.source) (g.S.Source.strays l.source));
   kept : g.S.Source.holds l.source ≡ g.S.Source.holds l.fn.source;
   sound : g.S.Source.faults l.source ≡ g.S.Source.faults l.fn.source;
   silent : g.W.Sink.faults l.out ≡ g.W.Sink.faults l.fn.out;

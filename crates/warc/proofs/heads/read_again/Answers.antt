@@ -1,6 +1,8 @@
-use Rattle.std.proofs.Common.{◌≡◌, ◌≤◌, ◌∙◌, length, take, drop, ap, arith}
+use Rattle.std.proofs.Common.{◌≡◌, ◌≤◌, ◌∙◌, length, take, drop, sym, ap, arith}
 use Rattle.std.proofs.lemmas.List.{length-take-le}
 use Rattle.warc.proofs.HeadLemmas.{len_by_row, len_is, len_is_there, of_ok, only_memory, read_or_memory, reads_head}
+use Rattle.warc.proofs.ReadLemmas.{reads_one}
+use Rattle.warc.specs.Row.{Row}
 use Rattle.warc.proofs.heads.read_again.Goals as goal
 
 pub returns-in_default-clause-failed : goal.returns-in_default-clause-failed
@@ -25,3 +27,13 @@ returns-clause-failed g c = λ bytes p held has same.
     let text : c.read_range.new.buf ≡ take c.in-Some.len (drop c.row.inside.offset bytes) = of_ok c.read_range.result c.if-is_err.ensures.negation (c.read_range.ensures.bytes bytes held) ∙ ap (λ n. take n (drop c.row.inside.offset bytes)) part in
     let reads = reads_head bytes c.read_range.new.buf p _ c.in-Some.len has (c.row.view_is ∙ same) len text (c.read_range.auto.buf ∙ part) in
     only_memory c.read_text.result _ _ _ (c.read_text.ensures.read p.content has.good reads) (of_ok c.read_range.result c.if-is_err.ensures.negation c.read_range.ensures.sound)
+
+pub returns-then-is_err-clause-heads : goal.returns-then-is_err-clause-heads
+returns-then-is_err-clause-heads g c =
+    let part : length (take c.in-Some.len c.args.buf.now) ≡ c.in-Some.len = length-take-le c.in-Some.len c.args.buf.now (c.in-Some.ensures.within.0) in
+    reads_one c.args.row.now c.in-Some.len _ _ (c.in-Some.ensures.within.1) (rw (ap (λ (r : Row). r.offset) (sym c.row.view_is), sym part) c.read_range.ensures.filled)
+
+pub returns-clause-heads : goal.returns-clause-heads
+returns-clause-heads g c =
+    let part : length (take c.in-Some.len c.args.buf.now) ≡ c.in-Some.len = length-take-le c.in-Some.len c.args.buf.now (c.in-Some.ensures.within.0) in
+    reads_one c.args.row.now c.in-Some.len _ _ (c.in-Some.ensures.within.1) (rw (ap (λ (r : Row). r.offset) (sym c.row.view_is), sym part) c.read_range.ensures.filled)
