@@ -1,5 +1,5 @@
 //! What an archive keeps of its records, in flat lists: where each stands, and its texts one behind another.
-ghost use Rattle.std.specs.Prelude.{◌≡◌, ◌<◌, ◌≤◌, [], ◌∷◌, ◌++◌, length, slice_range, OnOk, Some};
+ghost use Rattle.std.specs.Prelude.{◌≡◌, ◌+◌, ◌≤◌, [], ◌∷◌, ◌++◌, length, slice_range, vec_capacity, vec_len, IfSome, OnErr, OnOk};
 ghost use Rattle.std.specs.List.{slice_get};
 
 use std::alloc::{AllocError, Allocator};
@@ -87,6 +87,32 @@ fn part(bytes: &[u8], start: usize, end: usize) -> &[u8]
     &bytes[start..end]
 }
 
+/// How many bytes a row's texts have, if they are fewer than 2^64.
+fn texts_len(row: &Row<'_>) -> Option<usize>
+    ensures { IfSome result (λ n. n ≡ length row.now.kind + length row.now.date + length row.now.id + length row.now.target) }
+{
+    row.kind
+        .len()
+        .checked_add(row.date.len())?
+        .checked_add(row.id.len())?
+        .checked_add(row.target.len())
+}
+
+/// Appends a text for which there is room, and answers where it ends.
+fn put<A: Allocator>(text: &[u8], texts: &mut Vec<u8, A>) -> usize
+    requires { vec_len texts.old + length text.now ≤ vec_capacity texts.old }
+    ensures items { texts.new.items ≡ texts.old.items ++ text.now }
+    ensures len { vec_len texts.new ≡ vec_len texts.old + length text.now }
+    ensures capacity { vec_capacity texts.old ≤ vec_capacity texts.new }
+    ensures end { result ≡ length texts.new.items }
+{
+    match texts.extend_from_slice(text) {
+        Ok(()) => {}
+        Err(_) => unreachable!(),
+    }
+    texts.len()
+}
+
 impl<A: Allocator + Copy> Rows<A> {
     /// No rows.
     pub(crate) fn new(alloc: A) -> Rows<A>
@@ -98,20 +124,22 @@ impl<A: Allocator + Copy> Rows<A> {
         }
     }
 
-    /// Adds a row behind the others.
+    /// Adds a row behind the others. Where memory is refused no row is added, and no text is left behind.
     pub(crate) fn push(&mut self, row: &Row<'_>) -> Result<(), AllocError>
-        ensures { OnOk result (self.new ≡ self.old ++ row.now ∷ []) }
+        ensures ok { OnOk result (self.new ≡ self.old ++ row.now ∷ []) }
+        ensures err { OnErr result (self.new ≡ self.old) }
     {
+        let Some(room) = texts_len(row) else {
+            return Err(AllocError);
+        };
+        self.texts.reserve(room)?;
+        self.entries.reserve(1)?;
         let kind_start = self.texts.len();
-        self.texts.extend_from_slice(row.kind)?;
-        let kind_end = self.texts.len();
-        self.texts.extend_from_slice(row.date)?;
-        let date_end = self.texts.len();
-        self.texts.extend_from_slice(row.id)?;
-        let id_end = self.texts.len();
-        self.texts.extend_from_slice(row.target)?;
-        let target_end = self.texts.len();
-        self.entries.push(Entry {
+        let kind_end = put(row.kind, &mut self.texts);
+        let date_end = put(row.date, &mut self.texts);
+        let id_end = put(row.id, &mut self.texts);
+        let target_end = put(row.target, &mut self.texts);
+        self.entries.push_reserved(Entry {
             offset: row.offset,
             block_start: row.block_start,
             block_len: row.block_len,
@@ -122,7 +150,7 @@ impl<A: Allocator + Copy> Rows<A> {
             date_end,
             id_end,
             target_end,
-        })?;
+        });
         Ok(())
     }
 }

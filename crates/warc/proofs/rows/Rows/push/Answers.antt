@@ -8,10 +8,10 @@ use Rattle.warc.proofs.rows.Rows.push.Goals as goal
 pub invariant_of-self-2 : goal.invariant_of-self-2
 invariant_of-self-2 g c =
     let t = c.self.inside.texts.items in
-    let t1 = c.extend_from_slice.new.self.items in
-    let t2 = c.extend_from_slice-2.new.self.items in
-    let t3 = c.extend_from_slice-3.new.self.items in
-    let t4 = c.extend_from_slice-4.new.self.items in
+    let t1 = c.put-kind_end.new.texts.items in
+    let t2 = c.put-date_end.new.texts.items in
+    let t3 = c.put-id_end.new.texts.items in
+    let t4 = c.put-target_end.new.texts.items in
     let row = c.row.inside in
     let e : Entry = record {
       offset = row.offset;
@@ -20,31 +20,31 @@ invariant_of-self-2 g c =
       verdict = row.verdict;
       is_truncated = row.is_truncated;
       kind_start = c.len-kind_start.result;
-      kind_end = c.len-kind_end.result;
-      date_end = c.len-date_end.result;
-      id_end = c.len-id_end.result;
-      target_end = c.len-target_end.result;
+      kind_end = c.put-kind_end.result;
+      date_end = c.put-date_end.result;
+      id_end = c.put-id_end.result;
+      target_end = c.put-target_end.result;
     } in
     let h1 : t1 ≡ t ++ row.kind.now = search rules in
     let h2 : t2 ≡ t1 ++ row.date.now = search rules in
     let h3 : t3 ≡ t2 ++ row.id.now = search rules in
     let h4 : t4 ≡ t3 ++ row.target.now = search rules in
     let a : c.len-kind_start.result ≡ length t = search rules in
-    let b : c.len-kind_end.result ≡ length t1 = search rules in
-    let d : c.len-date_end.result ≡ length t2 = search rules in
-    let f : c.len-id_end.result ≡ length t3 = search rules in
-    let j : c.len-target_end.result ≡ length t4 = search rules in
-    let pushed : c.push.new.self.items ≡ c.self.inside.entries.items ++ e ∷ [] = search rules in
+    let b : c.put-kind_end.result ≡ length t1 = search rules in
+    let d : c.put-date_end.result ≡ length t2 = search rules in
+    let f : c.put-id_end.result ≡ length t3 = search rules in
+    let j : c.put-target_end.result ≡ length t4 = search rules in
+    let pushed : c.push_reserved.new.self.items ≡ c.self.inside.entries.items ++ e ∷ [] = search rules in
     let P : List Entry → Type 0 = λ es. AreWithin (length t4) es in
     subst P (sym pushed) (all_within t row.kind.now row.date.now row.id.now row.target.now t1 t2 t3 t4 e h1 h2 h3 h4 a b d f j c.self.inside.entries.items c.self.invariant)
 
-pub returns : goal.returns
-returns g c =
+pub returns-clause-ok : goal.returns-clause-ok
+returns-clause-ok g c =
     let t = c.self.inside.texts.items in
-    let t1 = c.extend_from_slice.new.self.items in
-    let t2 = c.extend_from_slice-2.new.self.items in
-    let t3 = c.extend_from_slice-3.new.self.items in
-    let t4 = c.extend_from_slice-4.new.self.items in
+    let t1 = c.put-kind_end.new.texts.items in
+    let t2 = c.put-date_end.new.texts.items in
+    let t3 = c.put-id_end.new.texts.items in
+    let t4 = c.put-target_end.new.texts.items in
     let row = c.row.inside in
     let e : Entry = record {
       offset = row.offset;
@@ -53,21 +53,21 @@ returns g c =
       verdict = row.verdict;
       is_truncated = row.is_truncated;
       kind_start = c.len-kind_start.result;
-      kind_end = c.len-kind_end.result;
-      date_end = c.len-date_end.result;
-      id_end = c.len-id_end.result;
-      target_end = c.len-target_end.result;
+      kind_end = c.put-kind_end.result;
+      date_end = c.put-date_end.result;
+      id_end = c.put-id_end.result;
+      target_end = c.put-target_end.result;
     } in
     let h1 : t1 ≡ t ++ row.kind.now = search rules in
     let h2 : t2 ≡ t1 ++ row.date.now = search rules in
     let h3 : t3 ≡ t2 ++ row.id.now = search rules in
     let h4 : t4 ≡ t3 ++ row.target.now = search rules in
     let a : c.len-kind_start.result ≡ length t = search rules in
-    let b : c.len-kind_end.result ≡ length t1 = search rules in
-    let d : c.len-date_end.result ≡ length t2 = search rules in
-    let f : c.len-id_end.result ≡ length t3 = search rules in
-    let j : c.len-target_end.result ≡ length t4 = search rules in
-    let pushed : c.push.new.self.items ≡ c.self.inside.entries.items ++ e ∷ [] = search rules in
+    let b : c.put-kind_end.result ≡ length t1 = search rules in
+    let d : c.put-date_end.result ≡ length t2 = search rules in
+    let f : c.put-id_end.result ≡ length t3 = search rules in
+    let j : c.put-target_end.result ≡ length t4 = search rules in
+    let pushed : c.push_reserved.new.self.items ≡ c.self.inside.entries.items ++ e ∷ [] = search rules in
     ap (map (row_at t4)) pushed
     ∙ rows_added t row.kind.now row.date.now row.id.now row.target.now t1 t2 t3 t4 e h1 h2 h3 h4 a b d f j c.self.inside.entries.items c.self.invariant
     ∙ ap (λ rows. rows ++ record { offset = row.offset; block_start = row.block_start; block_len = row.block_len; verdict = row.verdict; is_truncated = row.is_truncated; kind = row.kind.now; date = row.date.now; id = row.id.now; target = row.target.now } ∷ []) c.self.view_is
