@@ -1,8 +1,10 @@
 pub mod ArchiveTextLemmas
 pub mod CheckLemmas
 pub mod ClapLaws
+pub mod GoodLemmas
 pub mod HeadLemmas
 pub mod KindLemmas
+pub mod LawLemmas
 pub mod LineLemmas
 pub mod MetLemmas
 pub mod OpeningLemmas

@@ -12,6 +12,7 @@ use Rattle.warc_record.specs.Heads.{head_fault}
 use Rattle.warc.specs.Archive.{AreRowsOf, Contents, IsArchiveOf, SpellsFrom, contents}
 use Rattle.warc.specs.Examining.{AreCheckable, HasHead}
 use Rattle.warc.specs.Row.{Placed, Row}
+use Rattle.warc.proofs.GoodLemmas.{accepted}
 
 -- what is known of the head of a record that a text spells
 abbrev HeadsAreRead : Type 0
@@ -59,7 +60,7 @@ heads_from law q before (r ∷ rs) text q_is (front, rest, one, at, start, text_
 -- the records of an archive can be checked
 checkable : HeadsAreRead → (bytes : List ℕ) (rows : List Row) (are : AreRowsOf bytes rows) → AreCheckable bytes are.records rows
 checkable law bytes rows are = record {
-  heads = heads_from law 0 [] are.records bytes refl are.spelled are.good;
+  heads = heads_from law 0 [] are.records bytes refl are.spelled (accepted (contents are.records) are.good);
   rows_are = are.rows_are;
 }
 

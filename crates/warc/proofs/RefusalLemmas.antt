@@ -16,6 +16,7 @@ use Rattle.warc_record.specs.Seen.{RefusesFor}
 use Rattle.warc.specs.Archive.{IsFaultOf, IsRecordEnd}
 use Rattle.warc.specs.Stream.{HasRead, StaysBy, StaysRefused}
 use Rattle.warc.specs.declared.reading.Reading.{Reading}
+use Rattle.warc.proofs.GoodLemmas.{are_good}
 use Rattle.warc.proofs.KindLemmas.{head_kind, is_of_head, limited_kind}
 use Rattle.warc.proofs.StreamLemmas.{accepts_told, same_front, spells_all}
 
@@ -59,7 +60,7 @@ wants_memory text told f good is = record {
   rest = is.rest ++ drop (max_archive - 0) text;
   bytes_are = sym (take-append-drop (max_archive - 0) text) ∙ ap (λ t. t ++ drop (max_archive - 0) text) is.text_is ∙ append_assoc is.front is.rest (drop (max_archive - 0) text);
   spelled = is.spelled;
-  good = good;
+  good = are_good told.records is.front is.spelled good;
   offset_is = is.offset_is ∙ omega arith;
 }
 
@@ -75,15 +76,18 @@ step_refused text piece told r f has is = step_by f.kind f.offset (text ++ piece
 
 -- memory was wanted for a record that was being read
 pub memory_at : {A : Type 0} (text more : List ℕ) (told : Told) (r : Reading A) → HasRead text told r → IsRecordEnd (text ++ more) r.begin
-memory_at text more told r has = record {
-  records = told.records;
-  front = has.front;
-  rest = has.rest ++ more;
-  bytes_are = ap (λ t. t ++ more) has.text_is ∙ append_assoc has.front has.rest more;
-  spelled = let P : List Record → Type 0 = λ rs. SpellsAll rs has.front in subst P (sym has.told_is) (spells_all 0 has.records has.front has.spelled);
-  good = has.good;
-  offset_is = has.begin_is;
-}
+memory_at text more told r has =
+    let P : List Record → Type 0 = λ rs. SpellsAll rs has.front in
+    let spelled = subst P (sym has.told_is) (spells_all 0 has.records has.front has.spelled) in
+    record {
+      records = told.records;
+      front = has.front;
+      rest = has.rest ++ more;
+      bytes_are = ap (λ t. t ++ more) has.text_is ∙ append_assoc has.front has.rest more;
+      spelled = spelled;
+      good = are_good told.records has.front spelled has.good;
+      offset_is = has.begin_is;
+    }
 
 head_by : (kind : FaultKind) (text : List ℕ) (f : Fault) (offset : ℕ) → is_of_head kind ≡ true → IsFaultOf text (fault kind offset) → StaysBy kind text (fault kind offset)
 head_by Memory text f offset of is = absurd (true≢false (sym of))

@@ -14,6 +14,7 @@ use Rattle.warc_record.specs.Seen.{said}
 use Rattle.warc.specs.Archive.{AreRowsOf, SpellsFrom, contents}
 use Rattle.warc.specs.Row.{Placed, row_of, row_with}
 use Rattle.warc.specs.Stream.{HasRead, HasSeen, IsCurrent, IsHead, Matches, row_by}
+use Rattle.warc.proofs.GoodLemmas.{are_good}
 use Rattle.warc.specs.declared.reading.Current.{Current}
 use Rattle.warc.specs.declared.reading.Reading.{Reading}
 
@@ -252,4 +253,10 @@ rows_whole text told r has spelled =
     let (same, none) = same_front text [] text [] told r has refl spelled in
     let P : List ℕ → Type 0 = λ t. SpellsFrom 0 has.records t in
     let Q : List Record → Type 0 = λ rs. AllAccepted head_fault rs in
-    record { records = has.records; spelled = subst P same has.spelled; good = subst Q has.told_is has.good; rows_are = has.rows_are }
+    let whole = subst P same has.spelled in
+    record {
+      records = has.records;
+      spelled = whole;
+      good = are_good (contents has.records) text (spells_all 0 has.records text whole) (subst Q has.told_is has.good);
+      rows_are = has.rows_are;
+    }

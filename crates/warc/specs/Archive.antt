@@ -1,9 +1,11 @@
 -- An archive as one value, and what it says of the bytes of its source.
 use Rattle.std.specs.Prelude.{◌≡◌, ℕ, ◌+◌, ◌≤◌, List, [], ◌∷◌, ◌++◌, length, map, Result, Ok, Err}
-use Rattle.warc_frame.specs.Faults.{AllAccepted, IsFirstFault}
+use Rattle.std.specs.List.{AllByRecursion}
+use Rattle.warc_frame.specs.Faults.{IsFirstFault}
 use Rattle.warc_frame.specs.Record.{Record, max_archive}
 use Rattle.warc_frame.specs.Spelling.{Spells, SpellsAll}
 use Rattle.warc_frame.specs.declared.fault.Fault.{Fault}
+use Rattle.warc_record.specs.Good.{IsGood}
 use Rattle.warc_record.specs.Heads.{head_fault}
 use Rattle.warc.specs.Row.{Placed, Row, row_of}
 
@@ -23,11 +25,15 @@ SpellsFrom q (p ∷ ps) text = (front rest : List ℕ) × Spells p.content front
 abbrev pub contents : List Placed → List Record
 contents ps = map (λ p. p.content) ps
 
+-- each of the records is good
+abbrev pub AreGood : List Record → Type 0
+AreGood records = AllByRecursion IsGood records
+
 -- the bytes spell good records, and these are their rows
 pub record AreRowsOf (bytes : List ℕ) (rows : List Row) : Type 0 where
   pub records : List Placed
   pub spelled : SpellsFrom 0 records bytes
-  pub good : AllAccepted head_fault (contents records)
+  pub good : AreGood (contents records)
   pub rows_are : rows ≡ map row_of records
 
 -- the rows are those of an archive of these bytes, which are no more than an archive may have
@@ -42,7 +48,7 @@ pub record IsRecordEnd (bytes : List ℕ) (offset : ℕ) : Type 0 where
   pub rest : List ℕ
   pub bytes_are : bytes ≡ front ++ rest
   pub spelled : SpellsAll records front
-  pub good : AllAccepted head_fault records
+  pub good : AreGood records
   pub offset_is : offset ≡ length front
 
 -- the first fault of bytes: that behind the longest list of good records with which they begin

@@ -5,6 +5,7 @@ pub mod CommandLine
 pub mod Examining
 pub mod Failing
 pub mod Heads
+pub mod Laws
 pub mod Listing
 pub mod Opening
 pub mod Program

@@ -3,7 +3,6 @@ use Rattle.std.specs.Prelude.{◌≡◌, ℕ, ◌+◌, ◌^◌, ◌<◌, ◌≤�
 use Rattle.std.specs.Io.KnownBytes.{append_known}
 use Rattle.warc_frame.specs.Count.{raised}
 use Rattle.warc_frame.specs.FaultText.{fault_text, out_fault_text}
-use Rattle.warc_frame.specs.Faults.{AllAccepted}
 use Rattle.warc_frame.specs.Record.{Record, max_archive}
 use Rattle.warc_frame.specs.Send.{WentOut, sent_of}
 use Rattle.warc_frame.specs.Spelling.{SpellsAll}
@@ -12,13 +11,12 @@ use Rattle.warc_frame.specs.declared.fault.FaultKind.{FaultKind}
 use Rattle.warc_frame.specs.declared.fault.FaultKind.TheVariants.{Read, Memory}
 use Rattle.warc_frame.specs.declared.fault.OutFault.{OutFault}
 use Rattle.warc_frame.specs.declared.fault.OutFault.TheVariants.{Write, Memory as NoMemory}
-use Rattle.warc_record.specs.Heads.{head_fault}
 use Rattle.warc.specs.declared.words.Command.{Command}
 use Rattle.warc.specs.declared.words.Command.TheVariants as command
 use Rattle.warc.specs.declared.words.CommandFault.{CommandFault}
 use Rattle.warc.specs.declared.words.CommandFault.TheVariants.{Usage, Memory as OutOfMemory}
 use Rattle.warc.specs.Opening.{IsRefusalOf, faults_after}
-use Rattle.warc.specs.Archive.{IsArchiveOf}
+use Rattle.warc.specs.Archive.{AreGood, IsArchiveOf}
 use Rattle.warc.specs.Checking.{Line, check_text, findings_of_archive}
 use Rattle.warc.specs.Failing.{HasFailedBy, MayHaveFailedBy, failed_with}
 use Rattle.warc.specs.Listing.{listing}
@@ -88,7 +86,7 @@ status_of_findings (l ∷ ls) = 1
 pub record AreGoodRecordsOf (bytes : List ℕ) (records : List Record) : Type 0 where
   pub short : length bytes ≤ max_archive
   pub spelled : SpellsAll records bytes
-  pub good : AllAccepted head_fault records
+  pub good : AreGood records
 
 -- a line went out for each finding of the good records that the bytes spell
 pub record IsCheckOf (bytes : List ℕ) (old new : Seen) (status : ℕ) : Type 0 where

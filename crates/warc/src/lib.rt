@@ -3,6 +3,7 @@
 
 mod check;
 mod heads;
+pub mod laws;
 mod program;
 mod reader;
 mod reading;

@@ -1,16 +1,19 @@
 -- What a head without a fault says.
-use Rattle.std.proofs.Common.{◌≡◌, ℕ, Bool, true, false, List, codes, Option, Some, None, is_none, is_some, refl, ap, ◌∙◌, if◌then◌else◌}
+use Rattle.std.proofs.Common.{◌≡◌, ℕ, Bool, true, false, List, codes, Option, Some, None, is_none, is_some, nat_lt, refl, ap, ◌∙◌, if◌then◌else◌}
 use Rattle.std.specs.Option.{option_map_or, option_or}
 use Rattle.std.specs.Prelude.{option_and_then}
+use Rattle.std.proofs.lemmas.Bool.{le-ltb, ltb-false}
 use Rattle.warc_field.specs.Text.{is_name}
-use Rattle.warc_field.specs.Area.{first_value}
+use Rattle.warc_field.specs.Area.{Pair, count_of, first_value}
 use Rattle.warc_value.specs.Dates.{instant_of}
 use Rattle.warc_frame.specs.declared.fault.FaultKind.{FaultKind}
+use Rattle.warc_frame.specs.declared.fault.FaultKind.TheVariants.{Missing, Repeated, BadType, Id, Date}
+use Rattle.warc_frame.specs.declared.fault.Mandatory.TheVariants.{«Type», RecordId, Date as DateField}
 use Rattle.warc_record.specs.declared.types.Kind.TheVariants.{Other}
 use Rattle.warc_record.specs.Ids.{bare_text, is_id, id_key, key_of}
 use Rattle.warc_record.specs.Kinds.{kind_named}
 use Rattle.warc_record.specs.Heads.{type_fault, id_fault, date_fault, is_date}
-use Rattle.warc_record.specs.Good.{GoodHeadsRead}
+use Rattle.warc_record.specs.Good.{GoodHeadsHaveNoFault, GoodHeadsRead, StandsOnce}
 use Rattle.warc_record.proofs.LawLemmas.{key_is}
 
 -- neither of two faults, where the first of them is none
@@ -59,3 +62,38 @@ good_heads_read fields good =
       id_reads = key;
       date_reads = instant.1;
     }
+
+-- a field stands exactly once and reads, exactly where it has no fault
+module _ (name : List ℕ) (reads : List ℕ → Bool) (missing repeated bad : FaultKind) (fields : List Pair) where
+  abbrev FaultOf : Option (List ℕ) → Bool → Option FaultKind
+  FaultOf found again =
+      option_or (if is_none found then Some missing else if again then Some repeated else None) (if option_map_or reads found false then None else Some bad)
+
+  once_by : (found : Option (List ℕ)) (again : Bool) → first_value name fields ≡ found → nat_lt 1 (count_of name fields) ≡ again → FaultOf found again ≡ None → StandsOnce name reads fields
+  once_by None again is count e = absurd (cc e)
+  once_by (Some value) true is count e = absurd (cc e)
+  once_by (Some value) false is count e = record { value = value; stands = is; alone = ltb-false 1 (count_of name fields) count; reads = passes (reads value) bad e }
+
+  pub once : FaultOf (first_value name fields) (nat_lt 1 (count_of name fields)) ≡ None → StandsOnce name reads fields
+  once e = once_by (first_value name fields) (nat_lt 1 (count_of name fields)) refl refl e
+
+  pub no_fault : StandsOnce name reads fields → FaultOf (first_value name fields) (nat_lt 1 (count_of name fields)) ≡ None
+  no_fault is = rw (is.stands, le-ltb 1 (count_of name fields) is.alone, is.reads) refl
+
+pub good_heads_have_no_fault : GoodHeadsHaveNoFault
+good_heads_have_no_fault fields = (
+  (λ good.
+      rw (
+        no_fault (codes "WARC-Type") is_name (Missing «Type») (Repeated «Type») BadType fields good.type_is,
+        no_fault (codes "WARC-Record-ID") is_id (Missing RecordId) (Repeated RecordId) Id fields good.id_is,
+        no_fault (codes "WARC-Date") is_date (Missing DateField) (Repeated DateField) Date fields good.date_is,
+      ) refl),
+  (λ none.
+      let first = neither (type_fault fields) _ none in
+      let later = neither (id_fault fields) (date_fault fields) first.1 in
+      record {
+        type_is = once (codes "WARC-Type") is_name (Missing «Type») (Repeated «Type») BadType fields first.0;
+        id_is = once (codes "WARC-Record-ID") is_id (Missing RecordId) (Repeated RecordId) Id fields later.0;
+        date_is = once (codes "WARC-Date") is_date (Missing DateField) (Repeated DateField) Date fields later.1;
+      }),
+)

@@ -1,7 +1,7 @@
 mod UuidLemmas
 mod ValueLemmas
 mod HeadLemmas
-mod GoodLemmas
+pub mod GoodLemmas
 mod FindingLemmas
 mod ListedLemmas
 pub mod LawLemmas

@@ -1,19 +1,36 @@
 -- Good records: framed ones whose heads have no fault (ISO 28500:2017, 4: the mandatory fields; 5.2, 5.4 and 5.5: id, date
 -- and type), and what those heads say. The word is this project's own.
-use Rattle.std.specs.Prelude.{◌≡◌, ℕ, true, List, Some, None}
+use Rattle.std.specs.Prelude.{◌≡◌, ◌↔◌, ℕ, ◌≤◌, Bool, true, List, codes, Some, None}
 use Rattle.warc_field.specs.Text.{is_name}
-use Rattle.warc_field.specs.Area.{Pair}
+use Rattle.warc_field.specs.Area.{Pair, count_of, first_value}
 use Rattle.warc_value.specs.Dates.{Instant, instant_of}
 use Rattle.warc_frame.specs.Record.{Record, IsFramed}
-use Rattle.warc_record.specs.Ids.{id_key}
+use Rattle.warc_record.specs.Ids.{id_key, is_id}
 use Rattle.warc_record.specs.Kinds.{kind_named}
 use Rattle.warc_record.specs.Readings.{Reading, reading_of}
-use Rattle.warc_record.specs.Heads.{head_fault}
+use Rattle.warc_record.specs.Heads.{head_fault, is_date}
 
--- a good record can be framed, and its type, id and date stand exactly once and read
+-- a field of this name stands exactly once, and its value reads
+pub record StandsOnce (name : List ℕ) (test : List ℕ → Bool) (fields : List Pair) : Type 0 where
+  pub value : List ℕ
+  pub stands : first_value name fields ≡ Some value
+  pub alone : count_of name fields ≤ 1
+  pub reads : test value ≡ true
+
+-- the type stands exactly once and is a token, the id is one in brackets or bare, the date is one
+pub record IsGoodHead (fields : List Pair) : Type 0 where
+  pub type_is : StandsOnce (codes "WARC-Type") is_name fields
+  pub id_is : StandsOnce (codes "WARC-Record-ID") is_id fields
+  pub date_is : StandsOnce (codes "WARC-Date") is_date fields
+
+-- a good record can be framed, and its head is good
 pub record IsGood (r : Record) : Type 0 where
   pub framed : IsFramed r
-  pub head : head_fault r.fields ≡ None
+  pub head : IsGoodHead r.fields
+
+-- good heads are those in which no fault is found
+abbrev pub GoodHeadsHaveNoFault : Type 0
+GoodHeadsHaveNoFault = (fields : List Pair) → IsGoodHead fields ↔ (head_fault fields ≡ None)
 
 -- a head says a type, which is a token and names the kind, an id with its key and a date with its instant
 pub record SaysAll (reading : Reading) : Type 0 where

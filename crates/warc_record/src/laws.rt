@@ -1,7 +1,7 @@
 //! Laws over the definitions: functions that do nothing, each with a law as its contract.
 
 ghost use Rattle.warc_record.specs.Ids.{BareTextsAreBare, BareTextsAreNoLonger, BareTextsAreValues, KeysAreEqualForSameIds, KeysAreNoLonger};
-ghost use Rattle.warc_record.specs.Good.{GoodHeadsRead};
+ghost use Rattle.warc_record.specs.Good.{GoodHeadsHaveNoFault, GoodHeadsRead};
 ghost use Rattle.warc_record.specs.FindingLaws.{ListedWhereTheyHold, NumbersNeverFall};
 
 /// The bare text of a value is a value, its own bare text, and no longer.
@@ -19,6 +19,11 @@ pub fn keys_are_equal_for_same_ids()
 /// A key holds no more bytes than the text that it was read from.
 pub fn keys_are_no_longer()
     ensures { KeysAreNoLonger }
+{}
+
+/// A head is good exactly where no fault is found in it.
+pub fn good_heads_have_no_fault()
+    ensures { GoodHeadsHaveNoFault }
 {}
 
 /// The head of a good record says a type, an id and a date.

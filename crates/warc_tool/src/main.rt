@@ -3,9 +3,9 @@
 
 use std::env;
 use std::fs::File;
-use std::io::{self, Read};
+use std::io::{self, ErrorKind, Read};
 use std::process::ExitCode;
-use warc::{Command, parse, perform, refuse};
+use warc::{Command, CommandFault, parse, perform, refuse};
 use warc_frame::{FileSource, MemSource, OutSink, Sink, send_all};
 
 /// The path that stands for standard input.
@@ -13,6 +13,9 @@ const STANDARD_INPUT: &str = "/dev/stdin";
 
 /// The most bytes that are read of standard input.
 const MOST_INPUT: u64 = 1 << 30;
+
+/// What is told where standard input can't be read to its end, or is longer than that.
+const READ_FAILED: &str = "warc: read failed after 0\n";
 
 /// The exit status where the command couldn't begin.
 const FAILED: u8 = 3;
@@ -24,8 +27,9 @@ fn main(rt: HostRuntime) -> ExitCode {
 }
 
 fn run<W: Sink, E: Sink>(rt: &HostRuntime, out: &mut W, err: &mut E) -> u8 {
-    let Ok(words) = words(rt) else {
-        return fail("warc: the arguments aren't text\n", err);
+    let words = match words(rt) {
+        Ok(words) => words,
+        Err(error) => return fail(&error, "warc: the arguments aren't text\n", out, err),
     };
     match parse(rt.alloc(), words.as_slice()) {
         Ok(command) => run_command(rt, &command, out, err),
@@ -50,7 +54,8 @@ fn run_command<W: Sink, E: Sink>(
                 let (status, _) = perform(rt.alloc(), command, source, out, err);
                 status
             }
-            _ => fail("warc: read failed after 0\n", err),
+            Ok(_) => tell(READ_FAILED, err),
+            Err(error) => fail(&error, READ_FAILED, out, err),
         }
     } else {
         match File::open(rt, command.path()) {
@@ -58,7 +63,7 @@ fn run_command<W: Sink, E: Sink>(
                 let (status, _) = perform(rt.alloc(), command, FileSource::new(file), out, err);
                 status
             }
-            Err(_) => fail("warc: open failed\n", err),
+            Err(error) => fail(&error, "warc: open failed\n", out, err),
         }
     }
 }
@@ -70,7 +75,15 @@ fn standard_input(rt: &HostRuntime) -> io::Result<Vec<u8>> {
     Ok(bytes)
 }
 
-fn fail<E: Sink>(line: &str, err: &mut E) -> u8 {
+/// Tells why there is nothing to read: the line, or that memory was refused.
+fn fail<W: Sink, E: Sink>(error: &io::Error, line: &str, out: &mut W, err: &mut E) -> u8 {
+    match error.kind() {
+        ErrorKind::OutOfMemory => refuse(&CommandFault::Memory, out, err),
+        _ => tell(line, err),
+    }
+}
+
+fn tell<E: Sink>(line: &str, err: &mut E) -> u8 {
     let _ = send_all(err, line.as_bytes());
     FAILED
 }

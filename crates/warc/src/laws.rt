@@ -1,0 +1,23 @@
+//! Laws over the definitions: each function does nothing, and its contract is the law.
+ghost use Rattle.warc.specs.Laws.{ArchivesSpell, FaultsAreStable, NoFaultWhereSpelled, OneFault, SomeFaultElse};
+
+/// An archive spells good records, in their order, and has a row for each.
+pub fn an_archive_spells_its_records()
+    ensures { ArchivesSpell }
+{}
+
+/// Bytes of at most 2^48 have no fault exactly if they spell good records.
+pub fn no_fault_where_spelled()
+    ensures not_both { NoFaultWhereSpelled }
+    ensures one_of_them { SomeFaultElse }
+{}
+
+/// Each fault but truncation stays when bytes are appended.
+pub fn faults_are_stable()
+    ensures { FaultsAreStable }
+{}
+
+/// Bytes have at most one first fault.
+pub fn first_fault_is_unique()
+    ensures { OneFault }
+{}
