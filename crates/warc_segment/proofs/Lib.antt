@@ -5,4 +5,6 @@ pub mod OrderedLemmas
 pub mod ContinuationLemmas
 pub mod SameLemmas
 pub mod KeptLemmas
+pub mod HeldLemmas
+pub mod StepLemmas
 mod WorkedValues

@@ -22,10 +22,10 @@ abbrev pub Distinct : {X : Type 0} → List X → Type 0
 Distinct [] = ⊤
 Distinct (x ∷ xs) = (Stands xs x → ⊥) × Distinct xs
 
-contains_stands : {X : Type 0} (xs : List X) (x : X) → Contains xs x → Stands xs x
+pub contains_stands : {X : Type 0} (xs : List X) (x : X) → Contains xs x → Stands xs x
 contains_stands xs x (k, within, is) = (k, slice_get-get_or xs k x within ∙ ap Some is)
 
-stands_contains : {X : Type 0} (xs : List X) (x : X) → Stands xs x → Contains xs x
+pub stands_contains : {X : Type 0} (xs : List X) (x : X) → Stands xs x → Contains xs x
 stands_contains xs x (k, at) = (k, slice_get_within xs k x at, get_or_from_slice_get xs k x x at)
 
 pub no_more : {X : Type 0} (p : X → Bool) (xs ys : List X) → Distinct xs → ((x : X) → Stands xs x → Stands ys x)

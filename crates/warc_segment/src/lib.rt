@@ -3,6 +3,7 @@
 #![tactic(auto)]
 
 mod gap;
+mod held;
 pub mod laws;
 mod place;
 mod series;
