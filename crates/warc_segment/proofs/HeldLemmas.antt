@@ -1,10 +1,9 @@
 -- Entries and facts side by side, and one more of them.
-use Rattle.std.proofs.Common.{◌≡◌, inl, inr, ℕ, zero, suc, ◌+◌, ◌<◌, ◌≤◌, List, [], ◌∷◌, ◌++◌, length, get_or, Option, Some, None, slice_get, refl, sym, ◌∙◌, ap, subst, arith, length-append}
-use Rattle.std.specs.Prelude.{All, AllPairs}
+use Rattle.std.proofs.Common.{◌≡◌, ℕ, zero, suc, ◌+◌, ◌<◌, ◌≤◌, List, [], ◌∷◌, ◌++◌, length, get_or, Option, Some, slice_get, refl, sym, ◌∙◌, ap, subst, arith, length-append}
 use Rattle.std.specs.Option.{option_to_list}
 use Rattle.std.proofs.lemmas.List.Elements.{All-push, All-weaker}
 use Rattle.std.proofs.lemmas.List.Quantifiers.{all_pairs_push}
-use Rattle.warc_order.specs.Entries.{Entry, entry_at, no_entry}
+use Rattle.warc_order.specs.Entries.{Entry}
 use Rattle.warc_segment.specs.declared.held.Facts.{Facts}
 use Rattle.warc_segment.specs.Kept.{KeptMember}
 use Rattle.warc_segment.specs.Held.{kept_from, side_by_side, AreHeld}

@@ -7,4 +7,6 @@ pub mod SameLemmas
 pub mod KeptLemmas
 pub mod HeldLemmas
 pub mod StepLemmas
+pub mod KeepLemmas
+pub mod JoinLemmas
 mod WorkedValues

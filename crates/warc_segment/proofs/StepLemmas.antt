@@ -1,10 +1,10 @@
 -- A walk along the entries of a text: it meets each once, in the order of numbers and then of positions.
-use Rattle.std.proofs.Common.{◌≡◌, ◌≢◌, ◌⊎◌, inl, inr, ℕ, zero, suc, ◌+◌, ◌-◌, ◌<◌, ◌≤◌, Bool, true, false, not, cond, ◌&&◌, ◌||◌, ◌==◌, List, [], ◌∷◌, ◌++◌, length, get_or, map, Option, Some, None, slice_get, refl, sym, ◌∙◌, ap, subst, arith, length-append}
-use Rattle.std.specs.Prelude.{All, AllPairs, Contains, nat_lt, count_by, MatchOption, IfSome, IfNone}
+use Rattle.std.proofs.Common.{◌≡◌, ◌⊎◌, inl, inr, ℕ, zero, suc, ◌+◌, ◌-◌, ◌<◌, ◌≤◌, Bool, true, false, not, ◌&&◌, ◌||◌, ◌==◌, List, [], ◌∷◌, ◌++◌, length, get_or, map, Option, Some, None, slice_get, refl, sym, ◌∙◌, ap, subst, arith, length-append}
+use Rattle.std.specs.Prelude.{AllPairs, Contains, nat_lt, count_by, MatchOption, IfSome, IfNone}
 use Rattle.std.proofs.lemmas.Bool.{cases_Bool, cases_lt}
 use Rattle.std.proofs.lemmas.Bool.Decides.{nat_tests}
 use Rattle.std.proofs.lemmas.List.{map-append, length-map}
-use Rattle.std.proofs.lemmas.List.Elements.{All-push, All-weaker, All-contains, Contains-append_left, Contains-push, Contains-push_cases, Contains-get_or}
+use Rattle.std.proofs.lemmas.List.Elements.{All-push, All-weaker, All-contains, Contains-append_left, Contains-push, Contains-get_or}
 use Rattle.std.proofs.lemmas.List.Quantifiers.{all_pairs_push}
 use Rattle.std.proofs.lemmas.List.Sums.{sum_by-cons}
 use Rattle.std.proofs.lemmas.Option.{slice_get-get_or, slice_get_within, get_or_from_slice_get}
@@ -280,7 +280,7 @@ one_left id es fs series i g same some next =
 -- ---- all are met
 
 -- the entry of a kept one
-entry_of : (es : List Entry) (fs : List Facts) (k : ℕ) (m : KeptMember) → length fs ≡ length es
+pub entry_of : (es : List Entry) (fs : List Facts) (k : ℕ) (m : KeptMember) → length fs ≡ length es
     → slice_get (side_by_side es fs) k ≡ Some m → (k < length es) × (m.position ≡ (entry_at es k).position)
     × (m.origin ≡ (entry_at es k).text)
 entry_of [] fs k m same at = absurd (cc)

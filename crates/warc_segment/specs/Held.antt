@@ -3,7 +3,7 @@ use Rattle.std.specs.Prelude.{◌≡◌, ◌⊎◌, ℕ, ◌<◌, ◌≤◌, fal
 use Rattle.warc_order.specs.Entries.{Entry, entry_at, is_later}
 use Rattle.warc_segment.specs.declared.held.Facts.{Facts}
 use Rattle.warc_segment.specs.declared.series.Continuation.{Continuation}
-use Rattle.warc_segment.specs.Kept.{KeptMember}
+use Rattle.warc_segment.specs.Kept.{KeptMember, Kept}
 
 abbrev pub kept_from : Entry → Facts → KeptMember
 kept_from e f = record {
@@ -70,3 +70,7 @@ pub record IsNext (id : List ℕ) (es : List Entry) (series : List Continuation)
 -- no entry with the text is left
 abbrev pub IsDone : List ℕ → List Entry → List Continuation → Type 0
 IsDone id es series = (e : Entry) → Contains es e → e.text ≡ id → Contains (positions_of series) e.position
+
+-- the parts of so many records
+abbrev pub held_in : ℕ → List Entry → List Facts → Kept
+held_in count es fs = record { count = count; members = side_by_side es fs }

@@ -5,4 +5,5 @@ pub mod SeriesLaws
 pub mod Ordered
 pub mod Kept
 pub mod Held
+pub mod Joining
 pub mod Joined

@@ -99,7 +99,8 @@ fn continuation_at<A: Allocator + Copy>(
     requires same { length facts.now ≡ length order.now }
     ensures stands { slice_get (side_by_side order.now facts.now) found.index
         ≡ Some (kept_from (entry_at order.now found.index) (record { total = result.total; place = result.place })) }
-    ensures is { result ≡ continuation_of (kept_from (entry_at order.now found.index) (record { total = result.total; place = result.place })) }
+    ensures is { result ≡ continuation_of (kept_from (entry_at order.now found.index)
+        (record { total = result.total; place = result.place })) }
 {
     let rest = facts[found.index as usize];
     Continuation {

@@ -1,5 +1,5 @@
-use Rattle.std.proofs.Common.{ℕ, ◌-◌, length, Option, Some, None}
-use Rattle.std.specs.Prelude.{MatchOption, vec_len}
+use Rattle.std.proofs.Common.{◌-◌, length}
+use Rattle.std.specs.Prelude.{MatchOption}
 use Rattle.warc_segment.specs.Held.{side_by_side, AreInSeries, IsNext, IsDone}
 use Rattle.warc_segment.proofs.held.series_of.Given as goal
 
