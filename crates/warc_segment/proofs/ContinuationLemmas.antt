@@ -1,13 +1,12 @@
 -- What the code reads of a series, in the terms of its members.
-use Rattle.std.proofs.Common.{◌≡◌, ◌≢◌, inl, inr, ℕ, zero, suc, ◌+◌, ◌-◌, ◌<◌, ◌≤◌, Bool, true, false, cond, ◌==◌, List, length, get_or, map, Option, Some, None, slice_get, refl, sym, ◌∙◌, ap, subst, arith}
+use Rattle.std.proofs.Common.{◌≡◌, ◌≢◌, inl, inr, ℕ, ◌+◌, ◌-◌, ◌<◌, ◌≤◌, Bool, cond, ◌==◌, List, length, get_or, Some, None, slice_get, sym, ◌∙◌, ap, subst, arith}
 use Rattle.std.specs.Prelude.{sum_by, option_map}
 use Rattle.std.proofs.lemmas.Bool.{cases_lt}
 use Rattle.std.proofs.lemmas.List.{length-map}
-use Rattle.std.proofs.lemmas.Option.{slice_get-get_or, slice_get-map, slice_get_within, get_or_from_slice_get}
+use Rattle.std.proofs.lemmas.Option.{slice_get-get_or, slice_get-map, get_or_from_slice_get}
 use Rattle.warc_segment.specs.declared.series.Continuation.{Continuation}
-use Rattle.warc_segment.specs.declared.gap.Gap.{Gap}
 use Rattle.warc_segment.specs.declared.gap.Gap.TheVariants.{Unfinished, AfterEnd, Absent, Total}
-use Rattle.warc_segment.specs.Series.{Member, numbers_of}
+use Rattle.warc_segment.specs.Series.{Member}
 use Rattle.warc_segment.specs.Gaps.{least_repeated, least_absent, gap_of, followers}
 use Rattle.warc_segment.specs.Ordered.{member_at, members_of, numbers_in, AreOrdered, Rises, CountsUp, NoTotal, IsEnd}
 use Rattle.warc_segment.proofs.OrderedLemmas.{first_repeated, none_repeated, end_found, no_end, next_after, none_after, first_absent, none_absent_in, total_is, gap_unfinished, gap_after, gap_absent, gap_total, followers_all}

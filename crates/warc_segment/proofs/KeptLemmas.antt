@@ -1,16 +1,14 @@
 -- The series of a record, and the places of its members, from what is kept.
-use Rattle.std.proofs.Common.{◌≡◌, ◌⊎◌, inl, inr, ℕ, zero, suc, ◌+◌, ◌<◌, ◌≤◌, Bool, true, false, cond, ◌&&◌, List, [], ◌∷◌, ◌++◌, length, map, Option, Some, None, slice_get, refl, sym, ◌∙◌, ap, subst, arith}
-use Rattle.std.specs.Prelude.{filter, nat_le, nat_lt, take, ⊤}
+use Rattle.std.proofs.Common.{◌≡◌, ◌⊎◌, inl, inr, ℕ, suc, ◌+◌, Bool, true, false, cond, ◌&&◌, List, [], ◌∷◌, map, Option, Some, None, slice_get, refl, sym, ◌∙◌, ap, arith}
+use Rattle.std.specs.Prelude.{filter, nat_le}
 use Rattle.std.specs.List.{filter_map, enumerate_from, cons_option}
 use Rattle.std.specs.Str.{bytes_eq}
-use Rattle.std.proofs.lemmas.Bool.{cases_Bool}
-use Rattle.std.proofs.lemmas.Bool.Decides.{nat_tests}
 use Rattle.warc_record.specs.declared.readings.SegmentNumber.{SegmentNumber}
 use Rattle.warc_record.specs.declared.readings.SegmentNumber.TheVariants.{Absent, Number, Bad}
 use Rattle.warc_record.specs.Kinds.{is_continuation}
 use Rattle.warc_record.specs.Texts.{is_same_text}
 use Rattle.warc_segment.specs.declared.place.Place.{Place}
-use Rattle.warc_segment.specs.Series.{Piece, Member, numbered, member_of, series_of}
+use Rattle.warc_segment.specs.Series.{Member, numbered, member_of, series_of}
 use Rattle.warc_segment.specs.Joined.{PlacedRecord, piece_placed}
 use Rattle.warc_segment.specs.Kept.{KeptMember, kept_by, kept_of, kept_in}
 use Rattle.warc_segment.proofs.LeastLemmas.{Stands, stands_cases, stands_nowhere, filter_hit, filter_miss}
@@ -28,11 +26,11 @@ cond_same true x = refl
 cond_same false x = refl
 
 -- one record more
-abbrev told : List ℕ → ℕ → PlacedRecord → Bool → Option (List ℕ) → SegmentNumber → Option Member
+abbrev pub told : List ℕ → ℕ → PlacedRecord → Bool → Option (List ℕ) → SegmentNumber → Option Member
 told id n r goes_on origin number =
     cond (goes_on && is_same_text (Some id) origin) (numbered n (piece_placed r) number) None
 
-abbrev stored : ℕ → PlacedRecord → Bool → Option (List ℕ) → SegmentNumber → Option KeptMember
+abbrev pub stored : ℕ → PlacedRecord → Bool → Option (List ℕ) → SegmentNumber → Option KeptMember
 stored n r goes_on origin number = cond goes_on (kept_by n r origin number) None
 
 abbrev series_in : List ℕ → List KeptMember → List Member
@@ -90,7 +88,7 @@ record IsAt (all : List PlacedRecord) (n : ℕ) (m : KeptMember) : Type 0 where
   position : m.position ≡ behind + n
   place : slice_get (places_in all) behind ≡ Some m.place
 
-kept_place : (n : ℕ) (r : PlacedRecord) (goes_on : Bool) (origin : Option (List ℕ)) (number : SegmentNumber)
+pub kept_place : (n : ℕ) (r : PlacedRecord) (goes_on : Bool) (origin : Option (List ℕ)) (number : SegmentNumber)
     (m : KeptMember)
     → stored n r goes_on origin number ≡ Some m → (m.position ≡ n) × (m.place ≡ r.place)
 kept_place n r false origin number m e = absurd (cc)

@@ -5,4 +5,8 @@ pub mod OrderedLemmas
 pub mod ContinuationLemmas
 pub mod SameLemmas
 pub mod KeptLemmas
+pub mod HeldLemmas
+pub mod StepLemmas
+pub mod KeepLemmas
+pub mod JoinLemmas
 mod WorkedValues

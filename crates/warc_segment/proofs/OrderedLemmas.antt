@@ -1,20 +1,16 @@
 -- The gaps of a series whose members stand in the order of their numbers.
-use Rattle.std.proofs.Common.{◌≡◌, ◌≢◌, ◌⊎◌, inl, inr, ℕ, zero, suc, ◌+◌, ◌-◌, ◌<◌, ◌≤◌, Bool, true, false, cond, ◌&&◌, ◌==◌, List, [], ◌∷◌, length, get_or, map, Option, Some, None, option_map, slice_get, refl, sym, ◌∙◌, ap, subst, arith, true≢false}
+use Rattle.std.proofs.Common.{◌≡◌, ◌≢◌, inl, inr, ℕ, zero, suc, ◌+◌, ◌-◌, ◌<◌, ◌≤◌, Bool, true, false, cond, ◌&&◌, ◌==◌, List, [], ◌∷◌, length, get_or, map, Option, Some, None, option_map, slice_get, refl, sym, ◌∙◌, ap, arith}
 use Rattle.std.specs.Prelude.{filter, find, nat_le, nat_lt, is_some, nat_eq, sum_by, option_and_then}
 use Rattle.std.specs.Option.{option_or, option_eq, option_map_or}
-use Rattle.std.specs.List.{filter_map, range_with_len}
 use Rattle.std.proofs.lemmas.Bool.{cases_Bool, cases_lt, and_from, and_left, and_right}
 use Rattle.std.proofs.lemmas.Bool.Decides.{nat_tests}
 use Rattle.std.proofs.lemmas.List.{length-map}
 use Rattle.std.proofs.lemmas.Option.{slice_get-get_or, slice_get-map, slice_get_within, get_or_from_slice_get}
-use Rattle.std.proofs.Math.ListN.{get_or-map}
-use Rattle.warc_segment.specs.declared.gap.Gap.{Gap}
 use Rattle.warc_segment.specs.declared.gap.Gap.TheVariants.{Repeated, Unfinished, AfterEnd, Absent, Total}
 use Rattle.warc_segment.specs.Series.{Member, count_of, numbers_of, member_numbered, in_order}
 use Rattle.warc_segment.specs.Gaps.{least, least_repeated, end_of, least_after, is_absent, least_absent, has_total, absent_or_total, gap_to, gap_of, followers}
-use Rattle.warc_segment.specs.SeriesLaws.{AreInOrder}
 use Rattle.warc_segment.specs.Ordered.{AreOrdered, Rises, CountsUp, NoTotal, IsEnd}
-use Rattle.warc_segment.proofs.LeastLemmas.{Stands, stands_cases, stands_filter, stands_map, map_stands, filter_hit, filter_miss, Up, least_front, least_sorted, first_found, none_found}
+use Rattle.warc_segment.proofs.LeastLemmas.{Stands, stands_filter, stands_map, map_stands, filter_hit, filter_miss, Up, least_front, least_sorted, first_found, none_found}
 use Rattle.warc_segment.proofs.CountLemmas.{times, count_is_times, at_once, at_twice, once_at, twice_at, StandsTwice}
 use Rattle.warc_segment.proofs.SeriesLemmas.{in_order_is_each}
 

@@ -1,5 +1,5 @@
 -- What is said of a series doesn't depend on the order in which its members are listed.
-use Rattle.std.proofs.Common.{◌≡◌, ◌⊎◌, inl, inr, ℕ, zero, suc, ◌+◌, ◌-◌, ◌<◌, ◌≤◌, Bool, true, false, cond, ◌&&◌, ◌==◌, List, [], ◌∷◌, length, get_or, map, Option, Some, None, option_map, slice_get, refl, sym, ◌∙◌, ap, subst, arith, true≢false, Ok}
+use Rattle.std.proofs.Common.{◌≡◌, inl, inr, ℕ, zero, suc, ◌+◌, ◌-◌, ◌<◌, ◌≤◌, Bool, true, false, cond, ◌&&◌, ◌==◌, List, [], ◌∷◌, map, Option, Some, None, option_map, slice_get, refl, sym, ◌∙◌, ap, subst, arith, true≢false, Ok}
 use Rattle.std.specs.Prelude.{filter, find, nat_le, nat_lt, nat_eq, is_some, sum_by, count_by, option_and_then, ⊤, Contains, IsPermutation, remove}
 use Rattle.std.specs.Option.{option_or, option_eq, option_map_or}
 use Rattle.std.specs.List.{filter_map, cons_option, range_with_len}
@@ -9,7 +9,7 @@ use Rattle.std.proofs.lemmas.List.Sorted.{IsPermutation-remove, Contains-permuta
 use Rattle.std.proofs.lemmas.List.Sums.{sum_by-cons}
 use Rattle.std.proofs.lemmas.Option.{slice_get-get_or, slice_get_within, get_or_from_slice_get}
 use Rattle.warc_segment.specs.declared.gap.Gap.{Gap}
-use Rattle.warc_segment.specs.declared.gap.Gap.TheVariants.{Repeated, AfterEnd, Absent, Total}
+use Rattle.warc_segment.specs.declared.gap.Gap.TheVariants.{Repeated, AfterEnd, Total}
 use Rattle.warc_segment.specs.Series.{Member, count_of, numbers_of, member_numbered, in_order}
 use Rattle.warc_segment.specs.Gaps.{least, least_repeated, end_of, least_after, is_absent, least_absent, has_total, absent_or_total, gap_to, gap_of, followers, unless_gap}
 use Rattle.warc_segment.proofs.LeastLemmas.{Stands, stands_cases, stands_nowhere, stands_later, stands_filter, filter_stands, stands_map, map_stands, LeastIn, least_in, least_same}
@@ -22,10 +22,10 @@ abbrev pub Distinct : {X : Type 0} → List X → Type 0
 Distinct [] = ⊤
 Distinct (x ∷ xs) = (Stands xs x → ⊥) × Distinct xs
 
-contains_stands : {X : Type 0} (xs : List X) (x : X) → Contains xs x → Stands xs x
+pub contains_stands : {X : Type 0} (xs : List X) (x : X) → Contains xs x → Stands xs x
 contains_stands xs x (k, within, is) = (k, slice_get-get_or xs k x within ∙ ap Some is)
 
-stands_contains : {X : Type 0} (xs : List X) (x : X) → Stands xs x → Contains xs x
+pub stands_contains : {X : Type 0} (xs : List X) (x : X) → Stands xs x → Contains xs x
 stands_contains xs x (k, at) = (k, slice_get_within xs k x at, get_or_from_slice_get xs k x x at)
 
 pub no_more : {X : Type 0} (p : X → Bool) (xs ys : List X) → Distinct xs → ((x : X) → Stands xs x → Stands ys x)

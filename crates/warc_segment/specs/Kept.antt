@@ -1,5 +1,5 @@
--- What is kept of the records of an archive for joining them: the continuations that are in a series, in the order of the
--- archive. This project's own notion.
+-- What is kept of the records of an archive for joining them: the continuations that are in a series, in the order of
+-- the archive. This project's own notion.
 use Rattle.std.specs.Prelude.{ℕ, nat_le, List, length, Option, Some, None, if◌then◌else◌}
 use Rattle.std.specs.List.{filter_map, enumerate_from}
 use Rattle.warc_record.specs.declared.readings.SegmentNumber.{SegmentNumber}

@@ -4,4 +4,6 @@ pub mod Gaps
 pub mod SeriesLaws
 pub mod Ordered
 pub mod Kept
+pub mod Held
+pub mod Joining
 pub mod Joined
