@@ -1,4 +1,3 @@
-pub mod Gathering
 pub mod LawLemmas
 pub mod TakeLemmas
 pub mod Sending

@@ -1,7 +1,6 @@
 pub mod Count
 pub mod Device
 pub mod FaultText
-pub mod Gather
 pub mod Send
 pub mod VersionLine
 pub mod Record

@@ -8,12 +8,14 @@ ghost use Rattle.warc_frame.specs.declared.stream.Event.TheVariants as events;
 
 use crate::ends::{closes_on, find_end, version_across};
 use crate::fault::{Fault, FaultKind};
-use crate::gather::MAX_ARCHIVE;
 use crate::reading::{MAX_HEAD, read_fields};
 use crate::version::Version;
 use std::alloc::{Allocator, Global};
 use std::marker::Model;
 use warc_field::Fields;
+
+/// The most bytes of an archive, and so the offset at which none may stand.
+pub const MAX_ARCHIVE: u64 = 1 << 48;
 
 /// What a step tells.
 #[derive(Debug, Drop)]

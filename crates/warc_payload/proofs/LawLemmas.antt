@@ -5,7 +5,6 @@ use Rattle.std.proofs.Math.Seq.{take-append-add, drop-append_seam}
 use Rattle.httparse.specs.Grammar.{ResponseHead, ReadsResponse, print_response, status_code}
 use Rattle.httparse.proofs.GrammarLemmas.{response_unique, ReadsResponse-append}
 use Rattle.warc_payload.specs.declared.HeadInfo.{HeadInfo}
-use Rattle.warc_payload.specs.declared.TheConstants.{MOST_HEAD_BYTES}
 use Rattle.warc_payload.specs.Coding.{is_coded}
 use Rattle.warc_payload.specs.Head.{IsInfoOf, front_of}
 use Rattle.warc_payload.specs.Laws.{AtMostOneHead, AtMostOneInfo, FrontTellsHead, FrontTellsNoHead, AtMostOneBody, NoBodyWhereCoded}
@@ -56,7 +55,7 @@ rest_by_length text head rest reads =
 pub front_tells_head : FrontTellsHead
 unfolding front_of
 front_tells_head block info head x =
-    let reads : ReadsResponse block head _ = head_of_whole MOST_HEAD_BYTES block head _ x.front.reads in
+    let reads : ReadsResponse block head _ = head_of_whole 65_536 block head _ x.front.reads in
     let rest : _ ≡ drop info.head_len block = rest_by_length block head _ reads ∙ ap (λ n. drop n block) (sym x.head_len) in
     record {
       front = record {
@@ -72,7 +71,7 @@ front_tells_head block info head x =
 pub front_tells_no_head : FrontTellsNoHead
 unfolding front_of
 front_tells_no_head block none head rest x =
-    none head _ (record { reads = head_of_front MOST_HEAD_BYTES block head rest x.reads x.size; size = x.size; lines = x.lines })
+    none head _ (record { reads = head_of_front 65_536 block head rest x.reads x.size; size = x.size; lines = x.lines })
 
 pub at_most_one_body : AtMostOneBody
 at_most_one_body block status code body bytes x y =

@@ -1,3 +1,5 @@
+mod BodyLemmas
+mod HeadDecision
+mod WorkedValues
 pub mod Fields
 pub mod LawLemmas
-mod WorkedValues

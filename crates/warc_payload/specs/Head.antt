@@ -3,13 +3,12 @@ use Rattle.std.specs.Prelude.{◌≡◌, ℕ, ◌≤◌, List, length, take, dro
 use Rattle.httparse.specs.Grammar.{ResponseHead, ReadsResponse, print_response, status_code}
 use Rattle.warc_payload.specs.Coding.{is_coded}
 use Rattle.warc_payload.specs.declared.HeadInfo.{HeadInfo}
-use Rattle.warc_payload.specs.declared.TheConstants.{MOST_HEAD_BYTES, MOST_FIELD_LINES}
 
 -- the text is the head, of at most 65,536 bytes and 256 field lines, and then the rest
 pub record BeginsWithHead (text : List ℕ) (head : ResponseHead) (rest : List ℕ) : Type 0 where
   pub reads : ReadsResponse text head rest
-  pub size : length (print_response head) ≤ MOST_HEAD_BYTES
-  pub lines : length head.fields ≤ MOST_FIELD_LINES
+  pub size : length (print_response head) ≤ 65_536
+  pub lines : length head.fields ≤ 256
 
 -- no such head is at the front of the text
 abbrev pub HasNoHead : List ℕ → Type 0
@@ -24,4 +23,4 @@ pub record IsInfoOf (text : List ℕ) (info : HeadInfo) (head : ResponseHead) : 
 
 -- the part of a block in which a head is looked for
 unfoldable pub front_of : List ℕ → List ℕ
-front_of block = take MOST_HEAD_BYTES block
+front_of block = take 65_536 block

@@ -1,5 +1,5 @@
 -- The laws of the definitions.
-use Rattle.std.specs.Prelude.{◌≡◌, ℕ, List}
+use Rattle.std.specs.Prelude.{◌≡◌, ◌⊎◌, ℕ, List}
 use Rattle.httparse.specs.Grammar.{ResponseHead}
 use Rattle.warc_payload.specs.declared.HeadInfo.{HeadInfo}
 use Rattle.warc_payload.specs.Head.{BeginsWithHead, HasNoHead, IsInfoOf, front_of}
@@ -33,3 +33,8 @@ AtMostOneBody = (block : List ℕ) (status code : ℕ) (body bytes : List ℕ)
 abbrev pub NoBodyWhereCoded : Type 0
 NoBodyWhereCoded = (block : List ℕ) (status : ℕ) (body : List ℕ)
     → GivesBody block status body → ¬ GivesCodedBody block
+
+-- each block gives a body behind its HTTP head, or a coded one, or has no such head
+abbrev pub OneOfThree : Type 0
+OneOfThree =
+    (block : List ℕ) → ((status : ℕ) × (body : List ℕ) × GivesBody block status body) ⊎ (GivesCodedBody block ⊎ HasNoHead block)

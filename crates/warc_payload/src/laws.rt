@@ -1,6 +1,6 @@
 //! Laws over the definitions: functions that do nothing, each with a law as its contract.
 
-ghost use Rattle.warc_payload.specs.Laws.{AtMostOneHead, AtMostOneInfo, FrontTellsHead, FrontTellsNoHead, AtMostOneBody, NoBodyWhereCoded};
+ghost use Rattle.warc_payload.specs.Laws.{AtMostOneHead, AtMostOneInfo, FrontTellsHead, FrontTellsNoHead, AtMostOneBody, NoBodyWhereCoded, OneOfThree};
 
 /// A text begins with at most one head, so the head, what follows it and all that a head tells
 /// are functions of the text's bytes.
@@ -31,4 +31,10 @@ pub fn at_most_one_body()
 /// A block never gives both a body and a coded one.
 pub fn no_body_where_coded()
     ensures { NoBodyWhereCoded }
+{}
+
+/// Each block gives a body behind its HTTP head, or a coded one, or has no such head. By the other laws it is one of
+/// these alone.
+pub fn one_of_three()
+    ensures { OneOfThree }
 {}

@@ -6,7 +6,7 @@ ghost use Rattle.std.specs.List.{list_any};
 ghost use Rattle.httparse.specs.Grammar.{ResponseHead};
 ghost use Rattle.httparse.specs.Spans.{IsHeaderWithin, header_bytes};
 ghost use Rattle.warc_payload.specs.Coding.{names_coding};
-ghost use Rattle.warc_payload.specs.Head.{HasNoHead, IsInfoOf};
+ghost use Rattle.warc_payload.specs.Head.{HasNoHead, IsInfoOf, front_of};
 
 use httparse::Status;
 use httparse::spans::{EMPTY_HEADER_SPAN, HeaderSpan, parse_response};
@@ -16,7 +16,7 @@ use thiserror::Error;
 pub mod laws;
 
 /// The most bytes of a block in which its HTTP head is looked for.
-pub const MOST_HEAD_BYTES: usize = 65536;
+pub const MOST_HEAD_BYTES: usize = 65_536;
 
 /// The most field lines that an HTTP head may have.
 pub const MOST_FIELD_LINES: usize = 256;
@@ -66,11 +66,19 @@ fn any_names_coding(text: &[u8], fields: &[HeaderSpan]) -> bool
     fields.iter().any(|field| names_coding(text, field))
 }
 
+/// The part of a block in which its HTTP head is looked for: its first 65,536 bytes, or all where it is shorter.
+#[tactic(auto, unfolding(crate::specs::Head::front_of))]
+pub fn front(block: &[u8]) -> &[u8]
+    ensures { result.now ≡ front_of block.now }
+{
+    &block[..MOST_HEAD_BYTES.min(block.len())]
+}
+
 /// The head of an HTTP/1.0 or HTTP/1.1 response at the front of `text`, which is the block's first
 /// 65,536 bytes, or the whole block where that is shorter (RFC 9112, sections 2 to 5). `BadHead`
 /// where no whole head of at most 256 field lines is there. It takes no memory.
 pub fn body_start(text: &[u8]) -> Result<HeadInfo, BadHead>
-    requires { length text.now ≤ MOST_HEAD_BYTES }
+    requires { length text.now ≤ 65_536 }
     ensures found { IfOk result (λ info. (head : ResponseHead) × IsInfoOf text.now info head) }
     ensures none { OnErr result (HasNoHead text.now) }
 {

@@ -3,5 +3,6 @@ mod ValueLemmas
 mod HeadLemmas
 mod GoodLemmas
 mod FindingLemmas
+mod ListedLemmas
 pub mod LawLemmas
 mod WorkedValues

@@ -7,3 +7,4 @@ pub mod Good
 pub mod Seen
 pub mod Table
 pub mod Findings
+pub mod FindingLaws

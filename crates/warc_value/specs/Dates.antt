@@ -1,6 +1,8 @@
 -- Dates (ISO 28500:2017, 5.4, by the W3C note on date and time formats): six forms, always UTC. The calendar, Gregorian
 -- throughout, is this project's own choice, and so are days without an hour 24 and minutes without a leap second.
 use Rattle.std.specs.Prelude.{ℕ, ◌+◌, ◌-◌, ◌*◌, ◌^◌, Bool, ◌&&◌, ◌||◌, ◌==◌, nat_le, nat_lt, List, [], ◌∷◌, length, map, filter, find, codes, Option, Some, None, option_map, option_and_then, if◌then◌else◌, pos, ◌-ℤ◌, unsigned_abs}
+use Rattle.std.specs.declared.cmp.Ordering.{Ordering}
+use Rattle.std.specs.Ordering.{nat_cmp, ordering_then}
 use Rattle.std.specs.List.{zip, list_all, list_any}
 use Rattle.std.specs.Char.{is_ascii_digit}
 use Rattle.std.specs.Str.Parse.{digits_value}
@@ -10,6 +12,10 @@ use Rattle.jiff_core.specs.Calendar.{days_in_month, days_from_civil}
 -- a day number, from 1 January of the year 0 on, and a nanosecond of that day
 abbrev pub Instant : Type 0
 Instant = ℕ × ℕ
+
+-- the order of instants: by day, then by nanosecond
+abbrev pub instant_cmp : Instant → Instant → Ordering
+instant_cmp a b = ordering_then (nat_cmp a.0 b.0) (nat_cmp a.1 b.1)
 
 -- the first instant comes before the second one: by day, then by nanosecond
 abbrev pub is_before : Instant → Instant → Bool

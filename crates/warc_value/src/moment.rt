@@ -1,10 +1,15 @@
-ghost use Rattle.std.specs.Prelude.{◌≡◌, ◌↔◌, IsTrue};
-ghost use Rattle.warc_value.specs.Dates.{is_before};
+ghost use Rattle.std.specs.Prelude.{◌≡◌};
+ghost use Rattle.std.proofs.Common.{rules};
+ghost use Rattle.std.specs.Cmp.{partial_order_from_own_ties};
+ghost use Rattle.std.specs.Cmp.Rules.{comparing};
+ghost use Rattle.std.specs.Ordering.{as_partial_cmp};
+ghost use Rattle.warc_value.specs.Dates.{is_before, instant_cmp};
 
+use std::cmp::Ordering;
 use std::marker::Model;
 
 /// An instant: the days since 1 January of the year 0, and the nanosecond of that day. Moments are in order of time.
-#[derive(Clone, Copy, PartialEq, Eq, PartialOrd, Ord, Debug)]
+#[derive(Clone, Copy, PartialEq, Eq, Debug)]
 pub struct Moment {
     day: u32,
     nanosecond: u64,
@@ -18,6 +23,31 @@ impl Model for Moment {
     ghost view = { λ moment. (moment.day, moment.nanosecond) };
 
     ghost inverse = { λ instant. record { day = instant.0; nanosecond = instant.1 } };
+}
+
+impl PartialOrd for Moment {
+    ghost partial_cmp = { as_partial_cmp instant_cmp };
+
+    ghost laws = { partial_order_from_own_ties (Prim.search (comparing, rules)) (Prim.search (comparing, rules)) };
+
+    fn partial_cmp(&self, other: &Moment) -> Option<Ordering> {
+        Some(self.cmp(other))
+    }
+}
+
+impl Ord for Moment {
+    ghost cmp = { instant_cmp };
+
+    ghost total = { Prim.search (comparing, rules) };
+
+    ghost matches_partial_cmp = { Prim.search (comparing, rules) };
+
+    ghost matches_eq = { Prim.search (comparing, rules) };
+
+    fn cmp(&self, other: &Moment) -> Ordering {
+        let by_day = self.day.cmp(&other.day);
+        by_day.then(self.nanosecond.cmp(&other.nanosecond))
+    }
 }
 
 impl Moment {

@@ -1,41 +1,14 @@
-//! What tests need, and the test suites of every crate.
+//! What the suites share: sources and writers that break, an allocator that refuses, records by table.
 #![tactic(auto)]
 
 pub mod broken;
+pub mod changes;
 pub mod refusing;
 pub mod rows;
+pub mod worked;
 
 pub use broken::{Break, BrokenSource, BrokenWriter, ChangingSource};
+pub use changes::CHANGES;
 pub use refusing::RefusingAllocator;
 pub use rows::{Row, archive_text};
-
-#[cfg(test)]
-mod check;
-#[cfg(test)]
-mod devices;
-#[cfg(test)]
-mod fields;
-#[cfg(test)]
-mod framing;
-#[cfg(test)]
-mod good;
-#[cfg(test)]
-mod library;
-#[cfg(test)]
-mod payload;
-#[cfg(test)]
-mod pieces;
-#[cfg(test)]
-mod plain;
-#[cfg(test)]
-mod program;
-#[cfg(test)]
-mod record;
-#[cfg(test)]
-mod runs;
-#[cfg(test)]
-mod value;
-#[cfg(test)]
-mod words;
-#[cfg(test)]
-mod worked;
+pub use worked::{ONE_RESOURCE, ONE_RESOURCE_LINE, changed};

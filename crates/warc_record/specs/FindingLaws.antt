@@ -1,0 +1,58 @@
+-- What the findings of a record are, one by one: a finding is listed exactly where the sentence of its number holds, and
+-- the numbers never fall. Findings are this project's own notion.
+use Rattle.std.specs.Prelude.{◌≡◌, ◌⊎◌, ◌↔◌, ℕ, ◌≤◌, Bool, false, ◌&&◌, List, [], ◌∷◌, IsTrue, None}
+use Rattle.std.specs.List.{AllPairs, Contains}
+use Rattle.std.specs.Str.{is_utf8}
+use Rattle.warc_field.specs.Area.{Pair}
+use Rattle.warc_record.specs.declared.types.Kind.{Kind}
+use Rattle.warc_record.specs.declared.checks.TableCheck.{TableCheck}
+use Rattle.warc_record.specs.Kinds.{is_known}
+use Rattle.warc_record.specs.Readings.{Reading}
+use Rattle.warc_record.specs.Table.{Rule, rules}
+use Rattle.warc_record.specs.Findings.{Found, about, fits, number_of, has_bad_segment, lacks_content_type, has_unknown_profile, has_bare_id, lacks_origin, findings_by}
+
+-- it is about the field of a rule of the table, which is absent, forbidden or repeated
+abbrev pub IsByTable : TableCheck → Kind → List Pair → Found → Type 0
+IsByTable check kind fields found =
+    (rule : Rule) × Contains rules rule × IsTrue (fits check kind fields rule) × (found ≡ about (number_of check) rule.name)
+
+-- it is about a field of the record whose value isn't UTF-8
+abbrev pub IsNotUtf8 : List Pair → Found → Type 0
+IsNotUtf8 fields found =
+    (field : Pair) × Contains fields field × (is_utf8 field.1 ≡ false) × (found ≡ about 9 field.0)
+
+-- the numbers that are about no field, each with whether what it stands for holds
+abbrev pub sentences : Reading → List Pair → ℕ → Bool → Bool → List (ℕ × Bool)
+sentences reading fields size bad_digest used_id =
+    (4, is_known reading.kind && bad_digest)
+    ∷ (5, has_bad_segment reading fields)
+    ∷ (6, used_id)
+    ∷ (7, lacks_content_type reading.kind fields size)
+    ∷ (8, has_unknown_profile reading fields)
+    ∷ (10, has_bare_id reading)
+    ∷ (11, lacks_origin reading fields)
+    ∷ []
+
+-- it has the number of a sentence, is about no field, and the sentence holds
+abbrev pub IsOnce : ℕ × Bool → Found → Type 0
+IsOnce sentence found = IsTrue sentence.1 × (found ≡ record { number = sentence.0; field = None })
+
+-- it is a finding of N1 to N3 by the field table, of N9, or of another number
+abbrev pub IsFinding : Reading → List Pair → ℕ → Bool → Bool → Found → Type 0
+IsFinding reading fields size bad_digest used_id found =
+    ((check : TableCheck) × IsByTable check reading.kind fields found)
+    ⊎ (IsNotUtf8 fields found
+    ⊎ ((sentence : ℕ × Bool) × Contains (sentences reading fields size bad_digest used_id) sentence × IsOnce sentence found))
+
+-- a finding is listed exactly where its sentence holds
+abbrev pub ListedWhereTheyHold : Type 0
+ListedWhereTheyHold =
+    (reading : Reading) (fields : List Pair) (size : ℕ) (bad_digest used_id : Bool) (found : Found)
+    → Contains (findings_by reading fields size bad_digest used_id) found
+    ↔ IsFinding reading fields size bad_digest used_id found
+
+-- the numbers of the findings never fall
+abbrev pub NumbersNeverFall : Type 0
+NumbersNeverFall =
+    (reading : Reading) (fields : List Pair) (size : ℕ) (bad_digest used_id : Bool)
+    → AllPairs (λ a b. a.number ≤ b.number) (findings_by reading fields size bad_digest used_id)
