@@ -2,6 +2,7 @@ pub mod Ids
 pub mod Keys
 pub mod Kinds
 pub mod Readings
+pub mod Texts
 pub mod Heads
 pub mod Good
 pub mod Seen

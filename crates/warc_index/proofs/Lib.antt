@@ -1,0 +1,5 @@
+pub mod WalkLemmas
+pub mod LatestLemmas
+pub mod ChoiceLemmas
+pub mod LoopLemmas
+mod WorkedValues

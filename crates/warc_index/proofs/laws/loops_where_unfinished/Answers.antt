@@ -1,0 +1,5 @@
+use Rattle.warc_index.proofs.WalkLemmas.{loops_where_unfinished}
+use Rattle.warc_index.proofs.laws.loops_where_unfinished.Goals as goal
+
+pub returns : goal.returns
+returns c = loops_where_unfinished

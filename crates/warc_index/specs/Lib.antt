@@ -1,0 +1,4 @@
+pub mod UnfoundText
+pub mod Walks
+pub mod Captures
+pub mod Referents

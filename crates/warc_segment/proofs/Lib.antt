@@ -1,0 +1,12 @@
+pub mod LeastLemmas
+pub mod CountLemmas
+pub mod SeriesLemmas
+pub mod OrderedLemmas
+pub mod ContinuationLemmas
+pub mod SameLemmas
+pub mod KeptLemmas
+pub mod HeldLemmas
+pub mod StepLemmas
+pub mod KeepLemmas
+pub mod JoinLemmas
+mod WorkedValues

@@ -1,0 +1,64 @@
+-- The joined block of a record, and its places in the source: the blocks of its segments, one behind another in the
+-- order of their numbers (ISO 28500:2017, 7), or the first gap.
+use Rattle.std.specs.Prelude.{◌≡◌, ℕ, ◌+◌, ◌≤◌, List, [], ◌∷◌, length, take, drop, map, slice_get, Result, Ok, Err}
+use Rattle.std.specs.List.{filter_map, flat_map}
+use Rattle.warc_value.specs.Digests.{verdict_of}
+use Rattle.warc_record.specs.Readings.{Reading}
+use Rattle.warc_segment.specs.declared.gap.Gap.{Gap}
+use Rattle.warc_segment.specs.declared.place.Place.{Place}
+use Rattle.warc_segment.specs.Series.{Piece, Member, piece_of, series_of}
+use Rattle.warc_segment.specs.Gaps.{joined}
+
+-- the own one, and of all of them those at the members' positions
+abbrev pub with_members : {X : Type 0} → List X → X → Result (List Member) Gap → Result (List X) Gap
+with_members all own (Ok members) = Ok (own ∷ filter_map (λ m. slice_get all m.position) members)
+with_members all own (Err gap) = Err gap
+
+-- a record by what its head says, and its block
+pub record ReadRecord : Type 0 where
+  pub head : Reading
+  pub block : List ℕ
+
+abbrev pub piece_read : ReadRecord → Piece
+piece_read r = piece_of r.head (length r.block)
+
+-- the record and those whose blocks follow its own, in their order
+abbrev pub joined_records : List ReadRecord → ReadRecord → Result (List ReadRecord) Gap
+joined_records all r =
+    with_members all r (joined r.head.segment.number (length r.block) (series_of r.head.id (map piece_read all)))
+
+-- its joined block, or the gap
+abbrev pub blocks_of : Result (List ReadRecord) Gap → Result (List ℕ) Gap
+blocks_of (Ok records) = Ok (flat_map (λ r. r.block) records)
+blocks_of (Err gap) = Err gap
+
+abbrev pub joined_block : List ReadRecord → ReadRecord → Result (List ℕ) Gap
+joined_block all r = blocks_of (joined_records all r)
+
+-- a record by what its head says, and the place of its block
+pub record PlacedRecord : Type 0 where
+  pub head : Reading
+  pub place : Place
+
+abbrev pub piece_placed : PlacedRecord → Piece
+piece_placed r = piece_of r.head r.place.len
+
+-- the places of the same blocks
+abbrev pub joined_places : List PlacedRecord → PlacedRecord → Result (List Place) Gap
+joined_places all r =
+    with_members (map (λ q. q.place) all) r.place
+    (joined r.head.segment.number r.place.len (series_of r.head.id (map piece_placed all)))
+
+-- the place of a record's block among the bytes of a source, and what was found of it
+pub record IsPlaceOf (bytes : List ℕ) (p : Place) (r : ReadRecord) : Type 0 where
+  pub within : p.start + p.len ≤ length bytes
+  pub block : take p.len (drop p.start bytes) ≡ r.block
+  pub verdict : p.verdict ≡ verdict_of r.head.wanted r.block
+  pub truncated : p.truncated ≡ r.head.truncated
+
+-- the places of the blocks of records, in their order
+abbrev pub ArePlacesOf : List ℕ → List Place → List ReadRecord → Type 0
+ArePlacesOf bytes [] [] = Unit {0}
+ArePlacesOf bytes (p ∷ ps) (r ∷ rs) = IsPlaceOf bytes p r × ArePlacesOf bytes ps rs
+ArePlacesOf bytes [] (r ∷ rs) = ⊥
+ArePlacesOf bytes (p ∷ ps) [] = ⊥

@@ -1,0 +1,12 @@
+//! Laws over the definitions: functions that do nothing, each with a law as its contract.
+ghost use Rattle.warc_segment.specs.SeriesLaws.{LeastAbsentIsFirst, InOrderIsEach};
+
+/// The least absent number is the first of 2 to n that no segment has.
+pub fn least_absent_is_first()
+    ensures { LeastAbsentIsFirst }
+{}
+
+/// Where no number is absent, the segments in order are those numbered 2 to n, one of each.
+pub fn in_order_is_each()
+    ensures { InOrderIsEach }
+{}

@@ -1,0 +1,135 @@
+ghost use Rattle.std.specs.Prelude.{◌≡◌, ℕ, ◌++◌, [], ◌∷◌, List, length, take, sum_by, map, OnOk, OnErr, IfOk};
+ghost use Rattle.warc_record.specs.Seen.{said};
+ghost use Rattle.warc_segment.specs.Joined.{PlacedRecord, joined_places};
+ghost use Rattle.warc_segment.specs.Kept.{kept_in};
+ghost use Rattle.warc_segment.specs.Held.{side_by_side, AreHeld};
+ghost use Rattle.warc_segment.specs.Joining.{IsJoin, IsSeries};
+
+use crate::fault::JoinFault;
+use crate::gap::Gap;
+use crate::held::{Facts, put, series_of};
+use crate::place::Place;
+use crate::series::{Continuation, find_gap};
+use std::alloc::{AllocError, Allocator, Global};
+use std::marker::Model;
+use warc_order::Order;
+use warc_record::{SegmentNumber, Typed};
+
+/// What joins the segmented records of an archive. It keeps the continuations alone: of each the key of its origin, its
+/// number, total and place. Contracts see how many records were added and what is kept of them.
+#[derive(Drop)]
+pub struct Parts<A: Allocator = Global> {
+    count: usize,
+    order: Order<A>,
+    facts: Vec<Facts, A>,
+}
+
+impl<A: Allocator> Model for Parts<A> {
+    ghost use Rattle.warc_segment.specs.Kept.{Kept};
+    ghost use Rattle.warc_segment.specs.Held.{AreHeld, held_in};
+
+    ghost Value = { Kept };
+
+    ghost view = { λ s. held_in s.count s.order s.facts.items };
+
+    ghost invariant = { λ s. AreHeld s.count s.order s.facts.items };
+}
+
+/// The series of a record, which has no gap.
+fn whole_series<A: Allocator + Copy>(
+    order: &Order<A>,
+    facts: &Vec<Facts, A>,
+    id: &[u8],
+    size: u64,
+) -> Result<Vec<Continuation, A>, JoinFault>
+    requires { (count : ℕ) × AreHeld count order.now facts.now.items }
+    ensures { IsSeries id.now size (side_by_side order.now facts.now.items) result }
+{
+    let series = series_of(*facts.allocator(), order, facts, id)?;
+    match find_gap(size, &series) {
+        None => Ok(series),
+        Some(gap) => Err(JoinFault::Gap(gap)),
+    }
+}
+
+/// The places of a record and of the segments behind it.
+fn places_of<A: Allocator + Copy>(
+    alloc: A,
+    place: Place,
+    series: &[Continuation],
+) -> Result<Vec<Place, A>, AllocError>
+    ensures { IfOk result (λ places. places.items ≡ place ∷ map (λ c. c.place) series.now) }
+{
+    let mut places = Vec::new(alloc);
+    places.push(place)?;
+    for continuation in series {
+        places.push(continuation.place)?;
+    }
+    Ok(places)
+}
+
+impl<A: Allocator + Copy> Parts<A> {
+    /// No records.
+    pub fn new(alloc: A) -> Parts<A>
+        ensures { result ≡ kept_in [] }
+    {
+        Parts {
+            count: 0,
+            order: Order::new(alloc),
+            facts: Vec::new(alloc),
+        }
+    }
+
+    /// Adds the next record of the archive, whatever its kind. Only a continuation with an origin and a number of at
+    /// least 2 takes memory; where that is refused nothing changes.
+    pub fn add(&mut self, typed: &Typed<A>, place: Place) -> Result<(), AllocError>
+        ensures ok { (all : List PlacedRecord) → self.old ≡ kept_in all
+            → OnOk result (self.new ≡ kept_in (all ++ record { head = said typed.now; place = place } ∷ [])) }
+        ensures err { OnErr result (self.new ≡ self.old) }
+    {
+        let Some(count) = self.count.checked_add(1) else {
+            return Err(AllocError);
+        };
+        put(&mut self.order, &mut self.facts, self.count, typed, place)?;
+        self.count = count;
+        Ok(())
+    }
+
+    /// Keeps the first `count` records. It takes no memory.
+    pub fn forget_after(&mut self, count: usize)
+        ensures { (all : List PlacedRecord) → self.old ≡ kept_in all → self.new ≡ kept_in (take count all) }
+    {
+        if count < self.count {
+            self.order.forget_after(count);
+            let len = self.order.len();
+            self.facts.truncate(len);
+            self.count = count;
+        }
+    }
+
+    /// How many bytes the keys of the origins have that it holds.
+    pub fn kept(&self) -> u64
+        ensures { result ≡ sum_by (λ m. length m.origin) self.now.members }
+    {
+        self.order.kept()
+    }
+
+    /// The places in the source whose bytes, one behind another, are the joined block of a record: its own, and those of
+    /// its segments in the order of their numbers. A record without a number stands alone. `Gap`: the segments don't
+    /// join, for the first reason that fits. Time and memory grow with the number of segments alone.
+    pub fn join(&self, typed: &Typed<A>, place: Place) -> Result<Vec<Place, A>, JoinFault>
+        ensures { (all : List PlacedRecord) → self.now ≡ kept_in all
+            → IsJoin result (joined_places all (record { head = said typed.now; place = place })) }
+    {
+        let alloc = *self.facts.allocator();
+        match typed.segment.number {
+            SegmentNumber::Absent => Ok(places_of(alloc, place, &[])?),
+            SegmentNumber::Number(1) => {
+                let id = typed.id.bytes();
+                let series = whole_series(&self.order, &self.facts, id, place.len)?;
+                Ok(places_of(alloc, place, &series)?)
+            }
+            _ => Err(JoinFault::Gap(Gap::Number)),
+        }
+    }
+}
