@@ -1,0 +1,5 @@
+//! The suite of texts in order.
+#![tactic(auto)]
+
+#[cfg(test)]
+mod order;
