@@ -1,4 +1,4 @@
--- What a decoder's state stands for. This project's own notion.
+-- What a decoder's state stands for. A state of the code.
 use Rattle.std.specs.Prelude.{◌≡◌, ℕ, ◌+◌, ◌-◌, ◌<◌, ◌≤◌, ◌^◌, nat_le, ◌&&◌, Bool, List, [], ◌∷◌, ◌++◌, length, take, Option, Some, None, Result, Ok, Err}
 use Rattle.warc_field.specs.Lines.{crlf_at}
 use Rattle.warc_frame.specs.declared.version.Version.{Version}

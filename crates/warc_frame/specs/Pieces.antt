@@ -1,4 +1,4 @@
--- What reading a stream piece by piece keeps and answers. This project's own notion.
+-- What reading a stream piece by piece keeps and answers. A state of the code.
 use Rattle.std.specs.Prelude.{◌≡◌, ◌≢◌, ℕ, ◌+◌, ◌≤◌, List, ◌++◌, length, Option, Some, None}
 use Rattle.warc_frame.specs.declared.fault.FaultKind.TheVariants.{Truncated, Memory}
 use Rattle.warc_frame.specs.declared.fault.Fault.{Fault}

@@ -1,4 +1,4 @@
--- What the parts of a step say of the decoder. This project's own notion.
+-- What the parts of a step say of the decoder. A state of the code.
 use Rattle.std.specs.Prelude.{◌≡◌, ℕ, ◌+◌, ◌-◌, Bool, List, [], ◌++◌, length, Result, Ok, Err}
 use Rattle.warc_frame.specs.declared.fault.FaultKind.{FaultKind}
 use Rattle.warc_frame.specs.declared.fault.FaultKind.TheVariants.{Memory}

@@ -111,7 +111,8 @@ pub(crate) fn read_fields<A: Allocator + Copy>(
 ) -> Result<Head<A>, Fault>
     requires version { version_of text.now ≡ Some version }
     requires len { head_len text.now ≡ Some len }
-    ensures exact { AnswersAs (λ h. record { version = h.version; fields = h.fields; len = h.len; block_len = h.block_len })
+    ensures exact { AnswersAs
+        (λ h. record { version = h.version; fields = h.fields; len = h.len; block_len = h.block_len })
         result (head_of any_fields text.now) }
     ensures within { IfOk result (λ h. (h.len ≤ length text.now) × (h.block_len ≤ max_block)) }
     ensures by { IfErr result (λ f. f.offset ≤ length text.now) }
@@ -144,7 +145,8 @@ pub(crate) fn read_fields<A: Allocator + Copy>(
 /// of memory is told at 0.
 #[tactic(auto, unfolding(crate::specs::Reading::head_of))]
 pub fn read_head<A: Allocator + Copy>(alloc: A, text: &[u8]) -> Result<Head<A>, Fault>
-    ensures exact { AnswersAs (λ h. record { version = h.version; fields = h.fields; len = h.len; block_len = h.block_len })
+    ensures exact { AnswersAs
+        (λ h. record { version = h.version; fields = h.fields; len = h.len; block_len = h.block_len })
         result (head_of any_fields text.now) }
     ensures within { IfOk result (λ h. (h.len ≤ length text.now) × (h.block_len ≤ max_block)) }
     ensures by { IfErr result (λ f. f.offset ≤ length text.now) }

@@ -60,7 +60,13 @@ impl<A: Allocator> Model for Decoder<A> {
 
     ghost Value = { State };
 
-    ghost view = { λ d. record { phase = d.phase; position = d.position; kept = d.head.items; left = d.left; matched = d.matched } };
+    ghost view = { λ d. record {
+      phase = d.phase;
+      position = d.position;
+      kept = d.head.items;
+      left = d.left;
+      matched = d.matched;
+    } };
 
     ghost invariant = { λ d. IsSound d.position d.head.items d.matched };
 }

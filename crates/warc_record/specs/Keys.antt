@@ -1,4 +1,4 @@
--- The bytes that a key holds: this project's own notion.
+-- The bytes that a key holds: a state of the code.
 use Rattle.std.specs.Prelude.{ℕ, List}
 use Rattle.warc_record.specs.declared.ids.Form.{Form}
 use Rattle.warc_record.specs.declared.ids.Form.TheVariants.{Uuid, Text}

@@ -1,4 +1,4 @@
--- What a typed head says, as a reading of fields: this project's own notion.
+-- What a typed head says, as a reading of fields: a state of the code.
 use Rattle.std.specs.Prelude.{ℕ, ◌≡◌, List, Option, Some, None, Result, Ok, Err, option_map, ⊤}
 use Rattle.warc_value.specs.Dates.{Instant}
 use Rattle.warc_frame.specs.declared.fault.FaultKind.{FaultKind}

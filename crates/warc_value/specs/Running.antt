@@ -1,4 +1,4 @@
--- What a contract sees of a running digest (SHA-1 by FIPS 180-4): this project's own notion.
+-- What a contract sees of a running digest (SHA-1 by FIPS 180-4): a state of the code.
 use Rattle.std.specs.Prelude.{ℕ, List}
 use Rattle.sha1.specs.Sha1.{Holds}
 use Rattle.warc_value.specs.declared.hash.Running.{Running}

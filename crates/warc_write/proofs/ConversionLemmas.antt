@@ -28,6 +28,7 @@ use Rattle.warc_record.specs.Ids.{bare_text, is_id, id_key}
 use Rattle.warc_record.specs.Kinds.{kind_named}
 use Rattle.warc_record.specs.Readings.{unless_empty, target_of, both, is_known_profile, segment_number, reading_of}
 use Rattle.warc_record.specs.Heads.{count_fault, value_fault, is_date, head_fault}
+use Rattle.warc_record.proofs.GoodLemmas.{good_heads_have_no_fault}
 use Rattle.warc_write.specs.Conversion.{converted_field, converted_fields, converted, ConversionIsIdempotent, ConvertedSaysTheSame, ConvertedStaysGood}
 use Rattle.warc_record.proofs.LawLemmas.{bare_texts_are_bare, bare_texts_are_no_longer, bare_texts_are_values}
 
@@ -318,7 +319,8 @@ converted_stays_framed r framed = record {
 
 pub converted_stays_good : ConvertedStaysGood
 unfolding converted
-converted_stays_good r good = record { framed = converted_stays_framed r good.framed; head = head_fault_stays r.fields ∙ good.head }
+converted_stays_good r good = record { framed = converted_stays_framed r good.framed; head = (good_heads_have_no_fault (converted_fields r.fields)).1
+        (head_fault_stays r.fields ∙ (good_heads_have_no_fault r.fields).0 good.head) }
 
 -- the converted fields of a longer front
 pub converted_more : (fields : List Pair) (i : ℕ) (field : Pair) → i < length fields → field ≡ get_or fields i field

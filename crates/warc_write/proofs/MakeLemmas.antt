@@ -17,6 +17,7 @@ use Rattle.warc_frame.specs.declared.version.Version.TheVariants.{V1_1}
 use Rattle.warc_frame.specs.Record.{Record, IsFramed, block_len, block_number, canonical_len, content_length, framed_of, max_block, max_head, or_length, with_block}
 use Rattle.warc_record.specs.declared.types.Kind.{Kind}
 use Rattle.warc_record.specs.declared.types.Kind.TheVariants.{Warcinfo, Response, Resource, Request, Metadata, Revisit, Conversion, Continuation, Other}
+use Rattle.warc_record.proofs.GoodLemmas.{good_heads_have_no_fault}
 use Rattle.warc_record.specs.Good.{IsGood}
 use Rattle.warc_record.specs.Heads.{head_fault, is_date}
 use Rattle.warc_record.specs.Ids.{bare_text, is_id}
@@ -168,7 +169,8 @@ pub made_is_good : (plan : Plan) (type uuid : List ℕ) (r : Record) → type_of
     → r ≡ record_1_1 (made_fields type uuid plan) plan.block → IsFramed r → IsGood r
 made_is_good plan type uuid r kind date is framed = record {
   framed = framed;
-  head = ap (λ (r : Record). head_fault r.fields) is ∙ made_head type uuid plan (type_is_name plan.kind type kind).0 date;
+  head = (good_heads_have_no_fault r.fields).1
+      (ap (λ (r : Record). head_fault r.fields) is ∙ made_head type uuid plan (type_is_name plan.kind type kind).0 date);
 }
 
 -- what fits is the record
