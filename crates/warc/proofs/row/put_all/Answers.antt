@@ -7,12 +7,12 @@ pub returns-in_err-put : goal.returns-in_err-put
 returns-in_err-put g c = record {
   out = search rules;
   cut = λ start output is.
-    let pieces = c.args.pieces.now in
-    let i = c.putting.piece-index in
-    let cut = c.in_err-put.ensures.cut start _ (c.putting.invariant.staged start output is) in
-    let more = pieces_more output pieces i (record { ref_ptr = (0, 0); now = [] }) c.putting-test.true in
-    let whole = same_out (ap (λ l. l ++ concat (map (λ p. p.now) (drop (i + 1) pieces))) more ∙ pieces_rest output pieces (i + 1)) (longer _ cut) in
-    search rules;
+      let pieces = c.args.pieces.now in
+      let i = c.putting.piece-index in
+      let cut = c.in_err-put.ensures.cut start _ (c.putting.invariant.staged start output is) in
+      let more = pieces_more output pieces i (record { ref_ptr = (0, 0); now = [] }) c.putting-test.true in
+      let whole = same_out (ap (λ l. l ++ concat (map (λ p. p.now) (drop (i + 1) pieces))) more ∙ pieces_rest output pieces (i + 1)) (longer _ cut) in
+      search rules;
   cause = search rules;
 }
 
