@@ -212,7 +212,7 @@ fn a_buffer_before_a_broken_writer(rt: HostRuntime) -> Result<(), Fail> {
         let mut writer = BrokenWriter::new(rt.alloc(), number, Break::Fails).taking(1);
         let mut buffer = OutBuffer::new();
         buffer.put(&mut writer, b"abc ")?;
-        buffer.put_number(&mut writer, 1 << 48)?;
+        buffer.put(&mut writer, b"281474976710656")?;
         assert_eq!(rt; writer.bytes(), b"".as_slice());
         assert_eq!(rt; buffer.flush(&mut writer), answer);
         assert_eq!(rt; writer.bytes(), taken.as_bytes());

@@ -1,6 +1,7 @@
 pub mod ArchiveTextLemmas
 pub mod CheckLemmas
 pub mod ClapLaws
+pub mod CountLemmas
 pub mod GoodLemmas
 pub mod HeadLemmas
 pub mod KindLemmas

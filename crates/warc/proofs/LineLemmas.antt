@@ -1,5 +1,5 @@
 -- Lines and the pieces that they are put together from.
-use Rattle.std.proofs.Common.{◌≡◌, ℕ, ◌+◌, ◌<◌, List, [], ◌∷◌, ◌++◌, length, take, drop, get_or, append_assoc, decimal, refl, map, Bor, sym, ap, subst, ◌∙◌, arith, Option, Some}
+use Rattle.std.proofs.Common.{◌≡◌, ℕ, ◌+◌, ◌<◌, List, [], ◌∷◌, ◌++◌, length, take, drop, get_or, append_assoc, decimal, refl, map, Bor, sym, ap, subst, ◌∙◌, arith, Option, Some, Result}
 use Rattle.std.proofs.lemmas.Grind.{flat_map-append}
 use Rattle.std.proofs.lemmas.List.{append-nil, map-append, take_more, length-take-le, take-append-drop}
 use Rattle.std.proofs.lemmas.List.Folds.{concat-append}
@@ -8,6 +8,9 @@ use Rattle.std.specs.List.{concat, enumerate_from, flat_map, join_with_byte, sli
 use Rattle.warc_frame.specs.Device.{Staged}
 use Rattle.warc_frame.specs.Send.{IsStaged, WentOut}
 use Rattle.warc_frame.proofs.LawLemmas.{went_out_of_longer}
+use Rattle.warc_frame.specs.declared.send.SendFault.{SendFault}
+use Rattle.warc.specs.Putting.{Puts}
+use Rattle.warc.specs.Seen.{Seen}
 use Rattle.warc.specs.Listing.{line_of, listing, shown}
 use Rattle.warc.specs.Row.{Row}
 
@@ -51,6 +54,11 @@ same_out {start} {now} {a} {b} {sent} same out = let P : List ℕ → Type 0 = �
 
 pub same_staged : {start now : Option (List ℕ)} {a b : List ℕ} {buffer : Staged} → a ≡ b → IsStaged start a now buffer → IsStaged start b now buffer
 same_staged {start} {now} {a} {b} {buffer} same is = let P : List ℕ → Type 0 = λ l. IsStaged start l now buffer in subst P same is
+
+-- the same text
+pub puts_same : {X : Type 0} {old new : Seen} {waits waiting : Staged} {answer : Result X SendFault} {a b : List ℕ} → a ≡ b → Puts old new waits waiting answer a
+    → Puts old new waits waiting answer b
+puts_same {X} {old} {new} {waits} {waiting} {answer} same puts = let P : List ℕ → Type 0 = λ l. Puts old new waits waiting answer l in subst P same puts
 
 enumerate_from-append : (n : ℕ) (xs ys : List Row) → enumerate_from n (xs ++ ys) ≡ enumerate_from n xs ++ enumerate_from (n + length xs) ys
 enumerate_from-append n [] ys = ap (λ k. enumerate_from k ys) (omega arith)

@@ -1,6 +1,5 @@
 -- How a run ends, from what its calls answered.
 use Rattle.std.proofs.Common.{◌≡◌, ℕ, List, [], ◌∷◌, length, min, Err, refl, subst, arith}
-use Rattle.warc_frame.specs.Count.{capped}
 use Rattle.warc_frame.specs.declared.fault.OutFault.{OutFault}
 use Rattle.warc.specs.Archive.{IsArchiveOf, contents}
 use Rattle.warc.specs.Checking.{Line}
@@ -32,6 +31,6 @@ pub told_as : {line other : List ℕ} {old new : Seen} → line ≡ other → Te
 told_as {line} {other} {old} {new} same told = let P : List ℕ → Type 0 = λ l. Tells l old new in subst P same told
 
 -- the status by the number of findings
-pub status_by : (ls : List Line) → min (capped (length ls)) 1 ≡ status_of_findings ls
+pub status_by : (ls : List Line) → min (length ls) 1 ≡ status_of_findings ls
 status_by [] = refl
 status_by (l ∷ ls) = omega arith

@@ -1,10 +1,11 @@
 -- The laws of archives.
-use Rattle.std.specs.Prelude.{◌≡◌, ◌≢◌, ◌⊎◌, ℕ, ◌≤◌, List, ◌++◌, length, map}
+use Rattle.std.specs.Prelude.{◌≡◌, ◌≢◌, ◌⊎◌, ℕ, ◌^◌, ◌<◌, ◌≤◌, List, ◌++◌, length, map}
 use Rattle.warc_frame.specs.Record.{Record, max_archive}
 use Rattle.warc_frame.specs.Spelling.{SpellsAll}
 use Rattle.warc_frame.specs.declared.fault.Fault.{Fault}
 use Rattle.warc_frame.specs.declared.fault.FaultKind.TheVariants.{Truncated}
 use Rattle.warc.specs.Archive.{AreGood, IsArchiveOf, IsFaultOf, contents}
+use Rattle.warc.specs.Checking.{findings_of_archive}
 use Rattle.warc.specs.Row.{Placed, Row, row_of}
 
 -- these good records are spelled by the bytes
@@ -34,3 +35,8 @@ FaultsAreStable = (bytes more : List ℕ) (fault : Fault) → IsFaultOf bytes fa
 
 abbrev pub OneFault : Type 0
 OneFault = (bytes : List ℕ) (one other : Fault) → IsFaultOf bytes one → IsFaultOf bytes other → one ≡ other
+
+-- an archive has fewer findings than 2^64
+abbrev pub FindingsAreCounted : Type 0
+FindingsAreCounted = (bytes : List ℕ) (rows : List Row) (is : IsArchiveOf bytes rows)
+    → length (findings_of_archive (contents is.are.records)) < 2 ^ 64

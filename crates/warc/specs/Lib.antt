@@ -9,6 +9,7 @@ pub mod Laws
 pub mod Listing
 pub mod Opening
 pub mod Program
+pub mod Putting
 pub mod Row
 pub mod Rows
 pub mod Seen

@@ -12,7 +12,8 @@ ghost use Rattle.warc.specs.Row.{Placed, row_of};
 ghost use Rattle.warc.specs.Checking.{about_record, check_text, findings_of_archive, findings_of_records, is_bad, line_text, numbered_line};
 ghost use Rattle.warc.specs.Examining.{HasFailed, HasHead, HasMet, AreCheckable, IsExamined, MayHaveFailed, found_by, record_text, records_text};
 ghost use Rattle.warc.specs.Heads.{ReadsHeads};
-ghost use Rattle.warc.specs.Seen.{tapped};
+ghost use Rattle.warc.specs.Putting.{Puts};
+ghost use Rattle.warc.specs.Seen.{seen, tapped};
 ghost use Rattle.warc.specs.Failing.{HasFailedBy, MayHaveFailedBy, failed_by, is_read};
 
 use crate::heads::{Halt, Reread, read_again};
@@ -99,11 +100,8 @@ fn put_parts<'a, W: Sink>(
     buffer: &mut OutBuffer,
     out: &mut W,
 ) -> Result<(), SendFault>
-    ensures out { (start : Option (List ℕ)) (output : List ℕ) → IsStaged start output (W.tells out.old) buffer.old →
-        OnOk result (IsStaged start (output ++ numbered_line (decimal position) number (space.now ++ field.now)) (W.tells out.new) buffer.new) }
-    ensures cut { (start : Option (List ℕ)) (output : List ℕ) → IsStaged start output (W.tells out.old) buffer.old →
-        IfErr result (λ e. WentOut start (output ++ numbered_line (decimal position) number (space.now ++ field.now)) (W.tells out.new) e.sent) }
-    ensures cause { W.faults out.new ≡ (if is_err result then raised (W.faults out.old) else W.faults out.old) }
+    ensures { Puts (seen (W.tells out.old) (W.faults out.old)) (seen (W.tells out.new) (W.faults out.new))
+        buffer.old buffer.new result (numbered_line (decimal position) number (space.now ++ field.now)) }
 {
     let (mut first, mut second) = (Buffer::new(), Buffer::new());
     let pieces = [
@@ -125,11 +123,8 @@ fn put_finding<W: Sink>(
     buffer: &mut OutBuffer,
     out: &mut W,
 ) -> Result<(), SendFault>
-    ensures out { (start : Option (List ℕ)) (output : List ℕ) → IsStaged start output (W.tells out.old) buffer.old →
-        OnOk result (IsStaged start (output ++ line_text (about_record position (finding_seen finding.now))) (W.tells out.new) buffer.new) }
-    ensures cut { (start : Option (List ℕ)) (output : List ℕ) → IsStaged start output (W.tells out.old) buffer.old →
-        IfErr result (λ e. WentOut start (output ++ line_text (about_record position (finding_seen finding.now))) (W.tells out.new) e.sent) }
-    ensures cause { W.faults out.new ≡ (if is_err result then raised (W.faults out.old) else W.faults out.old) }
+    ensures { Puts (seen (W.tells out.old) (W.faults out.old)) (seen (W.tells out.new) (W.faults out.new))
+        buffer.old buffer.new result (line_text (about_record position (finding_seen finding.now))) }
 {
     match finding.field {
         Some(name) => put_parts(position, finding.number, b" ", name, buffer, out),
@@ -144,11 +139,8 @@ fn put_findings<W: Sink>(
     buffer: &mut OutBuffer,
     out: &mut W,
 ) -> Result<(), SendFault>
-    ensures out { (start : Option (List ℕ)) (output : List ℕ) → IsStaged start output (W.tells out.old) buffer.old →
-        OnOk result (IsStaged start (output ++ record_text position (map finding_seen found.now)) (W.tells out.new) buffer.new) }
-    ensures cut { (start : Option (List ℕ)) (output : List ℕ) → IsStaged start output (W.tells out.old) buffer.old →
-        IfErr result (λ e. WentOut start (output ++ record_text position (map finding_seen found.now)) (W.tells out.new) e.sent) }
-    ensures cause { W.faults out.new ≡ (if is_err result then raised (W.faults out.old) else W.faults out.old) }
+    ensures { Puts (seen (W.tells out.old) (W.faults out.old)) (seen (W.tells out.new) (W.faults out.new))
+        buffer.old buffer.new result (record_text position (map finding_seen found.now)) }
 {
     went_out_of_longer();
     'putting: for finding in found {
@@ -160,18 +152,18 @@ fn put_findings<W: Sink>(
 /// Adds the lines of an examined record to the output, and answers their number.
 fn put_examined<A: Allocator + Copy, W: Sink>(
     alloc: A,
-    examined: &Examined<A>,
+    examined: Examined<A>,
     position: u64,
     block_len: u64,
     buffer: &mut OutBuffer,
     out: &mut W,
 ) -> Result<usize, OutFault>
-    requires { said examined.now.reread.typed ≡ reading_of examined.now.reread.fields }
+    requires { said examined.reread.typed ≡ reading_of examined.reread.fields }
     ensures out { (start : Option (List ℕ)) (output : List ℕ) → IsStaged start output (W.tells out.old) buffer.old →
-        OnOk result (IsStaged start (output ++ record_text position (found_by examined.now.reread.fields block_len examined.now.facts)) (W.tells out.new) buffer.new) }
+        OnOk result (IsStaged start (output ++ record_text position (found_by examined.reread.fields block_len examined.facts)) (W.tells out.new) buffer.new) }
     ensures cut { (start : Option (List ℕ)) (output : List ℕ) → IsStaged start output (W.tells out.old) buffer.old →
-        IfErr result (λ e. WentOut start (output ++ record_text position (found_by examined.now.reread.fields block_len examined.now.facts)) (W.tells out.new) (sent_of e)) }
-    ensures number { IfOk result (λ n. n ≡ length (found_by examined.now.reread.fields block_len examined.now.facts)) }
+        IfErr result (λ e. WentOut start (output ++ record_text position (found_by examined.reread.fields block_len examined.facts)) (W.tells out.new) (sent_of e)) }
+    ensures number { IfOk result (λ n. n ≡ length (found_by examined.reread.fields block_len examined.facts)) }
     ensures cause { W.faults out.new ≡ failed_by result (W.faults out.old) }
     ensures unread { IfErr result (λ e. is_read e ≡ false) }
 {
@@ -191,27 +183,6 @@ fn put_examined<A: Allocator + Copy, W: Sink>(
         Ok(()) => Ok(found.len()),
         Err(fault) => Err(OutFault::Write(fault.sent)),
     }
-}
-
-/// Adds the lines of an examined record to the output, and answers their number.
-fn put_record<A: Allocator + Copy, W: Sink>(
-    alloc: A,
-    examined: Examined<A>,
-    position: u64,
-    block_len: u64,
-    buffer: &mut OutBuffer,
-    out: &mut W,
-) -> Result<usize, OutFault>
-    requires { said examined.reread.typed ≡ reading_of examined.reread.fields }
-    ensures out { (start : Option (List ℕ)) (output : List ℕ) → IsStaged start output (W.tells out.old) buffer.old →
-        OnOk result (IsStaged start (output ++ record_text position (found_by examined.reread.fields block_len examined.facts)) (W.tells out.new) buffer.new) }
-    ensures cut { (start : Option (List ℕ)) (output : List ℕ) → IsStaged start output (W.tells out.old) buffer.old →
-        IfErr result (λ e. WentOut start (output ++ record_text position (found_by examined.reread.fields block_len examined.facts)) (W.tells out.new) (sent_of e)) }
-    ensures number { IfOk result (λ n. n ≡ length (found_by examined.reread.fields block_len examined.facts)) }
-    ensures cause { W.faults out.new ≡ failed_by result (W.faults out.old) }
-    ensures unread { IfErr result (λ e. is_read e ≡ false) }
-{
-    put_examined(alloc, &examined, position, block_len, buffer, out)
 }
 
 /// Adds the lines of all records' findings to the output, and answers their number, up to 2^64 - 1.
@@ -258,7 +229,7 @@ fn put_records<S: Source, A: Allocator + Copy, W: Sink>(
             Ok(examined) => examined,
             Err(halt) => return Err(halt.after(buffer.sent())),
         };
-        let number = put_record(alloc, examined, position as u64, row.block_len, buffer, out)?;
+        let number = put_examined(alloc, examined, position as u64, row.block_len, buffer, out)?;
         count = count.saturating_add(number);
     }
     Ok(count)

@@ -1,5 +1,5 @@
 //! Laws over the definitions: each function does nothing, and its contract is the law.
-ghost use Rattle.warc.specs.Laws.{ArchivesSpell, FaultsAreStable, NoFaultWhereSpelled, OneFault, SomeFaultElse};
+ghost use Rattle.warc.specs.Laws.{ArchivesSpell, FaultsAreStable, FindingsAreCounted, NoFaultWhereSpelled, OneFault, SomeFaultElse};
 
 /// An archive spells good records, in their order, and has a row for each.
 pub fn an_archive_spells_its_records()
@@ -20,4 +20,9 @@ pub fn faults_are_stable()
 /// Bytes have at most one first fault.
 pub fn first_fault_is_unique()
     ensures { OneFault }
+{}
+
+/// An archive has fewer findings than 2^64, so that they are counted exactly.
+pub fn findings_are_counted()
+    ensures { FindingsAreCounted }
 {}

@@ -1,7 +1,7 @@
 //! An archive over the source that holds its bytes.
 ghost use Rattle.std.specs.Prelude.{◌≡◌, ℕ, List, length, Some, IfOk, IfErr, OnOk, is_err, if◌then◌else◌};
 ghost use Rattle.std.specs.Io.KnownBytes.{append_known};
-ghost use Rattle.warc_frame.specs.Count.{capped, raised};
+ghost use Rattle.warc_frame.specs.Count.{raised};
 ghost use Rattle.warc_frame.specs.Send.{WentOut, sent_of};
 ghost use Rattle.warc.specs.Archive.{IsArchiveOf, contents, rows_of, source_of};
 ghost use Rattle.warc.specs.Checking.{check_text, findings_of_archive};
@@ -89,7 +89,7 @@ impl<S: Source, A: Allocator + Copy> Archive<S, A> {
     }
 
     /// Writes a line for each finding, by the position of its record, then by its number, then by the
-    /// order of the field table, and answers how many there are, up to 2^64 - 1: `0 N2 WARC-Target-URI`,
+    /// order of the field table, and answers how many there are: `0 N2 WARC-Target-URI`,
     /// `1 N6`, or `- N12` for an archive without records. Each head is read again.
     ///
     /// A read that fails, or a source that no longer gives what it gave at opening, is `Read`; a
@@ -99,7 +99,7 @@ impl<S: Source, A: Allocator + Copy> Archive<S, A> {
         ensures told { (bytes : List ℕ) → S.holds self.old.source ≡ Some bytes → (is : IsArchiveOf bytes self.old.rows) →
             OnOk result (W.tells out.new ≡ append_known (W.tells out.old) (check_text (contents is.are.records))) }
         ensures number { (bytes : List ℕ) → S.holds self.old.source ≡ Some bytes → (is : IsArchiveOf bytes self.old.rows) →
-            IfOk result (λ n. n ≡ capped (length (findings_of_archive (contents is.are.records)))) }
+            IfOk result (λ n. n ≡ length (findings_of_archive (contents is.are.records))) }
         ensures cut { (bytes : List ℕ) → S.holds self.old.source ≡ Some bytes → (is : IsArchiveOf bytes self.old.rows) →
             IfErr result (λ e. WentOut (W.tells out.old) (check_text (contents is.are.records)) (W.tells out.new) (sent_of e)) }
 

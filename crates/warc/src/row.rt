@@ -1,9 +1,9 @@
 //! The line that `list` writes for a record.
-ghost use Rattle.std.specs.Prelude.{◌≡◌, ◌++◌, ℕ, List, IfErr, OnOk, Option, map, is_err, if◌then◌else◌};
+ghost use Rattle.std.specs.Prelude.{◌≡◌, map};
 ghost use Rattle.std.specs.List.{concat};
-ghost use Rattle.warc_frame.specs.Count.{raised};
-ghost use Rattle.warc_frame.specs.Send.{IsStaged, WentOut};
 ghost use Rattle.warc.specs.Listing.{line_of, shown};
+ghost use Rattle.warc.specs.Putting.{Puts};
+ghost use Rattle.warc.specs.Seen.{seen};
 
 use crate::rows::Row;
 use itoa::Buffer;
@@ -16,11 +16,8 @@ pub(crate) fn put_line<W: Sink>(
     buffer: &mut OutBuffer,
     out: &mut W,
 ) -> Result<(), SendFault>
-    ensures out { (start : Option (List ℕ)) (output : List ℕ) → IsStaged start output (W.tells out.old) buffer.old →
-        OnOk result (IsStaged start (output ++ line_of position row.now) (W.tells out.new) buffer.new) }
-    ensures cut { (start : Option (List ℕ)) (output : List ℕ) → IsStaged start output (W.tells out.old) buffer.old →
-        IfErr result (λ e. WentOut start (output ++ line_of position row.now) (W.tells out.new) e.sent) }
-    ensures cause { W.faults out.new ≡ (if is_err result then raised (W.faults out.old) else W.faults out.old) }
+    ensures { Puts (seen (W.tells out.old) (W.faults out.old)) (seen (W.tells out.new) (W.faults out.new))
+        buffer.old buffer.new result (line_of position row.now) }
 {
     let (mut first, mut second, mut third) = (Buffer::new(), Buffer::new(), Buffer::new());
     let pieces = [
@@ -55,11 +52,8 @@ pub(crate) fn put_all<W: Sink>(
     buffer: &mut OutBuffer,
     out: &mut W,
 ) -> Result<(), SendFault>
-    ensures out { (start : Option (List ℕ)) (output : List ℕ) → IsStaged start output (W.tells out.old) buffer.old →
-        OnOk result (IsStaged start (output ++ concat (map (λ p. p.now) pieces.now)) (W.tells out.new) buffer.new) }
-    ensures cut { (start : Option (List ℕ)) (output : List ℕ) → IsStaged start output (W.tells out.old) buffer.old →
-        IfErr result (λ e. WentOut start (output ++ concat (map (λ p. p.now) pieces.now)) (W.tells out.new) e.sent) }
-    ensures cause { W.faults out.new ≡ (if is_err result then raised (W.faults out.old) else W.faults out.old) }
+    ensures { Puts (seen (W.tells out.old) (W.faults out.old)) (seen (W.tells out.new) (W.faults out.new))
+        buffer.old buffer.new result (concat (map (λ p. p.now) pieces.now)) }
 {
     'putting: for piece in pieces {
         buffer.put(out, piece)?;

@@ -1,12 +1,11 @@
 //! A small buffer before a sink.
-ghost use Rattle.std.specs.Prelude.{◌≡◌, ℕ, ◌+◌, ◌<◌, List, [], ◌++◌, length, decimal, Option, Result, OnOk, IfErr, is_err, if◌then◌else◌};
+ghost use Rattle.std.specs.Prelude.{◌≡◌, ℕ, ◌+◌, ◌<◌, List, [], ◌++◌, length, Option, Result, OnOk, IfErr, is_err, if◌then◌else◌};
 ghost use Rattle.std.specs.Io.KnownBytes.{append_known};
 ghost use Rattle.warc_frame.specs.Count.{raised, capped};
 ghost use Rattle.warc_frame.specs.Send.{count_sent, WentOut, IsStaged};
 
 use crate::send::{SendFault, send_all};
 use crate::sink::Sink;
-use itoa::Buffer;
 use std::marker::Model;
 
 /// How many bytes the buffer holds.
@@ -130,18 +129,5 @@ impl OutBuffer {
         self.bytes[self.len..end].copy_from_slice(piece);
         self.len = end;
         Ok(())
-    }
-
-    /// Adds a number to the output, in decimal digits.
-    pub fn put_number<W: Sink>(&mut self, out: &mut W, number: u64) -> Result<(), SendFault>
-        ensures out { (start : Option (List ℕ)) (output : List ℕ) → IsStaged start output (W.tells out.old) self.old →
-            OnOk result (IsStaged start (output ++ decimal number) (W.tells out.new) self.new) }
-        ensures cut { (start : Option (List ℕ)) (output : List ℕ) → IsStaged start output (W.tells out.old) self.old →
-            IfErr result (λ e. WentOut start (output ++ decimal number) (W.tells out.new) e.sent) }
-        ensures failed { IfErr result (λ e. self.new ≡ record { bytes = []; sent = e.sent }) }
-        ensures cause { W.faults out.new ≡ (if is_err result then raised (W.faults out.old) else W.faults out.old) }
-    {
-        let mut digits = Buffer::new();
-        self.put(out, digits.format(number).as_bytes())
     }
 }

@@ -2,6 +2,7 @@ mod UuidLemmas
 mod ValueLemmas
 mod HeadLemmas
 pub mod GoodLemmas
+pub mod CountLemmas
 mod FindingLemmas
 mod ListedLemmas
 pub mod LawLemmas

@@ -1,6 +1,6 @@
 -- What the findings of a record are, one by one: a finding is listed exactly where the sentence of its number holds, and
 -- the numbers never fall. Findings are this project's own notion.
-use Rattle.std.specs.Prelude.{◌≡◌, ◌⊎◌, ◌↔◌, ℕ, ◌≤◌, Bool, false, ◌&&◌, List, [], ◌∷◌, IsTrue, None}
+use Rattle.std.specs.Prelude.{◌≡◌, ◌⊎◌, ◌↔◌, ℕ, ◌+◌, ◌≤◌, Bool, false, ◌&&◌, List, [], ◌∷◌, length, IsTrue, None}
 use Rattle.std.specs.List.{AllPairs, Contains}
 use Rattle.std.specs.Str.{is_utf8}
 use Rattle.warc_field.specs.Area.{Pair}
@@ -9,7 +9,7 @@ use Rattle.warc_record.specs.declared.checks.TableCheck.{TableCheck}
 use Rattle.warc_record.specs.Kinds.{is_known}
 use Rattle.warc_record.specs.Readings.{Reading}
 use Rattle.warc_record.specs.Table.{Rule, rules}
-use Rattle.warc_record.specs.Findings.{Found, about, is_broken, check_number, has_bad_segment, lacks_content_type, has_unknown_profile, has_bare_id, lacks_origin, findings_by}
+use Rattle.warc_record.specs.Findings.{Found, about, is_broken, check_number, has_bad_segment, lacks_content_type, has_unknown_profile, has_bare_id, lacks_origin, findings_by, findings_of}
 
 -- it is about the field of a rule of the table, which is absent, forbidden or repeated
 abbrev pub IsByTable : TableCheck → Kind → List Pair → Found → Type 0
@@ -58,3 +58,8 @@ abbrev pub NumbersNeverFall : Type 0
 NumbersNeverFall =
     (reading : Reading) (fields : List Pair) (size : ℕ) (bad_digest used_id : Bool)
     → AllPairs (λ a b. a.number ≤ b.number) (findings_by reading fields size bad_digest used_id)
+
+-- a record has at most 58 findings and one for each of its fields
+abbrev pub FindingsAreFew : Type 0
+FindingsAreFew = (fields : List Pair) (size : ℕ) (bad_digest used_id : Bool)
+    → length (findings_of fields size bad_digest used_id) ≤ length fields + 58

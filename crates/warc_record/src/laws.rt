@@ -2,7 +2,7 @@
 
 ghost use Rattle.warc_record.specs.Ids.{BareTextsAreBare, BareTextsAreNoLonger, BareTextsAreValues, KeysAreEqualForSameIds, KeysAreNoLonger};
 ghost use Rattle.warc_record.specs.Good.{GoodHeadsHaveNoFault, GoodHeadsRead};
-ghost use Rattle.warc_record.specs.FindingLaws.{ListedWhereTheyHold, NumbersNeverFall};
+ghost use Rattle.warc_record.specs.FindingLaws.{FindingsAreFew, ListedWhereTheyHold, NumbersNeverFall};
 
 /// The bare text of a value is a value, its own bare text, and no longer.
 pub fn bare_texts_of_values()
@@ -34,6 +34,11 @@ pub fn good_heads_read()
 /// A finding is listed exactly where what its number stands for holds of the record.
 pub fn listed_where_they_hold()
     ensures { ListedWhereTheyHold }
+{}
+
+/// A record has at most 58 findings and one for each of its fields.
+pub fn findings_are_few()
+    ensures { FindingsAreFew }
 {}
 
 /// The numbers of a record's findings never fall.

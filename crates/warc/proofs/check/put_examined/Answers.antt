@@ -1,4 +1,5 @@
-use Rattle.std.proofs.Common.{◌++◌, map, ap, ◌∙◌}
+use Rattle.std.proofs.Common.{◌++◌, length, map, ap, ◌∙◌, arith}
+use Rattle.std.proofs.lemmas.List.{length-map}
 use Rattle.warc_record.specs.Findings.{finding_seen}
 use Rattle.warc.specs.Examining.{record_text}
 use Rattle.warc.proofs.LineLemmas.{same_out, same_staged}
@@ -18,3 +19,8 @@ pub returns-clause-cut : goal.returns-clause-cut
 returns-clause-cut g c = λ start output is.
     let found = ap (map finding_seen) c.deref.ensures.value ∙ c.in-Ok.ensures c.requires in
     same_out (ap (λ l. output ++ record_text c.args.position l) found) (c.in-Err.ensures.cut start output is)
+
+pub returns-in-Ok-put_findings-clause-number : goal.returns-in-Ok-put_findings-clause-number
+returns-in-Ok-put_findings-clause-number g c =
+    let found = c.in-Ok.ensures c.requires in
+    omega (arith, c.len.ensures, c.in-Ok.found.ok.0, ap length found, length-map c.in-Ok.found.items finding_seen)

@@ -5,15 +5,19 @@ use Rattle.warc.proofs.CheckLemmas.{findings_more, findings_rest}
 use Rattle.warc.proofs.LineLemmas.{same_out, same_staged}
 use Rattle.warc.proofs.check.put_findings.Goals as goal
 
-pub returns-in_err-put_finding-clause-cut : goal.returns-in_err-put_finding-clause-cut
-returns-in_err-put_finding-clause-cut g c = λ start output is.
-    let found = c.args.found.now in
-    let i = c.putting.finding-index in
-    let rest = record_text c.args.position (map finding_seen (drop (i + 1) found)) in
-    let cut = c.went_out_of_longer.ensures start _ _ rest _ (c.in_err-put_finding.ensures.cut start _ (c.putting.invariant.staged start output is)) in
-    let more = findings_more finding_seen c.args.position found i (record { number = 0; field = None }) output c.putting-test.true in
-    let whole = same_out (ap (λ l. l ++ rest) more ∙ findings_rest finding_seen c.args.position found (i + 1) output) cut in
-    search rules
+pub returns-in_err-put_finding : goal.returns-in_err-put_finding
+returns-in_err-put_finding g c = record {
+  out = search rules;
+  cut = λ start output is.
+      let found = c.args.found.now in
+      let i = c.putting.finding-index in
+      let rest = record_text c.args.position (map finding_seen (drop (i + 1) found)) in
+      let cut = c.went_out_of_longer.ensures start _ _ rest _ (c.in_err-put_finding.ensures.cut start _ (c.putting.invariant.staged start output is)) in
+      let more = findings_more finding_seen c.args.position found i (record { number = 0; field = None }) output c.putting-test.true in
+      let whole = same_out (ap (λ l. l ++ rest) more ∙ findings_rest finding_seen c.args.position found (i + 1) output) cut in
+      search rules;
+  cause = search rules;
+}
 
 pub putting-preserved : goal.putting-preserved
 putting-preserved g c = record {

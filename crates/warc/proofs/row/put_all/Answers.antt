@@ -3,14 +3,18 @@ use Rattle.std.specs.List.{concat}
 use Rattle.warc.proofs.LineLemmas.{longer, pieces_more, pieces_rest, same_out, same_staged}
 use Rattle.warc.proofs.row.put_all.Goals as goal
 
-pub returns-in_err-put-clause-cut : goal.returns-in_err-put-clause-cut
-returns-in_err-put-clause-cut g c = λ start output is.
-    let pieces = c.args.pieces.now in
-    let i = c.putting.piece-index in
-    let cut = c.in_err-put.ensures.cut start _ (c.putting.invariant.staged start output is) in
-    let more = pieces_more output pieces i (record { ref_ptr = (0, 0); now = [] }) c.putting-test.true in
-    let whole = same_out (ap (λ l. l ++ concat (map (λ p. p.now) (drop (i + 1) pieces))) more ∙ pieces_rest output pieces (i + 1)) (longer _ cut) in
-    search rules
+pub returns-in_err-put : goal.returns-in_err-put
+returns-in_err-put g c = record {
+  out = search rules;
+  cut = λ start output is.
+      let pieces = c.args.pieces.now in
+      let i = c.putting.piece-index in
+      let cut = c.in_err-put.ensures.cut start _ (c.putting.invariant.staged start output is) in
+      let more = pieces_more output pieces i (record { ref_ptr = (0, 0); now = [] }) c.putting-test.true in
+      let whole = same_out (ap (λ l. l ++ concat (map (λ p. p.now) (drop (i + 1) pieces))) more ∙ pieces_rest output pieces (i + 1)) (longer _ cut) in
+      search rules;
+  cause = search rules;
+}
 
 pub putting-preserved : goal.putting-preserved
 putting-preserved g c = record {

@@ -1,12 +1,11 @@
-use Rattle.std.proofs.Common.{◌++◌, decimal, ap, ◌∙◌}
-use Rattle.std.proofs.lemmas.Result.{IfErr-weaker, on_ok_weaker}
+use Rattle.std.proofs.Common.{decimal, ap, ◌∙◌}
 use Rattle.warc.specs.Listing.{shown}
 use Rattle.warc.specs.Row.{Row}
-use Rattle.warc.proofs.LineLemmas.{line_from, same_out, same_staged}
+use Rattle.warc.proofs.LineLemmas.{line_from, puts_same}
 use Rattle.warc.proofs.row.put_line.Goals as goal
 
-pub returns-clause-out : goal.returns-clause-out
-returns-clause-out g c = λ start output is.
+pub returns : goal.returns
+returns g c =
     let inside = c.row.view_is in
     let line = line_from c.args.position c.args.row.now c.as_bytes.result.now c.as_bytes-2.result.now c.as_bytes-3.result.now
     c.row.inside.kind.now c.row.inside.date.now c.row.inside.id.now c.shown_as.result.now
@@ -17,18 +16,4 @@ returns-clause-out g c = λ start output is.
     (ap (λ (r : Row). r.date) inside)
     (ap (λ (r : Row). r.id) inside)
     (c.shown_as.ensures ∙ ap (λ (r : Row). shown r.target) inside) in
-    on_ok_weaker c.put_all.result (same_staged (ap (λ l. output ++ l) line)) (c.put_all.ensures.out start output is)
-
-pub returns-clause-cut : goal.returns-clause-cut
-returns-clause-cut g c = λ start output is.
-    let inside = c.row.view_is in
-    let line = line_from c.args.position c.args.row.now c.as_bytes.result.now c.as_bytes-2.result.now c.as_bytes-3.result.now
-    c.row.inside.kind.now c.row.inside.date.now c.row.inside.id.now c.shown_as.result.now
-    (c.as_bytes.ensures.value ∙ c.format.ensures.text)
-    (c.as_bytes-2.ensures.value ∙ c.format-2.ensures.text ∙ ap (λ (r : Row). decimal r.offset) inside)
-    (c.as_bytes-3.ensures.value ∙ c.format-3.ensures.text ∙ ap (λ (r : Row). decimal r.block_len) inside)
-    (ap (λ (r : Row). r.kind) inside)
-    (ap (λ (r : Row). r.date) inside)
-    (ap (λ (r : Row). r.id) inside)
-    (c.shown_as.ensures ∙ ap (λ (r : Row). shown r.target) inside) in
-    IfErr-weaker c.put_all.result _ _ (λ e out. same_out (ap (λ l. output ++ l) line) out) (c.put_all.ensures.cut start output is)
+    puts_same line c.put_all.ensures

@@ -1,4 +1,6 @@
 use Rattle.std.proofs.Common.{ap, ◌∙◌}
+use Rattle.std.proofs.lemmas.Result.{IfOk-weaker}
+use Rattle.warc.proofs.CountLemmas.{counted}
 use Rattle.warc.proofs.PlaceLemmas.{checkable_archive, same_rows, same_source}
 use Rattle.warc.proofs.reader.Archive.check.Goals as goal
 
@@ -10,7 +12,8 @@ returns-clause-told g c = λ bytes held is.
 pub returns-clause-number : goal.returns-clause-number
 returns-clause-number g c = λ bytes held is.
     let can = checkable_archive c.head_of_spelled.ensures bytes _ is c.self.inside.rows (same_rows c.self.view_is) in
-    c.check_rows.ensures.number bytes is.are.records (ap g.S.Source.holds (same_source c.self.view_is) ∙ held) can
+    IfOk-weaker c.check_rows.result _ _ (λ n e. e ∙ counted bytes _ is)
+    (c.check_rows.ensures.number bytes is.are.records (ap g.S.Source.holds (same_source c.self.view_is) ∙ held) can)
 
 pub returns-clause-cut : goal.returns-clause-cut
 returns-clause-cut g c = λ bytes held is.
