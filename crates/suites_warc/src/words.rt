@@ -83,7 +83,10 @@ fn help_and_version_are_asked_for(rt: HostRuntime) {
             text.as_str()
                 .contains("Example: warc list examples/abc.warc")
         );
-        assert!(rt; text.as_str().contains("gunzip -c a.warc.gz | warc list /dev/stdin"));
+        assert!(rt;
+            text.as_str()
+                .contains("gunzip -c a.warc.gz | warc list /dev/stdin")
+        );
     }
     for words in [
         ["warc", "list", "--help"].as_slice(),
@@ -108,8 +111,14 @@ fn help_and_version_are_asked_for(rt: HostRuntime) {
         return;
     };
     assert!(rt; asked);
-    assert!(rt; text.as_str().contains("'- N12' is an archive of no records"));
-    assert!(rt; text.as_str().contains("Exit status: 0 nothing was found; 1 something was"));
+    assert!(rt;
+        text.as_str()
+            .contains("'- N12' is an archive of no records")
+    );
+    assert!(rt;
+        text.as_str()
+            .contains("Exit status: 0 nothing was found; 1 something was")
+    );
     let Some((text, asked)) = answer(&rt, &["warc", "--version"]) else {
         assert!(rt; false);
         return;
