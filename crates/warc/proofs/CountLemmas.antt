@@ -1,5 +1,5 @@
 -- How many findings an archive has at most.
-use Rattle.std.proofs.Common.{◌≡◌, ℕ, ◌+◌, ◌-◌, ◌*◌, ◌^◌, ◌<◌, ◌≤◌, Bool, List, [], ◌∷◌, ◌++◌, length, map, min, take, refl, length-append, ap, ◌∙◌, arith}
+use Rattle.std.proofs.Common.{◌≡◌, ℕ, ◌+◌, ◌*◌, ◌^◌, ◌<◌, ◌≤◌, List, [], ◌∷◌, ◌++◌, length, take, refl, length-append, ap, arith}
 use Rattle.std.proofs.lemmas.List.{length-map}
 use Rattle.std.specs.List.{enumerate_from, flat_map}
 use Rattle.warc_field.specs.Area.{Pair, canonical_fields, canonical_line}
@@ -8,11 +8,10 @@ use Rattle.warc_frame.specs.Count.{capped}
 use Rattle.warc_frame.specs.Record.{Record, IsFramed, canonical_len, head_text, max_archive}
 use Rattle.warc_frame.specs.Spelling.{Spells, SpellsAll}
 use Rattle.warc_frame.specs.VersionLine.{version_line}
-use Rattle.warc_record.specs.Findings.{Found, findings_of}
 use Rattle.warc_record.specs.Good.{IsGood}
 use Rattle.warc_record.proofs.CountLemmas.{findings_are_few}
 use Rattle.warc.specs.Archive.{AreGood, IsArchiveOf, contents}
-use Rattle.warc.specs.Checking.{Line, about_record, findings_at, findings_behind, findings_of_archive, findings_of_records, has_bad_digest, is_used, key_of}
+use Rattle.warc.specs.Checking.{about_record, findings_at, findings_behind, findings_of_archive, findings_of_records, has_bad_digest, is_used, key_of}
 use Rattle.warc.specs.Laws.{FindingsAreCounted}
 use Rattle.warc.specs.Row.{Row}
 use Rattle.warc.proofs.StreamLemmas.{spells_all}

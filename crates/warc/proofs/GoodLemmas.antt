@@ -3,7 +3,6 @@ use Rattle.std.proofs.Common.{List, [], ◌∷◌}
 use Rattle.warc_frame.specs.Faults.{AllAccepted}
 use Rattle.warc_frame.specs.Record.{Record}
 use Rattle.warc_frame.specs.Spelling.{SpellsAll}
-use Rattle.warc_record.specs.Good.{IsGood}
 use Rattle.warc_record.specs.Heads.{head_fault}
 use Rattle.warc_record.proofs.GoodLemmas.{good_heads_have_no_fault}
 use Rattle.warc.specs.Archive.{AreGood}

@@ -1,12 +1,12 @@
 -- The laws of archives.
-use Rattle.std.proofs.Common.{◌≡◌, ◌⊎◌, inl, inr, ℕ, ◌+◌, ◌≤◌, List, length, arith}
+use Rattle.std.proofs.Common.{◌⊎◌, inl, inr, ℕ, List, arith}
 use Rattle.warc_frame.specs.Faults.{AllAccepted}
-use Rattle.warc_frame.specs.Record.{Record, max_archive}
+use Rattle.warc_frame.specs.Record.{Record}
 use Rattle.warc_frame.specs.Spelling.{SpellsAll}
 use Rattle.warc_frame.specs.declared.fault.Fault.{Fault}
 use Rattle.warc_frame.proofs.LawLemmas.{no_fault_where_spelled, no_fault_where_spelled-or, faults_are_stable as frame_faults_are_stable, first_fault_is_unique as frame_fault_is_unique}
 use Rattle.warc_record.specs.Heads.{head_fault}
-use Rattle.warc.specs.Archive.{IsFaultOf, contents}
+use Rattle.warc.specs.Archive.{IsFaultOf}
 use Rattle.warc.specs.Laws.{AreSpelledBy, ArchivesSpell, FaultsAreStable, NoFaultWhereSpelled, OneFault, SomeFaultElse}
 use Rattle.warc.proofs.GoodLemmas.{accepted, are_good}
 use Rattle.warc.proofs.StreamLemmas.{spells_all}

@@ -1,5 +1,5 @@
 -- How the reading of a source ends.
-use Rattle.std.proofs.Common.{◌≡◌, ◌≢◌, ℕ, ◌+◌, ◌-◌, ◌<◌, ◌≤◌, ◌⊎◌, inl, inr, Bool, true, false, List, [], ◌∷◌, ◌++◌, length, take, drop, nat_lt, if◌then◌else◌, Option, Some, Result, Ok, Err, IfErr, MatchResult, refl, sym, ap, subst, ◌∙◌, arith, length-append}
+use Rattle.std.proofs.Common.{◌≡◌, ◌≢◌, ℕ, ◌+◌, ◌-◌, ◌<◌, ◌≤◌, inl, inr, Bool, true, false, List, [], ◌∷◌, ◌++◌, length, take, drop, if◌then◌else◌, Some, Result, Ok, Err, MatchResult, refl, sym, ap, subst, ◌∙◌, arith, length-append}
 use Rattle.std.proofs.Math.Seq.{drop-append_seam}
 use Rattle.std.proofs.lemmas.List.{append_assoc, append-nil, length-take, take-append-drop}
 use Rattle.warc_frame.specs.Count.{raised}
@@ -15,7 +15,7 @@ use Rattle.warc_frame.proofs.JudgedLemmas.{truncated}
 use Rattle.warc_frame.proofs.LawLemmas.{first_fault_is_unique, no_fault_where_spelled}
 use Rattle.warc_record.specs.Heads.{head_fault}
 use Rattle.warc.specs.Archive.{IsArchiveOf, IsFaultOf, IsRecordEnd}
-use Rattle.warc.specs.Opening.{IsOnlyCut, IsRefusalOf, IsUnkept, Opens, RefusesBy, faults_after}
+use Rattle.warc.specs.Opening.{IsOnlyCut, IsRefusalOf, IsUnkept, Opens, RefusesBy}
 use Rattle.warc.specs.Row.{Row}
 use Rattle.warc.specs.Seen.{AsksOnly, Tapped}
 use Rattle.warc.specs.Stream.{BeginsSince, HasGiven, HasRead, IsReadAt, StaysBy, StaysRefused, WantsSince}

@@ -1,4 +1,5 @@
--- What a record's head is when it is read again, and what reading it again may answer.
+-- What a record's head is when it is read again, and what reading it again may answer. States of the code: no public clause
+-- cites them.
 use Rattle.std.specs.Prelude.{◌≡◌, ℕ, ◌+◌, ◌≤◌, ◌⊎◌, List, length, map, take, slice_get, slice_range, Ok, Some, None}
 use Rattle.std.specs.BTreeSet.{BTreeSet, contains}
 use Rattle.std.specs.Cmp.Lexicographic.{slice_cmp}

@@ -1,5 +1,6 @@
 pub mod Archive
 pub mod Checking
+pub mod Checks
 pub mod Command
 pub mod CommandLine
 pub mod Examining

@@ -1,5 +1,5 @@
 -- What opening a source reads of it, and when it gives rows or refuses.
-use Rattle.std.specs.Prelude.{◌≡◌, ℕ, ◌+◌, ◌≤◌, ◌<◌, ◌^◌, ◌⊎◌, List, length, take, drop, Result, IfOk, IfErr, MatchResult}
+use Rattle.std.specs.Prelude.{◌≡◌, ℕ, ◌+◌, ◌≤◌, ◌<◌, ◌⊎◌, List, length, take, drop, Result, IfOk, IfErr, MatchResult}
 use Rattle.warc_frame.specs.Count.{raised}
 use Rattle.warc_frame.specs.Record.{max_archive}
 use Rattle.warc_frame.specs.Told.{IsCut}

@@ -1,5 +1,5 @@
 -- How a run of the program ends: what went to its two sinks, and its exit status.
-use Rattle.std.specs.Prelude.{◌≡◌, ℕ, ◌+◌, ◌^◌, ◌<◌, ◌≤◌, List, [], ◌∷◌, ◌++◌, length, take, codes, Option, Some, Err, ◌⊎◌, true, false, string_bytes}
+use Rattle.std.specs.Prelude.{◌≡◌, ℕ, ◌+◌, ◌^◌, ◌<◌, ◌≤◌, List, [], ◌∷◌, ◌++◌, length, take, codes, Err, ◌⊎◌, true, false, string_bytes}
 use Rattle.std.specs.Io.KnownBytes.{append_known}
 use Rattle.warc_frame.specs.Count.{raised}
 use Rattle.warc_frame.specs.FaultText.{fault_text, out_fault_text}

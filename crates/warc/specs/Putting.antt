@@ -1,4 +1,4 @@
--- What adding a text to an output does. These are states of the code: no public clause cites them.
+-- What adding a text to an output does. States of the code: no public clause cites them.
 use Rattle.std.specs.Prelude.{◌≡◌, ℕ, List, ◌++◌, Option, Result, IfErr, OnOk, is_err, if◌then◌else◌}
 use Rattle.warc_frame.specs.Count.{raised}
 use Rattle.warc_frame.specs.Device.{Staged}

@@ -1,4 +1,4 @@
--- What the flat lists of an archive hold.
+-- What the flat lists of an archive hold. States of the code: no public clause cites them.
 use Rattle.std.specs.Prelude.{ℕ, ◌≤◌, List, slice_range}
 use Rattle.std.specs.List.{AllByRecursion}
 use Rattle.warc.specs.Row.{Row}

@@ -1,4 +1,4 @@
--- What is kept of an archive while it is read as a stream.
+-- What is kept of an archive while it is read as a stream. States of the code: no public clause cites them.
 use Rattle.std.specs.Prelude.{◌≡◌, ℕ, ◌+◌, ◌<◌, ◌≤◌, ◌⊎◌, Bool, List, [], ◌++◌, length, map, take, Option, Some, None, unwrap_or, if◌then◌else◌}
 use Rattle.warc_field.specs.Area.{Pair}
 use Rattle.warc_value.specs.Digests.{verdict_of}

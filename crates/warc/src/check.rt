@@ -69,7 +69,8 @@ fn examine<S: Source, A: Allocator + Copy>(
         (tapped (S.holds source.new) (S.faults source.new) (S.reads source.new) (S.asked source.new)
         (S.watches source.new) (S.strays source.new)) }
     ensures may { IfErr result (λ halt. MayHaveFailed halt (S.faults source.old) (S.faults source.new)) }
-    ensures failed { (bytes : List ℕ) (p : Placed) → S.holds source.old ≡ Some bytes → HasHead bytes p → row.now ≡ row_of p →
+    ensures failed { (bytes : List ℕ) (p : Placed) →
+        S.holds source.old ≡ Some bytes → HasHead bytes p → row.now ≡ row_of p →
         IfErr result (λ halt. HasFailed halt (S.faults source.old) (S.faults source.new)) }
 {
     good_heads_read();
@@ -160,9 +161,13 @@ fn put_examined<A: Allocator + Copy, W: Sink>(
 ) -> Result<usize, OutFault>
     requires { said examined.reread.typed ≡ reading_of examined.reread.fields }
     ensures out { (start : Option (List ℕ)) (output : List ℕ) → IsStaged start output (W.tells out.old) buffer.old →
-        OnOk result (IsStaged start (output ++ record_text position (found_by examined.reread.fields block_len examined.facts)) (W.tells out.new) buffer.new) }
+        OnOk result (IsStaged start
+        (output ++ record_text position (found_by examined.reread.fields block_len examined.facts))
+        (W.tells out.new) buffer.new) }
     ensures cut { (start : Option (List ℕ)) (output : List ℕ) → IsStaged start output (W.tells out.old) buffer.old →
-        IfErr result (λ e. WentOut start (output ++ record_text position (found_by examined.reread.fields block_len examined.facts)) (W.tells out.new) (sent_of e)) }
+        IfErr result (λ e. WentOut start
+        (output ++ record_text position (found_by examined.reread.fields block_len examined.facts))
+        (W.tells out.new) (sent_of e)) }
     ensures number { IfOk result (λ n. n ≡ length (found_by examined.reread.fields block_len examined.facts)) }
     ensures cause { W.faults out.new ≡ failed_by result (W.faults out.old) }
     ensures unread { IfErr result (λ e. is_read e ≡ false) }
@@ -197,13 +202,15 @@ fn put_records<S: Source, A: Allocator + Copy, W: Sink>(
 ) -> Result<usize, OutFault>
     requires { max_head ≤ length head.old }
     ensures out { (bytes : List ℕ) (records : List Placed) (start : Option (List ℕ)) (output : List ℕ) →
-        S.holds source.old ≡ Some bytes → AreCheckable bytes records rows.now → IsStaged start output (W.tells out.old) buffer.old →
+        S.holds source.old ≡ Some bytes → AreCheckable bytes records rows.now →
+        IsStaged start output (W.tells out.old) buffer.old →
         OnOk result (IsStaged start (output ++ records_text (contents records)) (W.tells out.new) buffer.new) }
     ensures number { (bytes : List ℕ) (records : List Placed) →
         S.holds source.old ≡ Some bytes → AreCheckable bytes records rows.now →
         IfOk result (λ n. n ≡ capped (length (findings_of_records (contents records)))) }
     ensures cut { (bytes : List ℕ) (records : List Placed) (start : Option (List ℕ)) (output : List ℕ) →
-        S.holds source.old ≡ Some bytes → AreCheckable bytes records rows.now → IsStaged start output (W.tells out.old) buffer.old →
+        S.holds source.old ≡ Some bytes → AreCheckable bytes records rows.now →
+        IsStaged start output (W.tells out.old) buffer.old →
         IfErr result (λ e. WentOut start (output ++ records_text (contents records)) (W.tells out.new) (sent_of e)) }
     ensures kept { S.holds source.new ≡ S.holds source.old }
     ensures cause { W.faults out.new ≡ failed_by result (W.faults out.old) }
@@ -251,13 +258,15 @@ fn put_archive<S: Source, A: Allocator + Copy, W: Sink>(
     out: &mut W,
 ) -> Result<usize, OutFault>
     ensures out { (bytes : List ℕ) (records : List Placed) (start : Option (List ℕ)) (output : List ℕ) →
-        S.holds source.old ≡ Some bytes → AreCheckable bytes records rows.now → IsStaged start output (W.tells out.old) buffer.old →
+        S.holds source.old ≡ Some bytes → AreCheckable bytes records rows.now →
+        IsStaged start output (W.tells out.old) buffer.old →
         OnOk result (IsStaged start (output ++ check_text (contents records)) (W.tells out.new) buffer.new) }
     ensures number { (bytes : List ℕ) (records : List Placed) →
         S.holds source.old ≡ Some bytes → AreCheckable bytes records rows.now →
         IfOk result (λ n. n ≡ capped (length (findings_of_archive (contents records)))) }
     ensures cut { (bytes : List ℕ) (records : List Placed) (start : Option (List ℕ)) (output : List ℕ) →
-        S.holds source.old ≡ Some bytes → AreCheckable bytes records rows.now → IsStaged start output (W.tells out.old) buffer.old →
+        S.holds source.old ≡ Some bytes → AreCheckable bytes records rows.now →
+        IsStaged start output (W.tells out.old) buffer.old →
         IfErr result (λ e. WentOut start (output ++ check_text (contents records)) (W.tells out.new) (sent_of e)) }
     ensures kept { S.holds source.new ≡ S.holds source.old }
     ensures cause { W.faults out.new ≡ failed_by result (W.faults out.old) }
@@ -293,11 +302,14 @@ pub(crate) fn check_rows<S: Source, A: Allocator + Copy, W: Sink>(
     rows: &Rows<A>,
     out: &mut W,
 ) -> Result<usize, OutFault>
-    ensures told { (bytes : List ℕ) (records : List Placed) → S.holds source.old ≡ Some bytes → AreCheckable bytes records rows.now →
+    ensures told { (bytes : List ℕ) (records : List Placed) →
+        S.holds source.old ≡ Some bytes → AreCheckable bytes records rows.now →
         OnOk result (W.tells out.new ≡ append_known (W.tells out.old) (check_text (contents records))) }
-    ensures number { (bytes : List ℕ) (records : List Placed) → S.holds source.old ≡ Some bytes → AreCheckable bytes records rows.now →
+    ensures number { (bytes : List ℕ) (records : List Placed) →
+        S.holds source.old ≡ Some bytes → AreCheckable bytes records rows.now →
         IfOk result (λ n. n ≡ capped (length (findings_of_archive (contents records)))) }
-    ensures cut { (bytes : List ℕ) (records : List Placed) → S.holds source.old ≡ Some bytes → AreCheckable bytes records rows.now →
+    ensures cut { (bytes : List ℕ) (records : List Placed) →
+        S.holds source.old ≡ Some bytes → AreCheckable bytes records rows.now →
         IfErr result (λ e. WentOut (W.tells out.old) (check_text (contents records)) (W.tells out.new) (sent_of e)) }
     ensures kept { S.holds source.new ≡ S.holds source.old }
     ensures cause { W.faults out.new ≡ failed_by result (W.faults out.old) }
@@ -307,7 +319,8 @@ pub(crate) fn check_rows<S: Source, A: Allocator + Copy, W: Sink>(
         (tapped (S.holds source.new) (S.faults source.new) (S.reads source.new) (S.asked source.new)
         (S.watches source.new) (S.strays source.new)) }
     ensures may { MayHaveFailedBy result (S.faults source.old) (S.faults source.new) }
-    ensures failed { (bytes : List ℕ) (records : List Placed) → S.holds source.old ≡ Some bytes → AreCheckable bytes records rows.now →
+    ensures failed { (bytes : List ℕ) (records : List Placed) →
+        S.holds source.old ≡ Some bytes → AreCheckable bytes records rows.now →
         HasFailedBy result (S.faults source.old) (S.faults source.new) }
 {
     let mut buffer = OutBuffer::new();

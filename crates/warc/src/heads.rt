@@ -56,7 +56,8 @@ fn read_range<S: Source>(source: &mut S, at: u64, buf: &mut [u8]) -> Result<(), 
         (S.watches source.new) (S.strays source.new)) }
 
     // An error is a failure of the source, unless it gives too little.
-    ensures may { OnErr result ((S.faults source.new ≡ S.faults source.old) ⊎ (S.faults source.new ≡ raised (S.faults source.old))) }
+    ensures may { OnErr result
+        ((S.faults source.new ≡ S.faults source.old) ⊎ (S.faults source.new ≡ raised (S.faults source.old))) }
     ensures failed { (bytes : List ℕ) → S.holds source.old ≡ Some bytes → at + length buf.old ≤ length bytes →
         OnErr result (S.faults source.new ≡ raised (S.faults source.old)) }
 {
@@ -130,7 +131,8 @@ pub(crate) fn read_again<S: Source, A: Allocator + Copy>(
 ) -> Result<Reread<A>, Halt>
     requires { max_head ≤ length buf.old }
     ensures said { IfOk result (λ x. said x.typed ≡ reading_of x.fields) }
-    ensures read { (bytes : List ℕ) (p : Placed) → S.holds source.old ≡ Some bytes → HasHead bytes p → row.now ≡ row_of p →
+    ensures read { (bytes : List ℕ) (p : Placed) →
+        S.holds source.old ≡ Some bytes → HasHead bytes p → row.now ≡ row_of p →
         IfOk result (λ x. x.fields ≡ p.content.fields) }
     ensures kept { S.holds source.new ≡ S.holds source.old }
     ensures sound { OnOk result (S.faults source.new ≡ S.faults source.old) }
@@ -142,7 +144,8 @@ pub(crate) fn read_again<S: Source, A: Allocator + Copy>(
     ensures may { IfErr result (λ halt. MayHaveFailed halt (S.faults source.old) (S.faults source.new)) }
 
     // Over bytes that hold the head it stops for a failed read or for want of memory alone.
-    ensures failed { (bytes : List ℕ) (p : Placed) → S.holds source.old ≡ Some bytes → HasHead bytes p → row.now ≡ row_of p →
+    ensures failed { (bytes : List ℕ) (p : Placed) →
+        S.holds source.old ≡ Some bytes → HasHead bytes p → row.now ≡ row_of p →
         IfErr result (λ halt. HasFailed halt (S.faults source.old) (S.faults source.new)) }
 {
     let Some(len) = head_len(row, buf.len()) else {

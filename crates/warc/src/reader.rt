@@ -1,15 +1,13 @@
 //! An archive over the source that holds its bytes.
-ghost use Rattle.std.specs.Prelude.{◌≡◌, ℕ, List, length, Some, IfOk, IfErr, OnOk, is_err, if◌then◌else◌};
+ghost use Rattle.std.specs.Prelude.{◌≡◌, length, IfErr, OnOk, is_err, if◌then◌else◌};
 ghost use Rattle.std.specs.Io.KnownBytes.{append_known};
 ghost use Rattle.warc_frame.specs.Count.{raised};
 ghost use Rattle.warc_frame.specs.Send.{WentOut, sent_of};
-ghost use Rattle.warc.specs.Archive.{IsArchiveOf, contents, rows_of, source_of};
-ghost use Rattle.warc.specs.Checking.{check_text, findings_of_archive};
-ghost use Rattle.warc.specs.Failing.{HasFailedBy, MayHaveFailedBy, failed_by};
-ghost use Rattle.warc.specs.Heads.{ReadsHeads};
+ghost use Rattle.warc.specs.Archive.{rows_of, source_of};
+ghost use Rattle.warc.specs.Checks.{Checks};
 ghost use Rattle.warc.specs.Listing.{listing};
 ghost use Rattle.warc.specs.Opening.{Opens};
-ghost use Rattle.warc.specs.Seen.{tapped};
+ghost use Rattle.warc.specs.Seen.{seen, tapped};
 
 use crate::check::check_rows;
 use crate::reading::read_rows;
@@ -54,7 +52,8 @@ impl<S: Source, A: Allocator> Archive<S, A> {
     /// date, id and target, with a tab between two, and `-` for an absent target. It takes no memory.
     pub fn list<W: Sink>(&self, out: &mut W) -> Result<(), OutFault>
         ensures told { OnOk result (W.tells out.new ≡ append_known (W.tells out.old) (listing self.now.rows)) }
-        ensures cut { IfErr result (λ e. WentOut (W.tells out.old) (listing self.now.rows) (W.tells out.new) (sent_of e)) }
+        ensures cut { IfErr result (λ e.
+            WentOut (W.tells out.old) (listing self.now.rows) (W.tells out.new) (sent_of e)) }
         ensures write { IfErr result (λ e. e ≡ OutFault.Write (sent_of e)) }
         ensures cause { W.faults out.new ≡ (if is_err result then raised (W.faults out.old) else W.faults out.old) }
     {
@@ -79,7 +78,8 @@ impl<S: Source, A: Allocator + Copy> Archive<S, A> {
             (tapped (S.holds source) (S.faults source) (S.reads source) (S.asked source) (S.watches source)
             (S.strays source))
             (tapped (S.holds (source_of result)) (S.faults (source_of result)) (S.reads (source_of result))
-            (S.asked (source_of result)) (S.watches (source_of result)) (S.strays (source_of result))) (rows_of result) }
+            (S.asked (source_of result)) (S.watches (source_of result)) (S.strays (source_of result)))
+            (rows_of result) }
     {
         let mut source = source;
         match read_rows(alloc, &mut source) {
@@ -96,30 +96,15 @@ impl<S: Source, A: Allocator + Copy> Archive<S, A> {
     /// write that fails is `Write`, and a refused growth of the memory `Memory`. Each tells how many
     /// bytes went out, which are the first of the output.
     pub fn check<W: Sink>(&mut self, out: &mut W) -> Result<usize, OutFault>
-        ensures told { (bytes : List ℕ) → S.holds self.old.source ≡ Some bytes → (is : IsArchiveOf bytes self.old.rows) →
-            OnOk result (W.tells out.new ≡ append_known (W.tells out.old) (check_text (contents is.are.records))) }
-        ensures number { (bytes : List ℕ) → S.holds self.old.source ≡ Some bytes → (is : IsArchiveOf bytes self.old.rows) →
-            IfOk result (λ n. n ≡ length (findings_of_archive (contents is.are.records))) }
-        ensures cut { (bytes : List ℕ) → S.holds self.old.source ≡ Some bytes → (is : IsArchiveOf bytes self.old.rows) →
-            IfErr result (λ e. WentOut (W.tells out.old) (check_text (contents is.are.records)) (W.tells out.new) (sent_of e)) }
-
-        // The source still holds what it held, and the rows stay.
-        ensures kept { S.holds self.new.source ≡ S.holds self.old.source }
-        ensures rows { self.new.rows ≡ self.old.rows }
-
-        // It asks for no byte outside the heads, and reads at most once for each of theirs.
-        ensures heads { ReadsHeads self.old.rows
+        ensures checks { Checks self.old.rows
             (tapped (S.holds self.old.source) (S.faults self.old.source) (S.reads self.old.source)
             (S.asked self.old.source) (S.watches self.old.source) (S.strays self.old.source))
             (tapped (S.holds self.new.source) (S.faults self.new.source) (S.reads self.new.source)
-            (S.asked self.new.source) (S.watches self.new.source) (S.strays self.new.source)) }
+            (S.asked self.new.source) (S.watches self.new.source) (S.strays self.new.source))
+            (seen (W.tells out.old) (W.faults out.old)) (seen (W.tells out.new) (W.faults out.new)) result }
 
-        // The sink has failed once more exactly where the answer is `Write`, and the source where it is
-        // `Read`, unless it told of other bytes than it held.
-        ensures cause { W.faults out.new ≡ failed_by result (W.faults out.old) }
-        ensures may { MayHaveFailedBy result (S.faults self.old.source) (S.faults self.new.source) }
-        ensures failed { (bytes : List ℕ) → S.holds self.old.source ≡ Some bytes → IsArchiveOf bytes self.old.rows →
-            HasFailedBy result (S.faults self.old.source) (S.faults self.new.source) }
+        // The rows stay.
+        ensures rows { self.new.rows ≡ self.old.rows }
     {
         head_of_spelled();
         let alloc = self.rows.allocator();

@@ -76,8 +76,8 @@ fn target_of<A: Allocator>(typed: &Typed<A>) -> &[u8]
     }
 }
 
-/// What was read so far: a row of each record that ended, the offset at which the next one begins, and that record, once
-/// its head is there.
+/// What was read so far: a row of each record that ended, the offset at which the next one begins, and that
+/// record, once its head is there.
 #[derive(Drop)]
 struct Reading<A: Allocator> {
     rows: Rows<A>,
@@ -109,7 +109,8 @@ impl<A: Allocator + Copy> Reading<A> {
     ) -> Result<(), FaultKind>
         ensures rows { self.new.rows ≡ self.old.rows }
         ensures begin { self.new.begin ≡ self.old.begin }
-        ensures current { OnOk result ((c : Kept A) × (self.new.current ≡ Some c) × IsHead fields.now c × HasSeen c.digest []
+        ensures current { OnOk result ((c : Kept A) × (self.new.current ≡ Some c) × IsHead fields.now c
+            × HasSeen c.digest []
             × (c.block_start ≡ block_start) × (c.block_len ≡ block_len)) }
         ensures fault { RefusesFor result (head_fault fields.now) }
     {
@@ -129,7 +130,8 @@ impl<A: Allocator + Copy> Reading<A> {
         ensures rows { self.new.rows ≡ self.old.rows }
         ensures begin { self.new.begin ≡ self.old.begin }
         ensures current { (c : Kept A) → self.old.current ≡ Some c → (d : Kept A) × (self.new.current ≡ Some d)
-            × (d.typed ≡ c.typed) × (d.block_start ≡ c.block_start) × (d.block_len ≡ c.block_len) × (d.digest.wanted ≡ c.digest.wanted)
+            × (d.typed ≡ c.typed) × (d.block_start ≡ c.block_start) × (d.block_len ≡ c.block_len)
+            × (d.digest.wanted ≡ c.digest.wanted)
             × ((bytes : List ℕ) → HasSeen c.digest bytes → HasSeen d.digest (bytes ++ part.now)) }
     {
         if let Some(current) = &mut self.current {

@@ -89,7 +89,8 @@ fn part(bytes: &[u8], start: usize, end: usize) -> &[u8]
 
 /// How many bytes a row's texts have, if they are fewer than 2^64.
 fn texts_len(row: &Row<'_>) -> Option<usize>
-    ensures { IfSome result (λ n. n ≡ length row.now.kind + length row.now.date + length row.now.id + length row.now.target) }
+    ensures { IfSome result (λ n.
+        n ≡ length row.now.kind + length row.now.date + length row.now.id + length row.now.target) }
 {
     row.kind
         .len()

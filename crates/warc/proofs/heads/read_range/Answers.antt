@@ -1,4 +1,4 @@
-use Rattle.std.proofs.Common.{rules, ◌+◌, ◌-◌, ◌<◌, ◌≤◌, length, true, false, refl, ◌∙◌, arith}
+use Rattle.std.proofs.Common.{rules, ◌-◌, ◌<◌, length, true, false, refl, ◌∙◌, arith}
 use Rattle.warc.proofs.RangeLemmas.{filled_more, filled_within}
 use Rattle.warc.proofs.ReadLemmas.{filled_by, filled_none, filled_within as filled_no_more}
 use Rattle.warc.proofs.heads.read_range.Goals as goal
