@@ -14,7 +14,7 @@ use Rattle.warc_order.specs.Entries.{Entry, entry_at, no_entry}
 use Rattle.std.specs.declared.vec.Vec.{Vec}
 use Rattle.warc_segment.specs.declared.fault.JoinFault.{JoinFault}
 use Rattle.warc_segment.specs.declared.fault.JoinFault.TheVariants.{Gap as IsGap, Memory}
-use Rattle.warc_segment.specs.Joining.{IsJoin, IsSeries}
+use Rattle.warc_segment.specs.Joining.{IsJoin}
 use Rattle.warc_segment.specs.declared.gap.Gap.{Gap}
 use Rattle.warc_segment.specs.declared.place.Place.{Place}
 use Rattle.warc_segment.specs.declared.held.Facts.{Facts}
@@ -24,7 +24,7 @@ use Rattle.warc_segment.specs.Gaps.{gap_of, followers, unless_gap, joined}
 use Rattle.warc_segment.specs.Joined.{PlacedRecord, with_members, joined_places, piece_placed}
 use Rattle.warc_segment.specs.Ordered.{member_at, members_of, numbers_in, AreOrdered}
 use Rattle.warc_segment.specs.Kept.{KeptMember, Kept, kept_in}
-use Rattle.warc_segment.specs.Held.{kept_from, side_by_side, AreHeld, held_in, continuation_of, ComesBefore, IsKeptAs, IsWholeSeries}
+use Rattle.warc_segment.specs.Held.{kept_from, side_by_side, AreHeld, held_in, continuation_of, ComesBefore, IsKeptAs, IsWholeSeries, IsSeries}
 use Rattle.warc_segment.proofs.LeastLemmas.{Stands, stands_filter, filter_stands, stands_map, map_stands, filter_hit, filter_miss}
 use Rattle.warc_segment.proofs.ContinuationLemmas.{length_in, number_in}
 use Rattle.warc_segment.proofs.SameLemmas.{Distinct, AreSame, same_from_distinct, joined_same, contains_stands, stands_contains}

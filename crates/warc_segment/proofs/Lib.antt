@@ -1,6 +1,7 @@
 pub mod LeastLemmas
 pub mod CountLemmas
 pub mod SeriesLemmas
+pub mod PlaceLemmas
 pub mod OrderedLemmas
 pub mod ContinuationLemmas
 pub mod SameLemmas

@@ -1,8 +1,13 @@
 -- How parts hold what is kept: entries in an order, and beside each the rest. A state of the code.
-use Rattle.std.specs.Prelude.{◌≡◌, ◌⊎◌, ℕ, ◌<◌, ◌≤◌, false, List, [], ◌∷◌, length, map, All, AllPairs, Contains}
+use Rattle.std.specs.Prelude.{◌≡◌, ◌⊎◌, ℕ, ◌<◌, ◌≤◌, false, List, [], ◌∷◌, length, map, All, AllPairs, Contains, Some, None, Result, Ok, Err, ⊤}
+use Rattle.std.specs.declared.vec.Vec.{Vec}
 use Rattle.warc_order.specs.Entries.{Entry, entry_at, is_later}
+use Rattle.warc_segment.specs.declared.fault.JoinFault.{JoinFault}
+use Rattle.warc_segment.specs.declared.fault.JoinFault.TheVariants.{Gap as IsGap, Memory}
 use Rattle.warc_segment.specs.declared.held.Facts.{Facts}
 use Rattle.warc_segment.specs.declared.series.Continuation.{Continuation}
+use Rattle.warc_segment.specs.Gaps.{gap_of, followers}
+use Rattle.warc_segment.specs.Ordered.{members_of}
 use Rattle.warc_segment.specs.Kept.{KeptMember, Kept}
 
 abbrev pub kept_from : Entry → Facts → KeptMember
@@ -74,3 +79,12 @@ IsDone id es series = (e : Entry) → Contains es e → e.text ≡ id → Contai
 -- the parts of so many records
 abbrev pub held_in : ℕ → List Entry → List Facts → Kept
 held_in count es fs = record { count = count; members = side_by_side es fs }
+
+-- the series of the record with the id and a block of this length, in the order of its numbers
+abbrev pub IsSeries : {A : Type 0} → List ℕ → ℕ → List KeptMember → Result (Vec Continuation A) JoinFault → Type 0
+IsSeries id size members (Ok series) =
+    IsWholeSeries id members series.items × (gap_of size (members_of series.items) ≡ None)
+    × (followers (members_of series.items) ≡ members_of series.items)
+IsSeries id size members (Err (IsGap gap)) =
+    (series : List Continuation) × IsWholeSeries id members series × (gap_of size (members_of series) ≡ Some gap)
+IsSeries id size members (Err Memory) = ⊤

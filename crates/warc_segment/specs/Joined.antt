@@ -62,3 +62,36 @@ ArePlacesOf bytes [] [] = Unit {0}
 ArePlacesOf bytes (p ∷ ps) (r ∷ rs) = IsPlaceOf bytes p r × ArePlacesOf bytes ps rs
 ArePlacesOf bytes [] (r ∷ rs) = ⊥
 ArePlacesOf bytes (p ∷ ps) [] = ⊥
+
+-- the same records, by place and by block
+abbrev pub AreStored : List ℕ → List PlacedRecord → List ReadRecord → Type 0
+AreStored bytes [] [] = Unit {0}
+AreStored bytes (p ∷ ps) (r ∷ rs) = (p.head ≡ r.head) × IsPlaceOf bytes p.place r × AreStored bytes ps rs
+AreStored bytes [] (r ∷ rs) = ⊥
+AreStored bytes (p ∷ ps) [] = ⊥
+
+-- the places of the joined records, or the same gap
+abbrev pub ArePlacesJoined : List ℕ → Result (List Place) Gap → Result (List ReadRecord) Gap → Type 0
+ArePlacesJoined bytes (Ok places) (Ok records) = ArePlacesOf bytes places records
+ArePlacesJoined bytes (Err a) (Err b) = a ≡ b
+ArePlacesJoined bytes (Ok places) (Err b) = ⊥
+ArePlacesJoined bytes (Err a) (Ok records) = ⊥
+
+-- the bytes at places, one behind another
+abbrev pub texts_at : List ℕ → Result (List Place) Gap → Result (List ℕ) Gap
+texts_at bytes (Ok places) = Ok (flat_map (λ p. take p.len (drop p.start bytes)) places)
+texts_at bytes (Err gap) = Err gap
+
+-- what is joined as places are the places of the records that are joined
+abbrev pub PlacesAreOfRecords : Type 0
+PlacesAreOfRecords =
+    (bytes : List ℕ) (ps : List PlacedRecord) (rs : List ReadRecord) (p : PlacedRecord) (r : ReadRecord)
+    → AreStored bytes ps rs → p.head ≡ r.head → IsPlaceOf bytes p.place r
+    → ArePlacesJoined bytes (joined_places ps p) (joined_records rs r)
+
+-- the bytes at those places, one behind another, are the joined block
+abbrev pub PlacesHoldTheBlock : Type 0
+PlacesHoldTheBlock =
+    (bytes : List ℕ) (ps : List PlacedRecord) (rs : List ReadRecord) (p : PlacedRecord) (r : ReadRecord)
+    → AreStored bytes ps rs → p.head ≡ r.head → IsPlaceOf bytes p.place r
+    → texts_at bytes (joined_places ps p) ≡ joined_block rs r

@@ -1,4 +1,5 @@
 //! Laws over the definitions: functions that do nothing, each with a law as its contract.
+ghost use Rattle.warc_segment.specs.Joined.{PlacesAreOfRecords, PlacesHoldTheBlock};
 ghost use Rattle.warc_segment.specs.SeriesLaws.{LeastAbsentIsFirst, InOrderIsEach};
 
 /// The least absent number is the first of 2 to n that no segment has.
@@ -9,4 +10,14 @@ pub fn least_absent_is_first()
 /// Where no number is absent, the segments in order are those numbered 2 to n, one of each.
 pub fn in_order_is_each()
     ensures { InOrderIsEach }
+{}
+
+/// What is joined as places are the places of the records that are joined, or there is the same gap.
+pub fn places_are_of_records()
+    ensures { PlacesAreOfRecords }
+{}
+
+/// The bytes at those places, one behind another, are the joined block.
+pub fn places_hold_the_block()
+    ensures { PlacesHoldTheBlock }
 {}

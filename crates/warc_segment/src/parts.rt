@@ -2,8 +2,8 @@ ghost use Rattle.std.specs.Prelude.{◌≡◌, ℕ, ◌++◌, [], ◌∷◌, Lis
 ghost use Rattle.warc_record.specs.Seen.{said};
 ghost use Rattle.warc_segment.specs.Joined.{PlacedRecord, joined_places};
 ghost use Rattle.warc_segment.specs.Kept.{kept_in};
-ghost use Rattle.warc_segment.specs.Held.{side_by_side, AreHeld};
-ghost use Rattle.warc_segment.specs.Joining.{IsJoin, IsSeries};
+ghost use Rattle.warc_segment.specs.Held.{side_by_side, AreHeld, IsSeries};
+ghost use Rattle.warc_segment.specs.Joining.{IsJoin};
 
 use crate::fault::JoinFault;
 use crate::gap::Gap;
@@ -81,7 +81,7 @@ impl<A: Allocator + Copy> Parts<A> {
     }
 
     /// Adds the next record of the archive, whatever its kind. Only a continuation with an origin and a number of at
-    /// least 2 takes memory; where that is refused nothing changes.
+    /// least 2 takes memory; where that is refused nothing changes. Such a continuation behind 2^32 records is refused too.
     pub fn add(&mut self, typed: &Typed<A>, place: Place) -> Result<(), AllocError>
         ensures ok { (all : List PlacedRecord) → self.old ≡ kept_in all
             → OnOk result (self.new ≡ kept_in (all ++ record { head = said typed.now; place = place } ∷ [])) }
