@@ -134,7 +134,7 @@ fn read_segment<A: Allocator + Copy>(alloc: A, fields: &Fields<A>) -> Result<Seg
 }
 
 /// The digest that the head wants of its block.
-fn wanted<A: Allocator>(fields: &Fields<A>) -> Wanted
+pub fn wanted<A: Allocator>(fields: &Fields<A>) -> Wanted
     ensures { result ≡ digest_wanted fields.now }
 {
     match present(fields, b"WARC-Block-Digest") {

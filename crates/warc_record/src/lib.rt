@@ -11,7 +11,7 @@ mod table;
 mod types;
 
 pub use checks::{ArchiveFacts, Finding, all_findings, findings};
-pub use head::{NamedPair, Reference, Segment, Typed, type_head};
+pub use head::{NamedPair, Reference, Segment, Typed, type_head, wanted};
 pub use ids::{IdKey, bare, id_key, urn_uuid};
 pub use readings::SegmentNumber;
 pub use table::{FieldRule, field_rules};

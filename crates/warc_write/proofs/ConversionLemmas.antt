@@ -38,7 +38,7 @@ target_name = codes "WARC-Target-URI"
 -- ---- names
 
 -- where one name is the same as a second, it is the same as a third where that is
-same_goes_on : (a b c : List ℕ) → same a b ≡ true → same a c ≡ same b c
+pub same_goes_on : (a b c : List ℕ) → same a b ≡ true → same a c ≡ same b c
 same_goes_on a b c e =
     let lower : str_to_ascii_lowercase a ≡ str_to_ascii_lowercase b = (bytes_eq-Decides (str_to_ascii_lowercase a) (str_to_ascii_lowercase b)).0 e in
     ap (λ (t : List ℕ). bytes_eq t (str_to_ascii_lowercase c)) lower

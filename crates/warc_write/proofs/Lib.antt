@@ -5,3 +5,5 @@ mod WorkedValues
 mod TextLemmas
 mod MakeLemmas
 mod SplitLemmas
+mod KeptLemmas
+mod SegmentLemmas

@@ -3,7 +3,7 @@
 use Rattle.std.specs.Prelude.{◌≡◌, ⊤, ℕ, ◌+◌, ◌-◌, ◌*◌, ◌/◌, Bool, true, false, not, ◌||◌, ◌==◌, nat_le, nat_lt}
 use Rattle.std.specs.Prelude.{List, [], ◌∷◌, ◌++◌, length, take, drop, map, filter, codes, decimal}
 use Rattle.std.specs.Prelude.{Option, Some, None, is_some, is_none, unwrap_or, Result, Ok, Err, if◌then◌else◌}
-use Rattle.std.specs.List.{list_all, range_with_len}
+use Rattle.std.specs.List.{AllByRecursion, list_all, range_with_len}
 use Rattle.sha1.specs.Sha1.{sha1}
 use Rattle.uuid.specs.declared.Variant.TheVariants.{RFC4122}
 use Rattle.uuid.specs.declared.Version.TheVariants.{Sha1}
@@ -14,7 +14,7 @@ use Rattle.warc_field.specs.Area.{Pair, first_value}
 use Rattle.warc_value.specs.Digests.{verdict_of}
 use Rattle.warc_value.specs.declared.hash.Verdict.{Verdict}
 use Rattle.warc_value.specs.declared.hash.Verdict.TheVariants.{Good, Bad, Unchecked}
-use Rattle.warc_frame.specs.Record.{Record, canonical_len, content_length, max_head}
+use Rattle.warc_frame.specs.Record.{Record, IsFramed, canonical_len, content_length, max_head}
 use Rattle.warc_record.specs.declared.types.Kind.{Kind}
 use Rattle.warc_record.specs.declared.types.Kind.TheVariants.{Warcinfo, Response, Resource, Request, Metadata, Revisit}
 use Rattle.warc_record.specs.declared.types.Kind.TheVariants.{Conversion, Continuation, Other}
@@ -139,6 +139,10 @@ segments_of r uuid n = map (segment_of r uuid n) (range_with_len 0 (count_of n (
 abbrev pub has_room : Record → Bool
 has_room r = nat_le (canonical_len r.version r.fields) max_head
 
+-- each of the records can be framed
+abbrev pub AllFramed : List Record → Type 0
+AllFramed records = AllByRecursion IsFramed records
+
 -- the record itself where its block has at most n bytes, or else its segments, if each head is short enough
 abbrev pub cut_of : Record → List ℕ → ℕ → Result (List Record) SplitFault
 cut_of r uuid n =
@@ -152,11 +156,14 @@ is_bad Good = false
 is_bad Bad = true
 is_bad Unchecked = false
 
+abbrev pub has_bad_digest : Record → Bool
+has_bad_digest r = is_bad (verdict_of (digest_wanted r.fields) r.block)
+
 -- the records that a record is split into, or the first refusal, in the order S4, S3, S2, S1, S7, S6
 unfoldable pub split_of : Record → ℕ → Result (List Record) SplitFault
 split_of r n = do
   uuid ← splittable r.fields n
-  _ ← checks (not (is_bad (verdict_of (digest_wanted r.fields) r.block))) BadDigest
+  _ ← checks (not (has_bad_digest r)) BadDigest
   cut_of r uuid n
 
 -- what a call answered is that, unless memory ran out
@@ -164,6 +171,10 @@ abbrev pub Splits : {X : Type 0} → Result X SplitFault → Result X SplitFault
 Splits (Ok x) split = split ≡ Ok x
 Splits (Err Memory) split = ⊤
 Splits (Err fault) split = split ≡ Err fault
+
+abbrev pub OrMemory : SplitFault → Type 0 → Type 0
+OrMemory Memory P = ⊤
+OrMemory fault P = P
 
 -- a head is refused as such, or for want of memory
 abbrev pub RefusesHead : Bool → SplitFault → Type 0
@@ -174,6 +185,16 @@ RefusesHead good AlreadySegmented = ⊥
 RefusesHead good Size = ⊥
 RefusesHead good TooLong = ⊥
 RefusesHead good BadDigest = ⊥
+
+-- a segment is refused since its head has no room, or for want of memory
+abbrev pub RefusesSegment : Bool → SplitFault → Type 0
+RefusesSegment room TooLong = room ≡ false
+RefusesSegment room Memory = ⊤
+RefusesSegment room BadKind = ⊥
+RefusesSegment room NotUuid = ⊥
+RefusesSegment room AlreadySegmented = ⊥
+RefusesSegment room Size = ⊥
+RefusesSegment room BadDigest = ⊥
 
 -- the texts of refusals
 abbrev pub split_fault_text : SplitFault → List ℕ

@@ -12,4 +12,4 @@ mod written;
 pub use conversion::convert;
 pub use making::{MakeFault, make};
 pub use sending::render;
-pub use splitting::{Part, SplitFault, segment_head, splittable};
+pub use splitting::{Part, SplitFault, segment_head, split, splittable};

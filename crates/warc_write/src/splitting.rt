@@ -1,12 +1,16 @@
 //! Records split into segments.
-ghost use Rattle.std.specs.Prelude.{◌≡◌, [], ◌∷◌, ◌++◌, true, IfOk, IfErr, OnOk, Some, is_none, is_some, decimal};
+ghost use Rattle.std.specs.Prelude.{◌≡◌, [], ◌∷◌, ◌++◌, true, IfOk, ◌+◌, ◌-◌, ◌*◌, ◌<◌, length, IfErr, OnOk, Ok, Err, Some, is_none, is_some, decimal};
+ghost use Rattle.std.specs.List.{list_all};
 ghost use Rattle.warc_field.specs.Text.{is_value};
+ghost use Rattle.warc_frame.specs.Record.{IsFramed};
 ghost use Rattle.warc_record.specs.Heads.{head_fault};
 ghost use Rattle.warc_record.specs.Readings.{kind_of, target_of};
+ghost use Rattle.warc_write.specs.Rendering.{AllGood};
+ghost use Rattle.warc_write.specs.Splitting.{AllFramed, OrMemory, RefusesSegment, count_of, has_bad_digest, has_room, split_of, part_of, piece_at, segment_of, segments_of};
 ghost use Rattle.warc_write.specs.Splitting.{RefusesHead, Splits, first_fields, is_segmented, kept, may_be_split, next_fields, origin_fields};
 ghost use Rattle.warc_write.specs.Splitting.{segment_fields, split_fault_text, splittable, total_fields, value_in, version_5};
 
-use crate::parts::{Label, add_copy, add_digits, add_field, add_number};
+use crate::parts::{Label, add_copy, add_digits, add_field, add_number, framed_of};
 use crate::written::{digest_text, id_text};
 use itoa::Buffer;
 use std::alloc::{AllocError, Allocator};
@@ -14,9 +18,10 @@ use std::fmt;
 use thiserror::Error;
 use uuid::Uuid;
 use warc_field::{Fields, Name, Value};
-use warc_frame::FaultKind;
-use warc_record::laws::bare_texts_of_values;
-use warc_record::{Kind, bare, type_head, urn_uuid};
+use warc_frame::{FaultKind, Framed};
+use warc_record::laws::{bare_texts_of_values, good_heads_read};
+use warc_record::{Kind, bare, type_head, urn_uuid, wanted};
+use warc_value::{Running, Verdict, digest};
 
 /// Why a record isn't split: S1 to S7.
 #[derive(Clone, Copy, PartialEq, Eq, Debug, Error)]
@@ -307,4 +312,156 @@ pub fn segment_head<A: Allocator + Copy>(
     } else {
         next_fields(alloc, given, uuid, part)
     }
+}
+
+/// How many pieces of so many bytes a block is cut into.
+fn count_of(size: u64, len: u64) -> u64
+    requires some { 0 < size }
+    requires more { 0 < len }
+    ensures count { result ≡ count_of size len }
+    ensures last { (result - 1) * size < len }
+{
+    (len - 1) / size + 1
+}
+
+/// The piece at a place, counted from 0.
+fn piece_at(block: &[u8], size: u64, at: u64) -> &[u8]
+    requires { at * size < length block.now }
+    ensures { result.now ≡ piece_at size block.now at }
+{
+    let rest = &block[(at * size) as usize..];
+    if rest.len() as u64 <= size {
+        rest
+    } else {
+        &rest[..size as usize]
+    }
+}
+
+/// What the head of the segment at a place is to say of it.
+fn part_of(piece: &[u8], size: u64, len: u64, at: u64) -> Part
+    requires some { 0 < size }
+    requires inside { at * size < len }
+    ensures { result ≡ part_of size len piece.now at }
+{
+    let is_last = at + 1 == count_of(size, len);
+    Part {
+        number: at + 1,
+        total: if is_last { Some(len) } else { None },
+        len: piece.len() as u64,
+        digest: digest(piece),
+    }
+}
+
+/// The segment at a place, counted from 0.
+fn segment<A: Allocator + Copy>(
+    alloc: A,
+    framed: &Framed<A>,
+    uuid: &[u8; 16],
+    size: u64,
+    at: u64,
+) -> Result<Framed<A>, SplitFault>
+    requires some { 0 < size }
+    requires inside { at * size < length framed.now.block }
+    ensures made { IfOk result (λ s. s ≡ segment_of framed.now uuid.now size at) }
+    ensures framed { IfOk result IsFramed }
+    ensures long { IfErr result (RefusesSegment (has_room (segment_of framed.now uuid.now size at))) }
+{
+    let block = framed.block();
+    let piece = piece_at(block, size, at);
+    let part = part_of(piece, size, block.len() as u64, at);
+    let fields = segment_head(alloc, framed.fields(), uuid, &part)?;
+    match Framed::new(framed.version(), fields, Vec::from_slice(alloc, piece)?) {
+        Ok(segment) => Ok(segment),
+        Err(_) => Err(SplitFault::TooLong),
+    }
+}
+
+/// All segments, in their order.
+fn segments<A: Allocator + Copy>(
+    alloc: A,
+    framed: &Framed<A>,
+    uuid: &[u8; 16],
+    size: u64,
+) -> Result<Vec<Framed<A>, A>, SplitFault>
+    requires some { 0 < size }
+    requires block { 0 < length framed.now.block }
+    ensures made { IfOk result (λ all. (all.items ≡ segments_of framed.now uuid.now size) × AllFramed all.items) }
+    ensures long { IfErr result (RefusesSegment (list_all has_room (segments_of framed.now uuid.now size))) }
+{
+    let count = count_of(size, framed.block().len() as u64);
+    let mut all = Vec::with_capacity(alloc, count as usize)?;
+    for at in 0..count {
+        let next = match segment(alloc, framed, uuid, size, at) {
+            Ok(next) => next,
+            Err(fault) => return Err(fault),
+        };
+        match all.push(next) {
+            Ok(()) => {}
+            Err(_) => return Err(SplitFault::Memory),
+        }
+    }
+    Ok(all)
+}
+
+/// Whether the block's digest is checked and differs.
+fn has_bad_digest<A: Allocator>(framed: &Framed<A>) -> bool
+    ensures { result ≡ has_bad_digest framed.now }
+{
+    let mut running = Running::new();
+    running.update(framed.block());
+    match running.verdict(&wanted(framed.fields())) {
+        Verdict::Bad => true,
+        Verdict::Good | Verdict::Unchecked => false,
+    }
+}
+
+/// A copy of the fields.
+fn copied_fields<A: Allocator + Copy>(
+    alloc: A,
+    given: &[(Name<A>, Value<A>)],
+) -> Result<Fields<A>, AllocError>
+    ensures { IfOk result (λ fields. fields ≡ given.now) }
+{
+    let mut fields = Fields::new(alloc);
+    for field in given {
+        add_copy(alloc, &mut fields, field.0.bytes(), field.1.bytes())?;
+    }
+    Ok(fields)
+}
+
+/// A list of a copy of the record alone.
+fn whole<A: Allocator + Copy>(alloc: A, framed: &Framed<A>) -> Result<Vec<Framed<A>, A>, AllocError>
+    ensures made { IfOk result (λ all. all.items ≡ framed.now ∷ []) }
+    ensures framed { OnOk result (IsFramed framed.now) }
+{
+    let fields = copied_fields(alloc, framed.fields().as_slice())?;
+    let block = Vec::from_slice(alloc, framed.block())?;
+    let mut all = Vec::with_capacity(alloc, 1)?;
+    all.push(framed_of(framed.version(), fields, block))?;
+    Ok(all)
+}
+
+/// The record cut into segments of so many bytes, each of the record's version; the record itself where its block has no more bytes. The
+/// refusals come in the order S4, S3, S2, S1, S7, S6, and S5 where memory is refused.
+pub fn split<A: Allocator + Copy>(
+    alloc: A,
+    framed: &Framed<A>,
+    size: u64,
+) -> Result<Vec<Framed<A>, A>, SplitFault>
+    ensures split { IfOk result (λ all. split_of framed.now size ≡ Ok all.items) }
+    ensures fault { IfErr result (λ fault. OrMemory fault (split_of framed.now size ≡ Err fault)) }
+    ensures good { IfOk result (λ all. AllGood all.items) }
+{
+    good_heads_read();
+    let uuid = match splittable(alloc, framed.fields(), size) {
+        Ok(uuid) => uuid,
+        Err(fault) => return Err(fault),
+    };
+    if has_bad_digest(framed) {
+        return Err(SplitFault::BadDigest);
+    }
+    if framed.block().len() as u64 <= size {
+        return Ok(whole(alloc, framed)?);
+    }
+    segments(alloc, framed, &uuid, size)
 }
