@@ -25,6 +25,7 @@ use Rattle.warc_frame.specs.declared.fault.Mandatory.{Mandatory}
 use Rattle.warc_frame.specs.declared.fault.Mandatory.TheVariants.{«Type», RecordId, Date as DateField, ContentLength}
 use Rattle.warc_frame.specs.FaultText.{name_of}
 use Rattle.warc_frame.specs.Record.{Record, IsFramed, block_len, block_number, content_length, max_block, or_length}
+use Rattle.warc_record.proofs.GoodLemmas.{good_heads_have_no_fault}
 use Rattle.warc_record.specs.Good.{IsGood, SaysAll}
 use Rattle.warc_record.specs.Heads.{count_fault, value_fault, is_date, head_fault}
 use Rattle.warc_record.specs.Ids.{is_id}
@@ -132,7 +133,9 @@ pub segment_is_good : (r : Record) (uuid : List ℕ) (n at : ℕ) (s : Record) �
     → s ≡ segment_of r uuid n at → IsFramed s → IsGood s
 segment_is_good r uuid n at s good says is framed = record {
   framed = framed;
-  head = ap (λ (s : Record). head_fault s.fields) is ∙ segment_head r.fields uuid (part_of n (length r.block) (piece_at n r.block at) at) good says;
+  head = (good_heads_have_no_fault s.fields).1
+      (ap (λ (s : Record). head_fault s.fields) is
+      ∙ segment_head r.fields uuid (part_of n (length r.block) (piece_at n r.block at) at) good says);
 }
 
 -- a segment from its parts

@@ -4,6 +4,7 @@ use Rattle.std.proofs.lemmas.Bool.{ltb-true}
 use Rattle.std.proofs.lemmas.Bool.Decides.{nat_tests}
 use Rattle.std.proofs.lemmas.Result.{IfErr-weaker, IfOk-weaker}
 use Rattle.warc_field.specs.Area.{Pair}
+use Rattle.warc_record.proofs.GoodLemmas.{good_heads_have_no_fault}
 use Rattle.warc_write.specs.Rendering.{AllGood}
 use Rattle.warc_write.specs.Splitting.{AllFramed, Splits, has_room, segments_of, splittable}
 use Rattle.warc_write.proofs.SegmentLemmas.{all_good, all_split, framed_have_room, head_or_memory, no_room, not_split, refused_by_digest}
@@ -33,7 +34,8 @@ pub returns-then-block-size-clause-good : goal.returns-then-block-size-clause-go
 returns-then-block-size-clause-good g c =
     let head = ap (λ fs. splittable fs c.args.size) (sym c.fields.ensures.fields) ∙ c.in-Ok.ensures in
     let none = splittable_is_good c.args.framed.now.fields c.args.size c.in-Ok.uuid head in
-    subst AllGood (sym c.in_ok-whole.ensures.made) (record { framed = c.in_ok-whole.ensures.framed; head = none }, tt)
+    subst AllGood (sym c.in_ok-whole.ensures.made) (record {
+        framed = c.in_ok-whole.ensures.framed; head = (good_heads_have_no_fault c.args.framed.now.fields).1 none }, tt)
 
 pub segments-requires-clause-some : goal.segments-requires-clause-some
 segments-requires-clause-some g c =
