@@ -2,4 +2,5 @@ pub mod WalkLemmas
 pub mod LatestLemmas
 pub mod ChoiceLemmas
 pub mod LoopLemmas
+pub mod LawLemmas
 mod WorkedValues

@@ -10,4 +10,5 @@ pub mod HeldLemmas
 pub mod StepLemmas
 pub mod KeepLemmas
 pub mod JoinLemmas
+pub mod LawLemmas
 mod WorkedValues

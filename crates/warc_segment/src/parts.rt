@@ -37,15 +37,16 @@ impl<A: Allocator> Model for Parts<A> {
 
 /// The series of a record, which has no gap.
 fn whole_series<A: Allocator + Copy>(
+    alloc: A,
     order: &Order<A>,
-    facts: &Vec<Facts, A>,
+    facts: &[Facts],
     id: &[u8],
     size: u64,
 ) -> Result<Vec<Continuation, A>, JoinFault>
-    requires { (count : ℕ) × AreHeld count order.now facts.now.items }
-    ensures { IsSeries id.now size (side_by_side order.now facts.now.items) result }
+    requires { (count : ℕ) × AreHeld count order.now facts.now }
+    ensures { IsSeries id.now size (side_by_side order.now facts.now) result }
 {
-    let series = series_of(*facts.allocator(), order, facts, id)?;
+    let series = series_of(alloc, order, facts, id)?;
     match find_gap(size, &series) {
         None => Ok(series),
         Some(gap) => Err(JoinFault::Gap(gap)),
@@ -81,7 +82,7 @@ impl<A: Allocator + Copy> Parts<A> {
     }
 
     /// Adds the next record of the archive, whatever its kind. Only a continuation with an origin and a number of at
-    /// least 2 takes memory; where that is refused nothing changes. Such a continuation behind 2^32 records is refused too.
+    /// least 2 takes memory; where that is refused nothing changes. One that stands behind 2^32 records is refused too.
     pub fn add(&mut self, typed: &Typed<A>, place: Place) -> Result<(), AllocError>
         ensures ok { (all : List PlacedRecord) → self.old ≡ kept_in all
             → OnOk result (self.new ≡ kept_in (all ++ record { head = said typed.now; place = place } ∷ [])) }
@@ -114,9 +115,9 @@ impl<A: Allocator + Copy> Parts<A> {
         self.order.kept()
     }
 
-    /// The places in the source whose bytes, one behind another, are the joined block of a record: its own, and those of
-    /// its segments in the order of their numbers. A record without a number stands alone. `Gap`: the segments don't
-    /// join, for the first reason that fits. Time and memory grow with the number of segments alone.
+    /// The places in the source whose bytes, one behind another, are the joined block of a record: its own, and those
+    /// of its segments in the order of their numbers. A record without a number stands alone. `Gap`: the segments
+    /// don't join, for the first reason that fits. Time and memory grow with the number of segments alone.
     pub fn join(&self, typed: &Typed<A>, place: Place) -> Result<Vec<Place, A>, JoinFault>
         ensures { (all : List PlacedRecord) → self.now ≡ kept_in all
             → IsJoin result (joined_places all (record { head = said typed.now; place = place })) }
@@ -126,7 +127,7 @@ impl<A: Allocator + Copy> Parts<A> {
             SegmentNumber::Absent => Ok(places_of(alloc, place, &[])?),
             SegmentNumber::Number(1) => {
                 let id = typed.id.bytes();
-                let series = whole_series(&self.order, &self.facts, id, place.len)?;
+                let series = whole_series(alloc, &self.order, &self.facts, id, place.len)?;
                 Ok(places_of(alloc, place, &series)?)
             }
             _ => Err(JoinFault::Gap(Gap::Number)),

@@ -1,4 +1,4 @@
-use Rattle.warc_index.proofs.LoopLemmas.{chain_loops}
+use Rattle.warc_index.proofs.LawLemmas.{chain_loops}
 use Rattle.warc_index.proofs.laws.chain_loops.Goals as goal
 
 pub returns : goal.returns

@@ -1,4 +1,4 @@
-use Rattle.warc_index.proofs.ChoiceLemmas.{chosen_is_latest}
+use Rattle.warc_index.proofs.LawLemmas.{chosen_is_latest}
 use Rattle.warc_index.proofs.laws.chosen_is_latest.Goals as goal
 
 pub returns : goal.returns

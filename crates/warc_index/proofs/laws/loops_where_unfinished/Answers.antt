@@ -1,4 +1,4 @@
-use Rattle.warc_index.proofs.WalkLemmas.{loops_where_unfinished}
+use Rattle.warc_index.proofs.LawLemmas.{loops_where_unfinished}
 use Rattle.warc_index.proofs.laws.loops_where_unfinished.Goals as goal
 
 pub returns : goal.returns

@@ -8,7 +8,8 @@ loop-next-init g c = (
   subst (AreInSeries c.args.id.now (side_by_side c.args.order.now c.args.facts.now)) (sym c.new-series.ensures.items)
       (no_series c.args.id.now (side_by_side c.args.order.now c.args.facts.now)),
   first_step c.args.id.now c.args.order.now c.first_from-next.result c.first_from-next.ensures.within
-      c.first_from-next.ensures.some c.first_from-next.ensures.none c.new-series.result.items c.new-series.ensures.items,
+      c.first_from-next.ensures.some c.first_from-next.ensures.none c.new-series.result.items
+      c.new-series.ensures.items,
 )
 
 pub loop-next-smaller : goal.loop-next-smaller
@@ -36,8 +37,9 @@ loop-next-preserved g c =
           (sym c.in_ok-push.ensures.items)
           (one_further c.args.id.now c.args.order.now c.args.facts.now c.loop-next.series.items c.in-Some.found.index
           c.continuation_at.result c.loop-next.invariant.0 next entry),
-      next_step c.requires.0 c.args.id.now c.args.order.now c.args.facts.now c.loop-next.series.items c.push.new.self.items
-          c.in-Some.found.index c.continuation_at.result c.next-next.result c.requires.1 next entry
+      next_step c.requires.0 c.args.id.now c.args.order.now c.args.facts.now c.loop-next.series.items
+          c.push.new.self.items c.in-Some.found.index c.continuation_at.result c.next-next.result c.requires.1 next
+          entry
           c.in_ok-push.ensures.items c.next-next.ensures.within c.next-next.ensures.some c.next-next.ensures.none,
     )
 

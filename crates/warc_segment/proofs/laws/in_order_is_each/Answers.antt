@@ -1,4 +1,4 @@
-use Rattle.warc_segment.proofs.SeriesLemmas.{in_order_is_each}
+use Rattle.warc_segment.proofs.LawLemmas.{in_order_is_each}
 use Rattle.warc_segment.proofs.laws.in_order_is_each.Goals as goal
 
 pub returns : goal.returns

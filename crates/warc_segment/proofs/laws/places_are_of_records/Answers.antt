@@ -1,4 +1,4 @@
-use Rattle.warc_segment.proofs.PlaceLemmas.{places_are_of_records}
+use Rattle.warc_segment.proofs.LawLemmas.{places_are_of_records}
 use Rattle.warc_segment.proofs.laws.places_are_of_records.Goals as goal
 
 pub returns : goal.returns
