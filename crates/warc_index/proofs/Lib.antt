@@ -3,3 +3,4 @@ pub mod LatestLemmas
 pub mod ChoiceLemmas
 pub mod LoopLemmas
 mod WorkedValues
+pub mod KeptLemmas
