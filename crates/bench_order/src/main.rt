@@ -1,6 +1,6 @@
-//! Times `warc_order`: `bench_order COUNT [equal]`. It fills an order of COUNT entries at once, adds as many one by one,
-//! and looks each up, all in random order, and prints nanoseconds an entry. With `equal` all texts have one hash. Without
-//! arguments it does nothing.
+//! Times `warc_order`: `bench_order COUNT [equal]`. It fills an order of COUNT entries at once, adds as many one by
+//! one, and looks each up, all in random order, and prints nanoseconds an entry. With `equal` all texts have one hash.
+//! Without arguments it does nothing.
 #![tactic(auto)]
 
 use std::alloc::{AllocError, Global};

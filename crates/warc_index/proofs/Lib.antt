@@ -4,3 +4,4 @@ pub mod ChoiceLemmas
 pub mod LoopLemmas
 pub mod LawLemmas
 mod WorkedValues
+pub mod KeptLemmas

@@ -2,3 +2,4 @@ pub mod UnfoundText
 pub mod Walks
 pub mod Captures
 pub mod Referents
+pub mod Orders

@@ -1,0 +1,22 @@
+use Rattle.std.proofs.Common.{◌≡◌, sym, subst, refl}
+use Rattle.warc_index.specs.Orders.{IsKeptOf, IsBelow}
+use Rattle.warc_index.proofs.KeptLemmas.{kept_fewer, below_kept}
+use Rattle.warc_index.proofs.index.Index.forget_after.Goals as goal
+
+pub invariant_of-self : goal.invariant_of-self
+invariant_of-self g c = record {
+  ids = subst (IsBelow c.args.count) (sym c.forget_after.ensures) (below_kept c.self.inside.by_id c.args.count);
+  captures = subst (IsBelow c.args.count) (sym c.forget_after-then-count-self.ensures) (below_kept
+      c.self.inside.by_target c.args.count);
+}
+
+pub returns-then-count-self : goal.returns-then-count-self
+returns-then-count-self g c all kept =
+    kept_fewer all (record {
+      count = c.self.inside.count;
+      ids = c.self.inside.by_id;
+      captures =
+          c.self.inside.by_target;
+    }) _
+    c.args.count c.if-count-self.true (subst (IsKeptOf all) (sym c.self.view_is) kept) refl c.forget_after.ensures
+    c.forget_after-then-count-self.ensures
