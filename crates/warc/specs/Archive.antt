@@ -14,8 +14,8 @@ pub record Contents (S : Type 0) : Type 0 where
   pub source : S
   pub rows : List Row
 
--- a text that begins at offset q is a concatenation of texts that spell the records in order, each with its block where it
--- says
+-- a text that begins at offset q is a concatenation of texts that spell the records in order, each with its
+-- block where it says
 abbrev pub SpellsFrom : ℕ → List Placed → List ℕ → Type 0
 SpellsFrom q [] text = text ≡ []
 SpellsFrom q (p ∷ ps) text = (front rest : List ℕ) × Spells p.content front × (p.offset ≡ q)

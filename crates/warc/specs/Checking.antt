@@ -1,5 +1,5 @@
--- What `check` tells of an archive: the findings of its records in their order, or that it has none. The findings are this
--- project's own profile of ISO 28500:2017, and none of them refuses a record.
+-- What `check` tells of an archive: the findings of its records in their order, or that it has none. The
+-- findings are this project's own profile of ISO 28500:2017, and none of them refuses a record.
 use Rattle.std.specs.Prelude.{ℕ, Bool, true, false, List, [], ◌∷◌, ◌++◌, length, map, take, codes, decimal, Option, Some, None}
 use Rattle.std.specs.List.{enumerate_from, flat_map, list_any}
 use Rattle.std.specs.Str.{bytes_eq}

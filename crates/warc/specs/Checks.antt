@@ -10,10 +10,11 @@ use Rattle.warc.specs.Heads.{ReadsHeads}
 use Rattle.warc.specs.Row.{Row}
 use Rattle.warc.specs.Seen.{IfHeld, Seen, Tapped}
 
--- checking an archive of these rows. Where its source holds the archive's bytes, a line is written for each finding of the
--- records that they spell, and counted, or a front of the lines is; and the source has failed once more exactly where a read
--- is told. Any source still holds what it held, is asked for no byte outside the heads, and read at most once for each of
--- theirs; where a read is told it has failed once more, unless it told of other bytes than it held
+-- checking an archive of these rows. Where its source holds the archive's bytes, a line is written for each
+-- finding of the records that they spell, and counted, or a front of the lines is; and the source has failed
+-- once more exactly where a read is told. Any source still holds what it held, is asked for no byte outside the
+-- heads, and read at most once for each of theirs; where a read is told it has failed once more, unless it told
+-- of other bytes than it held
 pub record Checks (rows : List Row) (old new : Tapped) (before after : Seen) (answer : Result ℕ OutFault) : Type 0 where
   pub told : IfHeld old.holds (λ bytes. (is : IsArchiveOf bytes rows)
       → OnOk answer (after.tells ≡ append_known before.tells (check_text (contents is.are.records))))

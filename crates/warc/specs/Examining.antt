@@ -1,5 +1,5 @@
--- What a record's head is when it is read again, and what reading it again may answer. States of the code: no public clause
--- cites them.
+-- What a record's head is when it is read again, and what reading it again may answer. States of the code: no
+-- public clause cites them.
 use Rattle.std.specs.Prelude.{◌≡◌, ℕ, ◌+◌, ◌≤◌, ◌⊎◌, List, length, map, take, slice_get, slice_range, Ok, Some, None}
 use Rattle.std.specs.BTreeSet.{BTreeSet, contains}
 use Rattle.std.specs.Cmp.Lexicographic.{slice_cmp}
@@ -28,14 +28,20 @@ pub record HasHead (bytes : List ℕ) (p : Placed) : Type 0 where
   pub within : p.block_start ≤ length bytes
   pub short : len ≤ max_head
   pub reads : head_of any_fields (slice_range bytes p.offset p.block_start)
-      ≡ Ok (record { version = p.content.version; fields = p.content.fields; len = len; block_len = length p.content.block })
+      ≡ Ok (record {
+        version = p.content.version;
+        fields = p.content.fields;
+        len = len;
+        block_len = length p.content.block;
+      })
   pub good : head_fault p.content.fields ≡ None
 
 -- a set holds the keys of the ids of these records, and no others
 abbrev pub HasMet : List Record → BTreeSet (List ℕ) → Type 0
 HasMet records met = (key : List ℕ) → contains (slice_cmp nat_cmp) met key ≡ is_used records (Some key)
 
--- how often a source has failed after a call: once more, or else the call isn't told apart from a source that gives too little
+-- how often a source has failed after a call: once more, or else the call isn't told apart from a source that
+-- gives too little
 abbrev pub MayHaveFailed : Halt → ℕ → ℕ → Type 0
 MayHaveFailed Read old new = (new ≡ old) ⊎ (new ≡ raised old)
 MayHaveFailed Memory old new = new ≡ old

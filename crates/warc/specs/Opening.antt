@@ -19,8 +19,8 @@ pub record IsUnread (bytes : List ℕ) (offset : ℕ) : Type 0 where
   pub within : offset ≤ length bytes
   pub before : IsOnlyCut (take offset bytes)
 
--- memory was wanted for the record that begins at this offset, and `asked` was the last offset asked for: all records before
--- it are good, a byte of it is there, and no whole record lies between it and `asked`
+-- memory was wanted for the record that begins at this offset, and `asked` was the last offset asked for: all
+-- records before it are good, a byte of it is there, and no whole record lies between it and `asked`
 pub record IsUnkept (bytes : List ℕ) (asked offset : ℕ) : Type 0 where
   pub end : IsRecordEnd bytes offset
   pub begins : offset < length bytes
@@ -45,9 +45,10 @@ abbrev pub faults_after : FaultKind → ℕ → ℕ
 faults_after Read n = raised n
 faults_after kind n = n
 
--- opening a source: it gives rows or a refusal, by the bytes that the source holds, where they are known. The source still
--- holds them, and has failed once more exactly where the refusal is a read fault, at the offset asked last. No offset above
--- 2^48 is asked for, at most 2^48 reads and one are made, and at most one for each byte and one
+-- opening a source: it gives rows or a refusal, by the bytes that the source holds, where they are known. The
+-- source still holds them, and has failed once more exactly where the refusal is a read fault, at the offset
+-- asked last. No offset above 2^48 is asked for, at most 2^48 reads and one are made, and at most one for each
+-- byte and one
 pub record Opens (old new : Tapped) (answer : Result (List Row) Fault) : Type 0 where
   pub accepted : IfHeld old.holds (λ bytes. IfOk answer (IsArchiveOf bytes))
   pub refused : IfHeld old.holds (λ bytes. IfErr answer (IsRefusalOf bytes old new))

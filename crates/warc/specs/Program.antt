@@ -42,8 +42,9 @@ pub record Tells (line : List ℕ) (old new : Seen) : Type 0 where
   pub front : new.tells ≡ append_known old.tells (take count line)
   pub whole : new.faults ≡ old.faults → old.faults + 1 < 2 ^ 64 → count ≡ length line
 
--- a command ends early, before it writes: the bytes were refused for their first fault (status 2), or a read or a growth of
--- the memory failed (status 3). A read fault is told only where the source has failed once more, at the offset asked last
+-- a command ends early, before it writes: the bytes were refused for their first fault (status 2), or a read or
+-- a growth of the memory failed (status 3). A read fault is told only where the source has failed once more, at
+-- the offset asked last
 pub record IsNotOpened (old new : Devices) (status : ℕ) : Type 0 where
   pub fault : Fault
   pub is : IfHeld old.source.holds (λ bytes. IsRefusalOf bytes old.source new.source fault)
@@ -136,7 +137,8 @@ IsStatusOf (command.Check archive) status = (status ≡ 0) ⊎ ((status ≡ 1) �
 abbrev pub IsShown : List ℕ → Seen → Seen → Seen → Seen → ℕ → Type 0
 IsShown text out out' err err' status =
     ((status ≡ 0) × (out'.tells ≡ append_known out.tells text) × (err' ≡ err))
-    ⊎ ((status ≡ 3) × (sent : ℕ) × (out'.tells ≡ append_known out.tells (take sent text)) × (out'.faults ≡ raised out.faults)
+    ⊎ ((status ≡ 3) × (sent : ℕ) × (out'.tells ≡ append_known out.tells (take sent text))
+    × (out'.faults ≡ raised out.faults)
     × Tells (told_line (out_fault_text (Write sent))) err err')
 
 -- how a run ends where the words name no command

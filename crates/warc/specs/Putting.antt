@@ -7,7 +7,8 @@ use Rattle.warc_frame.specs.declared.send.SendFault.{SendFault}
 use Rattle.warc.specs.Seen.{Seen}
 
 -- by way of a buffer a text was added to an output: it is staged, or a write failed and a front of it went out
-pub record Puts {X : Type 0} (old new : Seen) (waits waiting : Staged) (answer : Result X SendFault) (text : List ℕ) : Type 0 where
+pub record Puts {X : Type 0} (old new : Seen) (waits waiting : Staged) (answer : Result X SendFault) (text : List ℕ)
+    : Type 0 where
   pub out : (start : Option (List ℕ)) (output : List ℕ) → IsStaged start output old.tells waits
       → OnOk answer (IsStaged start (output ++ text) new.tells waiting)
   pub cut : (start : Option (List ℕ)) (output : List ℕ) → IsStaged start output old.tells waits

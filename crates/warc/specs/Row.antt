@@ -11,8 +11,9 @@ pub record Placed : Type 0 where
   pub block_start : ℕ
   pub content : Record
 
--- the offsets of a record and of its block, the block's length, how the block compares with the digest that its head
--- wants, whether it is marked as truncated, and the texts of its type, date, id and target, each empty where it is absent
+-- the offsets of a record and of its block, the block's length, how the block compares with the digest that its
+-- head wants, whether it is marked as truncated, and the texts of its type, date, id and target, each empty
+-- where it is absent
 pub record Row : Type 0 where
   pub offset : ℕ
   pub block_start : ℕ

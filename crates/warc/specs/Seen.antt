@@ -1,8 +1,8 @@
 -- What contracts see of a source and of a sink, before a call and after it.
 use Rattle.std.specs.Prelude.{◌≡◌, ℕ, Bool, false, List, Option, Some}
 
--- a source: the bytes that it holds, where they are known, how often it has failed and was read, the offset that was asked
--- for last, the offsets that it watches, and how often it was asked for one of those
+-- a source: the bytes that it holds, where they are known, how often it has failed and was read, the offset that
+-- was asked for last, the offsets that it watches, and how often it was asked for one of those
 pub record Tapped : Type 0 where
   pub holds : Option (List ℕ)
   pub faults : ℕ

@@ -101,8 +101,8 @@ StaysRefused bytes f = StaysBy f.kind bytes f
 abbrev pub BeginsSince : List ℕ → ℕ → ℕ → Type 0
 BeginsSince text old new = (new ≡ old) ⊎ (length text ≤ new)
 
--- memory was wanted while a piece behind this text was taken: for the record that was being read, or one that begins behind
--- the text; and for one that begins before the piece ends
+-- memory was wanted while a piece behind this text was taken: for the record that was being read, or one that
+-- begins behind the text; and for one that begins before the piece ends
 abbrev pub WantsSince : List ℕ → List ℕ → ℕ → Fault → Type 0
 WantsSince text piece begin f = f.kind ≡ Memory → BeginsSince text begin f.offset × (f.offset < length (text ++ piece))
 

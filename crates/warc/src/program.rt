@@ -46,7 +46,8 @@ where
         (devices (tapped (S.holds source) (S.faults source) (S.reads source) (S.asked source) (S.watches source)
         (S.strays source)) (seen (W.tells out.old) (W.faults out.old)) (seen (E.tells err.old) (E.faults err.old)))
         (devices (tapped (S.holds result.1) (S.faults result.1) (S.reads result.1) (S.asked result.1)
-        (S.watches result.1) (S.strays result.1)) (seen (W.tells out.new) (W.faults out.new)) (seen (E.tells err.new) (E.faults err.new)))
+        (S.watches result.1) (S.strays result.1))
+        (seen (W.tells out.new) (W.faults out.new)) (seen (E.tells err.new) (E.faults err.new)))
         result.0 }
 
     // The source still holds what it held.
@@ -72,7 +73,8 @@ where
         (devices (tapped (S.holds source) (S.faults source) (S.reads source) (S.asked source) (S.watches source)
         (S.strays source)) (seen (W.tells out.old) (W.faults out.old)) (seen (E.tells err.old) (E.faults err.old)))
         (devices (tapped (S.holds result.1) (S.faults result.1) (S.reads result.1) (S.asked result.1)
-        (S.watches result.1) (S.strays result.1)) (seen (W.tells out.new) (W.faults out.new)) (seen (E.tells err.new) (E.faults err.new)))
+        (S.watches result.1) (S.strays result.1))
+        (seen (W.tells out.new) (W.faults out.new)) (seen (E.tells err.new) (E.faults err.new)))
         result.0 }
 
     // The source still holds what it held.
@@ -100,7 +102,8 @@ where
         (devices (tapped (S.holds source) (S.faults source) (S.reads source) (S.asked source) (S.watches source)
         (S.strays source)) (seen (W.tells out.old) (W.faults out.old)) (seen (E.tells err.old) (E.faults err.old)))
         (devices (tapped (S.holds result.1) (S.faults result.1) (S.reads result.1) (S.asked result.1)
-        (S.watches result.1) (S.strays result.1)) (seen (W.tells out.new) (W.faults out.new)) (seen (E.tells err.new) (E.faults err.new)))
+        (S.watches result.1) (S.strays result.1))
+        (seen (W.tells out.new) (W.faults out.new)) (seen (E.tells err.new) (E.faults err.new)))
         result.0 }
 
     // The source still holds what it held.
