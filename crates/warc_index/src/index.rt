@@ -146,7 +146,8 @@ impl<A: Allocator + Copy> Index<A> {
 
     /// The bytes of the ids' keys and of the targets that are kept.
     pub fn kept(&self) -> u64
-        ensures { result ≡ min (sum_by (λ e. length e.text) self.now.ids + sum_by (λ e. length e.text) self.now.captures)
+        ensures { result ≡ min
+            (sum_by (λ e. length e.text) self.now.ids + sum_by (λ e. length e.text) self.now.captures)
             18446744073709551615 }
     {
         self.by_id.kept().saturating_add(self.by_target.kept())
