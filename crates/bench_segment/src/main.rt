@@ -20,7 +20,7 @@ const STEP: usize = 7_919;
 /// The head of a segment of this number, the last one with the length of `count` blocks and one more.
 fn segment(alloc: Global, kind: &str, number: usize, count: usize) -> Option<Typed> {
     let total = if number == count.wrapping_add(1) {
-        number as u64 * SIZE
+        (number as u64).wrapping_mul(SIZE)
     } else {
         0
     };

@@ -1,5 +1,8 @@
 -- What a converted head says, that it is good, and that converted twice is converted once.
-use Rattle.std.proofs.Common.{◌≡◌, inl, inr, ℕ, ◌+◌, ◌<◌, ◌≤◌, Bool, true, false, ◌==◌, cond, List, [], ◌∷◌, ◌++◌, length, length-append, take, get_or, find, codes, Option, Some, None, is_none, is_some, option_map, Result, Err, if◌then◌else◌, refl, sym, ◌∙◌, ap, subst, arith, true≢false}
+use Rattle.std.proofs.Common.{◌≡◌, inl, inr, ℕ, ◌+◌, ◌<◌, ◌≤◌, Bool, true, false, ◌==◌, cond, List, [], ◌∷◌}
+use Rattle.std.proofs.Common.{◌++◌, length, length-append, take, get_or, find, codes, Option, Some, None}
+use Rattle.std.proofs.Common.{is_none, is_some, option_map, Result, Err, if◌then◌else◌, refl, sym, ◌∙◌, ap}
+use Rattle.std.proofs.Common.{subst, arith, true≢false}
 use Rattle.std.specs.Prelude.{option_and_then, nat_lt, nat_le}
 use Rattle.std.specs.Option.{option_or, option_map_or}
 use Rattle.std.specs.Str.{str_to_ascii_lowercase, bytes_eq}
@@ -22,14 +25,16 @@ use Rattle.warc_frame.specs.declared.fault.Mandatory.TheVariants.{«Type», Reco
 use Rattle.warc_frame.specs.declared.fault.FaultKind.{FaultKind}
 use Rattle.warc_frame.specs.declared.fault.FaultKind.TheVariants.{Missing, Repeated, BadType, Id, Date}
 use Rattle.warc_frame.specs.FaultText.{name_of}
-use Rattle.warc_frame.specs.Record.{Record, IsFramed, canonical_len, content_length, block_len, block_number, or_length}
+use Rattle.warc_frame.specs.Record.{Record, IsFramed, canonical_len, content_length, block_len, block_number}
+use Rattle.warc_frame.specs.Record.{or_length}
 use Rattle.warc_record.specs.declared.types.Kind.TheVariants.{Other}
 use Rattle.warc_record.specs.Ids.{bare_text, is_id, id_key}
 use Rattle.warc_record.specs.Kinds.{kind_named}
 use Rattle.warc_record.specs.Readings.{unless_empty, target_of, both, is_known_profile, segment_number, reading_of}
 use Rattle.warc_record.specs.Heads.{count_fault, value_fault, is_date, head_fault}
 use Rattle.warc_record.proofs.GoodLemmas.{good_heads_have_no_fault}
-use Rattle.warc_write.specs.Conversion.{converted_field, converted_fields, converted, ConversionIsIdempotent, ConvertedSaysTheSame, ConvertedStaysGood}
+use Rattle.warc_write.specs.Conversion.{converted_field, converted_fields, converted, ConversionIsIdempotent}
+use Rattle.warc_write.specs.Conversion.{ConvertedSaysTheSame, ConvertedStaysGood}
 use Rattle.warc_record.proofs.LawLemmas.{bare_texts_are_bare, bare_texts_are_no_longer, bare_texts_are_values}
 
 abbrev target_name : List ℕ

@@ -1,6 +1,9 @@
 -- The segments of a good record are good.
-use Rattle.std.proofs.Common.{◌≡◌, inl, inr, ℕ, zero, suc, ◌+◌, ◌-◌, ◌*◌, ◌<◌, ◌≤◌, ◌==◌, nat_le, nat_lt, Bool, true, false, List, [], ◌∷◌, ◌++◌, length, length-take, length-drop, map, take, drop}
-use Rattle.std.proofs.Common.{codes, decimal, Option, Some, None, option_map, is_none, is_some, unwrap_or, Result, Ok, Err, refl, sym, ap, ◌∙◌, arith, if◌then◌else◌}
+use Rattle.std.proofs.Common.{◌≡◌, inl, inr, ℕ, zero, suc, ◌+◌, ◌-◌, ◌*◌, ◌<◌, ◌≤◌, ◌==◌, nat_le, nat_lt, Bool}
+use Rattle.std.proofs.Common.{true, false, List, [], ◌∷◌, ◌++◌, length, length-take, length-drop, map, take}
+use Rattle.std.proofs.Common.{drop}
+use Rattle.std.proofs.Common.{codes, decimal, Option, Some, None, option_map, is_none, is_some, unwrap_or}
+use Rattle.std.proofs.Common.{Result, Ok, Err, refl, sym, ap, ◌∙◌, arith, if◌then◌else◌}
 use Rattle.std.specs.Prelude.{option_and_then}
 use Rattle.std.specs.Option.{option_map_or, option_or}
 use Rattle.std.specs.List.{list_all, range_with_len}
@@ -8,9 +11,11 @@ use Rattle.std.proofs.lemmas.List.{map-append, take_all}
 use Rattle.std.proofs.lemmas.List.Folds.{list_all_at}
 use Rattle.std.proofs.lemmas.List.FromFn.{get_or-map-range_with_len, length-map-range_with_len}
 use Rattle.warc_write.specs.declared.splitting.SplitFault.{SplitFault}
-use Rattle.warc_write.specs.declared.splitting.SplitFault.TheVariants.{NotUuid, AlreadySegmented, Kind as BadKind, Size}
+use Rattle.warc_write.specs.declared.splitting.SplitFault.TheVariants.{NotUuid, AlreadySegmented}
+use Rattle.warc_write.specs.declared.splitting.SplitFault.TheVariants.{Kind as BadKind, Size}
 use Rattle.warc_write.specs.declared.splitting.SplitFault.TheVariants.{Memory, TooLong, BadDigest}
-use Rattle.warc_write.specs.Splitting.{AllFramed, OrMemory, RefusesSegment, Splits, has_bad_digest, has_room, segments_of, split_of, splittable}
+use Rattle.warc_write.specs.Splitting.{AllFramed, OrMemory, RefusesSegment, Splits, has_bad_digest, has_room}
+use Rattle.warc_write.specs.Splitting.{segments_of, split_of, splittable}
 use Rattle.warc_write.proofs.SplitLemmas.{no_head, no_size}
 use Rattle.warc_write.specs.Rendering.{AllGood}
 use Rattle.std.proofs.lemmas.Bool.{and_from, cases_Bool}
@@ -31,7 +36,8 @@ use Rattle.warc_record.specs.Heads.{count_fault, value_fault, is_date, head_faul
 use Rattle.warc_record.specs.Ids.{is_id}
 use Rattle.warc_record.specs.Readings.{Reading, reading_of}
 use Rattle.warc_write.specs.declared.splitting.Part.{Part}
-use Rattle.warc_write.specs.Splitting.{first_fields, kept, next_fields, part_of, piece_at, segment_fields, segment_of, value_in}
+use Rattle.warc_write.specs.Splitting.{first_fields, kept, next_fields, part_of, piece_at, segment_fields}
+use Rattle.warc_write.specs.Splitting.{segment_of, value_in}
 use Rattle.warc_write.specs.Written.{digest_text, id_text}
 use Rattle.warc_write.proofs.KeptLemmas.{count_behind, first_behind, kept_count, kept_first, kept_len_first}
 use Rattle.warc_write.proofs.MakeLemmas.{number_of_len}

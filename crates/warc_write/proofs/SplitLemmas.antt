@@ -1,6 +1,8 @@
 -- The fields of segments, as they are put together.
-use Rattle.std.proofs.Common.{◌≡◌, ℕ, ◌+◌, ◌<◌, nat_lt, Bool, true, false, not, List, [], ◌∷◌, ◌++◌, length, take, get_or, map}
-use Rattle.std.proofs.Common.{append_assoc, codes, decimal, Option, Some, None, is_none, is_some, Result, Ok, Err, refl, sym, ap, ◌∙◌}
+use Rattle.std.proofs.Common.{◌≡◌, ℕ, ◌+◌, ◌<◌, nat_lt, Bool, true, false, not, List, [], ◌∷◌, ◌++◌, length}
+use Rattle.std.proofs.Common.{take, get_or, map}
+use Rattle.std.proofs.Common.{append_assoc, codes, decimal, Option, Some, None, is_none, is_some, Result, Ok}
+use Rattle.std.proofs.Common.{Err, refl, sym, ap, ◌∙◌}
 use Rattle.std.specs.Prelude.{filter}
 use Rattle.std.specs.Option.{ok_or}
 use Rattle.std.proofs.lemmas.List.{map-append, take_more}
@@ -17,10 +19,12 @@ use Rattle.warc_record.specs.Readings.{kind_of, target_of}
 use Rattle.warc_record.specs.Seen.{RefusesFor}
 use Rattle.warc_write.specs.declared.splitting.Part.{Part}
 use Rattle.warc_write.specs.declared.splitting.SplitFault.{SplitFault}
-use Rattle.warc_write.specs.declared.splitting.SplitFault.TheVariants.{NotUuid, AlreadySegmented, Kind as BadKind, Size}
+use Rattle.warc_write.specs.declared.splitting.SplitFault.TheVariants.{NotUuid, AlreadySegmented}
+use Rattle.warc_write.specs.declared.splitting.SplitFault.TheVariants.{Kind as BadKind, Size}
 use Rattle.warc_write.specs.declared.splitting.SplitFault.TheVariants.{Memory, TooLong, BadDigest}
 use Rattle.warc_write.specs.Refusals.{needs}
-use Rattle.warc_write.specs.Splitting.{RefusesHead, Splits, is_kept, is_segmented, kept, may_be_split, next_fields, origin_fields, splittable}
+use Rattle.warc_write.specs.Splitting.{RefusesHead, Splits, is_kept, is_segmented, kept, may_be_split}
+use Rattle.warc_write.specs.Splitting.{next_fields, origin_fields, splittable}
 use Rattle.warc_write.specs.Splitting.{total_fields, value_in, with_len}
 use Rattle.warc_write.specs.Written.{digest_text}
 

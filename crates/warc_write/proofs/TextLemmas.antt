@@ -1,5 +1,8 @@
 -- Numbers, ids and digests as they are written: they are values, and read as what they are of.
-use Rattle.std.proofs.Common.{rules, ◌≡◌, inl, inr, ℕ, zero, suc, ◌+◌, ◌-◌, ◌*◌, ◌^◌, ◌<◌, ◌≤◌, ◌&&◌, ◌||◌, ◌==◌, nat_lt, nat_le, Bool, true, false, not, List, [], ◌∷◌, ◌++◌, length, length-append, take, drop, map, codes, All, decimal, get_or, Option, Some, None, refl, sym, ap, ◌∙◌, arith, eq-eqb, if◌then◌else◌}
+use Rattle.std.proofs.Common.{rules, ◌≡◌, inl, inr, ℕ, zero, suc, ◌+◌, ◌-◌, ◌*◌, ◌^◌, ◌<◌, ◌≤◌, ◌&&◌, ◌||◌}
+use Rattle.std.proofs.Common.{◌==◌, nat_lt, nat_le, Bool, true, false, not, List, [], ◌∷◌, ◌++◌, length}
+use Rattle.std.proofs.Common.{length-append, take, drop, map, codes, All, decimal, get_or, Option, Some, None}
+use Rattle.std.proofs.Common.{refl, sym, ap, ◌∙◌, arith, eq-eqb, if◌then◌else◌}
 use Rattle.std.specs.Prelude.{reverse, slice_index}
 use Rattle.std.specs.List.{list_all, list_any, prefix_len, suffix_len}
 use Rattle.std.specs.Str.{all_ascii_digits}
@@ -15,7 +18,8 @@ use Rattle.std.proofs.lemmas.List.Folds.{list_all-append}
 use Rattle.std.specs.Int.{to_be_bytes, w32}
 use Rattle.std.proofs.lemmas.List.Elements.{All-append, All-from_recursion}
 use Rattle.sha1.specs.Sha1.{digest_bytes, sha1}
-use Rattle.uuid.specs.Text.{by_index, hex_digit, hyphenated_text, is_hyphen_place, digit_place, lower, nibble, urn_text}
+use Rattle.uuid.specs.Text.{by_index, hex_digit, hyphenated_text, is_hyphen_place, digit_place, lower, nibble}
+use Rattle.uuid.specs.Text.{urn_text}
 use Rattle.uuid.proofs.TextLemmas.{by_index_length, nibble_small}
 use Rattle.warc_field.specs.Text.{is_blank, is_value, is_value_byte, trimmed}
 use Rattle.warc_field.specs.Decimal.{number_of, decimal_of}

@@ -1,5 +1,5 @@
--- A record of WARC 1.0 written anew as one of WARC 1.1: of its targets, which 1.0 writes between < and > and 1.1 without,
--- the bare texts stay (ISO 28500:2017, 5.14). All else stays as it is.
+-- A record of WARC 1.0 written anew as one of WARC 1.1: of its targets, which 1.0 writes between < and > and
+-- 1.1 without, the bare texts stay (ISO 28500:2017, 5.14). All else stays as it is.
 use Rattle.std.specs.Prelude.{◌≡◌, List, map, codes, if◌then◌else◌}
 use Rattle.warc_field.specs.Text.{same, AreFields}
 use Rattle.warc_field.specs.Area.{Pair}

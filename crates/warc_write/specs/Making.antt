@@ -1,6 +1,7 @@
--- Records that are made anew (ISO 28500:2017, 6.3, 6.6 and 6.8: resource, metadata and conversion records). Which fields they
--- have, their order, and the refusals are this project's own.
-use Rattle.std.specs.Prelude.{◌≡◌, ⊤, ℕ, Bool, not, ◌&&◌, ◌==◌, nat_le, List, [], ◌∷◌, length, codes, decimal, Option, Some, None, Result, Ok, Err, if◌then◌else◌}
+-- Records that are made anew (ISO 28500:2017, 6.3, 6.6 and 6.8: resource, metadata and conversion records).
+-- Which fields they have, their order, and the refusals are this project's own.
+use Rattle.std.specs.Prelude.{◌≡◌, ⊤, ℕ, Bool, not, ◌&&◌, ◌==◌, nat_le, List, [], ◌∷◌, length, codes, decimal}
+use Rattle.std.specs.Prelude.{Option, Some, None, Result, Ok, Err, if◌then◌else◌}
 use Rattle.std.specs.Str.{bytes_eq}
 use Rattle.sha1.specs.Sha1.{sha1}
 use Rattle.uuid.specs.Text.{parsed}
@@ -9,7 +10,8 @@ use Rattle.warc_field.specs.Area.{Pair}
 use Rattle.warc_frame.specs.declared.version.Version.TheVariants.{V1_1}
 use Rattle.warc_frame.specs.Record.{Record, canonical_len, max_block, max_head}
 use Rattle.warc_record.specs.declared.types.Kind.{Kind}
-use Rattle.warc_record.specs.declared.types.Kind.TheVariants.{Warcinfo, Response, Resource, Request, Metadata, Revisit, Conversion, Continuation, Other}
+use Rattle.warc_record.specs.declared.types.Kind.TheVariants.{Warcinfo, Response, Resource, Request, Metadata}
+use Rattle.warc_record.specs.declared.types.Kind.TheVariants.{Revisit, Conversion, Continuation, Other}
 use Rattle.warc_record.specs.Heads.{is_date}
 use Rattle.warc_record.specs.Ids.{bare_text}
 use Rattle.warc_write.specs.declared.making.MakeFault.{MakeFault}

@@ -1,5 +1,5 @@
--- Records that are split into segments (ISO 28500:2017, 7; its fields 5.20 to 5.22; UUIDs of version 5 by RFC 9562, 5.5). Which
--- fields a segment has, their order, and the refusals are this project's own.
+-- Records that are split into segments (ISO 28500:2017, 7; its fields 5.20 to 5.22; UUIDs of version 5 by RFC
+-- 9562, 5.5). Which fields a segment has, their order, and the refusals are this project's own.
 use Rattle.std.specs.Prelude.{◌≡◌, ⊤, ℕ, ◌+◌, ◌-◌, ◌*◌, ◌/◌, Bool, true, false, not, ◌||◌, ◌==◌, nat_le, nat_lt}
 use Rattle.std.specs.Prelude.{List, [], ◌∷◌, ◌++◌, length, take, drop, map, filter, codes, decimal}
 use Rattle.std.specs.Prelude.{Option, Some, None, is_some, is_none, unwrap_or, Result, Ok, Err, if◌then◌else◌}
@@ -16,14 +16,16 @@ use Rattle.warc_value.specs.declared.hash.Verdict.{Verdict}
 use Rattle.warc_value.specs.declared.hash.Verdict.TheVariants.{Good, Bad, Unchecked}
 use Rattle.warc_frame.specs.Record.{Record, IsFramed, canonical_len, content_length, max_head}
 use Rattle.warc_record.specs.declared.types.Kind.{Kind}
-use Rattle.warc_record.specs.declared.types.Kind.TheVariants.{Warcinfo, Response, Resource, Request, Metadata, Revisit}
+use Rattle.warc_record.specs.declared.types.Kind.TheVariants.{Warcinfo, Response, Resource, Request, Metadata}
+use Rattle.warc_record.specs.declared.types.Kind.TheVariants.{Revisit}
 use Rattle.warc_record.specs.declared.types.Kind.TheVariants.{Conversion, Continuation, Other}
 use Rattle.warc_record.specs.Heads.{head_fault}
 use Rattle.warc_record.specs.Ids.{bare_text}
 use Rattle.warc_record.specs.Readings.{digest_wanted, kind_of, target_of}
 use Rattle.warc_write.specs.declared.splitting.Part.{Part}
 use Rattle.warc_write.specs.declared.splitting.SplitFault.{SplitFault}
-use Rattle.warc_write.specs.declared.splitting.SplitFault.TheVariants.{NotUuid, AlreadySegmented, Kind as BadKind, Size}
+use Rattle.warc_write.specs.declared.splitting.SplitFault.TheVariants.{NotUuid, AlreadySegmented}
+use Rattle.warc_write.specs.declared.splitting.SplitFault.TheVariants.{Kind as BadKind, Size}
 use Rattle.warc_write.specs.declared.splitting.SplitFault.TheVariants.{Memory, TooLong, BadDigest}
 use Rattle.warc_write.specs.Refusals.{◌>>=◌, checks, needs}
 use Rattle.warc_write.specs.Written.{digest_text, id_text}
@@ -112,8 +114,8 @@ next_fields given uuid part =
 abbrev pub segment_fields : List Pair → List ℕ → Part → List Pair
 segment_fields given uuid part = if part.number == 1 then first_fields given part else next_fields given uuid part
 
--- how many pieces of n bytes, the last one shorter or equal, a block that isn't empty is cut into, and the piece at a place,
--- counted from 0
+-- how many pieces of n bytes, the last one shorter or equal, a block that isn't empty is cut into, and the
+-- piece at a place, counted from 0
 abbrev pub count_of : ℕ → ℕ → ℕ
 count_of n len = (len - 1) / n + 1
 
@@ -131,7 +133,11 @@ part_of n len piece at =
 abbrev pub segment_of : Record → List ℕ → ℕ → ℕ → Record
 segment_of r uuid n at =
     let piece = piece_at n r.block at in
-    record { version = r.version; fields = segment_fields r.fields uuid (part_of n (length r.block) piece at); block = piece }
+    record {
+      version = r.version;
+      fields = segment_fields r.fields uuid (part_of n (length r.block) piece at);
+      block = piece;
+    }
 
 abbrev pub segments_of : Record → List ℕ → ℕ → List Record
 segments_of r uuid n = map (segment_of r uuid n) (range_with_len 0 (count_of n (length r.block)))

@@ -1,10 +1,13 @@
--- How the fields of new records are written (their names: ISO 28500:2017, 5). Ids stand between < and > (5.2) as UUIDs in lower
--- case with hyphens (RFC 9562, 4), digests are SHA-1 in base32 (5.8, which leaves algorithm and encoding open).
+-- How the fields of new records are written (their names: ISO 28500:2017, 5). Ids stand between < and > (5.2)
+-- as UUIDs in lower case with hyphens (RFC 9562, 4), digests are SHA-1 in base32 (5.8, which leaves algorithm
+-- and encoding open).
 use Rattle.std.specs.Prelude.{ℕ, List, ◌++◌, codes}
 use Rattle.uuid.specs.Text.{lower, urn_text}
 use Rattle.warc_value.specs.Base32.{base32_of}
 use Rattle.warc_write.specs.declared.parts.Label.{Label}
-use Rattle.warc_write.specs.declared.parts.Label.TheVariants.{«Type», RecordId, Date, TargetUri, ContentType, BlockDigest, ContentLength, SegmentNumber, SegmentOriginId, SegmentTotalLength}
+use Rattle.warc_write.specs.declared.parts.Label.TheVariants.{«Type», RecordId, Date, TargetUri, ContentType}
+use Rattle.warc_write.specs.declared.parts.Label.TheVariants.{BlockDigest, ContentLength, SegmentNumber}
+use Rattle.warc_write.specs.declared.parts.Label.TheVariants.{SegmentOriginId, SegmentTotalLength}
 
 -- the names of the fields that are written
 abbrev pub label_text : Label → List ℕ

@@ -41,8 +41,9 @@ fn converted_all<A: Allocator + Copy>(
     Ok(all)
 }
 
-/// The record as one of WARC 1.1 (ISO 28500:2017, 5.14, whose targets stand without brackets): its version is 1.1, each value of
-/// a `WARC-Target-URI` field is its bare text, and all else is as it was. It fails only where memory is refused.
+/// The record as one of WARC 1.1 (ISO 28500:2017, 5.14, whose targets stand without brackets): its version is
+/// 1.1, each value of a `WARC-Target-URI` field is its bare text, and all else is as it was. It fails only
+/// where memory is refused.
 pub fn convert<A: Allocator + Copy>(alloc: A, framed: &Framed<A>) -> Result<Framed<A>, AllocError>
     ensures { IfOk result (λ new. new ≡ converted framed.now) }
 {

@@ -4,7 +4,8 @@ ghost use Rattle.std.specs.Option.{option_copied};
 ghost use Rattle.warc_field.specs.Text.{is_value};
 ghost use Rattle.warc_frame.specs.Record.{IsFramed, block_len};
 ghost use Rattle.warc_record.specs.Good.{IsGood};
-ghost use Rattle.warc_write.specs.Making.{Makes, fitted, is_target, is_text, made, made_fields, make_fault_text, type_of};
+ghost use Rattle.warc_write.specs.Making.{Makes, fitted, is_target, is_text, made, made_fields};
+ghost use Rattle.warc_write.specs.Making.{make_fault_text, type_of};
 
 use crate::parts::{Label, add_field, add_number};
 use crate::written::{digest_text, id_text};
@@ -24,7 +25,8 @@ pub enum MakeFault {
     /// The date is none.
     Date,
 
-    /// The target is empty, no value or not its own bare text; or the id is no UUID; or the content type is empty or no value.
+    /// The target is empty, no value or not its own bare text; or the id is no UUID; or the content type is
+    /// empty or no value.
     Text,
 
     /// The head would pass 65,536 bytes, or the block 2^40.
@@ -101,7 +103,8 @@ fn made_fields<A: Allocator + Copy>(
     requires date { is_value date.now ≡ true }
     requires uri { is_value uri.now ≡ true }
     requires content_type { is_value content_type.now ≡ true }
-    ensures { IfOk result (λ fields. fields ≡ made_fields kind.now uuid.now (record { kind = Kind.Resource; uri = uri.now; date = date.now; uuid = []; content_type = content_type.now; block = block.now })) }
+    ensures { IfOk result (λ fields. fields ≡ made_fields kind.now uuid.now
+        (record { kind = Kind.Resource; uri = uri.now; date = date.now; uuid = []; content_type = content_type.now; block = block.now })) }
 {
     let mut fields = Fields::new(alloc);
     add_field(alloc, &mut fields, Label::Type, kind)?;
@@ -131,9 +134,10 @@ fn fitting<A: Allocator>(fields: Fields<A>, block: Vec<u8, A>) -> Result<Framed<
     }
 }
 
-/// The record of WARC 1.1 with this kind, target, date, id and content type, and this block: the kind is resource, metadata or
-/// conversion; the id a UUID in any form that `uuid` reads, written between `<` and `>` in lower case with hyphens. It has the block's
-/// digest. The refusals come in the order M5, M1, M2, M3, and M4 where memory is refused.
+/// The record of WARC 1.1 with this kind, target, date, id and content type, and this block: the kind is
+/// resource, metadata or conversion; the id a UUID in any form that `uuid` reads, written between `<` and `>`
+/// in lower case with hyphens. It has the block's digest. The refusals come in the order M5, M1, M2, M3, and M4
+/// where memory is refused.
 pub fn make<A: Allocator + Copy>(
     alloc: A,
     kind: Kind,
@@ -143,7 +147,14 @@ pub fn make<A: Allocator + Copy>(
     content_type: &[u8],
     block: &[u8],
 ) -> Result<Framed<A>, MakeFault>
-    ensures made { Makes result (made (record { kind = kind; uri = uri.now; date = date.now; uuid = uuid.now; content_type = content_type.now; block = block.now })) }
+    ensures made { Makes result (made (record {
+      kind = kind;
+      uri = uri.now;
+      date = date.now;
+      uuid = uuid.now;
+      content_type = content_type.now;
+      block = block.now;
+    })) }
     ensures good { IfOk result IsGood }
 {
     date_is_value();

@@ -101,13 +101,15 @@ fn put_records<A: Allocator, W: Sink>(
     Ok(())
 }
 
-/// Writes the canonical texts of records, in their order: names in their case, each version as it is. It takes no memory,
-/// so that it fails only where a write failed, and answers `Write` with the number of bytes that went out, up to 2^64 - 1.
+/// Writes the canonical texts of records, in their order: names in their case, each version as it is. It takes
+/// no memory, so that it fails only where a write failed, and answers `Write` with the number of bytes that
+/// went out, up to 2^64 - 1.
 pub fn render<A: Allocator, W: Sink>(records: &[Framed<A>], out: &mut W) -> Result<(), OutFault>
     ensures told { OnOk result (W.tells out.new ≡ append_known (W.tells out.old) (canonical_texts records.now)) }
 
     // After a failed write just so many bytes of them went out.
-    ensures cut { IfErr result (λ e. WentOut (W.tells out.old) (canonical_texts records.now) (W.tells out.new) (sent_of e)) }
+    ensures cut { IfErr result (λ e.
+        WentOut (W.tells out.old) (canonical_texts records.now) (W.tells out.new) (sent_of e)) }
     ensures write { IfErr result (λ e. e ≡ Write (sent_of e)) }
     ensures cause { W.faults out.new ≡ (if is_err result then raised (W.faults out.old) else W.faults out.old) }
 {

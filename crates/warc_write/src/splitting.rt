@@ -1,14 +1,18 @@
 //! Records split into segments.
-ghost use Rattle.std.specs.Prelude.{◌≡◌, [], ◌∷◌, ◌++◌, true, IfOk, ◌+◌, ◌-◌, ◌*◌, ◌<◌, length, IfErr, OnOk, Ok, Err, Some, is_none, is_some, decimal};
+ghost use Rattle.std.specs.Prelude.{◌≡◌, [], ◌∷◌, ◌++◌, true, IfOk, ◌+◌, ◌-◌, ◌*◌, ◌<◌, length, IfErr, OnOk};
+ghost use Rattle.std.specs.Prelude.{Ok, Err, Some, is_none, is_some, decimal};
 ghost use Rattle.std.specs.List.{list_all};
 ghost use Rattle.warc_field.specs.Text.{is_value};
 ghost use Rattle.warc_frame.specs.Record.{IsFramed};
 ghost use Rattle.warc_record.specs.Heads.{head_fault};
 ghost use Rattle.warc_record.specs.Readings.{kind_of, target_of};
 ghost use Rattle.warc_write.specs.Rendering.{AllGood};
-ghost use Rattle.warc_write.specs.Splitting.{AllFramed, OrMemory, RefusesSegment, count_of, has_bad_digest, has_room, split_of, part_of, piece_at, segment_of, segments_of};
-ghost use Rattle.warc_write.specs.Splitting.{RefusesHead, Splits, first_fields, is_segmented, kept, may_be_split, next_fields, origin_fields};
-ghost use Rattle.warc_write.specs.Splitting.{segment_fields, split_fault_text, splittable, total_fields, value_in, version_5};
+ghost use Rattle.warc_write.specs.Splitting.{AllFramed, OrMemory, RefusesSegment, count_of, has_bad_digest};
+ghost use Rattle.warc_write.specs.Splitting.{has_room, split_of, part_of, piece_at, segment_of, segments_of};
+ghost use Rattle.warc_write.specs.Splitting.{RefusesHead, Splits, first_fields, is_segmented, kept};
+ghost use Rattle.warc_write.specs.Splitting.{may_be_split, next_fields, origin_fields};
+ghost use Rattle.warc_write.specs.Splitting.{segment_fields, split_fault_text, splittable, total_fields};
+ghost use Rattle.warc_write.specs.Splitting.{value_in, version_5};
 
 use crate::parts::{Label, add_copy, add_digits, add_field, add_number, framed_of};
 use crate::written::{digest_text, id_text};
@@ -139,8 +143,8 @@ fn read_kind<A: Allocator + Copy>(alloc: A, fields: &Fields<A>) -> Result<(Kind,
     }
 }
 
-/// The sixteen bytes of the UUID of a head that may be split into segments of so many bytes. The refusals come in the order S4,
-/// S3, S2, S1, and S5 where memory is refused.
+/// The sixteen bytes of the UUID of a head that may be split into segments of so many bytes. The refusals come
+/// in the order S4, S3, S2, S1, and S5 where memory is refused.
 pub fn splittable<A: Allocator + Copy>(
     alloc: A,
     fields: &Fields<A>,
@@ -297,8 +301,8 @@ fn next_fields<A: Allocator + Copy>(
     Ok(fields)
 }
 
-/// The fields of a segment, without a block in memory: from the fields of the record that is split, the bytes of its UUID, and
-/// what is to be said of the segment. It fails only where memory is refused.
+/// The fields of a segment, without a block in memory: from the fields of the record that is split, the bytes
+/// of its UUID, and what is to be said of the segment. It fails only where memory is refused.
 pub fn segment_head<A: Allocator + Copy>(
     alloc: A,
     given: &Fields<A>,
@@ -441,8 +445,9 @@ fn whole<A: Allocator + Copy>(alloc: A, framed: &Framed<A>) -> Result<Vec<Framed
     Ok(all)
 }
 
-/// The record cut into segments of so many bytes, each of the record's version; the record itself where its block has no more bytes. The
-/// refusals come in the order S4, S3, S2, S1, S7, S6, and S5 where memory is refused.
+/// The record cut into segments of so many bytes, each of the record's version; the record itself where its
+/// block has no more bytes. The refusals come in the order S4, S3, S2, S1, S7, S6, and S5 where memory is
+/// refused.
 pub fn split<A: Allocator + Copy>(
     alloc: A,
     framed: &Framed<A>,

@@ -1,10 +1,13 @@
-use Rattle.std.proofs.Common.{rules, ◌≡◌, ◌≤◌, ◌^◌, nat_le, length, true, false, Ok, Err, IsOk, Some, sym, ap, ◌∙◌, arith}
+use Rattle.std.proofs.Common.{rules, ◌≡◌, ◌≤◌, ◌^◌, nat_le, length, true, false, Ok, Err, IsOk, Some, sym, ap}
+use Rattle.std.proofs.Common.{◌∙◌, arith}
 use Rattle.std.proofs.lemmas.Bool.Decides.{nat_tests}
 use Rattle.std.proofs.lemmas.Bool.{ltb-true}
 use Rattle.warc_field.specs.Text.{is_value}
 use Rattle.warc_frame.specs.Record.{block_len, max_block}
 use Rattle.warc_write.specs.Making.{Plan, fitted, is_block, made_fields}
-use Rattle.warc_write.proofs.MakeLemmas.{date_by, good_from, made_is, made_len, makes_from, no_block, no_content_type, no_date, no_kind, no_parse, no_target, no_uuid, target_is_value, text_is_value, type_is_name}
+use Rattle.warc_write.proofs.MakeLemmas.{date_by, good_from, made_is, made_len, makes_from, no_block}
+use Rattle.warc_write.proofs.MakeLemmas.{no_content_type, no_date, no_kind, no_parse, no_target, no_uuid}
+use Rattle.warc_write.proofs.MakeLemmas.{target_is_value, text_is_value, type_is_name}
 use Rattle.warc_write.proofs.making.make.Goals as goal
 
 pub returns-in_default-clause-made : goal.returns-in_default-clause-made

@@ -1,4 +1,5 @@
-use Rattle.std.proofs.Common.{rules, ◌≡◌, ◌<◌, ◌≤◌, nat_le, nat_lt, ℕ, List, [], ◌∷◌, true, false, length, Ok, Err, sym, ap, subst, ◌∙◌, arith}
+use Rattle.std.proofs.Common.{rules, ◌≡◌, ◌<◌, ◌≤◌, nat_le, nat_lt, ℕ, List, [], ◌∷◌, true, false, length, Ok}
+use Rattle.std.proofs.Common.{Err, sym, ap, subst, ◌∙◌, arith}
 use Rattle.std.specs.List.{list_all}
 use Rattle.std.proofs.lemmas.Bool.{ltb-true}
 use Rattle.std.proofs.lemmas.Bool.Decides.{nat_tests}
@@ -7,7 +8,8 @@ use Rattle.warc_field.specs.Area.{Pair}
 use Rattle.warc_record.proofs.GoodLemmas.{good_heads_have_no_fault}
 use Rattle.warc_write.specs.Rendering.{AllGood}
 use Rattle.warc_write.specs.Splitting.{AllFramed, Splits, has_room, segments_of, splittable}
-use Rattle.warc_write.proofs.SegmentLemmas.{all_good, all_split, framed_have_room, head_or_memory, no_room, not_split, refused_by_digest}
+use Rattle.warc_write.proofs.SegmentLemmas.{all_good, all_split, framed_have_room, head_or_memory, no_room}
+use Rattle.warc_write.proofs.SegmentLemmas.{not_split, refused_by_digest}
 use Rattle.warc_write.proofs.SegmentLemmas.{segment_or_memory, splittable_is_good, splittable_size}
 use Rattle.warc_write.proofs.splitting.split.Goals as goal
 

@@ -5,7 +5,8 @@ use Rattle.warc_record.specs.Ids.{bare_text}
 use Rattle.warc_write.specs.Refusals.{needs}
 use Rattle.warc_write.specs.declared.splitting.SplitFault.TheVariants.{NotUuid}
 use Rattle.warc_write.specs.Splitting.{may_be_split}
-use Rattle.warc_write.proofs.SplitLemmas.{by_uuid, head_refused, needs_is, no_kind, no_size, no_target, segmented, splits_as}
+use Rattle.warc_write.proofs.SplitLemmas.{by_uuid, head_refused, needs_is, no_kind, no_size, no_target}
+use Rattle.warc_write.proofs.SplitLemmas.{segmented, splits_as}
 use Rattle.warc_write.proofs.splitting.splittable.Goals as goal
 
 pub returns-then-size-eq0 : goal.returns-then-size-eq0
