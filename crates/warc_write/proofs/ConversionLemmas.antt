@@ -324,8 +324,11 @@ converted_stays_framed r framed = record {
 
 pub converted_stays_good : ConvertedStaysGood
 unfolding converted
-converted_stays_good r good = record { framed = converted_stays_framed r good.framed; head = (good_heads_have_no_fault (converted_fields r.fields)).1
-        (head_fault_stays r.fields ∙ (good_heads_have_no_fault r.fields).0 good.head) }
+converted_stays_good r good = record {
+  framed = converted_stays_framed r good.framed;
+  head = (good_heads_have_no_fault (converted_fields r.fields)).1
+      (head_fault_stays r.fields ∙ (good_heads_have_no_fault r.fields).0 good.head);
+}
 
 -- the converted fields of a longer front
 pub converted_more : (fields : List Pair) (i : ℕ) (field : Pair) → i < length fields → field ≡ get_or fields i field

@@ -36,8 +36,13 @@ pub returns-then-block-size-clause-good : goal.returns-then-block-size-clause-go
 returns-then-block-size-clause-good g c =
     let head = ap (λ fs. splittable fs c.args.size) (sym c.fields.ensures.fields) ∙ c.in-Ok.ensures in
     let none = splittable_is_good c.args.framed.now.fields c.args.size c.in-Ok.uuid head in
-    subst AllGood (sym c.in_ok-whole.ensures.made) (record {
-        framed = c.in_ok-whole.ensures.framed; head = (good_heads_have_no_fault c.args.framed.now.fields).1 none }, tt)
+    subst AllGood (sym c.in_ok-whole.ensures.made) (
+      record {
+        framed = c.in_ok-whole.ensures.framed;
+        head = (good_heads_have_no_fault c.args.framed.now.fields).1 none;
+      },
+      tt,
+    )
 
 pub segments-requires-clause-some : goal.segments-requires-clause-some
 segments-requires-clause-some g c =
