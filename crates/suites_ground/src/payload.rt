@@ -184,7 +184,6 @@ fn heads_that_are_refused(rt: HostRuntime) -> Result<(), Fail> {
 
 #[test]
 fn the_front_of_a_block(rt: HostRuntime) -> Result<(), Fail> {
-    let block = Vec::from_elem(rt.alloc(), b'x', 70_000)?;
     for (len, expected) in [
         (0, 0),
         (3, 3),
@@ -192,7 +191,8 @@ fn the_front_of_a_block(rt: HostRuntime) -> Result<(), Fail> {
         (65_537, 65_536),
         (70_000, 65_536),
     ] {
-        assert_eq!(rt; front(&block[..len]).len(), expected);
+        let block = Vec::from_elem(rt.alloc(), b'x', len)?;
+        assert_eq!(rt; front(&block).len(), expected);
     }
     Ok(())
 }
