@@ -2,7 +2,6 @@
 use Rattle.std.proofs.Common.{◌≡◌, [], ◌∷◌, refl, codes}
 use Rattle.warc_field.specs.Text.{is_blank, trimmed}
 use Rattle.warc_frame.specs.declared.version.Version.TheVariants.{V1_0, V1_1}
-use Rattle.warc_frame.specs.Record.{Record}
 use Rattle.warc_record.specs.Ids.{bare_text}
 use Rattle.warc_write.specs.Conversion.{converted}
 

@@ -1,13 +1,16 @@
-use Rattle.std.proofs.Common.{rules, ◌≡◌, ◌<◌, ◌≤◌, nat_le, nat_lt, ℕ, List, [], ◌∷◌, true, false, length, Ok}
+use Rattle.std.proofs.Common.{◌≡◌, nat_le, ℕ, List, true, false, length, Ok}
 use Rattle.std.proofs.Common.{Err, sym, ap, subst, ◌∙◌, arith}
 use Rattle.std.specs.List.{list_all}
 use Rattle.std.proofs.lemmas.Bool.{ltb-true}
 use Rattle.std.proofs.lemmas.Bool.Decides.{nat_tests}
 use Rattle.std.proofs.lemmas.Result.{IfErr-weaker, IfOk-weaker}
 use Rattle.warc_field.specs.Area.{Pair}
+use Rattle.warc_frame.specs.Record.{Record, IsFramed}
+use Rattle.warc_record.specs.Good.{IsGood}
 use Rattle.warc_record.proofs.GoodLemmas.{good_heads_have_no_fault}
 use Rattle.warc_write.specs.Rendering.{AllGood}
 use Rattle.warc_write.specs.Splitting.{AllFramed, Splits, has_room, segments_of, splittable}
+use Rattle.warc_write.proofs.JoinLemmas.{split_joins}
 use Rattle.warc_write.proofs.SegmentLemmas.{all_good, all_split, framed_have_room, head_or_memory, no_room}
 use Rattle.warc_write.proofs.SegmentLemmas.{not_split, refused_by_digest}
 use Rattle.warc_write.proofs.SegmentLemmas.{segment_or_memory, splittable_is_good, splittable_size}
@@ -81,3 +84,23 @@ returns-clause-good g c =
     IfOk-weaker c.segments.result _ _
     (λ all is. subst AllGood (sym is.0) (all_good r c.in-Ok.uuid c.args.size _ none (c.good_heads_read.ensures r.fields none) (subst AllFramed is.0 is.1)))
     c.segments.ensures.made
+
+good_from : (r : Record) (n : ℕ) (uuid : List ℕ) → IsFramed r → splittable r.fields n ≡ Ok uuid → IsGood r
+good_from r n uuid framed head = record {
+  framed = framed;
+  head = (good_heads_have_no_fault r.fields).1 (splittable_is_good r.fields n uuid head);
+}
+
+pub returns-then-block-size-clause-joins : goal.returns-then-block-size-clause-joins
+returns-then-block-size-clause-joins g c =
+    let r = c.args.framed.now in
+    let head = ap (λ fs. splittable fs c.args.size) (sym c.fields.ensures.fields) ∙ c.in-Ok.ensures in
+    split_joins r c.args.size c.in_ok-whole.field-0.items (good_from r c.args.size c.in-Ok.uuid c.block.ensures.framed head)
+    (returns-then-block-size-clause-split g c)
+
+pub returns-clause-joins : goal.returns-clause-joins
+returns-clause-joins g c =
+    let r = c.args.framed.now in
+    let head = ap (λ fs. splittable fs c.args.size) (sym c.fields.ensures.fields) ∙ c.in-Ok.ensures in
+    let good = good_from r c.args.size c.in-Ok.uuid c.block.ensures.framed head in
+    IfOk-weaker c.segments.result _ _ (λ all is. split_joins r c.args.size all.items good is) (returns-clause-split g c)
