@@ -1,7 +1,9 @@
 -- The records that a good record is split into join to its block.
-use Rattle.std.proofs.Common.{◌≡◌, inl, inr, ℕ, zero, suc, ◌+◌, ◌-◌, ◌*◌, ◌^◌, ◌<◌, ◌≤◌, ◌||◌, ◌==◌, nat_le, Bool, true, false}
+use Rattle.std.proofs.Common.{◌≡◌, inl, inr, ℕ, zero, suc, ◌+◌, ◌-◌, ◌*◌, ◌^◌, ◌<◌, ◌≤◌, ◌||◌, ◌==◌, nat_le, Bool}
+use Rattle.std.proofs.Common.{true, false}
 use Rattle.std.proofs.Common.{List, [], ◌∷◌, length, drop, map, sum_by, codes, append-nil}
-use Rattle.std.proofs.Common.{Option, Some, None, is_none, is_some, Result, Ok, Err, refl, sym, ap, subst, ◌∙◌, arith, eq-eqb, if◌then◌else◌}
+use Rattle.std.proofs.Common.{Option, Some, None, is_none, is_some, Result, Ok, Err, refl, sym, ap, subst, ◌∙◌, arith}
+use Rattle.std.proofs.Common.{eq-eqb, if◌then◌else◌}
 use Rattle.std.specs.Prelude.{option_and_then}
 use Rattle.std.specs.List.{list_all, range_with_len}
 use Rattle.std.proofs.lemmas.Bool.{cases_Bool, ltb-true, or_parts}
@@ -30,7 +32,8 @@ use Rattle.warc_write.specs.declared.splitting.SplitFault.{SplitFault}
 use Rattle.warc_write.specs.declared.splitting.SplitFault.TheVariants.{AlreadySegmented, BadDigest, TooLong}
 use Rattle.warc_write.specs.declared.splitting.SplitFault.TheVariants.{Kind as BadKind}
 use Rattle.warc_write.specs.Joining.{JoinsTo, NoBadDigest, SplitJoins, read_of}
-use Rattle.warc_write.specs.Splitting.{count_of, first_fields, has_bad_digest, has_field, has_room, is_bad, is_segmented}
+use Rattle.warc_write.specs.Splitting.{count_of, first_fields, has_bad_digest, has_field, has_room, is_bad}
+use Rattle.warc_write.specs.Splitting.{is_segmented}
 use Rattle.warc_write.specs.Splitting.{may_be_split, next_fields, part_of, piece_at, segment_fields, segment_of}
 use Rattle.warc_write.specs.Splitting.{segments_of, split_of, splittable, total_at}
 use Rattle.warc_write.proofs.PieceLemmas.{count_enough, count_small, count_two, pieces_joined, sizes_joined}
@@ -58,7 +61,8 @@ no_number : (o : Option (List ℕ)) → is_some o ≡ false → o ≡ None
 no_number None is = refl
 no_number (Some value) is = absurd (cc)
 
-not_numbered : (fields : List Pair) → is_segmented fields ≡ false → has_field (codes "WARC-Segment-Number") fields ≡ false
+not_numbered : (fields : List Pair) → is_segmented fields ≡ false
+    → has_field (codes "WARC-Segment-Number") fields ≡ false
 not_numbered fields none =
     let number = has_field (codes "WARC-Segment-Number") fields in
     let origin = has_field (codes "WARC-Segment-Origin-ID") fields in
@@ -93,14 +97,16 @@ segment_wanted : (given : List Pair) (uuid : List ℕ) (part : Part) (block : Li
     → digest_wanted (segment_fields given uuid part) ≡ Sha1 (sha1 block)
 segment_wanted given uuid part block digest = by_number (part.number == 1)
   where
-    by_number : (b : Bool) → digest_wanted (if b then first_fields given part else next_fields given uuid part) ≡ Sha1 (sha1 block)
+    by_number : (b : Bool)
+        → digest_wanted (if b then first_fields given part else next_fields given uuid part) ≡ Sha1 (sha1 block)
     by_number true = first_wanted given part block digest
     by_number false = next_wanted given uuid part part.total block refl digest
 
 segment_digest : (r : Record) (uuid : List ℕ) (n at : ℕ) → has_bad_digest (segment_of r uuid n at) ≡ false
 segment_digest r uuid n at =
     let piece = piece_at n r.block at in
-    ap (λ w. is_bad (verdict_of w piece)) (segment_wanted r.fields uuid (part_of n (length r.block) piece at) piece refl)
+    ap (λ w. is_bad (verdict_of w piece))
+    (segment_wanted r.fields uuid (part_of n (length r.block) piece at) piece refl)
     ∙ own_is_good piece
 
 no_bad_digest : (r : Record) (uuid : List ℕ) (n : ℕ) (ats : List ℕ) → NoBadDigest (map (segment_of r uuid n) ats)
@@ -114,7 +120,8 @@ alone r none =
     let all = map read_of (r ∷ []) in
     let first = read_of r in
     let number : segment_number r.fields ≡ Absent = rw none refl in
-    ap (λ k. blocks_of (with_members all first (joined k (length r.block) (series_of first.head.id (map piece_read all))))) number
+    ap (λ k. blocks_of (with_members all first
+    (joined k (length r.block) (series_of first.head.id (map piece_read all))))) number
     ∙ ap Ok (append-nil r.block)
 
 -- ---- the segments
@@ -124,7 +131,8 @@ total_small true len m is small = let same : len ≡ m = cc in omega (arith, sam
 total_small false len m is small = absurd (cc)
 
 -- the segment at a place is a member of the first one's series
-is_member : (r : Record) (uuid : List ℕ) (n k : ℕ) (text id : List ℕ) → first_value (codes "WARC-Record-ID") r.fields ≡ Some text
+is_member : (r : Record) (uuid : List ℕ) (n k : ℕ) (text id : List ℕ)
+    → first_value (codes "WARC-Record-ID") r.fields ≡ Some text
     → id_key text ≡ Some id → 1 ≤ k → k + 1 ≤ 2 ^ 48 → length r.block ≤ 2 ^ 48
     → member_of (Some id) (k, piece_read (read_of (segment_of r uuid n k)))
     ≡ Some (member (total_at n (length r.block)) (size_in (λ at. read_of (segment_of r uuid n at))) k)
@@ -133,7 +141,8 @@ is_member r uuid n k text id stands reads further small short =
     let test : (k + 1 == 1) ≡ false = grind (arith, nat_tests) in
     let fields : segment_fields r.fields uuid part ≡ next_fields r.fields uuid part =
     ap (λ (b : Bool). if b then first_fields r.fields part else next_fields r.fields uuid part) test in
-    member_by k (length (piece_at n r.block k)) (k + 1) id (total_at n (length r.block) k) (piece_read (read_of (segment_of r uuid n k)))
+    member_by k (length (piece_at n r.block k)) (k + 1) id (total_at n (length r.block) k)
+    (piece_read (read_of (segment_of r uuid n k)))
     (ap kind_of fields ∙ next_kind r.fields uuid part)
     (ap segment_number fields ∙ next_number r.fields uuid part small)
     (ap (key_in (codes "WARC-Segment-Origin-ID")) fields ∙ next_origin r.fields uuid part text id stands reads)
@@ -143,14 +152,16 @@ is_member r uuid n k text id stands reads further small short =
     refl
     (omega (arith, further))
 
-mapped_twice : (f : ℕ → Record) (a c : ℕ) → map read_of (map f (range_with_len a c)) ≡ map (λ k. read_of (f k)) (range_with_len a c)
+mapped_twice : (f : ℕ → Record) (a c : ℕ)
+    → map read_of (map f (range_with_len a c)) ≡ map (λ k. read_of (f k)) (range_with_len a c)
 mapped_twice f a zero = refl
 mapped_twice f a (suc c) = ap (λ l. read_of (f a) ∷ l) (mapped_twice f (a + 1) c)
 
 not_last : (k count : ℕ) → k + 1 < count → (k + 1 == count) ≡ false
 not_last k count below = grind (arith, nat_tests)
 
-cut_in : (r : Record) (uuid : List ℕ) (n c : ℕ) (text id : List ℕ) → MaySplit r.fields → first_value (codes "WARC-Record-ID") r.fields ≡ Some text
+cut_in : (r : Record) (uuid : List ℕ) (n c : ℕ) (text id : List ℕ) → MaySplit r.fields
+    → first_value (codes "WARC-Record-ID") r.fields ≡ Some text
     → id_key text ≡ Some id → count_of n (length r.block) ≡ suc (suc c) → suc (suc c) ≤ 2 ^ 48 → length r.block ≤ 2 ^ 48
     → length r.block ≤ count_of n (length r.block) * n
     → JoinsTo r.block (map (segment_of r uuid n) (range_with_len 0 (suc (suc c))))
@@ -165,7 +176,8 @@ cut_in r uuid n c text id may stands reads count few short enough =
     let all : drop (0 * n) r.block ≡ r.block = ap (λ k. drop k r.block) none in
     let last : c + 1 + 1 ≡ count_of n len = omega (arith, count) in
     let sum_is : len ≡ size 0 + sum_by size (range_with_len 1 (suc c)) =
-    sym (sym (sum_by-cons size 0 (range_with_len 1 (suc c))) ∙ (sizes_joined n r.block 0 (suc (suc c)) (count_of n len) end enough ∙ ap length all)) in
+    sym (sym (sum_by-cons size 0 (range_with_len 1 (suc c)))
+    ∙ (sizes_joined n r.block 0 (suc (suc c)) (count_of n len) end enough ∙ ap length all)) in
     ap (λ l. joined_block l (q 0)) (mapped_twice f 0 (suc (suc c)))
     ∙ (joined_is q id (total_at n len) c len
     (first_number r.fields part may.number)
@@ -173,11 +185,13 @@ cut_in r uuid n c text id may stands reads count few short enough =
     (ap is_continuation (first_kind r.fields part) ∙ may.kind)
     (λ k from below. is_member r uuid n k text id stands reads from (omega (arith, below, few)) short)
     (ap (λ (b : Bool). if b then Some len else None) (eq-eqb (c + 1 + 1) (count_of n len) last))
-    (λ k below. ap (λ (b : Bool). if b then Some len else None) (not_last k (count_of n len) (omega (arith, below, count))))
+    (λ k below. ap (λ (b : Bool). if b then Some len else None)
+    (not_last k (count_of n len) (omega (arith, below, count))))
     sum_is
     ∙ ap Ok (pieces_joined n r.block 0 (suc (suc c)) (count_of n len) end enough ∙ all))
 
-cut_joins : (r : Record) (n : ℕ) (uuid : List ℕ) → IsGood r → splittable r.fields n ≡ Ok uuid → nat_le (length r.block) n ≡ false
+cut_joins : (r : Record) (n : ℕ) (uuid : List ℕ) → IsGood r → splittable r.fields n ≡ Ok uuid
+    → nat_le (length r.block) n ≡ false
     → JoinsTo r.block (segments_of r uuid n)
 cut_joins r n uuid good head long =
     let len = length r.block in
@@ -192,7 +206,8 @@ cut_joins r n uuid good head long =
     let c = count_of n len - 2 in
     let count : count_of n len ≡ suc (suc c) = omega (arith, two) in
     subst (λ m. JoinsTo r.block (map (segment_of r uuid n) (range_with_len 0 m))) (sym count)
-    (cut_in r uuid n c id_is.value key (may_split r.fields n uuid head) id_is.stands reads count (omega (arith, few, small, two)) (omega (arith, small)) (count_enough n len some))
+    (cut_in r uuid n c id_is.value key (may_split r.fields n uuid head) id_is.stands reads count
+    (omega (arith, few, small, two)) (omega (arith, small)) (count_enough n len some))
 
 -- ---- all of it
 
@@ -208,7 +223,8 @@ split_joins r n records good is = by_head (splittable r.fields n) refl
     same : (others : List Record) → split_of r n ≡ Ok others → others ≡ records
     same others e = let both : ◌≡◌ {A = Result (List Record) SplitFault} (Ok others) (Ok records) = sym e ∙ is in cc
 
-    by_head : (head : Result (List ℕ) SplitFault) → splittable r.fields n ≡ head → JoinsTo r.block records × NoBadDigest records
+    by_head : (head : Result (List ℕ) SplitFault) → splittable r.fields n ≡ head
+        → JoinsTo r.block records × NoBadDigest records
     by_head (Err fault) head = absurd (fails fault (refused_by_head r n fault head))
     by_head (Ok uuid) head = elim (cases_Bool (has_bad_digest r)) [
       | inl bad ↦ absurd (fails BadDigest (refused_by_digest r n uuid head bad))
@@ -219,8 +235,12 @@ split_joins r n records good is = by_head (splittable r.fields n) refl
         | inr long ↦ elim (cases_Bool (list_all has_room (segments_of r uuid n))) [
           | inr full ↦ absurd (fails TooLong (no_room r n uuid head digest long full))
           | inl room ↦
-              subst (λ l. JoinsTo r.block l × NoBadDigest l) (same (segments_of r uuid n) (all_split r n uuid head digest long room))
-              (cut_joins r n uuid good head long, no_bad_digest r uuid n (range_with_len 0 (count_of n (length r.block))))
+              subst (λ l. JoinsTo r.block l × NoBadDigest l)
+              (same (segments_of r uuid n) (all_split r n uuid head digest long room)) (
+                cut_joins r n uuid good head long,
+                no_bad_digest r uuid n
+                    (range_with_len 0 (count_of n (length r.block))),
+              )
         ]
       ]
     ]

@@ -1,5 +1,6 @@
 -- What the heads of segments say.
-use Rattle.std.proofs.Common.{◌≡◌, inl, inr, ℕ, ◌^◌, ◌≤◌, ◌==◌, nat_le, Bool, true, false, ◌&&◌, List, [], ◌∷◌, ◌++◌, length}
+use Rattle.std.proofs.Common.{◌≡◌, inl, inr, ℕ, ◌^◌, ◌≤◌, ◌==◌, nat_le, Bool, true, false, ◌&&◌, List, [], ◌∷◌, ◌++◌}
+use Rattle.std.proofs.Common.{length}
 use Rattle.std.proofs.Common.{codes, decimal, Option, Some, None, refl, sym, ap, ◌∙◌, arith, if◌then◌else◌}
 use Rattle.std.specs.Option.{option_map_or}
 use Rattle.std.specs.Str.{bytes_eq}
@@ -56,7 +57,8 @@ wants : (digest block : List ℕ) → digest ≡ sha1 block
     → option_map_or wanted_digest (unless_empty (digest_text digest)) Unchecked ≡ Sha1 (sha1 block)
 wants digest block is =
     ap (λ o. option_map_or wanted_digest o Unchecked) (text_there 115 (codes "ha1:" ++ base32_of digest))
-    ∙ (ap (λ d. wanted_digest (digest_text d)) is ∙ written_digest_is_wanted (sha1 block) (sha1_len block) (sha1_fits block))
+    ∙ (ap (λ d. wanted_digest (digest_text d)) is
+    ∙ written_digest_is_wanted (sha1 block) (sha1_len block) (sha1_fits block))
 
 -- ---- a further segment
 
@@ -76,9 +78,11 @@ pub next_total : (given : List Pair) (uuid : List ℕ) (part : Part) (total : Op
     → ((n : ℕ) → total ≡ Some n → n ≤ 2 ^ 48)
     → number_in (codes "WARC-Segment-Total-Length") (next_fields given uuid part) ≡ total
 next_total given uuid part None is small = rw is refl
-next_total given uuid part (Some n) is small = rw is (rw (decimal_there n (small n refl)) (decimal_is_read n (small n refl)))
+next_total given uuid part (Some n) is small = rw is
+    (rw (decimal_there n (small n refl)) (decimal_is_read n (small n refl)))
 
-pub next_wanted : (given : List Pair) (uuid : List ℕ) (part : Part) (total : Option ℕ) (block : List ℕ) → part.total ≡ total
+pub next_wanted : (given : List Pair) (uuid : List ℕ) (part : Part) (total : Option ℕ) (block : List ℕ)
+    → part.total ≡ total
     → part.digest ≡ sha1 block → digest_wanted (next_fields given uuid part) ≡ Sha1 (sha1 block)
 next_wanted given uuid part None block is digest =
     rw is (wants part.digest block digest)
@@ -88,11 +92,13 @@ next_wanted given uuid part (Some n) block is digest =
 -- ---- the first segment
 
 -- where no field of the name stands in front, those behind count
-past : (name : List ℕ) (fields more : List Pair) → first_value name fields ≡ None → first_value name (fields ++ more) ≡ first_value name more
+past : (name : List ℕ) (fields more : List Pair) → first_value name fields ≡ None
+    → first_value name (fields ++ more) ≡ first_value name more
 past name [] more none = refl
 past name (field ∷ fields) more none = elim (cases_Bool (same field.0 name)) [
   | inl hit ↦ let some = first_hit name field fields hit in absurd (both field.1 (sym some ∙ none))
-  | inr miss ↦ first_miss name field (fields ++ more) miss ∙ past name fields more (sym (first_miss name field fields miss) ∙ none)
+  | inr miss ↦ first_miss name field (fields ++ more) miss
+      ∙ past name fields more (sym (first_miss name field fields miss) ∙ none)
 ]
   where
     both : (value : List ℕ) → Some value ≡ None → ⊥
@@ -103,12 +109,15 @@ behind part = (codes "WARC-Segment-Number", codes "1") ∷ (codes "WARC-Block-Di
 
 pub first_kind : (given : List Pair) (part : Part) → kind_of (first_fields given part) ≡ kind_of given
 first_kind given part =
-    let type = first_behind (codes "WARC-Type") (kept part.len given) (behind part) refl ∙ kept_first part.len (codes "WARC-Type") given refl refl in
+    let type = first_behind (codes "WARC-Type") (kept part.len given) (behind part) refl
+    ∙ kept_first part.len (codes "WARC-Type") given refl refl in
     rw type refl
 
-pub first_id : (given : List Pair) (part : Part) → first_value (codes "WARC-Record-ID") (first_fields given part) ≡ first_value (codes "WARC-Record-ID") given
+pub first_id : (given : List Pair) (part : Part)
+    → first_value (codes "WARC-Record-ID") (first_fields given part) ≡ first_value (codes "WARC-Record-ID") given
 first_id given part =
-    first_behind (codes "WARC-Record-ID") (kept part.len given) (behind part) refl ∙ kept_first part.len (codes "WARC-Record-ID") given refl refl
+    first_behind (codes "WARC-Record-ID") (kept part.len given) (behind part) refl
+    ∙ kept_first part.len (codes "WARC-Record-ID") given refl refl
 
 pub first_number : (given : List Pair) (part : Part) → first_value (codes "WARC-Segment-Number") given ≡ None
     → segment_number (first_fields given part) ≡ Number 1
@@ -135,13 +144,17 @@ own_is_good block = rw ((bytes_eq-Decides (sha1 block) (sha1 block)).1 refl) ref
 -- ---- a member of the series
 
 pub member_by : (k size number : ℕ) (id : List ℕ) (total : Option ℕ) (piece : Piece) → piece.kind ≡ Continuation
-    → piece.segment.number ≡ Number number → piece.segment.origin ≡ Some id → piece.segment.total ≡ total → piece.size ≡ size
-    → 2 ≤ number → member_of (Some id) (k, piece) ≡ Some (record { position = k; number = number; total = total; size = size })
+    → piece.segment.number ≡ Number number → piece.segment.origin ≡ Some id → piece.segment.total ≡ total
+    → piece.size ≡ size
+    → 2 ≤ number → member_of (Some id) (k, piece)
+    ≡ Some (record { position = k; number = number; total = total; size = size })
 member_by k size number id total piece kind number_is origin total_is size_is two =
     let same_id : bytes_eq id id ≡ true = (bytes_eq-Decides id id).1 refl in
     let from_two : nat_le 2 number ≡ true = grind (arith, nat_tests) in
-    let in_series : (is_continuation piece.kind && is_same_text (Some id) piece.segment.origin) ≡ true = rw (kind, origin) same_id in
+    let in_series : (is_continuation piece.kind && is_same_text (Some id) piece.segment.origin)
+    ≡ true = rw (kind, origin) same_id in
     ap (λ (b : Bool). if b then numbered k piece piece.segment.number else None) in_series
     ∙ (ap (numbered k piece) number_is
-    ∙ (ap (λ (b : Bool). if b then Some (record { position = k; number = number; total = piece.segment.total; size = piece.size }) else None) from_two
+    ∙ (ap (λ (b : Bool). if b then Some
+    (record { position = k; number = number; total = piece.segment.total; size = piece.size }) else None) from_two
     ∙ (λ i. Some (record { position = k; number = number; total = total_is i; size = size_is i }))))
