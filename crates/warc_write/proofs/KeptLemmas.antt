@@ -1,14 +1,13 @@
 -- What is kept of a head in its first segment says what it said, but for the length.
-use Rattle.std.proofs.Common.{◌≡◌, inl, inr, ℕ, ◌+◌, Bool, true, false, not, cond, List, [], ◌∷◌, ◌++◌, map}
+use Rattle.std.proofs.Common.{◌≡◌, inl, inr, ℕ, ◌+◌, Bool, true, false, cond, List, [], ◌∷◌, ◌++◌}
 use Rattle.std.proofs.Common.{find, codes, decimal}
 use Rattle.std.proofs.Common.{Option, Some, None, option_map, refl, sym, ap, ◌∙◌, true≢false, zero-add, if◌then◌else◌}
-use Rattle.std.specs.Prelude.{filter}
 use Rattle.std.proofs.lemmas.Bool.{cases_Bool}
 use Rattle.std.proofs.lemmas.List.Sums.{sum_by-cons}
 use Rattle.warc_field.specs.Text.{same}
 use Rattle.warc_field.specs.Area.{Pair, first_value, count_of}
 use Rattle.warc_frame.specs.Record.{content_length}
-use Rattle.warc_write.specs.Splitting.{is_kept, kept, with_len}
+use Rattle.warc_write.specs.Splitting.{kept, with_len}
 use Rattle.warc_write.proofs.ConversionLemmas.{same_goes_on}
 
 abbrev digest_name : List ℕ
@@ -41,10 +40,10 @@ not_skipped name field other is = same_goes_on field.0 digest_name name is ∙ o
 abbrev value_of : Option Pair → Option (List ℕ)
 value_of found = option_map (λ (field : Pair). field.1) found
 
-first_hit : (name : List ℕ) (field : Pair) (fields : List Pair) → same field.0 name ≡ true → first_value name (field ∷ fields) ≡ Some field.1
+pub first_hit : (name : List ℕ) (field : Pair) (fields : List Pair) → same field.0 name ≡ true → first_value name (field ∷ fields) ≡ Some field.1
 first_hit name field fields hit = ap (λ (b : Bool). value_of (cond b (Some field) (find (λ (f : Pair). same f.0 name) fields))) hit
 
-first_miss : (name : List ℕ) (field : Pair) (fields : List Pair) → same field.0 name ≡ false → first_value name (field ∷ fields) ≡ first_value name fields
+pub first_miss : (name : List ℕ) (field : Pair) (fields : List Pair) → same field.0 name ≡ false → first_value name (field ∷ fields) ≡ first_value name fields
 first_miss name field fields miss = ap (λ (b : Bool). value_of (cond b (Some field) (find (λ (f : Pair). same f.0 name) fields))) miss
 
 count_cons : (name : List ℕ) (field : Pair) (fields : List Pair) → count_of name (field ∷ fields) ≡ cond (same field.0 name) 1 0 + count_of name fields
@@ -123,3 +122,14 @@ count_behind name [] more none = none
 count_behind name (field ∷ fields) more none =
     count_cons name field (fields ++ more)
     ∙ (ap (λ (n : ℕ). cond (same field.0 name) 1 0 + n) (count_behind name fields more none) ∙ sym (count_cons name field fields))
+
+-- no block digest is kept
+pub no_digest_kept : (len : ℕ) (fields : List Pair) → first_value digest_name (kept len fields) ≡ None
+no_digest_kept len [] = refl
+no_digest_kept len (field ∷ fields) = elim (cases_Bool (same field.0 digest_name)) [
+  | inl is ↦ ap (first_value digest_name) (skipped len field fields is) ∙ no_digest_kept len fields
+  | inr is ↦
+      ap (first_value digest_name) (stays len field fields is)
+      ∙ (first_miss digest_name (with_len len field) (kept len fields) (still len digest_name field ∙ is)
+      ∙ no_digest_kept len fields)
+]

@@ -7,3 +7,7 @@ mod MakeLemmas
 mod SplitLemmas
 mod KeptLemmas
 mod SegmentLemmas
+mod PieceLemmas
+mod SeriesLemmas
+mod ReadingLemmas
+mod JoinLemmas

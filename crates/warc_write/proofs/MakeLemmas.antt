@@ -1,23 +1,21 @@
 -- A made record is good.
-use Rattle.std.proofs.Common.{◌≡◌, ℕ, ◌^◌, ◌<◌, ◌≤◌, ◌==◌, ◌&&◌, nat_le, nat_lt, not, Bool, true, false, List}
-use Rattle.std.proofs.Common.{[], ◌∷◌, ◌++◌, length, codes, decimal, Option, Some, None, is_none, is_some}
+use Rattle.std.proofs.Common.{◌≡◌, ℕ, ◌^◌, ◌<◌, ◌≤◌, ◌==◌, nat_le, nat_lt, not, Bool, true, false, List}
+use Rattle.std.proofs.Common.{length, codes, decimal, Option, Some, None, is_some}
 use Rattle.std.proofs.Common.{Result, Ok, Err, refl, sym, ap, subst, ◌∙◌, arith, eq-eqb, true≢false, IsOk}
 use Rattle.std.proofs.Common.{IfOk, ◌↔◌, if◌then◌else◌}
-use Rattle.std.specs.Prelude.{option_and_then}
-use Rattle.std.specs.Option.{option_map_or, option_or}
-use Rattle.std.proofs.lemmas.Bool.{and_parts, false_from_ne_true, ltb-true, leb-true}
+use Rattle.std.proofs.lemmas.Bool.{and_parts}
 use Rattle.std.proofs.lemmas.Bool.Decides.{nat_tests}
 use Rattle.sha1.specs.Sha1.{sha1}
 use Rattle.warc_field.specs.Text.{AreFields, is_blank, is_name, is_name_byte, is_value, is_value_byte}
-use Rattle.warc_field.specs.Area.{Pair, first_value, count_of}
+use Rattle.warc_field.specs.Area.{Pair}
 use Rattle.warc_field.specs.Decimal.{decimal_of}
 use Rattle.std.specs.Str.{bytes_eq}
 use Rattle.warc_value.specs.Dates.{Instant, instant_of}
-use Rattle.warc_value.proofs.ValueLemmas.{date_is_value, written_digest_is_value}
+use Rattle.warc_value.proofs.ValueLemmas.{written_digest_is_value}
 use Rattle.warc_frame.specs.declared.fault.FaultKind.{FaultKind}
 use Rattle.warc_frame.specs.declared.fault.FaultKind.TheVariants.{HeadTooLong, Length}
 use Rattle.warc_frame.specs.declared.version.Version.TheVariants.{V1_1}
-use Rattle.warc_frame.specs.Record.{Record, IsFramed, block_len, block_number, canonical_len, content_length}
+use Rattle.warc_frame.specs.Record.{Record, IsFramed, block_len, block_number, canonical_len}
 use Rattle.warc_frame.specs.Record.{framed_of, max_block, max_head, or_length, with_block}
 use Rattle.warc_record.specs.declared.types.Kind.{Kind}
 use Rattle.warc_record.proofs.GoodLemmas.{good_heads_have_no_fault}
@@ -25,13 +23,12 @@ use Rattle.warc_record.specs.declared.types.Kind.TheVariants.{Warcinfo, Response
 use Rattle.warc_record.specs.declared.types.Kind.TheVariants.{Revisit, Conversion, Continuation, Other}
 use Rattle.warc_record.specs.Good.{IsGood}
 use Rattle.warc_record.specs.Heads.{head_fault, is_date}
-use Rattle.warc_record.specs.Ids.{bare_text, is_id}
+use Rattle.warc_record.specs.Ids.{bare_text}
 use Rattle.uuid.specs.Text.{parsed}
 use Rattle.warc_write.specs.declared.making.MakeFault.{MakeFault}
 use Rattle.warc_write.specs.declared.making.MakeFault.TheVariants.{Date, Text, TooLong, Memory, Kind as BadKind}
 use Rattle.warc_write.specs.Making.{Makes, Plan, fitted, made, made_fields, record_1_1, is_target, is_text}
 use Rattle.warc_write.specs.Making.{is_block, type_of}
-use Rattle.warc_write.specs.Written.{digest_text, id_text}
 use Rattle.warc_write.proofs.TextLemmas.{decimal_is_read, decimal_is_value, id_is_id, id_is_value, sha1_fits}
 use Rattle.warc_write.proofs.TextLemmas.{sha1_len}
 

@@ -10,7 +10,6 @@ use Rattle.warc_field.specs.Lines.{crlf}
 use Rattle.warc_frame.specs.VersionLine.{version_line}
 use Rattle.warc_frame.specs.Record.{Record, IsFramed}
 use Rattle.warc_frame.specs.Spelling.{Spells, SpellsAll, canonical}
-use Rattle.warc_record.specs.Good.{IsGood}
 use Rattle.warc_write.specs.Rendering.{AllGood, RenderedOpensAsSame, canonical_texts}
 use Rattle.warc_frame.specs.Device.{Staged}
 use Rattle.warc_frame.specs.Send.{IsStaged, WentOut}

@@ -1,10 +1,9 @@
 -- The segments of a good record are good.
-use Rattle.std.proofs.Common.{◌≡◌, inl, inr, ℕ, zero, suc, ◌+◌, ◌-◌, ◌*◌, ◌<◌, ◌≤◌, ◌==◌, nat_le, nat_lt, Bool}
-use Rattle.std.proofs.Common.{true, false, List, [], ◌∷◌, ◌++◌, length, length-take, length-drop, map, take}
+use Rattle.std.proofs.Common.{◌≡◌, inl, inr, ℕ, zero, suc, ◌+◌, ◌*◌, ◌<◌, ◌≤◌, ◌==◌, nat_le, nat_lt, Bool}
+use Rattle.std.proofs.Common.{true, false, List, [], ◌∷◌, ◌++◌, length, length-take, length-drop, map}
 use Rattle.std.proofs.Common.{drop}
 use Rattle.std.proofs.Common.{codes, decimal, Option, Some, None, option_map, is_none, is_some, unwrap_or}
 use Rattle.std.proofs.Common.{Result, Ok, Err, refl, sym, ap, ◌∙◌, arith, if◌then◌else◌}
-use Rattle.std.specs.Prelude.{option_and_then}
 use Rattle.std.specs.Option.{option_map_or, option_or}
 use Rattle.std.specs.List.{list_all, range_with_len}
 use Rattle.std.proofs.lemmas.List.{map-append, take_all}
@@ -22,23 +21,21 @@ use Rattle.std.proofs.lemmas.Bool.{and_from, cases_Bool}
 use Rattle.std.proofs.lemmas.Bool.Decides.{nat_tests}
 use Rattle.warc_field.specs.Text.{is_name, is_name_byte}
 use Rattle.warc_field.specs.Area.{Pair, first_value, count_of}
-use Rattle.warc_value.specs.Dates.{instant_of}
 use Rattle.warc_frame.specs.declared.version.Version.{Version}
 use Rattle.warc_frame.specs.declared.fault.FaultKind.{FaultKind}
-use Rattle.warc_frame.specs.declared.fault.FaultKind.TheVariants.{Missing, Repeated, Length, BadType, Id, Date}
+use Rattle.warc_frame.specs.declared.fault.FaultKind.TheVariants.{Missing, Repeated, BadType, Id, Date}
 use Rattle.warc_frame.specs.declared.fault.Mandatory.{Mandatory}
 use Rattle.warc_frame.specs.declared.fault.Mandatory.TheVariants.{«Type», RecordId, Date as DateField, ContentLength}
-use Rattle.warc_frame.specs.FaultText.{name_of}
 use Rattle.warc_frame.specs.Record.{Record, IsFramed, block_len, block_number, content_length, max_block, or_length}
 use Rattle.warc_record.proofs.GoodLemmas.{good_heads_have_no_fault}
 use Rattle.warc_record.specs.Good.{IsGood, SaysAll}
-use Rattle.warc_record.specs.Heads.{count_fault, value_fault, is_date, head_fault}
+use Rattle.warc_record.specs.Heads.{is_date, head_fault}
 use Rattle.warc_record.specs.Ids.{is_id}
-use Rattle.warc_record.specs.Readings.{Reading, reading_of}
+use Rattle.warc_record.specs.Readings.{reading_of}
 use Rattle.warc_write.specs.declared.splitting.Part.{Part}
 use Rattle.warc_write.specs.Splitting.{first_fields, kept, next_fields, part_of, piece_at, segment_fields}
 use Rattle.warc_write.specs.Splitting.{segment_of, value_in}
-use Rattle.warc_write.specs.Written.{digest_text, id_text}
+use Rattle.warc_write.specs.Written.{digest_text}
 use Rattle.warc_write.proofs.KeptLemmas.{count_behind, first_behind, kept_count, kept_first, kept_len_first}
 use Rattle.warc_write.proofs.MakeLemmas.{number_of_len}
 use Rattle.warc_write.proofs.TextLemmas.{id_is_id}
@@ -205,7 +202,7 @@ none_is : (o : Option FaultKind) → is_none o ≡ true → o ≡ None
 none_is None is = refl
 none_is (Some x) is = absurd (cc)
 
-never : (fault : SplitFault) (uuid : List ℕ) → ◌≡◌ {A = Result (List ℕ) SplitFault} (Err fault) (Ok uuid) → ⊥
+pub never : (fault : SplitFault) (uuid : List ℕ) → ◌≡◌ {A = Result (List ℕ) SplitFault} (Err fault) (Ok uuid) → ⊥
 never fault uuid e = cc
 
 pub splittable_size : (fields : List Pair) (n : ℕ) (uuid : List ℕ) → splittable fields n ≡ Ok uuid → nat_lt 0 n ≡ true

@@ -1,14 +1,14 @@
 -- Numbers, ids and digests as they are written: they are values, and read as what they are of.
-use Rattle.std.proofs.Common.{rules, ◌≡◌, inl, inr, ℕ, zero, suc, ◌+◌, ◌-◌, ◌*◌, ◌^◌, ◌<◌, ◌≤◌, ◌&&◌, ◌||◌}
+use Rattle.std.proofs.Common.{rules, ◌≡◌, ℕ, zero, suc, ◌-◌, ◌*◌, ◌^◌, ◌<◌, ◌≤◌, ◌&&◌}
 use Rattle.std.proofs.Common.{◌==◌, nat_lt, nat_le, Bool, true, false, not, List, [], ◌∷◌, ◌++◌, length}
-use Rattle.std.proofs.Common.{length-append, take, drop, map, codes, All, decimal, get_or, Option, Some, None}
+use Rattle.std.proofs.Common.{length-append, take, drop, map, codes, All, decimal, Some, None}
 use Rattle.std.proofs.Common.{refl, sym, ap, ◌∙◌, arith, eq-eqb, if◌then◌else◌}
-use Rattle.std.specs.Prelude.{reverse, slice_index}
+use Rattle.std.specs.Prelude.{slice_index}
 use Rattle.std.specs.List.{list_all, list_any, prefix_len, suffix_len}
 use Rattle.std.specs.Str.{all_ascii_digits}
 use Rattle.std.specs.Char.{is_ascii_digit}
-use Rattle.std.specs.Int.Digits.{number_from_digits, number_from_digits_after}
-use Rattle.std.proofs.lemmas.Bool.{and_parts, and_from, false_from_ne_true, ltb-true, lt-ltb, leb-true, eqb-true}
+use Rattle.std.specs.Int.Digits.{number_from_digits_after}
+use Rattle.std.proofs.lemmas.Bool.{and_parts, and_from, lt-ltb, eqb-true}
 use Rattle.std.proofs.lemmas.Bool.Decides.{nat_tests}
 use Rattle.std.proofs.lemmas.Grind.{common_steps}
 use Rattle.std.proofs.lemmas.Fmt.{decimal_nonempty, digits_decimal, digits_value-decimal}
@@ -20,7 +20,7 @@ use Rattle.std.proofs.lemmas.List.Elements.{All-append, All-from_recursion}
 use Rattle.sha1.specs.Sha1.{digest_bytes, sha1}
 use Rattle.uuid.specs.Text.{by_index, hex_digit, hyphenated_text, is_hyphen_place, digit_place, lower, nibble}
 use Rattle.uuid.specs.Text.{urn_text}
-use Rattle.uuid.proofs.TextLemmas.{by_index_length, nibble_small}
+use Rattle.uuid.proofs.TextLemmas.{nibble_small}
 use Rattle.warc_field.specs.Text.{is_blank, is_value, is_value_byte, trimmed}
 use Rattle.warc_field.specs.Decimal.{number_of, decimal_of}
 use Rattle.warc_field.proofs.VisibleLemmas.{visible_text_is_value}

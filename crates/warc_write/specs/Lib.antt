@@ -4,3 +4,4 @@ pub mod Rendering
 pub mod Conversion
 pub mod Making
 pub mod Splitting
+pub mod Joining

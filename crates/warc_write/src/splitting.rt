@@ -6,6 +6,7 @@ ghost use Rattle.warc_field.specs.Text.{is_value};
 ghost use Rattle.warc_frame.specs.Record.{IsFramed};
 ghost use Rattle.warc_record.specs.Heads.{head_fault};
 ghost use Rattle.warc_record.specs.Readings.{kind_of, target_of};
+ghost use Rattle.warc_write.specs.Joining.{Join};
 ghost use Rattle.warc_write.specs.Rendering.{AllGood};
 ghost use Rattle.warc_write.specs.Splitting.{AllFramed, OrMemory, RefusesSegment, count_of, has_bad_digest};
 ghost use Rattle.warc_write.specs.Splitting.{has_room, split_of, part_of, piece_at, segment_of, segments_of};
@@ -456,6 +457,7 @@ pub fn split<A: Allocator + Copy>(
     ensures split { IfOk result (λ all. split_of framed.now size ≡ Ok all.items) }
     ensures fault { IfErr result (λ fault. OrMemory fault (split_of framed.now size ≡ Err fault)) }
     ensures good { IfOk result (λ all. AllGood all.items) }
+    ensures joins { IfOk result (λ all. Join framed.now.block all.items) }
 {
     good_heads_read();
     let uuid = match splittable(alloc, framed.fields(), size) {

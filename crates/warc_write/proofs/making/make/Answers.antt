@@ -1,8 +1,6 @@
-use Rattle.std.proofs.Common.{rules, ◌≡◌, ◌≤◌, ◌^◌, nat_le, length, true, false, Ok, Err, IsOk, Some, sym, ap}
+use Rattle.std.proofs.Common.{rules, ◌≡◌, ◌≤◌, length, true, false, Ok, sym, ap}
 use Rattle.std.proofs.Common.{◌∙◌, arith}
 use Rattle.std.proofs.lemmas.Bool.Decides.{nat_tests}
-use Rattle.std.proofs.lemmas.Bool.{ltb-true}
-use Rattle.warc_field.specs.Text.{is_value}
 use Rattle.warc_frame.specs.Record.{block_len, max_block}
 use Rattle.warc_write.specs.Making.{Plan, fitted, is_block, made_fields}
 use Rattle.warc_write.proofs.MakeLemmas.{date_by, good_from, made_is, made_len, makes_from, no_block}

@@ -1,4 +1,4 @@
-use Rattle.std.proofs.Common.{rules, [], ◌+◌, ◌++◌, drop, ap, ◌∙◌}
+use Rattle.std.proofs.Common.{rules, ◌+◌, ◌++◌, drop, ap, ◌∙◌}
 use Rattle.warc_field.specs.Area.{canonical_line, canonical_fields}
 use Rattle.warc_write.proofs.RenderLemmas.{fields_more, texts_rest, same_out, same_staged}
 use Rattle.warc_write.proofs.sending.put_fields.Goals as goal

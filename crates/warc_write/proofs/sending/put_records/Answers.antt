@@ -1,4 +1,4 @@
-use Rattle.std.proofs.Common.{rules, [], ◌+◌, ◌++◌, drop, ap, ◌∙◌}
+use Rattle.std.proofs.Common.{rules, ◌+◌, ◌++◌, drop, ap, ◌∙◌}
 use Rattle.warc_frame.specs.Spelling.{canonical}
 use Rattle.warc_write.specs.Rendering.{canonical_texts}
 use Rattle.warc_write.proofs.RenderLemmas.{texts_more, texts_rest, same_out, same_staged}

@@ -1,6 +1,4 @@
 use Rattle.std.proofs.Common.{rules, []}
-use Rattle.std.proofs.lemmas.Result.{IfErr-weaker}
-use Rattle.warc_write.specs.Rendering.{canonical_texts}
 use Rattle.warc_write.proofs.sending.render.Goals as goal
 
 pub returns-clause-told : goal.returns-clause-told

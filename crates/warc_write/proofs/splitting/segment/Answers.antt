@@ -1,6 +1,6 @@
 use Rattle.std.proofs.Common.{◌≡◌, length, Ok, subst, sym, ap, ◌∙◌}
 use Rattle.warc_frame.specs.Record.{Record, block_len}
-use Rattle.warc_write.specs.Splitting.{has_room, part_of, piece_at, segment_fields, segment_of}
+use Rattle.warc_write.specs.Splitting.{has_room, part_of, piece_at, segment_fields}
 use Rattle.warc_write.proofs.PartLemmas.{refused_room, same_framed}
 use Rattle.warc_write.proofs.SegmentLemmas.{segment_from, segment_told}
 use Rattle.warc_write.proofs.splitting.segment.Goals as goal

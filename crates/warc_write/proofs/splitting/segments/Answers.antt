@@ -1,6 +1,6 @@
-use Rattle.std.proofs.Common.{rules, ◌≡◌, ◌<◌, [], ◌∷◌, ◌++◌, length, map, sym, ap, subst, ◌∙◌, arith}
+use Rattle.std.proofs.Common.{◌≡◌, ◌<◌, [], ◌∷◌, ◌++◌, length, map, sym, ap, subst, ◌∙◌, arith}
 use Rattle.std.specs.List.{list_all, range_with_len}
-use Rattle.warc_write.specs.Splitting.{AllFramed, RefusesSegment, count_of, has_room, segment_of, segments_of}
+use Rattle.warc_write.specs.Splitting.{AllFramed, count_of, has_room, segment_of, segments_of}
 use Rattle.warc_write.proofs.SegmentLemmas.{framed_push, one_more, one_without_room, refuses_all}
 use Rattle.warc_write.proofs.splitting.segments.Goals as goal
 

@@ -1,4 +1,4 @@
-use Rattle.std.proofs.Common.{◌≡◌, ◌≤◌, map}
+use Rattle.std.proofs.Common.{◌≡◌, map}
 use Rattle.std.specs.List.{range_with_len}
 use Rattle.warc_write.specs.Splitting.{AllFramed, segment_of}
 use Rattle.warc_write.proofs.splitting.segments.Given as goal

@@ -1,8 +1,7 @@
-use Rattle.std.proofs.Common.{◌≡◌, ◌<◌, [], ◌++◌, All, codes, length, ap, ◌∙◌}
+use Rattle.std.proofs.Common.{◌≡◌, ◌<◌, ◌++◌, All, codes, length, ap, ◌∙◌}
 use Rattle.std.proofs.lemmas.List.{append-nil}
 use Rattle.uuid.proofs.TextLemmas.{all_fit}
 use Rattle.warc_field.specs.Text.{is_value}
-use Rattle.warc_value.specs.Base32.{base32_of}
 use Rattle.warc_write.proofs.written.digest_text.Goals as goal
 
 pub returns-clause-value : goal.returns-clause-value
