@@ -230,6 +230,36 @@ fn ids_of_segments(rt: HostRuntime) -> Result<(), Fail> {
     Ok(())
 }
 
+/// How `split` refuses a record whose target has so many bytes, at a size.
+fn refusal_by_target(alloc: Global, len: usize, size: u64) -> Result<Option<SplitFault>, Fail> {
+    let uri = vec![in alloc; b'a'; len]?;
+    let whole = make(alloc, Kind::Resource, &uri, DATE, UUID, TYPE, b"abc")?;
+    match split(alloc, &whole, size) {
+        Ok(_) => Ok(None),
+        Err(fault) => Ok(Some(fault)),
+    }
+}
+
+// The heads have 65,536 bytes at most: the whole one, that of the first segment, and that of the second, which is the
+// longest, reach it with a target of 65,283, of 65,259 and of 65,178 bytes.
+#[test]
+fn segments_without_room(rt: HostRuntime) -> Result<(), Fail> {
+    for (len, size, fault) in [
+        (65_178, 2, None),
+        (65_179, 2, Some(SplitFault::TooLong)),
+        (65_260, 2, Some(SplitFault::TooLong)),
+        (65_283, 2, Some(SplitFault::TooLong)),
+        (65_283, 3, None),
+    ] {
+        assert_eq!(rt;
+            refusal_by_target(rt.alloc(), len, size)?,
+            fault,
+            "{len} {size}"
+        );
+    }
+    Ok(())
+}
+
 /// How `split` refuses the record of a row.
 fn split_refusal(alloc: Global, row: &Row<'_>, size: u64) -> Result<Option<SplitFault>, Fail> {
     let framed = record(alloc, &row.text(alloc)?)?;
