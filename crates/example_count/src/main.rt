@@ -3,14 +3,14 @@
 
 use std::fs::File;
 use std::io;
-use warc::Archive;
+use warc::Listing;
 use warc_frame::FileSource;
 
 fn main(rt: HostRuntime) -> io::Result<()> {
     let file = File::open(&rt, "abc.warc")?;
-    match Archive::open(rt.alloc(), FileSource::new(file)) {
-        Ok(archive) => {
-            let count = archive.count();
+    match Listing::open(rt.alloc(), FileSource::new(file)) {
+        Ok(listing) => {
+            let count = listing.count();
             println!(rt; "records: {count}")
         }
         Err((fault, _)) => println!(rt; "refused: {fault}"),

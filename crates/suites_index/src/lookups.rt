@@ -1,15 +1,12 @@
 //! Look-ups by table: the chosen capture, the first capture with an id, and the first record with one.
 
+use crate::rows::{Row, typed};
 use std::alloc::{AllocError, Allocator, Global};
 use std::test::Fail;
-use warc_field::{Fields, Name, Value};
 use warc_index::{Index, Unfound};
-use warc_record::{Typed, id_key, type_head};
+use warc_record::id_key;
 use warc_value::read_date;
 use warc_vectors::RefusingAllocator;
-
-/// A record: its type, id, date and target, the last one empty where it has none.
-type Row = (&'static str, &'static str, &'static str, &'static str);
 
 const U: &str = "http://a.example/x";
 
@@ -35,22 +32,6 @@ const ROWS: &[Row] = &[
     ("response", "<e>", "2022", ""),
 ];
 
-fn typed<A: Allocator + Copy>(alloc: A, row: &Row) -> Result<Typed<A>, AllocError> {
-    let (kind, id, date, target) = *row;
-    let mut fields = Fields::new(alloc);
-    for (name, value) in [
-        ("WARC-Type", kind),
-        ("WARC-Record-ID", id),
-        ("WARC-Date", date),
-        ("WARC-Target-URI", target),
-    ] {
-        let name = Name::new(alloc, name.as_bytes()).map_err(|_| AllocError)?;
-        let value = Value::new(alloc, value.as_bytes()).map_err(|_| AllocError)?;
-        fields.push(name, value)?;
-    }
-    type_head(alloc, &fields).map_err(|_| AllocError)
-}
-
 /// Adds the records of rows.
 fn add_rows<A: Allocator + Copy>(
     index: &mut Index<A>,
@@ -58,7 +39,7 @@ fn add_rows<A: Allocator + Copy>(
     heap: Global,
 ) -> Result<(), AllocError> {
     for row in rows {
-        index.add(&typed(heap, row)?)?;
+        index.add(&typed(heap, row, &[])?)?;
     }
     Ok(())
 }
@@ -139,7 +120,7 @@ fn refused_additions_change_nothing(rt: HostRuntime) -> Result<(), Fail> {
         let heap = RefusingAllocator::new(rt.alloc(), number);
         let mut index = Index::new(&heap);
         for row in ROWS {
-            let typed = typed(rt.alloc(), row)?;
+            let typed = typed(rt.alloc(), row, &[])?;
             let kept = index.kept();
             if index.add(&typed).is_err() {
                 assert!(rt; heap.has_refused());

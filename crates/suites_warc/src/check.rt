@@ -3,7 +3,7 @@
 use crate::runs::{CHECK, LIST, ends, run};
 use std::alloc::Global;
 use std::test::Fail;
-use warc::{Archive, perform};
+use warc::{Archive, Listing, perform};
 use warc_frame::{MemSink, MemSource};
 use warc_vectors::{
     Break, BrokenSource, BrokenWriter, ChangingSource, ONE_RESOURCE, RefusingAllocator, Row,
@@ -299,12 +299,12 @@ fn a_failed_write_is_told(rt: HostRuntime) -> Result<(), Fail> {
     Ok(())
 }
 
-/// How often memory is asked for until an archive is open.
+/// How often memory is asked for until a listing is open.
 fn requests(alloc: Global, text: &[u8]) -> Result<u64, Fail> {
     for number in 1..1000u64 {
         let heap = RefusingAllocator::new(alloc, number);
         let source = MemSource::new(text.to_vec(alloc)?, usize::MAX);
-        if Archive::open(&heap, source).is_ok() {
+        if Listing::open(&heap, source).is_ok() {
             return Ok(number - 1);
         }
     }

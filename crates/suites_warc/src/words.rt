@@ -59,6 +59,22 @@ fn check_names_its_archive(rt: HostRuntime) {
 }
 
 #[test]
+fn commands_that_write_name_their_archive(rt: HostRuntime) {
+    assert!(rt;
+        matches!(
+            parse(rt.alloc(), &["warc", "rewrite", "a.warc"]),
+            Ok(Command::Rewrite { archive: "a.warc" })
+        )
+    );
+    assert!(rt;
+        matches!(
+            parse(rt.alloc(), &["warc", "convert", "a.warc"]),
+            Ok(Command::Convert { archive: "a.warc" })
+        )
+    );
+}
+
+#[test]
 fn help_and_version_are_asked_for(rt: HostRuntime) {
     for words in [
         ["warc", "--help"].as_slice(),
@@ -73,11 +89,11 @@ fn help_and_version_are_asked_for(rt: HostRuntime) {
         assert!(rt; text.as_str().contains("Usage: warc <COMMAND>"));
         assert!(rt;
             text.as_str()
-                .contains("list   Prints a line for each record")
+                .contains("list     Prints a line for each record")
         );
         assert!(rt;
             text.as_str()
-                .contains("check  Prints a line for each finding")
+                .contains("check    Prints a line for each finding")
         );
         assert!(rt;
             text.as_str()

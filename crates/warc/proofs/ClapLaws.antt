@@ -1,4 +1,4 @@
-use Rattle.std.proofs.Common.{◌≡◌, ◌∷◌, ◌⊎◌, inl, inr, true, false, true≢false, List, [], Result, Option, Some, None, option_map, unwrap_or, is_some, refl, sym, ap, subst, ◌∙◌}
+use Rattle.std.proofs.Common.{◌≡◌, ◌∷◌, ◌⊎◌, inl, inr, true, false, true≢false, List, [], Result, Ok, Option, Some, None, option_map, unwrap_or, is_some, refl, sym, ap, subst, ◌∙◌}
 use Rattle.clap.specs.Faults.{fault_of, is_simple_and_free}
 use Rattle.clap.specs.Kinds.{FailsBy, IsAmong, Kinds}
 use Rattle.clap.specs.Matches.{first_value, has_subcommand}
@@ -37,6 +37,14 @@ names_some m has none = through _ _ (out-ArgMatches m).subcommand has none
 -- words that the program's parser takes
 pub taken_by : (a : App) (words : List Text) → a ≡ warc_app → takes warc_app words ≡ true → takes a words ≡ true
 taken_by a words same taken = ap (λ x. takes x words) same ∙ taken
+
+-- words that a parse accepted have no fault
+pub no_fault : (a : App) (words : List Text) (m : ArgMatches) → a ≡ warc_app
+    → (is_simple_and_free a ≡ true → (let r : Result ArgMatches Error = Ok m in FailsBy (fault_of a words) r))
+    → fault_of warc_app words ≡ []
+no_fault a words m same fails =
+    let P : App → Type 0 = λ x. is_simple_and_free x ≡ true → fault_of x words ≡ [] in
+    subst P same fails refl
 
 -- what a parse answers, by the program's parser
 pub fails_by : (a : App) (words : List Text) (r : Result ArgMatches Error) → a ≡ warc_app

@@ -11,7 +11,8 @@ use Rattle.warc_frame.specs.VersionLine.{version_line}
 use Rattle.warc_record.specs.Good.{IsGood}
 use Rattle.warc_record.proofs.CountLemmas.{findings_are_few}
 use Rattle.warc.specs.Archive.{AreGood, IsArchiveOf, contents}
-use Rattle.warc.specs.Checking.{about_record, findings_at, findings_behind, findings_of_archive, findings_of_records, has_bad_digest, is_used, key_of}
+use Rattle.warc_record.specs.Blocks.{has_bad_digest}
+use Rattle.warc.specs.Checking.{about_record, findings_at, findings_behind, findings_of_archive, findings_of_records, is_used, key_of}
 use Rattle.warc.specs.Laws.{FindingsAreCounted}
 use Rattle.warc.specs.Row.{Row}
 use Rattle.warc.proofs.StreamLemmas.{spells_all}

@@ -2,8 +2,11 @@ pub mod ArchiveTextLemmas
 pub mod CheckLemmas
 pub mod ClapLaws
 pub mod CountLemmas
+pub mod EmitLemmas
+pub mod ExtractLemmas
 pub mod GoodLemmas
 pub mod HeadLemmas
+pub mod IndexedLemmas
 pub mod KindLemmas
 pub mod LawLemmas
 pub mod LineLemmas
@@ -11,12 +14,15 @@ pub mod MetLemmas
 pub mod OpeningLemmas
 pub mod PlaceLemmas
 pub mod ProgramLemmas
-pub mod RangeLemmas
 pub mod ReadLemmas
 pub mod RecordsLemmas
 pub mod RefusalLemmas
+pub mod ReplayLemmas
 pub mod RowLemmas
 pub mod SourceLemmas
+pub mod StandLemmas
 pub mod StepLemmas
 pub mod StreamLemmas
+pub mod WholeLemmas
+pub mod TakeLemmas
 mod WorkedValues

@@ -6,11 +6,9 @@ use Rattle.std.proofs.lemmas.List.Folds.{concat-append}
 use Rattle.std.proofs.lemmas.Option.{get_or_from_slice_get, slice_get_within}
 use Rattle.std.specs.List.{concat, enumerate_from, flat_map, join_with_byte, slice_get}
 use Rattle.warc_frame.specs.Device.{Staged}
-use Rattle.warc_frame.specs.Send.{IsStaged, WentOut}
-use Rattle.warc_frame.proofs.LawLemmas.{went_out_of_longer}
 use Rattle.warc_frame.specs.declared.send.SendFault.{SendFault}
-use Rattle.warc.specs.Putting.{Puts}
-use Rattle.warc.specs.Seen.{Seen}
+use Rattle.warc_frame.specs.Putting.{Puts}
+use Rattle.warc_frame.specs.Seen.{Seen}
 use Rattle.warc.specs.Listing.{line_of, listing, shown}
 use Rattle.warc.specs.Row.{Row}
 
@@ -25,35 +23,6 @@ pub line_from : (position : ℕ) (row : Row) (a b c d e f g : List ℕ) → a �
 unfolding line_of
 line_from position row a b c d e f g is_a is_b is_c is_d is_e is_f is_g =
     seven a b c d e f g ∙ rw (is_a, is_b, is_c, is_d, is_e, is_f, is_g) refl
-
--- one more piece, and the pieces behind it
-pub pieces_more : (output : List ℕ) (pieces : List (Bor (List ℕ))) (i : ℕ) (d : Bor (List ℕ)) → i < length pieces
-    → (output ++ concat (map (λ p. p.now) (take i pieces))) ++ (get_or pieces i d).now ≡ output ++ concat (map (λ p. p.now) (take (i + 1) pieces))
-pieces_more output pieces i d lt =
-    let now : Bor (List ℕ) → List ℕ = λ p. p.now in
-    let last = ap (λ l. concat (map now l)) (take_more pieces i d lt) ∙ ap concat (map-append now (take i pieces) (get_or pieces i d ∷ []))
-    ∙ concat-append (map now (take i pieces)) ((get_or pieces i d).now ∷ [])
-    ∙ ap (λ l. concat (map now (take i pieces)) ++ l) (append-nil (get_or pieces i d).now) in
-    append_assoc output (concat (map now (take i pieces))) (get_or pieces i d).now ∙ ap (λ l. output ++ l) (sym last)
-
-pub pieces_rest : (output : List ℕ) (pieces : List (Bor (List ℕ))) (i : ℕ)
-    → (output ++ concat (map (λ p. p.now) (take i pieces))) ++ concat (map (λ p. p.now) (drop i pieces)) ≡ output ++ concat (map (λ p. p.now) pieces)
-pieces_rest output pieces i =
-    let now : Bor (List ℕ) → List ℕ = λ p. p.now in
-    append_assoc output (concat (map now (take i pieces))) (concat (map now (drop i pieces)))
-    ∙ ap (λ l. output ++ l) (sym (concat-append (map now (take i pieces)) (map now (drop i pieces)))
-    ∙ ap concat (sym (map-append now (take i pieces) (drop i pieces))) ∙ ap (λ l. concat (map now l)) (take-append-drop i pieces))
-
--- what went out of an output went out of one that goes on with more
-pub longer : {start now : Option (List ℕ)} {output : List ℕ} {sent : ℕ} (more : List ℕ) → WentOut start output now sent → WentOut start (output ++ more) now sent
-longer {start} {now} {output} {sent} more out = went_out_of_longer start now output more sent out
-
--- the same output
-pub same_out : {start now : Option (List ℕ)} {a b : List ℕ} {sent : ℕ} → a ≡ b → WentOut start a now sent → WentOut start b now sent
-same_out {start} {now} {a} {b} {sent} same out = let P : List ℕ → Type 0 = λ l. WentOut start l now sent in subst P same out
-
-pub same_staged : {start now : Option (List ℕ)} {a b : List ℕ} {buffer : Staged} → a ≡ b → IsStaged start a now buffer → IsStaged start b now buffer
-same_staged {start} {now} {a} {b} {buffer} same is = let P : List ℕ → Type 0 = λ l. IsStaged start l now buffer in subst P same is
 
 -- the same text
 pub puts_same : {X : Type 0} {old new : Seen} {waits waiting : Staged} {answer : Result X SendFault} {a b : List ℕ} → a ≡ b → Puts old new waits waiting answer a

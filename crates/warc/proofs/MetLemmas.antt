@@ -8,10 +8,11 @@ use Rattle.std.specs.Str.{bytes_eq}
 use Rattle.std.proofs.lemmas.List.Folds.{list_any-append}
 use Rattle.std.proofs.lemmas.Map.Text.{is_eq-slice_cmp}
 use Rattle.warc_frame.specs.Record.{Record}
-use Rattle.warc.specs.Checking.{is_same_key, is_used, key_of}
+use Rattle.warc_record.specs.Texts.{is_same_text}
+use Rattle.warc.specs.Checking.{is_used, key_of}
 use Rattle.warc.specs.Examining.{HasMet}
 
-same_none : (a : Option (List ℕ)) → is_same_key a None ≡ false
+same_none : (a : Option (List ℕ)) → is_same_text a None ≡ false
 same_none None = refl
 same_none (Some a) = refl
 
@@ -20,8 +21,8 @@ pub none_used : (records : List Record) → is_used records None ≡ false
 none_used [] = refl
 none_used (r ∷ rs) = ap (λ b. b || is_used rs None) (same_none (key_of r)) ∙ none_used rs
 
-used_more : (before : List Record) (r : Record) (key : Option (List ℕ)) → is_used (before ++ r ∷ []) key ≡ (is_used before key || (is_same_key (key_of r) key || false))
-used_more before r key = list_any-append (λ s. is_same_key (key_of s) key) before (r ∷ [])
+used_more : (before : List Record) (r : Record) (key : Option (List ℕ)) → is_used (before ++ r ∷ []) key ≡ (is_used before key || (is_same_text (key_of r) key || false))
+used_more before r key = list_any-append (λ s. is_same_text (key_of s) key) before (r ∷ [])
 
 or_false : (a b : Bool) → cond b true a ≡ (a || (b || false))
 or_false true true = refl
@@ -36,7 +37,7 @@ pub met_more : (before : List Record) (r : Record) (key : List ℕ) (old new : B
 met_more before r key old new met is updates = λ q.
     updates q ∙ ap (λ b. cond b true (contains (slice_cmp nat_cmp) old q)) (is_eq-slice_cmp key q)
     ∙ ap (cond (bytes_eq key q) true) (met q) ∙ or_false (is_used before (Some q)) (bytes_eq key q)
-    ∙ ap (λ k. is_used before (Some q) || (is_same_key k (Some q) || false)) (sym is) ∙ sym (used_more before r (Some q))
+    ∙ ap (λ k. is_used before (Some q) || (is_same_text k (Some q) || false)) (sym is) ∙ sym (used_more before r (Some q))
 
 or_nothing : (a : Bool) → a ≡ (a || (false || false))
 or_nothing true = refl
@@ -46,4 +47,4 @@ or_nothing false = refl
 pub met_none : (before : List Record) (r : Record) (old : BTreeSet (List ℕ)) → HasMet before old → key_of r ≡ None → HasMet (before ++ r ∷ []) old
 met_none before r old met is = λ q.
     met q ∙ or_nothing (is_used before (Some q))
-    ∙ ap (λ k. is_used before (Some q) || (is_same_key k (Some q) || false)) (sym is) ∙ sym (used_more before r (Some q))
+    ∙ ap (λ k. is_used before (Some q) || (is_same_text k (Some q) || false)) (sym is) ∙ sym (used_more before r (Some q))

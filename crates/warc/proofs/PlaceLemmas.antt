@@ -15,14 +15,14 @@ use Rattle.warc.specs.Row.{Placed, Row}
 use Rattle.warc.proofs.GoodLemmas.{accepted}
 
 -- what is known of the head of a record that a text spells
-abbrev HeadsAreRead : Type 0
+abbrev pub HeadsAreRead : Type 0
 HeadsAreRead = (judge : Judgement) (r : Record) (text : List ℕ) (n : ℕ) → Spells r text → judge r.fields ≡ None → n + length r.block + 4 ≡ length text
     → head_of judge (take n text) ≡ Ok (record { version = r.version; fields = r.fields; len = n; block_len = length r.block })
 
 front_len : (head block : List ℕ) → length (head ++ block ++ crlf ++ crlf) ≡ length head + length block + 4
 front_len head block = simp length-append (omega arith)
 
-head_here : HeadsAreRead → (q : ℕ) (p : Placed) (before front rest : List ℕ) → q ≡ length before → (one : Spells p.content front) → p.offset ≡ q
+pub head_here : HeadsAreRead → (q : ℕ) (p : Placed) (before front rest : List ℕ) → q ≡ length before → (one : Spells p.content front) → p.offset ≡ q
     → p.block_start + length p.content.block + 4 ≡ q + length front → head_fault p.content.fields ≡ None → HasHead (before ++ (front ++ rest)) p
 head_here law q p before front rest q_is one at start good =
     let head = head_text p.content.version one.area in

@@ -3,10 +3,10 @@ use Rattle.std.proofs.Common.{◌≡◌, ℕ, List, [], ◌∷◌, length, min, 
 use Rattle.warc_frame.specs.declared.fault.OutFault.{OutFault}
 use Rattle.warc.specs.Archive.{IsArchiveOf, contents}
 use Rattle.warc.specs.Checking.{Line}
-use Rattle.warc.specs.Failing.{HasFailedBy, MayHaveFailedBy}
+use Rattle.warc_frame.specs.Failing.{HasFailedBy, MayHaveFailedBy}
 use Rattle.warc.specs.Program.{AreGoodRecordsOf, status_of_findings, Tells}
 use Rattle.warc.specs.Row.{Row}
-use Rattle.warc.specs.Seen.{Seen}
+use Rattle.warc_frame.specs.Seen.{Seen}
 use Rattle.warc.proofs.StreamLemmas.{spells_all}
 
 -- the records of an archive

@@ -6,39 +6,10 @@ use Rattle.std.specs.List.{slice_get, sum_by}
 use Rattle.warc_frame.specs.Count.{raised}
 use Rattle.warc.specs.Heads.{IsInHead, ReadsHeads, heads_len}
 use Rattle.warc.specs.Row.{Row}
-use Rattle.warc.specs.Seen.{AsksOnly, Tapped}
-use Rattle.warc.specs.Stream.{HasFilled, IsReadAt}
+use Rattle.warc_frame.specs.Seen.{AsksOnly, Tapped}
+use Rattle.warc_frame.specs.Ranges.{HasFilled}
 use Rattle.warc.proofs.RecordsLemmas.{take_one}
 use Rattle.warc.proofs.SourceLemmas.{raised_by_one}
-
-if_raised : (watched : Bool) (n m : ℕ) → watched ≡ false → m ≡ (if watched then raised n else n) → m ≡ n
-if_raised watched n m off is = is ∙ ap (λ b. if b then raised n else n) off
-
--- one more read
-pub asks_more : (These : ℕ → Type 0) (old mid new : Tapped) (at : ℕ) (failed : Bool) → These at → mid.watches ≡ old.watches → IsReadAt at failed mid new → AsksOnly These old mid
-    → AsksOnly These old new
-asks_more These old mid new at failed is watched read asks = λ off.
-    let here : mid.watches at ≡ false = ap (λ (w : ℕ → Bool). w at) watched ∙ off at is in
-    if_raised (mid.watches at) mid.strays new.strays here read.strayed ∙ asks off
-
-pub filled_none : (at : ℕ) (s : Tapped) → HasFilled at 0 s s
-filled_none at s = record { near = λ off. refl; bound = omega arith; watched = refl }
-
--- one more read, whatever it gives
-pub filled_by : (at filled more : ℕ) (old mid new : Tapped) (failed : Bool) → HasFilled at filled old mid → IsReadAt (at + filled) failed mid new → 0 < more → HasFilled at (filled + more) old new
-filled_by at filled more old mid new failed has read some = record {
-  near = asks_more (λ q. (at ≤ q) × (q < at + (filled + more))) old mid new (at + filled) failed (omega arith, omega arith) has.watched read
-      (λ off. has.near (λ q in_. off q (in_.0, omega (arith, in_.1))));
-  bound = omega (arith, has.bound, read.counted, raised_by_one mid.reads);
-  watched = read.watched ∙ has.watched;
-}
-
-pub filled_within : (at filled len : ℕ) (old new : Tapped) → HasFilled at filled old new → filled ≤ len → HasFilled at len old new
-filled_within at filled len old new has le = record {
-  near = λ off. has.near (λ q in_. off q (in_.0, omega (arith, in_.1)));
-  bound = omega (arith, has.bound);
-  watched = has.watched;
-}
 
 -- a head is read
 pub reads_one : (row : Row) (len : ℕ) (old new : Tapped) → row.offset + len ≡ row.block_start → HasFilled row.offset len old new → ReadsHeads (row ∷ []) old new
@@ -67,7 +38,7 @@ get_last : (rows : List Row) (row : Row) → slice_get (rows ++ row ∷ []) (len
 get_last [] row = refl
 get_last (r ∷ rs) row = get_last rs row
 
-one_row : (row other : Row) (i : ℕ) → slice_get (row ∷ []) i ≡ Some other → row ≡ other
+pub one_row : (row other : Row) (i : ℕ) → slice_get (row ∷ []) i ≡ Some other → row ≡ other
 one_row row other zero is = cc is
 one_row row other (suc i) is = absurd (cc is)
 

@@ -12,8 +12,8 @@ use Rattle.warc_frame.specs.declared.fault.FaultKind.TheVariants.{Memory, Read, 
 use Rattle.warc_frame.proofs.JudgedLemmas.{judged_refuted, judged_head}
 use Rattle.warc_frame.proofs.LawLemmas.{faults_are_stable}
 use Rattle.warc_record.specs.Heads.{head_fault}
-use Rattle.warc_record.specs.Seen.{RefusesFor}
 use Rattle.warc.specs.Archive.{IsFaultOf, IsRecordEnd}
+use Rattle.warc.specs.Row.{Placed}
 use Rattle.warc.specs.Stream.{HasRead, StaysBy, StaysRefused}
 use Rattle.warc.specs.declared.reading.Reading.{Reading}
 use Rattle.warc.proofs.GoodLemmas.{are_good}
@@ -71,11 +71,11 @@ step_by Truncated offset text told accepts is = absurd (is.settled refl)
 step_by kind offset text told accepts is = judged_refuted head_fault 0 text told (fault kind offset) is accepts
 
 -- a step of the decoder failed
-pub step_refused : {A : Type 0} (text piece : List ℕ) (told : Told) (r : Reading A) (f : Fault) → HasRead text told r → Refuses 0 (text ++ piece) told f → StaysRefused (text ++ piece) f
+pub step_refused : {A L : Type 0} {K : L → List Placed → Type 0} (text piece : List ℕ) (told : Told) (r : Reading A L) (f : Fault) → HasRead K text told r → Refuses 0 (text ++ piece) told f → StaysRefused (text ++ piece) f
 step_refused text piece told r f has is = step_by f.kind f.offset (text ++ piece) told (accepts_told text told r has) is
 
 -- memory was wanted for a record that was being read
-pub memory_at : {A : Type 0} (text more : List ℕ) (told : Told) (r : Reading A) → HasRead text told r → IsRecordEnd (text ++ more) r.begin
+pub memory_at : {A L : Type 0} {K : L → List Placed → Type 0} (text more : List ℕ) (told : Told) (r : Reading A L) → HasRead K text told r → IsRecordEnd (text ++ more) r.begin
 memory_at text more told r has =
     let P : List Record → Type 0 = λ rs. SpellsAll rs has.front in
     let spelled = subst P (sym has.told_is) (spells_all 0 has.records has.front has.spelled) in
@@ -96,10 +96,10 @@ head_by Truncated text f offset of is = absurd (true≢false (sym of))
 head_by kind text f offset of is = is
 
 -- a head is refused
-head_fault_at : {A : Type 0} (text more : List ℕ) (rs : List Record) (u : Unclosed) (r : Reading A) (kind : FaultKind) → HasRead text (record { records = rs; unclosed = None }) r
+pub head_refused : {A L : Type 0} {K : L → List Placed → Type 0} (text more : List ℕ) (rs : List Record) (u : Unclosed) (r : Reading A L) (kind : FaultKind) → HasRead K text (record { records = rs; unclosed = None }) r
     → IsExact (text ++ more) (record { records = rs; unclosed = Some u }) → head_fault u.fields ≡ Some kind → length (text ++ more) ≤ max_archive
     → StaysBy kind (text ++ more) (fault kind r.begin)
-head_fault_at text more rs u r kind has exact is short =
+head_refused text more rs u r kind has exact is short =
     let told : Told = record { records = rs; unclosed = Some u } in
     let (front, rest, text_is, spelled, first) = judged_head head_fault 0 (text ++ more) told u kind exact refl has.good is (omega (arith, short)) in
     let (same, others) = same_front text more front rest (record { records = rs; unclosed = None }) r has text_is spelled in
@@ -107,9 +107,3 @@ head_fault_at text more rs u r kind has exact is short =
     let begin : 0 + length front ≡ r.begin = omega (arith, size) in
     let P : ℕ → Type 0 = λ q. IsFaultOf (text ++ more) (fault kind q) in
     head_by kind (text ++ more) (fault kind r.begin) r.begin (head_kind u.fields kind is) (subst P begin first)
-
-pub head_refused : {A : Type 0} (X : Type 0) (text more : List ℕ) (rs : List Record) (u : Unclosed) (r : Reading A) (kind : FaultKind) → HasRead text (record { records = rs; unclosed = None }) r
-    → IsExact (text ++ more) (record { records = rs; unclosed = Some u }) → RefusesFor {X = X} (Err kind) (head_fault u.fields) → length (text ++ more) ≤ max_archive
-    → StaysBy kind (text ++ more) (fault kind r.begin)
-head_refused X text more rs u r Memory has exact is short = memory_at text more (record { records = rs; unclosed = None }) r has
-head_refused X text more rs u r kind has exact is short = head_fault_at text more rs u r kind has exact is short

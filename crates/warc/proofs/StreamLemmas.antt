@@ -1,19 +1,19 @@
 -- What is kept of a stream stands for the bytes that were taken.
-use Rattle.std.proofs.Common.{◌≡◌, ℕ, ◌+◌, List, [], ◌∷◌, ◌++◌, length, map, Option, Some, None, Result, Ok, Err, IsSome, refl, sym, ap, subst, ◌∙◌, arith, length-append}
+use Rattle.std.proofs.Common.{◌≡◌, ℕ, ◌+◌, ◌≤◌, List, [], ◌∷◌, ◌++◌, length, map, Option, Some, None, Result, Ok, Err, IsSome, refl, sym, ap, subst, ◌∙◌, arith, length-append}
 use Rattle.std.proofs.lemmas.List.{append_assoc, append-nil, append_cancel_left, map-append}
 use Rattle.warc_frame.specs.Faults.{AllAccepted}
 use Rattle.warc_frame.specs.Reading.{◌>>=◌, Head, any_fields, block_at, head_of, record_of}
-use Rattle.warc_frame.specs.Record.{Record}
+use Rattle.warc_frame.specs.Record.{Record, max_archive}
 use Rattle.warc_frame.specs.Spelling.{Spells, SpellsAll}
 use Rattle.warc_frame.specs.Told.{AcceptsOpen, AcceptsTold, IsExact, Told, Unclosed, with_bytes}
 use Rattle.warc_frame.specs.declared.fault.Fault.{Fault}
 use Rattle.warc_frame.proofs.LawLemmas.{fronts_are_same, heads_are_stable, reading_is_spelling-read}
 use Rattle.warc_record.specs.Heads.{head_fault}
 use Rattle.warc_record.specs.Readings.{reading_of}
-use Rattle.warc_record.specs.Seen.{said}
-use Rattle.warc.specs.Archive.{AreRowsOf, SpellsFrom, contents}
+use Rattle.warc.specs.Archive.{SpellsFrom, contents}
+use Rattle.warc.specs.Indexed.{place_of, place_with}
 use Rattle.warc.specs.Row.{Placed, row_of, row_with}
-use Rattle.warc.specs.Stream.{HasRead, HasSeen, IsCurrent, IsHead, Matches, row_by}
+use Rattle.warc.specs.Stream.{HasRead, HasSeen, IsCurrent, IsHead, IsKeptOf, Matches, place_by, row_by}
 use Rattle.warc.proofs.GoodLemmas.{are_good}
 use Rattle.warc.specs.declared.reading.Current.{Current}
 use Rattle.warc.specs.declared.reading.Reading.{Reading}
@@ -84,7 +84,7 @@ accepts begin rest None c m = tt
 accepts begin rest (Some u) None m = absurd m
 accepts begin rest (Some u) (Some c) m = m.of.good
 
-pub accepts_told : {A : Type 0} (text : List ℕ) (told : Told) (r : Reading A) → HasRead text told r → AcceptsTold head_fault told
+pub accepts_told : {A L : Type 0} {K : L → List Placed → Type 0} (text : List ℕ) (told : Told) (r : Reading A L) → HasRead K text told r → AcceptsTold head_fault told
 accepts_told text told r has = (has.good, accepts (length has.front) has.rest told.unclosed r.current has.current)
 
 -- bytes were taken, and nothing was told
@@ -103,7 +103,7 @@ matches_more begin rest more (Some u) (Some c) m = record {
   seen = m.seen;
 }
 
-pub more_kept : {A : Type 0} (text more : List ℕ) (told : Told) (r : Reading A) → HasRead text told r → HasRead (text ++ more) told r
+pub more_kept : {A L : Type 0} {K : L → List Placed → Type 0} (text more : List ℕ) (told : Told) (r : Reading A L) → HasRead K text told r → HasRead K (text ++ more) told r
 more_kept text more told r has = record {
   records = has.records;
   front = has.front;
@@ -113,12 +113,13 @@ more_kept text more told r has = record {
   told_is = has.told_is;
   good = has.good;
   rows_are = has.rows_are;
+  beside = has.beside;
   begin_is = has.begin_is;
   current = matches_more (length has.front) has.rest more told.unclosed r.current has.current;
 }
 
 -- the front of the records that were told is the same in each view of the bytes
-pub same_front : {A : Type 0} (text more front rest : List ℕ) (told : Told) (r : Reading A) (has : HasRead text told r) → text ++ more ≡ front ++ rest
+pub same_front : {A L : Type 0} {K : L → List Placed → Type 0} (text more front rest : List ℕ) (told : Told) (r : Reading A L) (has : HasRead K text told r) → text ++ more ≡ front ++ rest
     → SpellsAll told.records front → (has.front ≡ front) × (has.rest ++ more ≡ rest)
 same_front text more front rest told r has is spelled =
     let P : List Record → Type 0 = λ rs. SpellsAll rs has.front in
@@ -128,11 +129,11 @@ same_front text more front rest told r has is spelled =
     (same, append_cancel_left front (has.rest ++ more) rest (ap (λ f. f ++ (has.rest ++ more)) (sym same) ∙ whole))
 
 -- a head was told, and it is good
-pub head_kept : {A : Type 0} (text more : List ℕ) (rs : List Record) (u : Unclosed) (old new : Reading A) (c : Current A) → HasRead text (record { records = rs; unclosed = None }) old
-    → IsExact (text ++ more) (record { records = rs; unclosed = Some u }) → u.bytes ≡ [] → new.rows ≡ old.rows → new.begin ≡ old.begin → new.current ≡ Some c
+pub head_kept : {A L : Type 0} {K : L → List Placed → Type 0} (text more : List ℕ) (rs : List Record) (u : Unclosed) (old new : Reading A L) (c : Current A) → HasRead K text (record { records = rs; unclosed = None }) old
+    → IsExact (text ++ more) (record { records = rs; unclosed = Some u }) → u.bytes ≡ [] → new.rows ≡ old.rows → new.beside ≡ old.beside → new.begin ≡ old.begin → new.current ≡ Some c
     → IsHead u.fields c → HasSeen c.digest [] → c.block_start ≡ length (text ++ more) → c.block_len ≡ u.block_len
-    → HasRead (text ++ more) (record { records = rs; unclosed = Some u }) new
-head_kept {A} text more rs u old new c has exact none rows begin current of seen start len =
+    → HasRead K (text ++ more) (record { records = rs; unclosed = Some u }) new
+head_kept {A} {L} {K} text more rs u old new c has exact none rows beside begin current of seen start len =
     let (head, head_is, rest_is) = exact.ends in
     let (front, rest) = same_front text more exact.front exact.rest (record { records = rs; unclosed = None }) old has exact.text_is exact.spelled in
     let S : List ℕ → Type 0 = λ bytes. HasSeen c.digest bytes in
@@ -149,6 +150,7 @@ head_kept {A} text more rs u old new c has exact none rows begin current of seen
       seen = subst S (sym none) seen;
     } in
     let M : Option (Current A) → Type 0 = λ k. Matches (length has.front) exact.rest (Some u) k in
+    let B : L → Type 0 = λ l. K l has.records in
     record {
       records = has.records;
       front = has.front;
@@ -158,6 +160,7 @@ head_kept {A} text more rs u old new c has exact none rows begin current of seen
       told_is = has.told_is;
       good = has.good;
       rows_are = rows ∙ has.rows_are;
+      beside = subst B (sym beside) has.beside;
       begin_is = begin ∙ has.begin_is;
       current = subst M (sym current) is;
     }
@@ -165,7 +168,7 @@ head_kept {A} text more rs u old new c has exact none rows begin current of seen
 -- bytes of a block were told
 abbrev pub TakesPart : {A : Type 0} → List ℕ → Option (Current A) → Option (Current A) → Type 0
 TakesPart {A} part old new = (c : Current A) → old ≡ Some c → (d : Current A) × (new ≡ Some d)
-    × (d.typed ≡ c.typed) × (d.block_start ≡ c.block_start) × (d.block_len ≡ c.block_len) × (d.digest.wanted ≡ c.digest.wanted)
+    × (d.fields ≡ c.fields) × (d.block_start ≡ c.block_start) × (d.block_len ≡ c.block_len) × (d.digest.wanted ≡ c.digest.wanted)
     × ((bytes : List ℕ) → HasSeen c.digest bytes → HasSeen d.digest (bytes ++ part))
 
 matches_part : {A : Type 0} (begin : ℕ) (rest more part : List ℕ) (o : Option Unclosed) (old new : Option (Current A)) → IsSome o → Matches begin rest o old → TakesPart part old new
@@ -173,7 +176,7 @@ matches_part : {A : Type 0} (begin : ℕ) (rest more part : List ℕ) (o : Optio
 matches_part begin rest more part None old new some m takes = cc some
 matches_part begin rest more part (Some u) None new some m takes = absurd m
 matches_part {A} begin rest more part (Some u) (Some c) new some m takes =
-    let (d, new_is, typed, start, len, wanted, seen) = takes c refl in
+    let (d, new_is, fields, start, len, wanted, seen) = takes c refl in
     let is : IsCurrent begin (rest ++ more) (record { version = u.version; fields = u.fields; block_len = u.block_len; bytes = u.bytes ++ part }) d = record {
       head = m.head;
       tail = m.tail ++ more;
@@ -181,8 +184,8 @@ matches_part {A} begin rest more part (Some u) (Some c) new some m takes =
       head_is = m.head_is;
       of = record {
         good = m.of.good;
-        typed = ap said typed ∙ m.of.typed;
-        wanted = wanted ∙ m.of.wanted ∙ sym (ap (λ t. t.wanted) typed);
+        fields_are = fields ∙ m.of.fields_are;
+        wanted = wanted ∙ m.of.wanted;
       };
       start = start ∙ m.start;
       len = len ∙ m.len;
@@ -191,10 +194,10 @@ matches_part {A} begin rest more part (Some u) (Some c) new some m takes =
     let M : Option (Current A) → Type 0 = λ k. Matches begin (rest ++ more) (with_bytes (Some u) part) k in
     subst M (sym new_is) is
 
-pub part_kept : {A : Type 0} (text more part : List ℕ) (told : Told) (old new : Reading A) → HasRead text told old → IsSome told.unclosed → new.rows ≡ old.rows
-    → new.begin ≡ old.begin → TakesPart part old.current new.current
-    → HasRead (text ++ more) (record { records = told.records; unclosed = with_bytes told.unclosed part }) new
-part_kept text more part told old new has some rows begin takes = record {
+pub part_kept : {A L : Type 0} {K : L → List Placed → Type 0} (text more part : List ℕ) (told : Told) (old new : Reading A L) → HasRead K text told old → IsSome told.unclosed → new.rows ≡ old.rows
+    → new.beside ≡ old.beside → new.begin ≡ old.begin → TakesPart part old.current new.current
+    → HasRead K (text ++ more) (record { records = told.records; unclosed = with_bytes told.unclosed part }) new
+part_kept {A} {L} {K} text more part told old new has some rows beside begin takes = record {
   records = has.records;
   front = has.front;
   rest = has.rest ++ more;
@@ -203,6 +206,7 @@ part_kept text more part told old new has some rows begin takes = record {
   told_is = has.told_is;
   good = has.good;
   rows_are = rows ∙ has.rows_are;
+  beside = (let B : L → Type 0 = λ l. K l has.records in subst B (sym beside) has.beside);
   begin_is = begin ∙ has.begin_is;
   current = matches_part (length has.front) has.rest more part told.unclosed old.current new.current some has.current takes;
 }
@@ -211,15 +215,21 @@ part_kept text more part told old new has some rows begin takes = record {
 row_is : {A : Type 0} (p : Placed) (begin : ℕ) (c : Current A) → begin ≡ p.offset → c.block_start ≡ p.block_start → c.block_len ≡ length p.content.block
     → IsHead p.content.fields c → row_by begin c p.content.block ≡ row_of p
 row_is p begin c offset start len of =
-    let typed : said c.typed ≡ reading_of p.content.fields = of.typed in
-    rw (offset, start, len, of.wanted) (ap (row_with p) typed)
+    rw (offset, start, len, of.wanted, of.fields_are) refl
+
+-- and so is the place of its block
+place_is : {A : Type 0} (p : Placed) (c : Current A) → c.block_start ≡ p.block_start → c.block_len ≡ length p.content.block → IsHead p.content.fields c
+    → place_by c p.content.block ≡ place_of p
+place_is p c start len of =
+    rw (start, len, of.wanted, of.fields_are) refl
 
 -- the end of a record was told
-pub end_kept_by : {A : Type 0} (text more : List ℕ) (rs : List Record) (u : Unclosed) (old new : Reading A) (c : Current A) (has : HasRead text (record { records = rs; unclosed = Some u }) old)
+pub end_kept_by : {A L : Type 0} {K : L → List Placed → Type 0} (text more : List ℕ) (rs : List Record) (u : Unclosed) (old new : Reading A L) (c : Current A) (has : HasRead K text (record { records = rs; unclosed = Some u }) old)
     → IsCurrent (length has.front) has.rest u c → length u.bytes ≡ u.block_len → IsExact (text ++ more) (record { records = rs ++ record { version = u.version; fields = u.fields; block = u.bytes } ∷ []; unclosed = None })
     → new.begin ≡ length (text ++ more) → new.current ≡ None → new.rows ≡ old.rows ++ row_by old.begin c u.bytes ∷ []
-    → HasRead (text ++ more) (record { records = rs ++ record { version = u.version; fields = u.fields; block = u.bytes } ∷ []; unclosed = None }) new
-end_kept_by {A} text more rs u old new c has is whole exact begin current rows =
+    → ((records : List Placed) (p : Placed) → K old.beside records → c.fields ≡ p.content.fields → head_fault p.content.fields ≡ None → place_by c u.bytes ≡ place_of p → K new.beside (records ++ p ∷ []))
+    → HasRead K (text ++ more) (record { records = rs ++ record { version = u.version; fields = u.fields; block = u.bytes } ∷ []; unclosed = None }) new
+end_kept_by {A} {L} {K} text more rs u old new c has is whole exact begin current rows keeps =
     let r : Record = record { version = u.version; fields = u.fields; block = u.bytes } in
     let told : Told = record { records = rs; unclosed = Some u } in
     let (front, last, all, one, exact_is) = split_last rs r exact.front exact.spelled in
@@ -243,20 +253,28 @@ end_kept_by {A} text more rs u old new c has is whole exact begin current rows =
       told_is = ap (λ l. l ++ r ∷ []) has.told_is ∙ sym (map-append (λ (x : Placed). x.content) has.records (p ∷ []));
       good = accepted_more rs r has.good is.of.good;
       rows_are = rows ∙ ap (λ l. l ++ row_by old.begin c u.bytes ∷ []) has.rows_are ∙ ap (λ x. map row_of has.records ++ x ∷ []) row ∙ sym (map-append row_of has.records (p ∷ []));
+      beside = keeps has.records p has.beside is.of.fields_are is.of.good (place_is p c refl (is.len ∙ sym whole) is.of);
       begin_is = begin ∙ count ∙ sym (length-append has.front last);
       current = subst M (sym current) tt;
     }
 
 -- the text ends behind its last record
-pub rows_whole : {A : Type 0} (text : List ℕ) (told : Told) (r : Reading A) → HasRead text told r → SpellsAll told.records text → AreRowsOf text r.rows
-rows_whole text told r has spelled =
+pub kept_whole : {A L : Type 0} {K : L → List Placed → Type 0} (text : List ℕ) (told : Told) (r : Reading A L) → HasRead K text told r → SpellsAll told.records text
+    → length text ≤ max_archive → IsKeptOf K text (r.rows, r.beside)
+kept_whole text told r has spelled short =
     let (same, none) = same_front text [] text [] told r has refl spelled in
     let P : List ℕ → Type 0 = λ t. SpellsFrom 0 has.records t in
     let Q : List Record → Type 0 = λ rs. AllAccepted head_fault rs in
     let whole = subst P same has.spelled in
     record {
-      records = has.records;
-      spelled = whole;
-      good = are_good (contents has.records) text (spells_all 0 has.records text whole) (subst Q has.told_is has.good);
-      rows_are = has.rows_are;
+      listed = record {
+        short = short;
+        are = record {
+          records = has.records;
+          spelled = whole;
+          good = are_good (contents has.records) text (spells_all 0 has.records text whole) (subst Q has.told_is has.good);
+          rows_are = has.rows_are;
+        };
+      };
+      beside = has.beside;
     }

@@ -1,4 +1,4 @@
--- An archive as one value, and what it says of the bytes of its source.
+-- A listing of an archive as one value, and what it says of the bytes of its source.
 use Rattle.std.specs.Prelude.{◌≡◌, ℕ, ◌+◌, ◌≤◌, List, [], ◌∷◌, ◌++◌, length, map, Result, Ok, Err}
 use Rattle.std.specs.List.{AllByRecursion}
 use Rattle.warc_frame.specs.Faults.{IsFirstFault}

@@ -1,34 +1,17 @@
 -- What `check` tells of an archive: the findings of its records in their order, or that it has none. The
 -- findings are this project's own profile of ISO 28500:2017, and none of them refuses a record.
-use Rattle.std.specs.Prelude.{ℕ, Bool, true, false, List, [], ◌∷◌, ◌++◌, length, map, take, codes, decimal, Option, Some, None}
+use Rattle.std.specs.Prelude.{ℕ, Bool, List, [], ◌∷◌, ◌++◌, length, map, take, codes, decimal, Option, Some, None}
 use Rattle.std.specs.List.{enumerate_from, flat_map, list_any}
-use Rattle.std.specs.Str.{bytes_eq}
-use Rattle.warc_value.specs.Digests.{verdict_of}
-use Rattle.warc_value.specs.declared.hash.Verdict.{Verdict}
-use Rattle.warc_value.specs.declared.hash.Verdict.TheVariants.{Good, Bad, Unchecked}
 use Rattle.warc_frame.specs.Record.{Record}
 use Rattle.warc_record.specs.Findings.{Found, findings_of}
-use Rattle.warc_record.specs.Readings.{digest_wanted, reading_of}
+use Rattle.warc_record.specs.Blocks.{has_bad_digest}
+use Rattle.warc_record.specs.Readings.{reading_of}
+use Rattle.warc_record.specs.Texts.{is_same_text}
 
 -- a finding, and the position of the record that it is about, if it is about one
 pub record Line : Type 0 where
   pub position : Option ℕ
   pub found : Found
-
--- a digest was checked and differs
-abbrev pub is_bad : Verdict → Bool
-is_bad Good = false
-is_bad Bad = true
-is_bad Unchecked = false
-
-abbrev pub has_bad_digest : Record → Bool
-has_bad_digest r = is_bad (verdict_of (digest_wanted r.fields) r.block)
-
--- two keys of ids, both there and equal: then the ids are the same
-abbrev pub is_same_key : Option (List ℕ) → Option (List ℕ) → Bool
-is_same_key None b = false
-is_same_key (Some a) None = false
-is_same_key (Some a) (Some b) = bytes_eq a b
 
 -- the key of a record's id
 abbrev pub key_of : Record → Option (List ℕ)
@@ -36,7 +19,7 @@ key_of r = (reading_of r.fields).id
 
 -- one of the records has an id of this key
 abbrev pub is_used : List Record → Option (List ℕ) → Bool
-is_used records key = list_any (λ r. is_same_key (key_of r) key) records
+is_used records key = list_any (λ r. is_same_text (key_of r) key) records
 
 -- the findings of a record, by those before it
 abbrev pub findings_behind : List Record → Record → List Found

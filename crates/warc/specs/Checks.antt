@@ -5,10 +5,10 @@ use Rattle.warc_frame.specs.Send.{WentOut, sent_of}
 use Rattle.warc_frame.specs.declared.fault.OutFault.{OutFault}
 use Rattle.warc.specs.Archive.{IsArchiveOf, contents}
 use Rattle.warc.specs.Checking.{check_text, findings_of_archive}
-use Rattle.warc.specs.Failing.{HasFailedBy, MayHaveFailedBy, failed_by}
+use Rattle.warc_frame.specs.Failing.{HasFailedBy, MayHaveFailedBy, failed_by}
 use Rattle.warc.specs.Heads.{ReadsHeads}
 use Rattle.warc.specs.Row.{Row}
-use Rattle.warc.specs.Seen.{IfHeld, Seen, Tapped}
+use Rattle.warc_frame.specs.Seen.{IfHeld, Seen, Tapped}
 
 -- checking an archive of these rows. Where its source holds the archive's bytes, a line is written for each
 -- finding of the records that they spell, and counted, or a front of the lines is; and the source has failed

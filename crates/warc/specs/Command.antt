@@ -8,8 +8,12 @@ use Rattle.warc.specs.declared.words.Command.TheVariants as command
 abbrev pub view_of : Command → Text × List Text
 view_of (command.List archive) = (codes "list", archive.now ∷ [])
 view_of (command.Check archive) = (codes "check", archive.now ∷ [])
+view_of (command.Rewrite archive) = (codes "rewrite", archive.now ∷ [])
+view_of (command.Convert archive) = (codes "convert", archive.now ∷ [])
 
 -- the path of the file that it reads
 abbrev pub path_of : Command → Text
 path_of (command.List archive) = archive.now
 path_of (command.Check archive) = archive.now
+path_of (command.Rewrite archive) = archive.now
+path_of (command.Convert archive) = archive.now

@@ -7,6 +7,7 @@ use Rattle.clap.specs.Walk.{Row, Rule, Text, first_of}
 use Rattle.clap.specs.declared.error.kind.ErrorKind.{ErrorKind}
 use Rattle.clap.specs.declared.error.kind.ErrorKind.TheVariants.{DisplayHelp, DisplayVersion}
 use Rattle.warc.specs.declared.words.CommandFault.{CommandFault}
+use Rattle.warc.specs.declared.words.Entry.{Entry}
 use Rattle.warc.specs.declared.words.CommandFault.TheVariants.{Usage, Memory}
 
 -- a command's name, and the names of the words that it requires, in order
@@ -14,15 +15,25 @@ pub record Layout : Type 0 where
   pub name : Text
   pub words : List Text
 
-abbrev pub list_layout : Layout
-list_layout = record { name = codes "list"; words = codes "archive" ∷ [] }
+-- a command that requires these words
+abbrev pub layout : Text → List Text → Layout
+layout name words = record { name = name; words = words }
 
-abbrev pub check_layout : Layout
-check_layout = record { name = codes "check"; words = codes "archive" ∷ [] }
+abbrev pub list_layout : Layout
+list_layout = layout (codes "list") (codes "archive" ∷ [])
 
 -- the commands, in the order in which help lists them
 abbrev pub layouts : List Layout
-layouts = list_layout ∷ check_layout ∷ []
+layouts =
+    list_layout
+    ∷ layout (codes "check") (codes "archive" ∷ [])
+    ∷ layout (codes "rewrite") (codes "archive" ∷ [])
+    ∷ layout (codes "convert") (codes "archive" ∷ [])
+    ∷ []
+
+-- what the program's table says of a command
+abbrev pub layout_seen : Entry → Layout
+layout_seen e = layout e.name.now (map (λ w. w.name.now) e.words.now)
 
 abbrev pub required_word : Text → Rule
 required_word name = record (new_rule name) { required = true }

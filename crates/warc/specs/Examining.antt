@@ -8,16 +8,18 @@ use Rattle.std.specs.Ordering.{nat_cmp}
 use Rattle.warc_frame.specs.Count.{raised}
 use Rattle.warc_frame.specs.Reading.{any_fields, head_of}
 use Rattle.warc_frame.specs.Record.{Record, max_head}
+use Rattle.warc_frame.specs.declared.reading.Head.{Head}
 use Rattle.warc_frame.specs.declared.fault.FaultKind.{FaultKind}
 use Rattle.warc_frame.specs.declared.fault.FaultKind.TheVariants.{Memory as NoMemory}
 use Rattle.warc_frame.specs.declared.fault.OutFault.{OutFault}
 use Rattle.warc_frame.specs.declared.fault.OutFault.TheVariants.{Read as ReadFailed, Memory as OutOfMemory}
+use Rattle.warc_record.specs.Blocks.{has_bad_digest}
 use Rattle.warc_record.specs.Heads.{head_fault}
 use Rattle.warc_record.specs.Findings.{Found, findings_of}
 use Rattle.warc_record.specs.declared.checks.ArchiveFacts.{ArchiveFacts}
 use Rattle.warc_field.specs.Area.{Pair}
 use Rattle.warc.specs.Row.{Placed, Row, row_of}
-use Rattle.warc.specs.Checking.{Line, about_record, findings_at, findings_of_records, has_bad_digest, is_used, key_of, line_text}
+use Rattle.warc.specs.Checking.{Line, about_record, findings_at, findings_of_records, is_used, key_of, line_text}
 use Rattle.warc.specs.declared.heads.Halt.{Halt}
 use Rattle.warc.specs.declared.heads.Halt.TheVariants.{Read, Memory}
 
@@ -35,6 +37,11 @@ pub record HasHead (bytes : List ℕ) (p : Placed) : Type 0 where
         block_len = length p.content.block;
       })
   pub good : head_fault p.content.fields ≡ None
+
+-- a head that was read is this record's
+pub record IsHeadOf {A : Type 0} (r : Record) (h : Head A) : Type 0 where
+  pub version : h.version ≡ r.version
+  pub fields : h.fields ≡ r.fields
 
 -- a set holds the keys of the ids of these records, and no others
 abbrev pub HasMet : List Record → BTreeSet (List ℕ) → Type 0

@@ -2,7 +2,7 @@
 use Rattle.std.specs.Prelude.{◌≡◌, ℕ, ◌+◌, ◌-◌, ◌<◌, ◌≤◌, List, Some}
 use Rattle.std.specs.List.{slice_get, sum_by}
 use Rattle.warc.specs.Row.{Row}
-use Rattle.warc.specs.Seen.{AsksOnly, Tapped}
+use Rattle.warc_frame.specs.Seen.{AsksOnly, Tapped}
 
 -- the offset of a byte of the head of one of these rows' records
 pub record IsInHead (rows : List Row) (at : ℕ) : Type 0 where

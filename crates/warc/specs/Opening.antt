@@ -1,4 +1,4 @@
--- What opening a source reads of it, and when it gives rows or refuses.
+-- What opening a source reads of it, and when it is refused.
 use Rattle.std.specs.Prelude.{◌≡◌, ℕ, ◌+◌, ◌≤◌, ◌<◌, ◌⊎◌, List, length, take, drop, Result, IfOk, IfErr, MatchResult}
 use Rattle.warc_frame.specs.Count.{raised}
 use Rattle.warc_frame.specs.Record.{max_archive}
@@ -6,9 +6,8 @@ use Rattle.warc_frame.specs.Told.{IsCut}
 use Rattle.warc_frame.specs.declared.fault.Fault.{Fault}
 use Rattle.warc_frame.specs.declared.fault.FaultKind.{FaultKind}
 use Rattle.warc_frame.specs.declared.fault.FaultKind.TheVariants.{Read, Memory, Truncated}
-use Rattle.warc.specs.Archive.{IsArchiveOf, IsFaultOf, IsRecordEnd}
-use Rattle.warc.specs.Row.{Row}
-use Rattle.warc.specs.Seen.{AsksOnly, IfHeld, Tapped}
+use Rattle.warc.specs.Archive.{IsFaultOf, IsRecordEnd}
+use Rattle.warc_frame.specs.Seen.{AsksOnly, IfHeld, Tapped}
 
 -- a text has no fault but that it ends too early, if that
 abbrev pub IsOnlyCut : List ℕ → Type 0
@@ -45,15 +44,15 @@ abbrev pub faults_after : FaultKind → ℕ → ℕ
 faults_after Read n = raised n
 faults_after kind n = n
 
--- opening a source: it gives rows or a refusal, by the bytes that the source holds, where they are known. The
+-- opening a source: it gives what is right for the bytes, or a refusal, by the bytes that the source holds, where they are known. The
 -- source still holds them, and has failed once more exactly where the refusal is a read fault, at the offset
 -- asked last. No offset above 2^48 is asked for, at most 2^48 reads and one are made, and at most one for each
 -- byte and one
-pub record Opens (old new : Tapped) (answer : Result (List Row) Fault) : Type 0 where
-  pub accepted : IfHeld old.holds (λ bytes. IfOk answer (IsArchiveOf bytes))
+pub record Opens {X : Type 0} (Is : List ℕ → X → Type 0) (old new : Tapped) (answer : Result X Fault) : Type 0 where
+  pub accepted : IfHeld old.holds (λ bytes. IfOk answer (Is bytes))
   pub refused : IfHeld old.holds (λ bytes. IfErr answer (IsRefusalOf bytes old new))
   pub kept : new.holds ≡ old.holds
-  pub cause : MatchResult answer (λ rows. new.faults ≡ old.faults) (λ f. new.faults ≡ faults_after f.kind old.faults)
+  pub cause : MatchResult answer (λ x. new.faults ≡ old.faults) (λ f. new.faults ≡ faults_after f.kind old.faults)
   pub asked : IfErr answer (λ f. f.kind ≡ Read → f.offset ≡ new.asked)
   pub near : AsksOnly (λ at. at ≤ max_archive) old new
   pub bound : new.reads ≤ old.reads + max_archive + 1

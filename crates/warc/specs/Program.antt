@@ -11,6 +11,9 @@ use Rattle.warc_frame.specs.declared.fault.FaultKind.{FaultKind}
 use Rattle.warc_frame.specs.declared.fault.FaultKind.TheVariants.{Read, Memory}
 use Rattle.warc_frame.specs.declared.fault.OutFault.{OutFault}
 use Rattle.warc_frame.specs.declared.fault.OutFault.TheVariants.{Write, Memory as NoMemory}
+use Rattle.warc.specs.Forms.{texts_as}
+use Rattle.warc.specs.declared.copying.Form.{Form}
+use Rattle.warc.specs.declared.copying.Form.TheVariants.{Canonical, Converted}
 use Rattle.warc.specs.declared.words.Command.{Command}
 use Rattle.warc.specs.declared.words.Command.TheVariants as command
 use Rattle.warc.specs.declared.words.CommandFault.{CommandFault}
@@ -18,10 +21,11 @@ use Rattle.warc.specs.declared.words.CommandFault.TheVariants.{Usage, Memory as 
 use Rattle.warc.specs.Opening.{IsRefusalOf, faults_after}
 use Rattle.warc.specs.Archive.{AreGood, IsArchiveOf}
 use Rattle.warc.specs.Checking.{Line, check_text, findings_of_archive}
-use Rattle.warc.specs.Failing.{HasFailedBy, MayHaveFailedBy, failed_with}
+use Rattle.warc_frame.specs.Failing.{HasFailedBy, MayHaveFailedBy, failed_with}
 use Rattle.warc.specs.Listing.{listing}
 use Rattle.warc.specs.Row.{Row}
-use Rattle.warc.specs.Seen.{Devices, IfHeld, Seen}
+use Rattle.warc.specs.Devices.{Devices}
+use Rattle.warc_frame.specs.Seen.{IfHeld, Seen}
 
 -- a text as a line by which the program tells it
 abbrev pub told_line : List ℕ → List ℕ
@@ -103,17 +107,19 @@ pub record IsChecked (old new : Devices) (status : ℕ) : Type 0 where
   pub silent : new.err ≡ old.err
   pub status_in : (status ≡ 0) ⊎ (status ≡ 1)
 
--- a front of the lines went out, and the source has failed once more exactly where a read is told
-pub record IsCheckFrontOf (bytes : List ℕ) (fault : OutFault) (old new : Devices) : Type 0 where
+-- a front of the text of the good records that the bytes spell went out, and the source has failed once more exactly
+-- where a read is told
+pub record IsFrontOf (text : List Record → List ℕ) (bytes : List ℕ) (fault : OutFault) (old new : Devices)
+    : Type 0 where
   pub records : List Record
   pub are : AreGoodRecordsOf bytes records
-  pub front : WentOut old.out.tells (check_text records) new.out.tells (sent_of fault)
+  pub front : WentOut old.out.tells (text records) new.out.tells (sent_of fault)
   pub source : HasFailedBy {X = ℕ} (Err fault) old.source.faults new.source.faults
 
--- a read, a write or a growth of the memory failed while the bytes were checked
-pub record IsCheckCutOff (old new : Devices) (status : ℕ) : Type 0 where
+-- a read, a write or a growth of the memory failed while a text of the records was written
+pub record IsCutOff (text : List Record → List ℕ) (old new : Devices) (status : ℕ) : Type 0 where
   pub fault : OutFault
-  pub is : IfHeld old.source.holds (λ bytes. IsCheckFrontOf bytes fault old new)
+  pub is : IfHeld old.source.holds (λ bytes. IsFrontOf text bytes fault old new)
   pub source : MayHaveFailedBy {X = ℕ} (Err fault) old.source.faults new.source.faults
   pub failed : new.out.faults ≡ failed_with fault old.out.faults
   pub told : Tells (told_line (out_fault_text fault)) old.err new.err
@@ -121,17 +127,40 @@ pub record IsCheckCutOff (old new : Devices) (status : ℕ) : Type 0 where
 
 -- how `check` ends
 abbrev pub CheckEnds : Devices → Devices → ℕ → Type 0
-CheckEnds old new status = IsChecked old new status ⊎ (IsNotOpened old new status ⊎ IsCheckCutOff old new status)
+CheckEnds old new status =
+    IsChecked old new status ⊎ (IsNotOpened old new status ⊎ IsCutOff check_text old new status)
+
+-- the good records that the bytes spell were written in a form
+pub record IsWrittenOf (form : Form) (bytes : List ℕ) (old new : Seen) : Type 0 where
+  pub records : List Record
+  pub are : AreGoodRecordsOf bytes records
+  pub told : new.tells ≡ append_known old.tells (texts_as form records)
+
+-- all records were written
+pub record IsWritten (form : Form) (old new : Devices) (status : ℕ) : Type 0 where
+  pub is : IfHeld old.source.holds (λ bytes. IsWrittenOf form bytes old.out new.out)
+  pub sound : new.source.faults ≡ old.source.faults
+  pub silent : new.err ≡ old.err
+  pub status_is : status ≡ 0
+
+-- how writing an archive anew in a form ends
+abbrev pub WriteEnds : Form → Devices → Devices → ℕ → Type 0
+WriteEnds form old new status =
+    IsWritten form old new status ⊎ (IsNotOpened old new status ⊎ IsCutOff (texts_as form) old new status)
 
 -- how a command ends
 abbrev pub Ends : Command → Devices → Devices → ℕ → Type 0
 Ends (command.List archive) old new status = ListEnds old new status
 Ends (command.Check archive) old new status = CheckEnds old new status
+Ends (command.Rewrite archive) old new status = WriteEnds Canonical old new status
+Ends (command.Convert archive) old new status = WriteEnds Converted old new status
 
 -- the exit statuses of a command
 abbrev pub IsStatusOf : Command → ℕ → Type 0
 IsStatusOf (command.List archive) status = (status ≡ 0) ⊎ ((status ≡ 2) ⊎ (status ≡ 3))
 IsStatusOf (command.Check archive) status = (status ≡ 0) ⊎ ((status ≡ 1) ⊎ ((status ≡ 2) ⊎ (status ≡ 3)))
+IsStatusOf (command.Rewrite archive) status = (status ≡ 0) ⊎ ((status ≡ 2) ⊎ (status ≡ 3))
+IsStatusOf (command.Convert archive) status = (status ≡ 0) ⊎ ((status ≡ 2) ⊎ (status ≡ 3))
 
 -- a text that was asked for went out, or a write failed and a front of it did
 abbrev pub IsShown : List ℕ → Seen → Seen → Seen → Seen → ℕ → Type 0

@@ -14,11 +14,11 @@ use Rattle.warc_frame.specs.declared.fault.Fault.{Fault}
 use Rattle.warc_frame.specs.declared.fault.FaultKind.{FaultKind}
 use Rattle.warc_frame.specs.declared.fault.FaultKind.TheVariants.{Memory, Read, Truncated}
 use Rattle.warc_record.specs.Heads.{head_fault}
-use Rattle.warc_record.specs.Readings.{reading_of}
-use Rattle.warc_record.specs.Seen.{said}
-use Rattle.warc.specs.Archive.{SpellsFrom, contents, IsFaultOf, IsRecordEnd}
+use Rattle.warc_record.specs.Readings.{digest_wanted, reading_of}
+use Rattle.warc_segment.specs.declared.place.Place.{Place}
+use Rattle.warc.specs.Archive.{IsArchiveOf, SpellsFrom, contents, IsFaultOf, IsRecordEnd}
 use Rattle.warc.specs.Row.{Placed, Row, row_of}
-use Rattle.warc.specs.Seen.{AsksOnly, IfHeld, Tapped}
+use Rattle.warc_frame.specs.Seen.{AsksOnly, IfHeld, Tapped}
 use Rattle.warc.specs.declared.reading.BlockDigest.{BlockDigest}
 use Rattle.warc.specs.declared.reading.Current.{Current}
 use Rattle.warc.specs.declared.reading.Reading.{Reading}
@@ -34,8 +34,8 @@ HasSeen digest bytes = IfChecked digest.wanted (HasTaken digest.running bytes)
 -- what is kept of a good head
 pub record IsHead {A : Type 0} (fields : List Pair) (c : Current A) : Type 0 where
   pub good : head_fault fields ≡ None
-  pub typed : said c.typed ≡ reading_of fields
-  pub wanted : c.digest.wanted ≡ c.typed.wanted
+  pub fields_are : c.fields ≡ fields
+  pub wanted : c.digest.wanted ≡ digest_wanted fields
 
 -- the record that is being read begins at this offset, and of it these bytes were taken and this was told
 pub record IsCurrent {A : Type 0} (begin : ℕ) (rest : List ℕ) (u : Unclosed) (c : Current A) : Type 0 where
@@ -54,8 +54,10 @@ Matches begin rest None (Some c) = ⊥
 Matches begin rest (Some u) None = ⊥
 Matches begin rest (Some u) (Some c) = IsCurrent begin rest u c
 
--- of a text of which this was told: a row of each record that ended, where the next one begins, and what is kept of it
-pub record HasRead {A : Type 0} (text : List ℕ) (told : Told) (r : Reading A) : Type 0 where
+-- of a text of which this was told: a row of each record that ended and what is kept beside the rows, where the next
+-- record begins, and what is kept of it
+pub record HasRead {A L : Type 0} (Keeps : L → List Placed → Type 0) (text : List ℕ) (told : Told) (r : Reading A L)
+    : Type 0 where
   pub records : List Placed
   pub front : List ℕ
   pub rest : List ℕ
@@ -64,14 +66,16 @@ pub record HasRead {A : Type 0} (text : List ℕ) (told : Told) (r : Reading A) 
   pub told_is : told.records ≡ contents records
   pub good : AllAccepted head_fault told.records
   pub rows_are : r.rows ≡ map row_of records
+  pub beside : Keeps r.beside records
   pub begin_is : r.begin ≡ length front
   pub current : Matches (length front) rest told.unclosed r.current
 
 -- the decoder took this text, and what it told was kept
-pub record Stands {A : Type 0} (text : List ℕ) (d : State) (r : Reading A) : Type 0 where
+pub record Stands {A L : Type 0} (Keeps : L → List Placed → Type 0) (text : List ℕ) (d : State) (r : Reading A L)
+    : Type 0 where
   pub told : Told
   pub is_at : IsAt 0 text told d
-  pub has : HasRead text told r
+  pub has : HasRead Keeps text told r
 
 -- the row of the record that is being read, once these are all bytes of its block
 abbrev pub row_by : {A : Type 0} → ℕ → Current A → List ℕ → Row
@@ -80,12 +84,26 @@ row_by begin c bytes = record {
   block_start = c.block_start;
   block_len = c.block_len;
   verdict = verdict_of c.digest.wanted bytes;
-  is_truncated = c.typed.truncated;
-  kind = c.typed.type_text;
-  date = c.typed.date_text;
-  id = c.typed.id_text;
-  target = unwrap_or c.typed.target [];
+  is_truncated = (reading_of c.fields).truncated;
+  kind = unwrap_or (reading_of c.fields).type_text [];
+  date = unwrap_or (reading_of c.fields).date_text [];
+  id = unwrap_or (reading_of c.fields).id_text [];
+  target = unwrap_or (reading_of c.fields).target [];
 }
+
+-- where its block stands, and what was found of it
+abbrev pub place_by : {A : Type 0} → Current A → List ℕ → Place
+place_by c bytes = record {
+  start = c.block_start;
+  len = c.block_len;
+  verdict = verdict_of c.digest.wanted bytes;
+  truncated = (reading_of c.fields).truncated;
+}
+
+-- these are the rows of the records that bytes spell, and beside the rows is kept what is wanted of them
+pub record IsKeptOf {L : Type 0} (Keeps : L → List Placed → Type 0) (bytes : List ℕ) (kept : List Row × L) : Type 0 where
+  pub listed : IsArchiveOf bytes kept.0
+  pub beside : Keeps kept.1 listed.are.records
 
 -- why bytes are refused, whatever follows them: memory ran out at a record, or this is their first fault
 abbrev pub StaysBy : FaultKind → List ℕ → Fault → Type 0
@@ -106,15 +124,6 @@ BeginsSince text old new = (new ≡ old) ⊎ (length text ≤ new)
 abbrev pub WantsSince : List ℕ → List ℕ → ℕ → Fault → Type 0
 WantsSince text piece begin f = f.kind ≡ Memory → BeginsSince text begin f.offset × (f.offset < length (text ++ piece))
 
--- a read of a source at this offset, which failed or not
-pub record IsReadAt (at : ℕ) (failed : Bool) (old new : Tapped) : Type 0 where
-  pub kept : new.holds ≡ old.holds
-  pub cause : new.faults ≡ (if failed then raised old.faults else old.faults)
-  pub counted : new.reads ≡ raised old.reads
-  pub asked : new.asked ≡ at
-  pub watched : new.watches ≡ old.watches
-  pub strayed : new.strays ≡ (if old.watches at then raised old.strays else old.strays)
-
 -- this text was read of a source, from its front on, with at most one read for each byte
 pub record HasGiven (old new : Tapped) (text : List ℕ) : Type 0 where
   pub front : IfHeld old.holds (λ bytes. text ≡ take (length text) bytes)
@@ -123,9 +132,3 @@ pub record HasGiven (old new : Tapped) (text : List ℕ) : Type 0 where
   pub cost : new.reads ≤ old.reads + length text
   pub watched : new.watches ≡ old.watches
   pub near : AsksOnly (λ at. at ≤ max_archive) old new
-
--- so many bytes from this offset on were read, with at most one read for each
-pub record HasFilled (at filled : ℕ) (old new : Tapped) : Type 0 where
-  pub near : AsksOnly (λ q. (at ≤ q) × (q < at + filled)) old new
-  pub bound : new.reads ≤ old.reads + filled
-  pub watched : new.watches ≡ old.watches

@@ -9,40 +9,28 @@ ghost use Rattle.warc_record.specs.Readings.{reading_of};
 ghost use Rattle.warc_record.specs.Seen.{said};
 ghost use Rattle.warc.specs.Archive.{contents};
 ghost use Rattle.warc.specs.Row.{Placed, row_of};
-ghost use Rattle.warc.specs.Checking.{about_record, check_text, findings_of_archive, findings_of_records, is_bad, line_text, numbered_line};
+ghost use Rattle.warc.specs.Checking.{about_record, check_text, findings_of_archive, findings_of_records, line_text, numbered_line};
 ghost use Rattle.warc.specs.Examining.{HasFailed, HasHead, HasMet, AreCheckable, IsExamined, MayHaveFailed, found_by, record_text, records_text};
 ghost use Rattle.warc.specs.Heads.{ReadsHeads};
-ghost use Rattle.warc.specs.Putting.{Puts};
-ghost use Rattle.warc.specs.Seen.{seen, tapped};
-ghost use Rattle.warc.specs.Failing.{HasFailedBy, MayHaveFailedBy, failed_by, is_read};
+ghost use Rattle.warc_frame.specs.Putting.{Puts};
+ghost use Rattle.warc_frame.specs.Seen.{seen, tapped};
+ghost use Rattle.warc_frame.specs.Failing.{HasFailedBy, MayHaveFailedBy, failed_by, is_read};
 
-use crate::heads::{Halt, Reread, read_again};
-use crate::row::put_all;
+use crate::heads::{Halt, Reread, head_buffer, read_again};
 use crate::rows::{Row, Rows};
 use crate::used::Met;
 use itoa::Buffer;
-use std::alloc::{AllocError, Allocator};
+use std::alloc::Allocator;
 use warc_frame::laws::{staged_went_out, went_out_of_longer};
-use warc_frame::{MAX_HEAD, OutBuffer, OutFault, SendFault, Sink, Source};
+use warc_frame::{OutBuffer, OutFault, SendFault, Sink, Source, put_all};
 use warc_record::laws::good_heads_read;
 use warc_record::{ArchiveFacts, Finding, all_findings};
-use warc_value::Verdict;
 
 /// A record, read again, and what the archive tells of it.
 #[derive(Drop)]
 struct Examined<A: Allocator> {
     reread: Reread<A>,
     facts: ArchiveFacts,
-}
-
-/// Whether a digest was checked and differs.
-fn is_bad(verdict: Verdict) -> bool
-    ensures { result ≡ is_bad verdict }
-{
-    match verdict {
-        Verdict::Bad => true,
-        Verdict::Good | Verdict::Unchecked => false,
-    }
 }
 
 /// Reads a record again, and adds its id to those that were met.
@@ -81,7 +69,7 @@ fn examine<S: Source, A: Allocator + Copy>(
     let Ok(used_id) = met.meet(alloc, row.id) else {
         return Err(Halt::Memory);
     };
-    let bad_digest = is_bad(row.verdict);
+    let bad_digest = row.verdict.is_bad();
     Ok(Examined {
         reread,
         facts: ArchiveFacts {
@@ -240,13 +228,6 @@ fn put_records<S: Source, A: Allocator + Copy, W: Sink>(
         count = count.saturating_add(number);
     }
     Ok(count)
-}
-
-/// A buffer that any head fits.
-fn head_buffer<A: Allocator>(alloc: A) -> Result<Vec<u8, A>, AllocError>
-    ensures { IfOk result (λ v. max_head ≤ length v.items) }
-{
-    vec![in alloc; 0u8; MAX_HEAD]
 }
 
 /// Adds the lines of all findings to the output, or that there is no record.

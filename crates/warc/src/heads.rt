@@ -8,14 +8,13 @@ ghost use Rattle.warc_record.specs.Readings.{reading_of};
 ghost use Rattle.warc_record.specs.Seen.{said};
 ghost use Rattle.warc.specs.Heads.{ReadsHeads};
 ghost use Rattle.warc.specs.Row.{Placed, row_of};
-ghost use Rattle.warc.specs.Seen.{tapped};
-ghost use Rattle.warc.specs.Stream.{HasFilled};
-ghost use Rattle.warc.specs.Examining.{HasFailed, HasHead, MayHaveFailed, halt_of, halted};
+ghost use Rattle.warc_frame.specs.Seen.{tapped};
+ghost use Rattle.warc.specs.Examining.{HasFailed, HasHead, IsHeadOf, MayHaveFailed, halt_of, halted};
 
 use crate::rows::Row;
-use std::alloc::Allocator;
+use std::alloc::{AllocError, Allocator};
 use warc_field::Fields;
-use warc_frame::{FaultKind, OutFault, ReadFault, Source, read_head};
+use warc_frame::{FaultKind, Head, MAX_HEAD, OutFault, Source, read_head, read_range};
 use warc_record::{Typed, type_head};
 
 /// Why a head isn't read again.
@@ -39,38 +38,6 @@ impl Halt {
     }
 }
 
-/// Fills the buffer with the bytes at an offset. It fails where a read does, and where the source
-/// ends too early.
-fn read_range<S: Source>(source: &mut S, at: u64, buf: &mut [u8]) -> Result<(), ReadFault>
-    requires { at + length buf.old < 2 ^ 64 }
-    ensures bytes { (bytes : List ℕ) → S.holds source.old ≡ Some bytes →
-        OnOk result (buf.new ≡ take (length buf.old) (drop at bytes)) }
-    ensures kept { S.holds source.new ≡ S.holds source.old }
-    ensures sound { OnOk result (S.faults source.new ≡ S.faults source.old) }
-
-    // It asks for no byte outside, and reads at most once for each.
-    ensures filled { HasFilled at (length buf.old)
-        (tapped (S.holds source.old) (S.faults source.old) (S.reads source.old) (S.asked source.old)
-        (S.watches source.old) (S.strays source.old))
-        (tapped (S.holds source.new) (S.faults source.new) (S.reads source.new) (S.asked source.new)
-        (S.watches source.new) (S.strays source.new)) }
-
-    // An error is a failure of the source, unless it gives too little.
-    ensures may { OnErr result
-        ((S.faults source.new ≡ S.faults source.old) ⊎ (S.faults source.new ≡ raised (S.faults source.old))) }
-    ensures failed { (bytes : List ℕ) → S.holds source.old ≡ Some bytes → at + length buf.old ≤ length bytes →
-        OnErr result (S.faults source.new ≡ raised (S.faults source.old)) }
-{
-    let mut filled = 0;
-    'filling: while filled < buf.len() {
-        match source.read_at(at + filled as u64, &mut buf[filled..]) {
-            Ok(n) if n > 0 => filled += n,
-            _ => return Err(ReadFault),
-        }
-    }
-    Ok(())
-}
-
 /// A record's fields, read again, and what they say.
 #[derive(Drop)]
 pub(crate) struct Reread<A: Allocator> {
@@ -88,12 +55,11 @@ fn halt_of(kind: FaultKind) -> Halt
     }
 }
 
-/// What a text says that is the whole head of a good record with a block of this length.
-fn read_text<A: Allocator + Copy>(alloc: A, text: &[u8], block_len: u64) -> Result<Reread<A>, Halt>
-    ensures said { IfOk result (λ x. said x.typed ≡ reading_of x.fields) }
-    ensures read { (r : Record) → head_fault r.fields ≡ None → head_of any_fields text.now
+/// The head that a text is, where it is a whole one with a block of this length.
+fn head_in<A: Allocator + Copy>(alloc: A, text: &[u8], block_len: u64) -> Result<Head<A>, Halt>
+    ensures { (r : Record) → head_of any_fields text.now
         ≡ Ok (record { version = r.version; fields = r.fields; len = length text.now; block_len = block_len })
-        → MatchResult result (λ x. x.fields ≡ r.fields) (λ halt. halt ≡ Halt.Memory) }
+        → MatchResult result (IsHeadOf r) (λ halt. halt ≡ Halt.Memory) }
 {
     let head = match read_head(alloc, text) {
         Ok(head) => head,
@@ -102,6 +68,15 @@ fn read_text<A: Allocator + Copy>(alloc: A, text: &[u8], block_len: u64) -> Resu
     if head.len != text.len() || head.block_len != block_len {
         return Err(Halt::Read);
     }
+    Ok(head)
+}
+
+/// What a head says that is good.
+fn typed<A: Allocator + Copy>(alloc: A, head: Head<A>) -> Result<Reread<A>, Halt>
+    ensures said { IfOk result (λ x. said x.typed ≡ reading_of x.fields) }
+    ensures read { head_fault head.fields ≡ None →
+        MatchResult result (λ x. x.fields ≡ head.fields) (λ halt. halt ≡ Halt.Memory) }
+{
     match type_head(alloc, &head.fields) {
         Ok(typed) => Ok(Reread {
             fields: head.fields,
@@ -122,7 +97,50 @@ fn head_len(row: &Row<'_>, most: usize) -> Option<usize>
     Some((row.block_start - row.offset) as usize)
 }
 
+/// A buffer that any head fits.
+pub(crate) fn head_buffer<A: Allocator>(alloc: A) -> Result<Vec<u8, A>, AllocError>
+    ensures { IfOk result (λ v. max_head ≤ length v.items) }
+{
+    vec![in alloc; 0u8; MAX_HEAD]
+}
+
 /// Reads a record's head again, through a buffer that any head fits.
+pub(crate) fn reread_head<S: Source, A: Allocator + Copy>(
+    alloc: A,
+    source: &mut S,
+    row: &Row<'_>,
+    buf: &mut [u8],
+) -> Result<Head<A>, Halt>
+    requires { max_head ≤ length buf.old }
+    ensures read { (bytes : List ℕ) (p : Placed) →
+        S.holds source.old ≡ Some bytes → HasHead bytes p → row.now ≡ row_of p →
+        IfOk result (IsHeadOf p.content) }
+    ensures order { OnOk result (row.now.offset ≤ row.now.block_start) }
+    ensures kept { S.holds source.new ≡ S.holds source.old }
+    ensures sound { OnOk result (S.faults source.new ≡ S.faults source.old) }
+    ensures heads { ReadsHeads (row.now ∷ [])
+        (tapped (S.holds source.old) (S.faults source.old) (S.reads source.old) (S.asked source.old)
+        (S.watches source.old) (S.strays source.old))
+        (tapped (S.holds source.new) (S.faults source.new) (S.reads source.new) (S.asked source.new)
+        (S.watches source.new) (S.strays source.new)) }
+    ensures may { IfErr result (λ halt. MayHaveFailed halt (S.faults source.old) (S.faults source.new)) }
+
+    // Over bytes that hold the head it stops for a failed read or for want of memory alone.
+    ensures failed { (bytes : List ℕ) (p : Placed) →
+        S.holds source.old ≡ Some bytes → HasHead bytes p → row.now ≡ row_of p →
+        IfErr result (λ halt. HasFailed halt (S.faults source.old) (S.faults source.new)) }
+{
+    let Some(len) = head_len(row, buf.len()) else {
+        return Err(Halt::Read);
+    };
+    let text = &mut buf[..len];
+    if read_range(source, row.offset, text).is_err() {
+        return Err(Halt::Read);
+    }
+    head_in(alloc, text, row.block_len)
+}
+
+/// Reads a record's head again, through a buffer that any head fits, and what it says.
 pub(crate) fn read_again<S: Source, A: Allocator + Copy>(
     alloc: A,
     source: &mut S,
@@ -148,12 +166,9 @@ pub(crate) fn read_again<S: Source, A: Allocator + Copy>(
         S.holds source.old ≡ Some bytes → HasHead bytes p → row.now ≡ row_of p →
         IfErr result (λ halt. HasFailed halt (S.faults source.old) (S.faults source.new)) }
 {
-    let Some(len) = head_len(row, buf.len()) else {
-        return Err(Halt::Read);
+    let head = match reread_head(alloc, source, row, buf) {
+        Ok(head) => head,
+        Err(halt) => return Err(halt),
     };
-    let text = &mut buf[..len];
-    if read_range(source, row.offset, text).is_err() {
-        return Err(Halt::Read);
-    }
-    read_text(alloc, text, row.block_len)
+    typed(alloc, head)
 }

@@ -2,10 +2,12 @@
 ghost use Rattle.std.specs.Prelude.{◌≡◌, ◌≤◌, ◌⊎◌, ◌++◌, decimal, length, min};
 ghost use Rattle.warc_frame.specs.FaultText.{out_fault_text};
 ghost use Rattle.warc_frame.specs.Send.{sent_of};
-ghost use Rattle.warc.specs.Program.{CheckEnds, Ends, FaultEnds, IsShown, IsStatusOf, ListEnds, Tells, fault_line, status_of_kind, told_line};
-ghost use Rattle.warc.specs.Seen.{devices, seen, tapped};
+ghost use Rattle.warc.specs.Program.{CheckEnds, Ends, FaultEnds, IsShown, IsStatusOf, ListEnds, Tells, WriteEnds, fault_line, status_of_kind, told_line};
+ghost use Rattle.warc.specs.Devices.{devices};
+ghost use Rattle.warc_frame.specs.Seen.{seen, tapped};
 
-use crate::reader::Archive;
+use crate::copying::Form;
+use crate::reader::Listing;
 use crate::words::{Command, CommandFault};
 use arrayvec::ArrayString;
 use itoa::Buffer;
@@ -60,6 +62,8 @@ where
     match command {
         Command::List { archive: _ } => list(alloc, source, out, err),
         Command::Check { archive: _ } => check(alloc, source, out, err),
+        Command::Rewrite { archive: _ } => write_anew(alloc, Form::Canonical, source, out, err),
+        Command::Convert { archive: _ } => write_anew(alloc, Form::Converted, source, out, err),
     }
 }
 
@@ -82,13 +86,13 @@ where
     ensures refused { result.0 ≡ 2 → (W.tells out.new ≡ W.tells out.old) × (W.faults out.new ≡ W.faults out.old) }
     ensures answers { (result.0 ≡ 0) ⊎ ((result.0 ≡ 2) ⊎ (result.0 ≡ 3)) }
 {
-    let archive = match Archive::open(alloc, source) {
-        Ok(archive) => archive,
+    let listing = match Listing::open(alloc, source) {
+        Ok(listing) => listing,
         Err((fault, source)) => return (tell_refusal(fault, err), source),
     };
-    match archive.list(out) {
-        Ok(()) => (DONE, archive.into_source()),
-        Err(fault) => (tell_cut(fault, err), archive.into_source()),
+    match listing.list(out) {
+        Ok(()) => (DONE, listing.into_source()),
+        Err(fault) => (tell_cut(fault, err), listing.into_source()),
     }
 }
 
@@ -111,12 +115,42 @@ where
     ensures refused { result.0 ≡ 2 → (W.tells out.new ≡ W.tells out.old) × (W.faults out.new ≡ W.faults out.old) }
     ensures answers { (result.0 ≡ 0) ⊎ ((result.0 ≡ 1) ⊎ ((result.0 ≡ 2) ⊎ (result.0 ≡ 3))) }
 {
-    let mut archive = match Archive::open(alloc, source) {
+    let mut listing = match Listing::open(alloc, source) {
+        Ok(listing) => listing,
+        Err((fault, source)) => return (tell_refusal(fault, err), source),
+    };
+    match listing.check(out) {
+        Ok(count) => (status_of_count(count), listing.into_source()),
+        Err(fault) => (tell_cut(fault, err), listing.into_source()),
+    }
+}
+
+/// Writes an archive anew in a form.
+fn write_anew<A, S, W, E>(alloc: A, form: Form, source: S, out: &mut W, err: &mut E) -> (u8, S)
+where
+    A: Allocator + Copy,
+    S: Source + Drop,
+    W: Sink,
+    E: Sink,
+    ensures ends { WriteEnds form
+        (devices (tapped (S.holds source) (S.faults source) (S.reads source) (S.asked source) (S.watches source)
+        (S.strays source)) (seen (W.tells out.old) (W.faults out.old)) (seen (E.tells err.old) (E.faults err.old)))
+        (devices (tapped (S.holds result.1) (S.faults result.1) (S.reads result.1) (S.asked result.1)
+        (S.watches result.1) (S.strays result.1))
+        (seen (W.tells out.new) (W.faults out.new)) (seen (E.tells err.new) (E.faults err.new)))
+        result.0 }
+
+    // The source still holds what it held.
+    ensures kept { S.holds result.1 ≡ S.holds source }
+    ensures refused { result.0 ≡ 2 → (W.tells out.new ≡ W.tells out.old) × (W.faults out.new ≡ W.faults out.old) }
+    ensures answers { (result.0 ≡ 0) ⊎ ((result.0 ≡ 2) ⊎ (result.0 ≡ 3)) }
+{
+    let mut archive = match Listing::open(alloc, source) {
         Ok(archive) => archive,
         Err((fault, source)) => return (tell_refusal(fault, err), source),
     };
-    match archive.check(out) {
-        Ok(count) => (status_of_count(count), archive.into_source()),
+    match archive.write_as(form, out) {
+        Ok(()) => (DONE, archive.into_source()),
         Err(fault) => (tell_cut(fault, err), archive.into_source()),
     }
 }

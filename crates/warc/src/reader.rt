@@ -1,31 +1,43 @@
-//! An archive over the source that holds its bytes.
-ghost use Rattle.std.specs.Prelude.{◌≡◌, length, IfErr, OnOk, is_err, if◌then◌else◌};
+//! A listing: the rows of an archive over the source that holds its bytes.
+ghost use Rattle.std.specs.Prelude.{◌≡◌, length, IfErr, OnOk, is_err, slice_get, if◌then◌else◌};
 ghost use Rattle.std.specs.Io.KnownBytes.{append_known};
 ghost use Rattle.warc_frame.specs.Count.{raised};
 ghost use Rattle.warc_frame.specs.Send.{WentOut, sent_of};
-ghost use Rattle.warc.specs.Archive.{rows_of, source_of};
+ghost use Rattle.warc.specs.Archive.{IsArchiveOf, rows_of, source_of};
 ghost use Rattle.warc.specs.Checks.{Checks};
+ghost use Rattle.warc.specs.Forms.{Writes};
+ghost use Rattle.warc.specs.Extracting.{ExtractsAt};
 ghost use Rattle.warc.specs.Listing.{listing};
 ghost use Rattle.warc.specs.Opening.{Opens};
-ghost use Rattle.warc.specs.Seen.{seen, tapped};
+ghost use Rattle.warc.specs.Replaying.{Replays};
+ghost use Rattle.warc.specs.Taking.{Takes};
+ghost use Rattle.warc_frame.specs.Seen.{seen, tapped};
 
+use crate::beside::{Lookup, Nothing};
+use crate::blocks::send_range;
 use crate::check::check_rows;
-use crate::reading::read_rows;
+use crate::copying::{Form, write_rows};
+use crate::fault::{ExtractFault, TakeFault};
+use crate::reading::read_records;
+use crate::replay::replay_rows;
 use crate::row::put_line;
-use crate::rows::Rows;
+use crate::rows::{Row, Rows};
+use crate::taking::take_record;
 use std::alloc::{Allocator, Global};
 use std::marker::Model;
+use warc_answer::{Answer, ReplayFault};
 use warc_frame::laws::head_of_spelled;
-use warc_frame::{Fault, OutBuffer, OutFault, Sink, Source};
+use warc_frame::{Fault, Framed, OutBuffer, OutFault, Sink, Source};
+use warc_value::Moment;
 
-/// An archive and the source of its bytes. Contracts see the source, and a row for each record.
+/// What is listed of an archive, and the source of its bytes. Contracts see the source, and a row for each record.
 #[derive(Drop)]
-pub struct Archive<S: Source, A: Allocator = Global> {
-    source: S,
-    rows: Rows<A>,
+pub struct Listing<S: Source, A: Allocator = Global> {
+    pub(crate) source: S,
+    pub(crate) rows: Rows<A>,
 }
 
-impl<S: Source, A: Allocator> Model for Archive<S, A> {
+impl<S: Source, A: Allocator> Model for Listing<S, A> {
     ghost use Rattle.warc.specs.Archive.{Contents};
 
     ghost Value = { Contents S };
@@ -33,12 +45,19 @@ impl<S: Source, A: Allocator> Model for Archive<S, A> {
     ghost view = { λ a. record { source = a.source; rows = a.rows } };
 }
 
-impl<S: Source, A: Allocator> Archive<S, A> {
+impl<S: Source, A: Allocator> Listing<S, A> {
     /// How many records there are.
     pub fn count(&self) -> usize
         ensures { result ≡ length self.now.rows }
     {
         self.rows.len()
+    }
+
+    /// What is kept of the record at a position, if there is one.
+    pub fn row(&self, position: usize) -> Option<Row<'_>>
+        ensures { result ≡ slice_get self.now.rows position }
+    {
+        self.rows.get(position)
     }
 
     /// Gives the source back.
@@ -69,12 +88,12 @@ impl<S: Source, A: Allocator> Archive<S, A> {
     }
 }
 
-impl<S: Source, A: Allocator + Copy> Archive<S, A> {
+impl<S: Source, A: Allocator + Copy> Listing<S, A> {
     /// Reads the source from its front to its end, or to offset 2^48, where no byte may stand, and keeps
     /// no block. A refusal hands the source back: `Read` where a read failed, at the offset that was asked
     /// for, `Memory` at the record for which it didn't suffice, and else the first fault of the bytes.
-    pub fn open(alloc: A, source: S) -> Result<Archive<S, A>, (Fault, S)>
-        ensures { Opens
+    pub fn open(alloc: A, source: S) -> Result<Listing<S, A>, (Fault, S)>
+        ensures { Opens IsArchiveOf
             (tapped (S.holds source) (S.faults source) (S.reads source) (S.asked source) (S.watches source)
             (S.strays source))
             (tapped (S.holds (source_of result)) (S.faults (source_of result)) (S.reads (source_of result))
@@ -82,10 +101,71 @@ impl<S: Source, A: Allocator + Copy> Archive<S, A> {
             (rows_of result) }
     {
         let mut source = source;
-        match read_rows(alloc, &mut source) {
-            Ok(rows) => Ok(Archive { source, rows }),
+        match read_records(alloc, &mut source, Nothing) {
+            Ok((rows, Nothing)) => Ok(Listing { source, rows }),
             Err(fault) => Err((fault, source)),
         }
+    }
+
+    /// The record at a position, read again: its version, its fields and its block, which take as much memory twice as
+    /// the record is long. A read that fails, or a source that no longer gives what it gave at opening, is `Read`.
+    pub fn record(&mut self, position: usize) -> Result<Framed<A>, TakeFault>
+        ensures takes { Takes self.old.rows position
+            (tapped (S.holds self.old.source) (S.faults self.old.source) (S.reads self.old.source)
+            (S.asked self.old.source) (S.watches self.old.source) (S.strays self.old.source))
+            (tapped (S.holds self.new.source) (S.faults self.new.source) (S.reads self.new.source)
+            (S.asked self.new.source) (S.watches self.new.source) (S.strays self.new.source)) result }
+
+        // The rows stay.
+        ensures rows { self.new.rows ≡ self.old.rows }
+    {
+        let alloc = self.rows.allocator();
+        let Some(row) = self.rows.get(position) else {
+            return Err(TakeFault::NoRecord);
+        };
+        take_record(alloc, &mut self.source, &row)
+    }
+
+    /// Writes the block of the record at a position, and answers its length.
+    pub(crate) fn extract_at<W: Sink>(
+        &mut self,
+        position: usize,
+        out: &mut W,
+    ) -> Result<u64, ExtractFault>
+        ensures extracts { ExtractsAt self.old.rows position
+            (tapped (S.holds self.old.source) (S.faults self.old.source) (S.reads self.old.source)
+            (S.asked self.old.source) (S.watches self.old.source) (S.strays self.old.source))
+            (tapped (S.holds self.new.source) (S.faults self.new.source) (S.reads self.new.source)
+            (S.asked self.new.source) (S.watches self.new.source) (S.strays self.new.source))
+            (seen (W.tells out.old) (W.faults out.old)) (seen (W.tells out.new) (W.faults out.new)) result }
+        ensures rows { self.new.rows ≡ self.old.rows }
+    {
+        let Some(row) = self.rows.get(position) else {
+            return Err(ExtractFault::NoRecord);
+        };
+        if let Err(fault) = send_range(&mut self.source, row.block_start, row.block_len, out) {
+            return Err(ExtractFault::Out(fault));
+        }
+        Ok(row.block_len)
+    }
+
+    /// Writes the payload that the records give for a URI as of a moment.
+    pub(crate) fn replay<W: Sink>(
+        &mut self,
+        lookup: &Lookup<A>,
+        uri: &[u8],
+        moment: &Moment,
+        out: &mut W,
+    ) -> Result<Answer, ReplayFault>
+        ensures replays { Replays self.old.rows lookup.now.index lookup.now.parts uri.now moment.now
+            (tapped (S.holds self.old.source) (S.faults self.old.source) (S.reads self.old.source)
+            (S.asked self.old.source) (S.watches self.old.source) (S.strays self.old.source))
+            (tapped (S.holds self.new.source) (S.faults self.new.source) (S.reads self.new.source)
+            (S.asked self.new.source) (S.watches self.new.source) (S.strays self.new.source))
+            (seen (W.tells out.old) (W.faults out.old)) (seen (W.tells out.new) (W.faults out.new)) result }
+        ensures rows { self.new.rows ≡ self.old.rows }
+    {
+        replay_rows(&mut self.source, &self.rows, lookup, uri, moment, out)
     }
 
     /// Writes a line for each finding, by the position of its record, then by its number, then by the
@@ -109,5 +189,27 @@ impl<S: Source, A: Allocator + Copy> Archive<S, A> {
         head_of_spelled();
         let alloc = self.rows.allocator();
         check_rows(alloc, &mut self.source, &self.rows, out)
+    }
+
+    /// Writes the records anew in a form, in their order, and keeps no block: each head is read again, and each block is
+    /// copied from the source.
+    ///
+    /// A read that fails, or a source that no longer gives what it gave at opening, is `Read`; a write that fails is
+    /// `Write`, and a refused growth of the memory `Memory`. Each tells how many bytes went out, which are the first of
+    /// the output.
+    pub fn write_as<W: Sink>(&mut self, form: Form, out: &mut W) -> Result<(), OutFault>
+        ensures writes { Writes form self.old.rows
+            (tapped (S.holds self.old.source) (S.faults self.old.source) (S.reads self.old.source)
+            (S.asked self.old.source) (S.watches self.old.source) (S.strays self.old.source))
+            (tapped (S.holds self.new.source) (S.faults self.new.source) (S.reads self.new.source)
+            (S.asked self.new.source) (S.watches self.new.source) (S.strays self.new.source))
+            (seen (W.tells out.old) (W.faults out.old)) (seen (W.tells out.new) (W.faults out.new)) result }
+
+        // The rows stay.
+        ensures rows { self.new.rows ≡ self.old.rows }
+    {
+        head_of_spelled();
+        let alloc = self.rows.allocator();
+        write_rows(alloc, &mut self.source, form, &self.rows, out)
     }
 }

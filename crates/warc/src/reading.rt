@@ -1,19 +1,22 @@
-//! Reads the good records of a source as a stream, and keeps a row of each.
-ghost use Rattle.std.specs.Prelude.{◌≡◌, ℕ, ◌<◌, ◌≤◌, List, [], ◌∷◌, ◌++◌, length, take, Some, None, unwrap_or, IfOk, IfErr, OnOk, MatchResult};
+//! Reads the good records of a source as a stream, and keeps a row of each, and what is wanted beside it.
+ghost use Rattle.std.specs.Prelude.{◌≡◌, ℕ, ◌<◌, ◌≤◌, List, [], ◌∷◌, ◌++◌, length, take, Some, None, IfOk, IfErr, OnOk, MatchResult};
 ghost use Rattle.warc_value.specs.Digests.{verdict_of};
 ghost use Rattle.warc_record.specs.Heads.{head_fault};
-ghost use Rattle.warc_record.specs.Seen.{RefusesFor};
-ghost use Rattle.warc.specs.Archive.{IsArchiveOf, IsFaultOf};
+ghost use Rattle.warc.specs.Archive.{IsFaultOf};
+ghost use Rattle.warc.specs.Indexed.{place_of};
 ghost use Rattle.warc.specs.Opening.{Opens};
-ghost use Rattle.warc.specs.Seen.{tapped};
-ghost use Rattle.warc.specs.Stream.{BeginsSince, HasSeen, WantsSince, IsHead, Stands, StaysRefused, row_by};
+ghost use Rattle.warc.specs.Row.{Placed};
+ghost use Rattle.warc_frame.specs.Seen.{tapped};
+ghost use Rattle.warc.specs.Stream.{BeginsSince, HasSeen, WantsSince, IsHead, IsKeptOf, Stands, StaysRefused, place_by, row_by};
 ghost use Rattle.warc.specs.declared.reading.Current.{Current as Kept};
 
+use crate::beside::Keep;
 use crate::rows::{Row, Rows};
 use std::alloc::{AllocError, Allocator};
 use warc_field::Fields;
 use warc_frame::{Decoder, Event, Fault, FaultKind, Source};
-use warc_record::{Typed, type_head};
+use warc_record::{head_texts, judge_head};
+use warc_segment::Place;
 use warc_value::{Running, Verdict, Wanted};
 
 /// How many bytes a read asks for.
@@ -60,40 +63,33 @@ impl BlockDigest {
 /// The record that is being read: what its head says, and where its block lies.
 #[derive(Drop)]
 struct Current<A: Allocator> {
-    typed: Typed<A>,
+    fields: Fields<A>,
     block_start: u64,
     block_len: u64,
     digest: BlockDigest,
 }
 
-/// The target that a head names, or nothing.
-fn target_of<A: Allocator>(typed: &Typed<A>) -> &[u8]
-    ensures { result.now ≡ unwrap_or typed.now.target [] }
-{
-    match &typed.target {
-        Some(target) => target.bytes(),
-        None => b"",
-    }
-}
-
-/// What was read so far: a row of each record that ended, the offset at which the next one begins, and that
-/// record, once its head is there.
+/// What was read so far: a row of each record that ended and what is kept beside it, the offset at which the next
+/// record begins, and that record, once its head is there.
 #[derive(Drop)]
-struct Reading<A: Allocator> {
+struct Reading<A: Allocator, L> {
     rows: Rows<A>,
+    beside: L,
     begin: u64,
     current: Option<Current<A>>,
 }
 
-impl<A: Allocator + Copy> Reading<A> {
+impl<A: Allocator + Copy, L: Keep<A> + Drop> Reading<A, L> {
     /// Nothing was read.
-    fn new(alloc: A) -> Reading<A>
+    fn new(alloc: A, beside: L) -> Reading<A, L>
         ensures rows { result.rows ≡ [] }
+        ensures beside { result.beside ≡ beside }
         ensures begin { result.begin ≡ 0 }
         ensures current { result.current ≡ None }
     {
         Reading {
             rows: Rows::new(alloc),
+            beside,
             begin: 0,
             current: None,
         }
@@ -102,22 +98,21 @@ impl<A: Allocator + Copy> Reading<A> {
     /// Reads a head, behind which a block of so many bytes begins at an offset.
     fn begin_block(
         &mut self,
-        alloc: A,
-        fields: &Fields<A>,
+        fields: Fields<A>,
         block_start: u64,
         block_len: u64,
     ) -> Result<(), FaultKind>
         ensures rows { self.new.rows ≡ self.old.rows }
+        ensures beside { self.new.beside ≡ self.old.beside }
         ensures begin { self.new.begin ≡ self.old.begin }
-        ensures current { OnOk result ((c : Kept A) × (self.new.current ≡ Some c) × IsHead fields.now c
+        ensures current { OnOk result ((c : Kept A) × (self.new.current ≡ Some c) × IsHead fields c
             × HasSeen c.digest []
             × (c.block_start ≡ block_start) × (c.block_len ≡ block_len)) }
-        ensures fault { RefusesFor result (head_fault fields.now) }
+        ensures fault { IfErr result (λ kind. head_fault fields ≡ Some kind) }
     {
-        let typed = type_head(alloc, fields)?;
-        let digest = BlockDigest::new(typed.wanted);
+        let digest = BlockDigest::new(judge_head(&fields)?);
         self.current = Some(Current {
-            typed,
+            fields,
             block_start,
             block_len,
             digest,
@@ -128,9 +123,10 @@ impl<A: Allocator + Copy> Reading<A> {
     /// Takes the next bytes of the block.
     fn take_part(&mut self, part: &[u8])
         ensures rows { self.new.rows ≡ self.old.rows }
+        ensures beside { self.new.beside ≡ self.old.beside }
         ensures begin { self.new.begin ≡ self.old.begin }
         ensures current { (c : Kept A) → self.old.current ≡ Some c → (d : Kept A) × (self.new.current ≡ Some d)
-            × (d.typed ≡ c.typed) × (d.block_start ≡ c.block_start) × (d.block_len ≡ c.block_len)
+            × (d.fields ≡ c.fields) × (d.block_start ≡ c.block_start) × (d.block_len ≡ c.block_len)
             × (d.digest.wanted ≡ c.digest.wanted)
             × ((bytes : List ℕ) → HasSeen c.digest bytes → HasSeen d.digest (bytes ++ part.now)) }
     {
@@ -139,31 +135,44 @@ impl<A: Allocator + Copy> Reading<A> {
         }
     }
 
-    /// Keeps a row of the record that ends at an offset.
-    fn end_record(&mut self, end: u64) -> Result<(), AllocError>
+    /// Keeps a row of the record that ends at an offset, and what is wanted beside it.
+    fn end_record(&mut self, alloc: A, end: u64) -> Result<(), AllocError>
         ensures begin { OnOk result (self.new.begin ≡ end) }
         ensures current { self.new.current ≡ None }
         ensures row { (c : Kept A) (bytes : List ℕ) → self.old.current ≡ Some c → HasSeen c.digest bytes →
             OnOk result (self.new.rows ≡ self.old.rows ++ row_by self.old.begin c bytes ∷ []) }
+        ensures beside { (c : Kept A) (bytes : List ℕ) (records : List Placed) (p : Placed) →
+            self.old.current ≡ Some c → HasSeen c.digest bytes → L.keeps self.old.beside records →
+            c.fields ≡ p.content.fields → head_fault p.content.fields ≡ None → place_by c bytes ≡ place_of p →
+            OnOk result (L.keeps self.new.beside (records ++ p ∷ [])) }
     {
         if let Some(current) = self.current.take() {
             let Current {
-                typed,
+                fields,
                 block_start,
                 block_len,
                 digest,
             } = current;
+            let verdict = digest.verdict();
+            let texts = head_texts(&fields);
             self.rows.push(&Row {
                 offset: self.begin,
                 block_start,
                 block_len,
-                verdict: digest.verdict(),
-                is_truncated: typed.truncated,
-                kind: typed.type_text.bytes(),
-                date: typed.date_text.bytes(),
-                id: typed.id_text.bytes(),
-                target: target_of(&typed),
+                verdict,
+                is_truncated: texts.is_truncated,
+                kind: texts.kind,
+                date: texts.date,
+                id: texts.id,
+                target: texts.target,
             })?;
+            let place = Place {
+                start: block_start,
+                len: block_len,
+                verdict,
+                truncated: texts.is_truncated,
+            };
+            self.beside.keep(alloc, &fields, place)?;
         }
         self.begin = end;
         Ok(())
@@ -171,16 +180,16 @@ impl<A: Allocator + Copy> Reading<A> {
 }
 
 /// Keeps what the decoder tells of the piece's front, and answers how many bytes that takes.
-fn take_front<A: Allocator + Copy>(
+fn take_front<A: Allocator + Copy, L: Keep<A> + Drop>(
     alloc: A,
     decoder: &mut Decoder<A>,
-    reading: &mut Reading<A>,
+    reading: &mut Reading<A, L>,
     piece: &[u8],
 ) -> Result<usize, Fault>
     requires { 0 < length piece.now }
-    ensures history { (text : List ℕ) → Stands text decoder.old reading.old → MatchResult result
-        (λ took. Stands (text ++ take took piece.now) decoder.new reading.new) (StaysRefused (text ++ piece.now)) }
-    ensures begins { (text : List ℕ) → Stands text decoder.old reading.old → MatchResult result
+    ensures history { (text : List ℕ) → Stands L.keeps text decoder.old reading.old → MatchResult result
+        (λ took. Stands L.keeps (text ++ take took piece.now) decoder.new reading.new) (StaysRefused (text ++ piece.now)) }
+    ensures begins { (text : List ℕ) → Stands L.keeps text decoder.old reading.old → MatchResult result
         (λ _. BeginsSince text reading.old.begin reading.new.begin) (WantsSince text piece.now reading.old.begin) }
     ensures within { IfOk result (λ took. (0 < took) × (took ≤ length piece.now)) }
 {
@@ -189,14 +198,12 @@ fn take_front<A: Allocator + Copy>(
     let begin = reading.begin;
     let kept = match event {
         Event::More => Ok(()),
-        Event::Head(_, fields, block_len) => {
-            reading.begin_block(alloc, &fields, position, block_len)
-        }
+        Event::Head(_, fields, block_len) => { reading.begin_block(fields, position, block_len) }
         Event::Part(from, to) => {
             reading.take_part(&piece[from..to]);
             Ok(())
         }
-        Event::End => match reading.end_record(position) {
+        Event::End => match reading.end_record(alloc, position) {
             Ok(()) => Ok(()),
             Err(_) => Err(FaultKind::Memory),
         },
@@ -211,15 +218,15 @@ fn take_front<A: Allocator + Copy>(
 }
 
 /// Keeps what the decoder tells of a piece.
-fn take_piece<A: Allocator + Copy>(
+fn take_piece<A: Allocator + Copy, L: Keep<A> + Drop>(
     alloc: A,
     decoder: &mut Decoder<A>,
-    reading: &mut Reading<A>,
+    reading: &mut Reading<A, L>,
     piece: &[u8],
 ) -> Result<(), Fault>
-    ensures history { (text : List ℕ) → Stands text decoder.old reading.old → MatchResult result
-        (λ _. Stands (text ++ piece.now) decoder.new reading.new) (StaysRefused (text ++ piece.now)) }
-    ensures memory { (text : List ℕ) → Stands text decoder.old reading.old →
+    ensures history { (text : List ℕ) → Stands L.keeps text decoder.old reading.old → MatchResult result
+        (λ _. Stands L.keeps (text ++ piece.now) decoder.new reading.new) (StaysRefused (text ++ piece.now)) }
+    ensures memory { (text : List ℕ) → Stands L.keeps text decoder.old reading.old →
         IfErr result (WantsSince text piece.now reading.old.begin) }
 {
     let mut from = 0;
@@ -229,14 +236,17 @@ fn take_piece<A: Allocator + Copy>(
     Ok(())
 }
 
-/// The rows, where the stream ended behind a record. Else it is truncated.
-fn rows_of<A: Allocator + Copy>(decoder: &Decoder<A>, reading: Reading<A>) -> Result<Rows<A>, Fault>
-    ensures { (text : List ℕ) → Stands text decoder.now reading → MatchResult result
-        (IsArchiveOf text) (λ fault. (fault.kind ≡ FaultKind.Truncated) × IsFaultOf text fault) }
+/// What is kept, where the stream ended behind a record. Else it is truncated.
+fn kept_of<A: Allocator + Copy, L: Keep<A> + Drop>(
+    decoder: &Decoder<A>,
+    reading: Reading<A, L>,
+) -> Result<(Rows<A>, L), Fault>
+    ensures { (text : List ℕ) → Stands L.keeps text decoder.now reading → MatchResult result
+        (IsKeptOf L.keeps text) (λ fault. (fault.kind ≡ FaultKind.Truncated) × IsFaultOf text fault) }
 {
     let end = decoder.position();
     match decoder.finish() {
-        Ok(()) => Ok(reading.rows),
+        Ok(()) => Ok((reading.rows, reading.beside)),
         Err(_) => Err(Fault {
             kind: FaultKind::Truncated,
             offset: end,
@@ -245,20 +255,22 @@ fn rows_of<A: Allocator + Copy>(decoder: &Decoder<A>, reading: Reading<A>) -> Re
 }
 
 /// Reads a source through the buffer, from its front to its end.
-fn read_through<S: Source, A: Allocator + Copy>(
+fn read_through<S: Source, A: Allocator + Copy, L: Keep<A> + Drop>(
     alloc: A,
     source: &mut S,
     buf: &mut [u8],
-) -> Result<Rows<A>, Fault>
-    requires { 0 < length buf.old }
-    ensures { Opens
+    beside: L,
+) -> Result<(Rows<A>, L), Fault>
+    requires room { 0 < length buf.old }
+    requires empty { L.keeps beside [] }
+    ensures { Opens (IsKeptOf L.keeps)
         (tapped (S.holds source.old) (S.faults source.old) (S.reads source.old) (S.asked source.old)
         (S.watches source.old) (S.strays source.old))
         (tapped (S.holds source.new) (S.faults source.new) (S.reads source.new) (S.asked source.new)
         (S.watches source.new) (S.strays source.new)) result }
 {
     let mut decoder = Decoder::new(alloc, 0);
-    let mut reading = Reading::new(alloc);
+    let mut reading = Reading::new(alloc, beside);
     'reading: loop {
         let at = decoder.position();
         let n = match source.read_at(at, buf) {
@@ -273,15 +285,18 @@ fn read_through<S: Source, A: Allocator + Copy>(
         }
         take_piece(alloc, &mut decoder, &mut reading, &buf[..n])?;
     }
-    rows_of(&decoder, reading)
+    kept_of(&decoder, reading)
 }
 
-/// The rows of the good records that a source holds, each read at the offset where the bytes so far end.
-pub(crate) fn read_rows<S: Source, A: Allocator + Copy>(
+/// The rows of the good records that a source holds, and what is kept beside them, which is of no records at first.
+/// Each read is at the offset where the bytes so far end.
+pub(crate) fn read_records<S: Source, A: Allocator + Copy, L: Keep<A> + Drop>(
     alloc: A,
     source: &mut S,
-) -> Result<Rows<A>, Fault>
-    ensures { Opens
+    beside: L,
+) -> Result<(Rows<A>, L), Fault>
+    requires { L.keeps beside [] }
+    ensures { Opens (IsKeptOf L.keeps)
         (tapped (S.holds source.old) (S.faults source.old) (S.reads source.old) (S.asked source.old)
         (S.watches source.old) (S.strays source.old))
         (tapped (S.holds source.new) (S.faults source.new) (S.reads source.new) (S.asked source.new)
@@ -293,5 +308,5 @@ pub(crate) fn read_rows<S: Source, A: Allocator + Copy>(
             offset: 0,
         });
     };
-    read_through(alloc, source, &mut buf)
+    read_through(alloc, source, &mut buf, beside)
 }

@@ -1,13 +1,12 @@
 //! The line that `list` writes for a record.
-ghost use Rattle.std.specs.Prelude.{◌≡◌, map};
-ghost use Rattle.std.specs.List.{concat};
+ghost use Rattle.std.specs.Prelude.{◌≡◌};
 ghost use Rattle.warc.specs.Listing.{line_of, shown};
-ghost use Rattle.warc.specs.Putting.{Puts};
-ghost use Rattle.warc.specs.Seen.{seen};
+ghost use Rattle.warc_frame.specs.Putting.{Puts};
+ghost use Rattle.warc_frame.specs.Seen.{seen};
 
 use crate::rows::Row;
 use itoa::Buffer;
-use warc_frame::{OutBuffer, SendFault, Sink};
+use warc_frame::{OutBuffer, SendFault, Sink, put_all};
 
 /// Adds a record's line to the output, by its position in the archive.
 pub(crate) fn put_line<W: Sink>(
@@ -44,19 +43,4 @@ fn shown_as(text: &[u8]) -> &[u8]
     ensures { result.now ≡ shown text.now }
 {
     if text.is_empty() { b"-" } else { text }
-}
-
-/// Adds the pieces to the output, one after another.
-pub(crate) fn put_all<W: Sink>(
-    pieces: &[&[u8]],
-    buffer: &mut OutBuffer,
-    out: &mut W,
-) -> Result<(), SendFault>
-    ensures { Puts (seen (W.tells out.old) (W.faults out.old)) (seen (W.tells out.new) (W.faults out.new))
-        buffer.old buffer.new result (concat (map (λ p. p.now) pieces.now)) }
-{
-    'putting: for piece in pieces {
-        buffer.put(out, piece)?;
-    }
-    Ok(())
 }

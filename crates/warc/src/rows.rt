@@ -6,24 +6,27 @@ use std::alloc::{AllocError, Allocator};
 use std::marker::Model;
 use warc_value::Verdict;
 
-/// What is kept of a record. Its texts are the values of its type, date and id as they stand, and its target without
-/// brackets, empty where it is absent.
+/// What is kept of a record: where it stands, and the texts of its type, date, id and target.
 #[derive(Drop)]
-pub(crate) struct Row<'a> {
+pub struct Row<'a> {
     /// The offset of its first byte.
-    pub(crate) offset: u64,
+    pub offset: u64,
     /// The offset of its block's first byte.
-    pub(crate) block_start: u64,
+    pub block_start: u64,
     /// How many bytes its block has.
-    pub(crate) block_len: u64,
+    pub block_len: u64,
     /// How its block compares with the digest that its head wants.
-    pub(crate) verdict: Verdict,
+    pub verdict: Verdict,
     /// Whether it is marked as truncated.
-    pub(crate) is_truncated: bool,
-    pub(crate) kind: &'a [u8],
-    pub(crate) date: &'a [u8],
-    pub(crate) id: &'a [u8],
-    pub(crate) target: &'a [u8],
+    pub is_truncated: bool,
+    /// The value of its `WARC-Type`.
+    pub kind: &'a [u8],
+    /// The value of its `WARC-Date`.
+    pub date: &'a [u8],
+    /// The value of its `WARC-Record-ID`.
+    pub id: &'a [u8],
+    /// Its target without brackets, empty where it is absent.
+    pub target: &'a [u8],
 }
 
 impl<'a> Model for Row<'a> {

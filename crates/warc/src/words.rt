@@ -1,5 +1,5 @@
 //! The words of a command line.
-ghost use Rattle.std.specs.Prelude.{◌≡◌, ◌∷◌, [], true, false, map, Some, IfOk, IfErr, option_map, codes};
+ghost use Rattle.std.specs.Prelude.{◌≡◌, ◌∷◌, [], true, false, fold, map, Some, IfOk, IfErr, option_map, codes};
 ghost use Rattle.clap.specs.Faults.{fault_of};
 ghost use Rattle.clap.specs.Matches.{found_of};
 ghost use Rattle.clap.specs.Simple.{App, app_of, subcommand_rows_of, with_rule};
@@ -8,7 +8,8 @@ ghost use Rattle.clap.specs.Values.{kind_of};
 ghost use Rattle.clap.specs.Walk.{rows_of, rule_of};
 ghost use Rattle.clap.specs.declared.builder.command.Command.TheViews.{out-Command};
 ghost use Rattle.warc.specs.Command.{path_of, view_of};
-ghost use Rattle.warc.specs.CommandLine.{IsToldBy, command_fault_text, command_of, named, required_word, text_of, warc_app, with_layout};
+ghost use Rattle.warc.specs.CommandLine.{IsToldBy, command_fault_text, command_of, layout_seen, named, required_word};
+ghost use Rattle.warc.specs.CommandLine.{text_of, warc_app, with_layout};
 
 use clap::error::ErrorKind;
 use clap::{Arg, ArgMatches};
@@ -24,6 +25,10 @@ pub enum Command<'a> {
     List { archive: &'a str },
     /// A line for each finding.
     Check { archive: &'a str },
+    /// The records in canonical form.
+    Rewrite { archive: &'a str },
+    /// The records as records of WARC 1.1.
+    Convert { archive: &'a str },
 }
 
 impl<'a> Command<'a> {
@@ -34,6 +39,8 @@ impl<'a> Command<'a> {
         match self {
             Command::List { archive } => archive,
             Command::Check { archive } => archive,
+            Command::Rewrite { archive } => archive,
+            Command::Convert { archive } => archive,
         }
     }
 }
@@ -65,14 +72,24 @@ struct Word {
     help: &'static str,
 }
 
+/// A command as help shows it: its name, what it does, what it writes and how it ends, and its words in order.
+#[derive(Clone, Copy)]
+struct Entry {
+    name: &'static str,
+    about: &'static str,
+    notes: &'static str,
+    words: &'static [Word],
+}
+
 const VERSION: &str = "0.1.0";
 
 const NOTES: &str =
     "An archive is one file of uncompressed records, WARC/1.0 or WARC/1.1. A compressed one is read so:
   gunzip -c a.warc.gz | warc list /dev/stdin      (at most 1 GiB)
 
-Exit status: 0 done; 1 something was found; 2 the archive is refused, with the first fault and its offset;
-3 the words are wrong, the file doesn't open, or a read, a write or memory failed.
+Exit status: 0 done; 1 something was found; 2 the archive is refused, with the
+first fault and its offset, and nothing was written; 3 the words are wrong, the file doesn't open, or a read,
+a write or memory failed.
 
 Example: warc list examples/abc.warc";
 
@@ -80,62 +97,108 @@ const LIST_NOTES: &str =
     "A line has seven columns, with a tab between two: the record's position from 0, its offset in bytes,
 the length of its block, its type, date, id and target; '-' for no target.
 
-Exit status: 0 listed; 2 the archive is refused, and nothing was written; 3 see 'warc --help'.";
+Exit status: 0 listed; 2 the archive is refused, and nothing was written; 3 see 'warc --help'.
+
+Example: warc list examples/abc.warc";
 
 const CHECK_NOTES: &str =
     "A line has the position of the record, the finding's number N1 to N12 and the name of the field that it is
 about, if it is about one; '- N12' is an archive of no records. A digest that can't be checked is no finding.
 
 Exit status: 0 nothing was found; 1 something was; 2 the archive is refused, and nothing was written;
-3 see 'warc --help'.";
+3 see 'warc --help'.
+
+Example: warc check examples/findings.warc";
+
+const REWRITE_NOTES: &str =
+    "Each record is written in canonical form: folded values in one line, one space behind each colon. Names,
+the order of fields, versions and blocks stay.
+
+Exit status: 0 written; 2 the archive is refused, and nothing was written; 3 see 'warc --help'.
+
+Example: warc rewrite examples/folded.warc";
+
+const CONVERT_NOTES: &str =
+    "Each record is written in canonical form as one of WARC/1.1: its target stands without < and >. All else
+stays.
+
+Exit status: 0 written; 2 the archive is refused, and nothing was written; 3 see 'warc --help'.
+
+Example: warc convert examples/abc.warc";
 
 const ARCHIVE: Word = Word {
     name: "archive",
     help: "The path of the archive; /dev/stdin is standard input, also a pipe",
 };
 
+/// The commands, in the order in which help lists them.
+const COMMANDS: [Entry; 4] = [
+    Entry {
+        name: "list",
+        about: "Prints a line for each record",
+        notes: LIST_NOTES,
+        words: &[ARCHIVE],
+    },
+    Entry {
+        name: "check",
+        about: "Prints a line for each finding: what is wrong with records that can be read",
+        notes: CHECK_NOTES,
+        words: &[ARCHIVE],
+    },
+    Entry {
+        name: "rewrite",
+        about: "Writes the archive in canonical form",
+        notes: REWRITE_NOTES,
+        words: &[ARCHIVE],
+    },
+    Entry {
+        name: "convert",
+        about: "Writes the archive as one of WARC/1.1",
+        notes: CONVERT_NOTES,
+        words: &[ARCHIVE],
+    },
+];
+
 fn warc_parser<'a>(alloc: Global) -> Result<clap::Command<'a>, AllocError>
     ensures { IfOk result (λ c. app_of c ≡ warc_app) }
 {
     let parser = clap::Command::new(alloc, "warc")
-        .about("Reads archives in the WARC format")
+        .about("Reads and writes archives in the WARC format")
         .version(VERSION)
         .after_help(NOTES)
         .subcommand_required(true);
-    let parser = with_command(
-        parser,
-        alloc,
-        "list",
-        "Prints a line for each record",
-        LIST_NOTES,
-        &[ARCHIVE],
-    )?;
-    with_command(
-        parser,
-        alloc,
-        "check",
-        "Prints a line for each finding: what is wrong with records that can be read",
-        CHECK_NOTES,
-        &[ARCHIVE],
-    )
+    with_commands(parser, alloc, &COMMANDS)
+}
+
+/// The parser with these commands, in their order.
+fn with_commands<'a>(
+    parser: clap::Command<'a>,
+    alloc: Global,
+    entries: &[Entry],
+) -> Result<clap::Command<'a>, AllocError>
+    ensures { (app : App) → app_of parser.entry ≡ app →
+        IfOk result (λ c. app_of c ≡ fold with_layout app (map layout_seen entries.now)) }
+{
+    let mut parser = parser;
+    for entry in entries {
+        parser = with_command(parser, alloc, entry)?;
+    }
+    Ok(parser)
 }
 
 /// The parser with one more command, which requires the words in their order.
 fn with_command<'a>(
     parser: clap::Command<'a>,
     alloc: Global,
-    name: &'static str,
-    about: &'static str,
-    notes: &'static str,
-    words: &[Word],
+    entry: &Entry,
 ) -> Result<clap::Command<'a>, AllocError>
-    ensures { (app : App) → app_of parser.entry ≡ app → IfOk result (λ c. app_of c
-        ≡ with_layout app (record { name = name.entry.now; words = map (λ w. w.name.now) words.now })) }
+    ensures { (app : App) → app_of parser.entry ≡ app →
+        IfOk result (λ c. app_of c ≡ with_layout app (layout_seen entry.now)) }
 {
-    let mut command = clap::Command::new(alloc, name)
-        .about(about)
-        .after_help(notes);
-    for word in words {
+    let mut command = clap::Command::new(alloc, entry.name)
+        .about(entry.about)
+        .after_help(entry.notes);
+    for word in entry.words {
         command = with_word(command, alloc, word.name, word.help)?;
     }
     parser.subcommand(command)
@@ -173,18 +236,27 @@ fn text_at<'a>(matches: &ArgMatches<'a>, name: &str) -> &'a str
     }
 }
 
-/// The command that was met. `clap` meets no command but the program's own, so one of them, `list`,
-/// needs no test.
+/// What the command of a name is asked to do. `clap` meets no command but the program's own, so one of them,
+/// `list`, needs no test.
+fn read_command<'a>(name: &str, texts: &ArgMatches<'a>) -> Command<'a>
+    ensures { view_of result ≡ named name.now (rows_of (found_of texts.now)) }
+{
+    let archive = text_at(texts, "archive");
+    match name {
+        "check" => Command::Check { archive },
+        "rewrite" => Command::Rewrite { archive },
+        "convert" => Command::Convert { archive },
+        _ => Command::List { archive },
+    }
+}
+
+/// The command that was met.
 fn read<'a>(matches: &ArgMatches<'a>) -> Option<Command<'a>>
     ensures { option_map view_of result
         ≡ option_map (λ p. named p.0 p.1) (subcommand_rows_of matches.now) }
 {
     let (name, texts) = matches.subcommand()?;
-    let archive = text_at(texts, "archive");
-    Some(match name {
-        "check" => Command::Check { archive },
-        _ => Command::List { archive },
-    })
+    Some(read_command(name, texts))
 }
 
 /// What `clap` refused, or was asked to show.

@@ -6,7 +6,7 @@ use Rattle.std.specs.List.{prefix_len, flat_map}
 use Rattle.std.proofs.lemmas.Grind.{common_steps}
 use Rattle.memchr.specs.Find.{OccursAt, NoneBefore, Nowhere, Passes, is_byte}
 use Rattle.warc_field.specs.Text.{is_blank}
-use Rattle.warc_field.specs.Lines.{crlf_at, ends_at, parts, lines, is_crlf, in_front, begins_blank, unfolded, joined, continued}
+use Rattle.warc_field.specs.Lines.{crlf_at, ends_at, parts, lines, is_crlf, in_front, begins_blank, unfolded, joined_parts, continued}
 
 pub parts-nil : parts [] ≡ [] ∷ []
 unfolding parts
@@ -242,7 +242,7 @@ parts-trim (b ∷ c ∷ bs) = ⊎_elim
 -- what stands behind a CRLF is the parts after it, each continued
 unfolded-part : (t part more : List ℕ) → parts t ≡ part ∷ parts more → unfolded t ≡ part ++ flat_map continued (parts more)
 unfolding unfolded
-unfolded-part t part more e = ap joined e
+unfolded-part t part more e = ap joined_parts e
 
 unfoldable pub first : List (List ℕ) → List ℕ
 first [] = []
@@ -263,12 +263,12 @@ continued-blank p h = rw h
 pub continued-other : (p : List ℕ) → begins_blank p ≡ false → continued p ≡ 13 ∷ 10 ∷ p
 continued-other p h = rw h
 
-tail-other : (qs : List (List ℕ)) (p : List ℕ) (ps : List (List ℕ)) → qs ≡ p ∷ ps → begins_blank (first qs) ≡ false → flat_map continued qs ≡ 13 ∷ 10 ∷ joined qs
+tail-other : (qs : List (List ℕ)) (p : List ℕ) (ps : List (List ℕ)) → qs ≡ p ∷ ps → begins_blank (first qs) ≡ false → flat_map continued qs ≡ 13 ∷ 10 ∷ joined_parts qs
 unfolding first
 tail-other [] p ps e h = cc
 tail-other (q ∷ qs) p ps e h = ap (λ c. c ++ flat_map continued qs) (continued-other q h)
 
-tail-blank : (qs : List (List ℕ)) (p : List ℕ) (ps : List (List ℕ)) → qs ≡ p ∷ ps → begins_blank (first qs) ≡ true → flat_map continued qs ≡ 32 ∷ joined (trim_first qs)
+tail-blank : (qs : List (List ℕ)) (p : List ℕ) (ps : List (List ℕ)) → qs ≡ p ∷ ps → begins_blank (first qs) ≡ true → flat_map continued qs ≡ 32 ∷ joined_parts (trim_first qs)
 unfolding first trim_first
 tail-blank [] p ps e h = cc
 tail-blank (q ∷ qs) p ps e h = ap (λ c. c ++ flat_map continued qs) (continued-blank q h)
@@ -278,19 +278,19 @@ pub unfolded-other : (t part more : List ℕ) → parts t ≡ part ∷ parts mor
 unfolding unfolded
 unfolded-other t part more e h =
     let cut = parts-cons more in
-    ap joined e ∙ ap (λ xs. part ++ xs) (tail-other (parts more) cut.0 cut.1 cut.2 (begins_blank-first more ∙ h))
+    ap joined_parts e ∙ ap (λ xs. part ++ xs) (tail-other (parts more) cut.0 cut.1 cut.2 (begins_blank-first more ∙ h))
 
 -- behind one that spaces or tabs follow
 pub unfolded-blank : (t part more : List ℕ) → parts t ≡ part ∷ parts more → begins_blank more ≡ true → unfolded t ≡ part ++ 32 ∷ unfolded (drop (prefix_len is_blank more) more)
 unfolding unfolded
 unfolded-blank t part more e h =
     let cut = parts-cons more in
-    ap joined e ∙ ap (λ xs. part ++ xs) (tail-blank (parts more) cut.0 cut.1 cut.2 (begins_blank-first more ∙ h) ∙ ap (λ qs. 32 ∷ joined qs) (sym (parts-trim more)))
+    ap joined_parts e ∙ ap (λ xs. part ++ xs) (tail-blank (parts more) cut.0 cut.1 cut.2 (begins_blank-first more ∙ h) ∙ ap (λ qs. 32 ∷ joined_parts qs) (sym (parts-trim more)))
 
 -- with no CRLF
 pub unfolded-none : (t : List ℕ) → parts t ≡ t ∷ [] → unfolded t ≡ t
 unfolding unfolded
-unfolded-none t e = ap joined e ∙ append_nil t
+unfolded-none t e = ap joined_parts e ∙ append_nil t
 
 blank_len-some : (t : List ℕ) → 0 < prefix_len is_blank t → begins_blank t ≡ true
 blank_len-some [] h = absurd (omega arith)

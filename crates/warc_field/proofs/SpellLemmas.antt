@@ -8,7 +8,7 @@ use Rattle.std.proofs.lemmas.List.Folds.{list_all-append}
 use Rattle.std.proofs.lemmas.List.Quantifiers.{position-Some}
 use Rattle.std.proofs.lemmas.Grind.{common_steps}
 use Rattle.warc_field.specs.Text.{is_blank, is_name, is_name_byte, is_value_byte}
-use Rattle.warc_field.specs.Lines.{parts, lines, is_crlf, in_front, begins_blank, unfolded, joined, continued}
+use Rattle.warc_field.specs.Lines.{parts, lines, is_crlf, in_front, begins_blank, unfolded, joined_parts, continued}
 use Rattle.warc_field.specs.Area.{Pair, is_colon, field_of, value_of, fields_of, field_then, with_front, SpellsFields, area_of}
 use Rattle.warc_field.proofs.LineLemmas.{parts-nil, parts-one, parts-crlf, parts-more, parts-cons, lines-nil, lines-one, lines-ends, lines-more, lines-cons, ends, crlf_bytes, true_or_false, not_true, and_false_left, begins_blank-first, first, continued-other}
 use Rattle.warc_field.proofs.TextLemmas.{trimmed_hides_none, means_value-value_of, value_of-means_value}
@@ -155,14 +155,14 @@ all_continued (q ∷ qs) h =
     (λ no. let bad : list_all is_value_byte (13 ∷ 10 ∷ q) ≡ true = ap (list_all is_value_byte) (sym (continued-other q no)) ∙ both.0 in absurd (false≢true (sym value_byte-cr ∙ (and_parts _ _ bad).0)))
     (true_or_false (begins_blank q))
 
-all_joined : (ps : List (List ℕ)) → list_all is_value_byte (joined ps) ≡ true → list_all begins_blank (later ps) ≡ true
+all_joined : (ps : List (List ℕ)) → list_all is_value_byte (joined_parts ps) ≡ true → list_all begins_blank (later ps) ≡ true
 unfolding later
 all_joined [] h = refl
 all_joined (p ∷ ps) h = all_continued ps (and_parts _ _ (sym (list_all-append is_value_byte p (flat_map continued ps)) ∙ h)).1
 
 pub value_folds : (rest v : List ℕ) → value_of rest ≡ Some v → AllFold rest
 unfolding value_of unfolded
-value_folds rest v h = all_joined (parts rest) (trimmed_hides_none (joined (parts rest)) (cond_some _ _ _ h).0)
+value_folds rest v h = all_joined (parts rest) (trimmed_hides_none (joined_parts (parts rest)) (cond_some _ _ _ h).0)
 
 colon_len : (name rest : List ℕ) → list_all is_name_byte name ≡ true → position_or_len is_colon (name ++ 58 ∷ rest) ≡ length name
 colon_len [] rest h = refl

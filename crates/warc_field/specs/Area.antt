@@ -113,6 +113,6 @@ TellsBadLine area Memory = Unit {0}
 TellsBadLine area (Line at) = IsFirstBadLine area at
 
 -- a line's fault lies within so many bytes
-abbrev pub IsWithin : ℕ → AreaFault → Type 0
-IsWithin len Memory = Unit {0}
-IsWithin len (Line at) = at ≤ len
+abbrev pub TellsWithin : ℕ → AreaFault → Type 0
+TellsWithin len Memory = Unit {0}
+TellsWithin len (Line at) = at ≤ len

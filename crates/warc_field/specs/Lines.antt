@@ -48,10 +48,10 @@ lines (b ∷ c ∷ bs) =
 abbrev pub continued : List ℕ → List ℕ
 continued p = if begins_blank p then 32 ∷ drop (prefix_len is_blank p) p else crlf ++ p
 
-abbrev pub joined : List (List ℕ) → List ℕ
-joined [] = []
-joined (p ∷ ps) = p ++ flat_map continued ps
+abbrev pub joined_parts : List (List ℕ) → List ℕ
+joined_parts [] = []
+joined_parts (p ∷ ps) = p ++ flat_map continued ps
 
 -- the text with a space for each CRLF that a space or tab follows and that whole run of spaces and tabs
 unfoldable pub unfolded : List ℕ → List ℕ
-unfolded text = joined (parts text)
+unfolded text = joined_parts (parts text)

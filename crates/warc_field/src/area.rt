@@ -1,5 +1,5 @@
 ghost use Rattle.std.specs.Prelude.{◌≡◌, IfOk, IfErr, List, Some, None, Ok, option_map, IfSome, position, length, ◌<◌};
-ghost use Rattle.warc_field.specs.Area.{Pair, is_colon, value_of, field_of, area_of, Reads, SpellsFields, TellsBadLine, IsWithin};
+ghost use Rattle.warc_field.specs.Area.{Pair, is_colon, value_of, field_of, area_of, Reads, SpellsFields, TellsBadLine, TellsWithin};
 ghost use Rattle.warc_field.specs.FaultText.{area_fault_text};
 ghost use Rattle.warc_field.specs.declared.area.AreaFault.TheVariants.{Memory};
 
@@ -98,6 +98,9 @@ fn read_field<A: Allocator + Copy>(
     Ok(Some((name, value)))
 }
 
+/// How many fields an area has room for before it grows: most heads have fewer.
+const ROOM: usize = 16;
+
 /// The fields that the lines of an area are, read from a head's bytes between its version line and its empty line.
 /// Each line ends with CRLF; a CRLF with a space or tab behind it continues the line.
 pub fn read_area<A: Allocator + Copy>(alloc: A, area: &[u8]) -> Result<Fields<A>, AreaFault>
@@ -112,7 +115,7 @@ pub fn read_area<A: Allocator + Copy>(alloc: A, area: &[u8]) -> Result<Fields<A>
 
     // The same by the computing definition.
     ensures exact { Reads (λ f. f) result (area_of area.now) }
-    ensures within { IfErr result (IsWithin (length area.now)) }
+    ensures within { IfErr result (TellsWithin (length area.now)) }
 {
     read_lines(alloc, area)
 }
@@ -120,9 +123,9 @@ pub fn read_area<A: Allocator + Copy>(alloc: A, area: &[u8]) -> Result<Fields<A>
 /// The same, by the computing definition alone.
 fn read_lines<A: Allocator + Copy>(alloc: A, area: &[u8]) -> Result<Fields<A>, AreaFault>
     ensures exact { Reads (λ f. f) result (area_of area.now) }
-    ensures within { IfErr result (IsWithin (length area.now)) }
+    ensures within { IfErr result (TellsWithin (length area.now)) }
 {
-    let mut fields = Fields::new(alloc);
+    let mut fields = Fields::with_room(alloc, ROOM)?;
     let mut rest = area;
     while let Some((line, more)) = split_line(rest) {
         let Some((name, value)) = read_field(alloc, line)? else {

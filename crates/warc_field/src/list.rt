@@ -1,4 +1,4 @@
-ghost use Rattle.std.specs.Prelude.{◌≡◌, ◌≤◌, [], ◌∷◌, ◌++◌, OnOk, OnErr, length, IsTrue, ◌↔◌, MatchOption, Some, slice_get};
+ghost use Rattle.std.specs.Prelude.{◌≡◌, ◌≤◌, [], ◌∷◌, ◌++◌, OnOk, OnErr, length, IfOk, IsTrue, ◌↔◌, MatchOption, Some, slice_get};
 ghost use Rattle.std.specs.Option.{option_copied};
 ghost use Rattle.warc_field.specs.Area.{count_of, first_value};
 ghost use Rattle.warc_field.specs.Text.{AreFields};
@@ -32,6 +32,15 @@ impl<A: Allocator> Fields<A> {
         Fields {
             pairs: Vec::new(alloc),
         }
+    }
+
+    /// No fields yet, and room for so many.
+    pub(crate) fn with_room(alloc: A, count: usize) -> Result<Fields<A>, AllocError>
+        ensures { IfOk result (λ fields. fields ≡ []) }
+    {
+        Ok(Fields {
+            pairs: Vec::with_capacity(alloc, count)?,
+        })
     }
 
     /// Adds a field at the end. Where memory is refused the fields stay as they were, and the given one is dropped.

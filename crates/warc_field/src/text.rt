@@ -165,8 +165,8 @@ impl<A: Allocator> Name<A> {
         Ok(Name::from_checked(alloc, text)?)
     }
 
-    /// The name that this text is, known to be one.
-    pub(crate) fn from_checked(alloc: A, text: &[u8]) -> Result<Name<A>, AllocError>
+    /// The name that this text is, known to be one. It isn't judged anew. Up to 48 bytes it takes no memory.
+    pub fn from_checked(alloc: A, text: &[u8]) -> Result<Name<A>, AllocError>
         requires { is_name text.now ≡ true }
         ensures value { IfOk result (λ name. name ≡ text.now) }
         ensures short { length text.now ≤ 48 → IsOk result }
@@ -195,7 +195,9 @@ impl<A: Allocator> Name<A> {
     pub fn is(&self, text: &[u8]) -> bool
         ensures { result ≡ same self.now text.now }
     {
-        self.bytes().eq_ignore_ascii_case(text)
+        let name = self.bytes();
+        // Most names stand as the standard writes them, and equal bytes are compared faster.
+        name == text || name.eq_ignore_ascii_case(text)
     }
 }
 
@@ -212,8 +214,9 @@ impl<A: Allocator> Value<A> {
         Ok(Value::from_checked(alloc, text)?)
     }
 
-    /// The value that this text is, known to be one.
-    pub(crate) fn from_checked(alloc: A, text: &[u8]) -> Result<Value<A>, AllocError>
+    /// The value that this text is, known to be one, as that of another value. It isn't judged anew. Up to 48 bytes it takes no
+    /// memory.
+    pub fn from_checked(alloc: A, text: &[u8]) -> Result<Value<A>, AllocError>
         requires { is_value text.now ≡ true }
         ensures value { IfOk result (λ value. value ≡ text.now) }
         ensures short { length text.now ≤ 48 → IsOk result }

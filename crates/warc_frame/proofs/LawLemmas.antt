@@ -1,5 +1,5 @@
 -- The laws of the module `laws`, each under its function's name.
-use Rattle.std.proofs.Common.{◌≡◌, ◌≢◌, ℕ, ◌+◌, ◌≤◌, List, [], ◌∷◌, ◌++◌, Option, None, Ok, Err, length, length-append, take, ◌⊎◌, ◌^◌, ◌<◌, refl, ap, sym, ◌∙◌, arith}
+use Rattle.std.proofs.Common.{◌≡◌, ◌≢◌, ℕ, ◌+◌, ◌≤◌, List, [], ◌∷◌, ◌++◌, Option, None, Ok, Err, length, length-append, take, ◌⊎◌, ◌^◌, ◌<◌, refl, ap, sym, subst, ◌∙◌, arith}
 use Rattle.warc_field.specs.Lines.{crlf}
 use Rattle.warc_frame.specs.declared.fault.FaultKind.TheVariants.{Truncated}
 use Rattle.warc_frame.specs.declared.fault.Fault.{Fault}
@@ -118,3 +118,14 @@ pub sent_is_exact : (start now : Option (List ℕ)) (output : List ℕ) (sent : 
 sent_is_exact start now output sent out short =
     let exact : sent ≡ out.count = omega (arith, out.number, out.within) in
     (omega (arith, out.within), out.told ∙ ap (λ n. append_known start (take n output)) (sym exact))
+
+-- what went out of an output went out of one that goes on with more
+pub longer : {start now : Option (List ℕ)} {output : List ℕ} {sent : ℕ} (more : List ℕ) → WentOut start output now sent → WentOut start (output ++ more) now sent
+longer {start} {now} {output} {sent} more out = went_out_of_longer start now output more sent out
+
+-- the same output
+pub same_out : {start now : Option (List ℕ)} {a b : List ℕ} {sent : ℕ} → a ≡ b → WentOut start a now sent → WentOut start b now sent
+same_out {start} {now} {a} {b} {sent} same out = let P : List ℕ → Type 0 = λ l. WentOut start l now sent in subst P same out
+
+pub same_staged : {start now : Option (List ℕ)} {a b : List ℕ} {buffer : Staged} → a ≡ b → IsStaged start a now buffer → IsStaged start b now buffer
+same_staged {start} {now} {a} {b} {buffer} same is = let P : List ℕ → Type 0 = λ l. IsStaged start l now buffer in subst P same is

@@ -22,3 +22,6 @@ pub mod StreamFaults
 pub mod StreamBridge
 pub mod StreamSteps
 pub mod StreamPieces
+pub mod RangeLemmas
+pub mod PieceLemmas
+pub mod CopyLemmas

@@ -13,7 +13,7 @@ use Rattle.warc_frame.specs.Spelling.{SpellsAll}
 use Rattle.warc_frame.specs.Reading.{any_fields}
 use Rattle.warc_frame.specs.Faults.{within_limit}
 use Rattle.warc_frame.specs.Told.{Unclosed, Told, tell, ended, WantsMemory, RefusesAs, Refuses}
-use Rattle.warc_frame.specs.Decoding.{State, IsAt, IsWithin, Takes}
+use Rattle.warc_frame.specs.Decoding.{State, IsAt, TakesWithin, Takes}
 use Rattle.warc_frame.specs.Pieces.{ClosesFramed, MayKeep, StandsBehind, Keeping, Keeps, start_on, IsPieceFault, IsPiecesFault, IsMemoryFault}
 use Rattle.std.specs.Prelude.{is_err, OnOk, OnErr, true, false}
 use Rattle.warc_frame.proofs.StreamSteps.{true_false}
@@ -29,13 +29,13 @@ closes_framed : (rs : List Record) (o : Option Unclosed) (t : List ℕ) → Spel
 closes_framed rs None t s = tt
 closes_framed rs (Some u) t s = last_framed rs (record { version = u.version; fields = u.fields; block = u.bytes }) t s
 
-pub may_keep : {A : Type 0} (at : ℕ) (taken piece : List ℕ) (told : Told) (new : State) (n took : ℕ) (event : Event A) → IsWithin n took event → Takes at taken told new piece took event → MayKeep n told.unclosed event
+pub may_keep : {A : Type 0} (at : ℕ) (taken piece : List ℕ) (told : Told) (new : State) (n took : ℕ) (event : Event A) → TakesWithin n took event → Takes at taken told new piece took event → MayKeep n told.unclosed event
 may_keep at taken piece told new n took events.More h t = tt
 may_keep at taken piece told new n took (events.Head version fields number) h t = tt
 may_keep at taken piece told new n took (events.Part from to) h t = (omega (arith, h.0), omega (arith, h.1, h.2))
 may_keep at taken piece told new n took events.End h t = closes_framed told.records told.unclosed t.is_at.front t.is_at.spelled
 
-pub takes_some : {A : Type 0} (n took : ℕ) (event : Event A) → IsWithin n took event → 0 < n → (0 < took) × (took ≤ n)
+pub takes_some : {A : Type 0} (n took : ℕ) (event : Event A) → TakesWithin n took event → 0 < n → (0 < took) × (took ≤ n)
 takes_some n took events.More h some = (omega (arith, h, some), omega (arith, h))
 takes_some n took (events.Head version fields number) h some = h
 takes_some n took (events.Part from to) h some = (omega (arith, h.0, h.1), h.2)

@@ -20,7 +20,7 @@ use Rattle.warc_frame.specs.Spelling.{Spells, SpellsAll}
 use Rattle.warc_frame.specs.Reading.{Head, any_fields, begins, version_of, empty_line, head_len, head_of, fault, AnswersAs}
 use Rattle.warc_frame.specs.Faults.{within_limit, goes_on, behind, IsFrameFault}
 use Rattle.warc_frame.specs.Told.{Unclosed, Told, nothing, opened, tell, with_bytes, ended, IsWhole, IsHeadOf, Lies, IsExact, EndsThere, IfTold, Refutes, WantsMemory, RefusesAs, Refuses}
-use Rattle.warc_frame.specs.Decoding.{State, closing, InHead, InBlock, PhaseIs, IsAt, IsSound, IsWithin, Takes, Finishes}
+use Rattle.warc_frame.specs.Decoding.{State, closing, InHead, InBlock, PhaseIs, IsAt, IsSound, TakesWithin, Takes, Finishes}
 use Rattle.warc_frame.specs.Steps.{Near, TellsHead, HeadFails, ClosesHead}
 use Rattle.warc_frame.proofs.StreamEnds.{empty_line-less}
 use Rattle.warc_frame.proofs.StreamHeads.{begins-less, version_there, version-more, cut_head, head_len-whole, head_len-none, head_parts, head_settled, head_more, record_head, record_bad, record_whole, Settled}
@@ -458,7 +458,7 @@ head_outcome at taken text near end more told d e v (Ok r) s ph front split vers
 head_outcome at taken text near end more told d e v (Err f) s ph front split version len closes = head_fails_as f.kind at taken text near end more told d v f s ph front split version len closes
 
 -- the first part of the piece in place of the piece
-within_le : {A : Type 0} (n took : ℕ) (event : Event A) → IsWithin n took event → took ≤ n
+within_le : {A : Type 0} (n took : ℕ) (event : Event A) → TakesWithin n took event → took ≤ n
 within_le n took events.More h = omega (arith, h)
 within_le n took (events.Head version fields number) h = h.1
 within_le n took (events.Part from to) h = h.2
@@ -467,7 +467,7 @@ within_le n took events.End h = h.1
 take_near : (k n : ℕ) (piece : List ℕ) → k ≤ length (take n piece) → take k (take n piece) ≡ take k piece
 take_near k n piece h = take-take k n piece (omega (arith, h, length-take n piece))
 
-tell_near : {A : Type 0} (told : Told) (n took : ℕ) (piece : List ℕ) (event : Event A) → IsWithin (length (take n piece)) took event → tell told (take n piece) event ≡ tell told piece event
+tell_near : {A : Type 0} (told : Told) (n took : ℕ) (piece : List ℕ) (event : Event A) → TakesWithin (length (take n piece)) took event → tell told (take n piece) event ≡ tell told piece event
 tell_near told n took piece events.More h = refl
 tell_near told n took piece (events.Head version fields number) h = refl
 tell_near told n took piece (events.Part from to) h =
@@ -478,7 +478,7 @@ tell_near told n took piece (events.Part from to) h =
     ap (λ x. record { records = told.records; unclosed = with_bytes told.unclosed x }) same
 tell_near told n took piece events.End h = refl
 
-pub took_piece : {A : Type 0} (at : ℕ) (taken text piece : List ℕ) (told : Told) (n : ℕ) (e : State) (r : Result (ℕ × Event A) Fault) → IfOk r (λ x. IsWithin (length (take n piece)) x.0 x.1) → Took at taken text (take n piece) told e r → Took at taken text piece told e r
+pub took_piece : {A : Type 0} (at : ℕ) (taken text piece : List ℕ) (told : Told) (n : ℕ) (e : State) (r : Result (ℕ × Event A) Fault) → IfOk r (λ x. TakesWithin (length (take n piece)) x.0 x.1) → Took at taken text (take n piece) told e r → Took at taken text piece told e r
 took_piece at taken text piece told n e (Ok x) w h =
     let E : List ℕ → Type 0 = λ y. IfTold x.1 (IsExact (taken ++ y) (tell told piece x.1)) in
     let F : Told → Type 0 = λ t. IfTold x.1 (IsExact (taken ++ take x.0 (take n piece)) t) in

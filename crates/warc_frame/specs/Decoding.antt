@@ -80,11 +80,11 @@ Finishes at taken told (Ok u) = (told.unclosed ≡ None) × SpellsAll told.recor
 Finishes at taken told (Err f) = (f ≡ fault Truncated (at + length taken)) × IsFrameFault at taken f
 
 -- how many bytes a step takes of a piece of n bytes, and what it tells
-abbrev pub IsWithin : {A : Type 0} → ℕ → ℕ → Event A → Type 0
-IsWithin n took events.More = took ≡ n
-IsWithin n took (events.Head version fields length) = (0 < took) × (took ≤ n)
-IsWithin n took (events.Part from to) = (from < to) × (to ≡ took) × (took ≤ n)
-IsWithin n took events.End = (0 < took) × (took ≤ n)
+abbrev pub TakesWithin : {A : Type 0} → ℕ → ℕ → Event A → Type 0
+TakesWithin n took events.More = took ≡ n
+TakesWithin n took (events.Head version fields length) = (0 < took) × (took ≤ n)
+TakesWithin n took (events.Part from to) = (from < to) × (to ≡ took) × (took ≤ n)
+TakesWithin n took events.End = (0 < took) × (took ≤ n)
 
 -- what a step says that took bytes of a piece and told an event
 pub record Takes {A : Type 0} (at : ℕ) (taken : List ℕ) (told : Told) (new : State) (piece : List ℕ) (took : ℕ)

@@ -11,3 +11,8 @@ pub mod Told
 pub mod Decoding
 pub mod Steps
 pub mod Pieces
+pub mod Seen
+pub mod Failing
+pub mod Putting
+pub mod Ranges
+pub mod Copying

@@ -56,11 +56,11 @@ block_len fields =
     else or_length (block_number (first_value content_length fields))
 
 -- why a record can't be framed, as the table of refusals names it
-abbrev pub kind_of : FramedFault → FaultKind
-kind_of NoRoom = HeadTooLong
-kind_of NoLength = Missing ContentLength
-kind_of Lengths = Repeated ContentLength
-kind_of BadLength = Length
+abbrev pub fault_kind_of : FramedFault → FaultKind
+fault_kind_of NoRoom = HeadTooLong
+fault_kind_of NoLength = Missing ContentLength
+fault_kind_of Lengths = Repeated ContentLength
+fault_kind_of BadLength = Length
 
 -- a record that can be framed: names and values are such, the only Content-Length is the block's, of at most 2^40
 -- bytes, and the canonical head is short enough

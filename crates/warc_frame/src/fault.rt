@@ -109,6 +109,13 @@ impl FaultKind {
             FaultKind::Memory => ("F14 Memory", ""),
         }
     }
+
+    /// The fault of this kind at an offset.
+    pub fn at(self, offset: u64) -> Fault
+        ensures { result ≡ record { kind = self; offset = offset } }
+    {
+        Fault { kind: self, offset }
+    }
 }
 
 impl fmt::Display for FaultKind {

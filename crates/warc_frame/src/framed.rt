@@ -1,5 +1,5 @@
 ghost use Rattle.std.specs.Prelude.{◌≡◌, ◌+◌, ◌≤◌, Ok, Err, IfOk, IsOk, MatchResult, length};
-ghost use Rattle.warc_frame.specs.Record.{Record, IsFramed, framed_of, kind_of, max_block, max_head};
+ghost use Rattle.warc_frame.specs.Record.{Record, IsFramed, framed_of, fault_kind_of, max_block, max_head};
 ghost use Rattle.warc_field.specs.Area.{canonical_fields};
 
 use crate::fault::{FaultKind, Mandatory};
@@ -27,7 +27,7 @@ pub enum FramedFault {
 impl FramedFault {
     /// The same as a fault of an archive.
     pub fn kind(self) -> FaultKind
-        ensures { result ≡ kind_of self }
+        ensures { result ≡ fault_kind_of self }
     {
         match self {
             FramedFault::HeadTooLong => FaultKind::HeadTooLong,
@@ -42,7 +42,7 @@ impl fmt::Display for FramedFault {
     ghost use Rattle.std.specs.Prelude.{Some};
     ghost use Rattle.warc_frame.specs.FaultText.{kind_text};
 
-    ghost output = { λ fault. Some (kind_text (kind_of fault)) };
+    ghost output = { λ fault. Some (kind_text (fault_kind_of fault)) };
 
     fn fmt<W: fmt::Write>(&self, f: &mut fmt::Formatter<W>) -> fmt::Result {
         write!(f, "{}", self.kind())
@@ -79,7 +79,7 @@ impl<A: Allocator> Framed<A> {
         ensures exact { MatchResult result
             (λ framed. framed_of (record { version = version; fields = fields; block = block.items }) ≡ Ok framed)
             (λ fault. framed_of (record { version = version; fields = fields; block = block.items })
-            ≡ Err (kind_of fault)) }
+            ≡ Err (fault_kind_of fault)) }
         ensures framed { IfOk result IsFramed }
         ensures only { IsFramed (record { version = version; fields = fields; block = block.items }) → IsOk result }
     {

@@ -101,10 +101,7 @@ fn feed<A: Allocator + Copy>(
         let rest = &piece[from..];
         let (took, event) = decoder.step(rest)?;
         if kept.keep(rest, event, decoder.position()).is_err() {
-            return Err(Fault {
-                kind: FaultKind::Memory,
-                offset: kept.start,
-            });
+            return Err(FaultKind::Memory.at(kept.start));
         }
         from += took;
     }

@@ -1,6 +1,6 @@
 ghost use Rattle.std.specs.Prelude.{◌≡◌, ◌≢◌, ◌<◌, ◌+◌, ◌≤◌, ℕ, ◌++◌, List, [], Ok, Err, Some, None, length, take, not, nat_lt, OnOk, IfOk, IfErr, IfSome, MatchResult};
 ghost use Rattle.warc_frame.specs.declared.version.Version.{Version};
-ghost use Rattle.warc_frame.specs.Record.{Record, canonical_len, block_len, kind_of, max_block, max_head};
+ghost use Rattle.warc_frame.specs.Record.{Record, canonical_len, block_len, fault_kind_of, max_block, max_head};
 ghost use Rattle.warc_frame.specs.Spelling.{Spells};
 ghost use Rattle.warc_frame.specs.Reading.{any_fields, begins, block_at, empty_line, head_front, head_len, head_of, record_of, version_of, AnswersAs, OrMemory};
 ghost use Rattle.warc_frame.specs.Faults.{IsFrameFault};
@@ -76,7 +76,7 @@ pub(crate) fn fits_head<A: Allocator>(version: Version, fields: &Fields<A>) -> b
 #[tactic(auto, unfolding(crate::specs::Record::block_len))]
 pub(crate) fn read_block_len<A: Allocator>(fields: &Fields<A>) -> Result<u64, FramedFault>
     ensures exact { MatchResult result (λ n. block_len fields.now ≡ Ok n)
-        (λ fault. block_len fields.now ≡ Err (kind_of fault)) }
+        (λ fault. block_len fields.now ≡ Err (fault_kind_of fault)) }
     ensures small { IfOk result (λ n. n ≤ max_block) }
 {
     match fields.count(b"Content-Length") {
@@ -92,13 +92,6 @@ pub(crate) fn read_block_len<A: Allocator>(fields: &Fields<A>) -> Result<u64, Fr
         }
         _ => Err(FramedFault::Repeated),
     }
-}
-
-/// The fault of the record at the front of a text.
-fn at_front(kind: FaultKind) -> Fault
-    ensures { result ≡ record { kind = kind; offset = 0 } }
-{
-    Fault { kind, offset: 0 }
 }
 
 /// What a head says whose version and length are known: its fields, and how long the block is.
@@ -119,18 +112,15 @@ pub(crate) fn read_fields<A: Allocator + Copy>(
 {
     let fields = match read_area(alloc, &text[VERSION_LINE..len - 2]) {
         Ok(fields) => fields,
-        Err(AreaFault::Line(at)) => return Err(Fault {
-            kind: FaultKind::Field,
-            offset: (VERSION_LINE + at) as u64,
-        }),
-        Err(AreaFault::Memory) => return Err(at_front(FaultKind::Memory)),
+        Err(AreaFault::Line(at)) => return Err(FaultKind::Field.at((VERSION_LINE + at) as u64)),
+        Err(AreaFault::Memory) => return Err(FaultKind::Memory.at(0)),
     };
     if !fits_head(version, &fields) {
-        return Err(at_front(FaultKind::HeadTooLong));
+        return Err(FaultKind::HeadTooLong.at(0));
     }
     let block_len = match read_block_len(&fields) {
         Ok(n) => n,
-        Err(fault) => return Err(at_front(fault.kind())),
+        Err(fault) => return Err(fault.kind().at(0)),
     };
     Ok(Head {
         version,
@@ -152,16 +142,13 @@ pub fn read_head<A: Allocator + Copy>(alloc: A, text: &[u8]) -> Result<Head<A>, 
     ensures by { IfErr result (λ f. f.offset ≤ length text.now) }
 {
     let Some(version) = version_across(&[], text) else {
-        return Err(at_front(FaultKind::Version));
+        return Err(FaultKind::Version.at(0));
     };
     let Some(len) = find_head_len(text) else {
         if text.len() >= MAX_HEAD {
-            return Err(at_front(FaultKind::HeadTooLong));
+            return Err(FaultKind::HeadTooLong.at(0));
         }
-        return Err(Fault {
-            kind: FaultKind::Truncated,
-            offset: text.len() as u64,
-        });
+        return Err(FaultKind::Truncated.at(text.len() as u64));
     };
     read_fields(alloc, version, len, text)
 }
@@ -175,19 +162,13 @@ fn read_block(head_len: usize, block_len: u64, text: &[u8]) -> Result<&[u8], Fau
     ensures by { IfErr result (λ f. f.offset ≤ length text.now) }
 {
     let rest = &text[head_len..];
-    let truncated = Fault {
-        kind: FaultKind::Truncated,
-        offset: text.len() as u64,
-    };
+    let truncated = FaultKind::Truncated.at(text.len() as u64);
     if (rest.len() as u64) < block_len {
         return Err(truncated);
     }
     let (block, end) = rest.split_at(block_len as usize);
     if !begins_as(end, b"\r\n\r\n") {
-        return Err(Fault {
-            kind: FaultKind::End,
-            offset: head_len as u64 + block_len,
-        });
+        return Err(FaultKind::End.at(head_len as u64 + block_len));
     }
     if end.len() < 4 {
         return Err(truncated);

@@ -1,7 +1,10 @@
 //! A small buffer before a sink.
-ghost use Rattle.std.specs.Prelude.{◌≡◌, ℕ, ◌+◌, ◌<◌, List, [], ◌++◌, length, Option, Result, OnOk, IfErr, is_err, if◌then◌else◌};
+ghost use Rattle.std.specs.Prelude.{◌≡◌, ℕ, ◌+◌, ◌<◌, List, [], ◌++◌, length, map, Option, Result, OnOk, IfErr, is_err, if◌then◌else◌};
 ghost use Rattle.std.specs.Io.KnownBytes.{append_known};
+ghost use Rattle.std.specs.List.{concat};
 ghost use Rattle.warc_frame.specs.Count.{raised, capped};
+ghost use Rattle.warc_frame.specs.Putting.{Puts};
+ghost use Rattle.warc_frame.specs.Seen.{seen};
 ghost use Rattle.warc_frame.specs.Send.{count_sent, WentOut, IsStaged};
 
 use crate::send::{SendFault, send_all};
@@ -130,4 +133,19 @@ impl OutBuffer {
         self.len = end;
         Ok(())
     }
+}
+
+/// Adds the pieces to the output, one after another. After a failed write the buffer is empty.
+pub fn put_all<W: Sink>(
+    pieces: &[&[u8]],
+    buffer: &mut OutBuffer,
+    out: &mut W,
+) -> Result<(), SendFault>
+    ensures { Puts (seen (W.tells out.old) (W.faults out.old)) (seen (W.tells out.new) (W.faults out.new))
+        buffer.old buffer.new result (concat (map (λ p. p.now) pieces.now)) }
+{
+    'putting: for piece in pieces {
+        buffer.put(out, piece)?;
+    }
+    Ok(())
 }

@@ -1,7 +1,7 @@
 ghost use Rattle.std.specs.Prelude.{◌≡◌, ◌≢◌, ℕ, ◌+◌, ◌-◌, ◌<◌, ◌≤◌, ◌^◌, ◌++◌, length, List, [], take, Bool, true, false, MatchResult, IfOk, OnErr, IfErr, Ok, Err, Some, None};
 ghost use Rattle.warc_frame.specs.Reading.{head_len, version_of};
 ghost use Rattle.warc_frame.specs.Told.{Told, nothing, Lies, Refuses};
-ghost use Rattle.warc_frame.specs.Decoding.{IsAt, IsFailed, Finishes, IsWithin, Takes};
+ghost use Rattle.warc_frame.specs.Decoding.{IsAt, IsFailed, Finishes, TakesWithin, Takes};
 ghost use Rattle.warc_frame.specs.Steps.{Near, ClosesHead};
 ghost use Rattle.warc_frame.specs.declared.fault.Fault.{Fault};
 ghost use Rattle.warc_frame.specs.declared.stream.Event.TheVariants as events;
@@ -103,10 +103,7 @@ impl<A: Allocator + Copy> Decoder<A> {
             → Finishes at taken told result }
         ensures failed { (fault : Fault) → IsFailed self.now fault → result ≡ Err fault }
     {
-        let truncated = Fault {
-            kind: FaultKind::Truncated,
-            offset: self.position,
-        };
+        let truncated = FaultKind::Truncated.at(self.position);
         match self.phase {
             Phase::Failed(fault) => Err(fault),
             Phase::Head => {
@@ -129,7 +126,7 @@ impl<A: Allocator + Copy> Decoder<A> {
         ensures history { (at : ℕ) (taken : List ℕ) (told : Told) → IsAt at taken told self.old →
             MatchResult result (λ r. Takes at taken told self.new piece.now r.0 r.1)
             (λ fault. Refuses at (taken ++ piece.now) told fault) }
-        ensures within { IfOk result (λ r. IsWithin (length piece.now) r.0 r.1) }
+        ensures within { IfOk result (λ r. TakesWithin (length piece.now) r.0 r.1) }
         ensures empty { piece.now ≡ [] → MatchResult result (λ r. r ≡ (0, Event.More)) (IsFailed self.old) }
         ensures err { IfErr result (IsFailed self.new) }
         ensures still { OnErr result (self.new.position ≡ self.old.position) }
@@ -158,16 +155,13 @@ impl<A: Allocator + Copy> Decoder<A> {
             → IsAt at taken told self.old → Near crosses at text (taken ++ near.now)
             → MatchResult result (λ r. Takes at taken told self.new near.now r.0 r.1)
             (λ fault. Refuses at text told fault) }
-        ensures within { IfOk result (λ r. IsWithin (length near.now) r.0 r.1) }
+        ensures within { IfOk result (λ r. TakesWithin (length near.now) r.0 r.1) }
         ensures more { IfOk result (λ r. r.1 ≡ Event.More → crosses ≡ false) }
         ensures still { OnErr result (self.new.position ≡ self.old.position) }
     {
         let start = self.position - self.head.len() as u64;
         let Some(version) = version_across(&self.head, near) else {
-            return Err(Fault {
-                kind: FaultKind::Version,
-                offset: start,
-            });
+            return Err(FaultKind::Version.at(start));
         };
         let room = MAX_HEAD - self.head.len();
         let front = &near[..room.min(near.len())];
@@ -175,22 +169,13 @@ impl<A: Allocator + Copy> Decoder<A> {
             return self.close_head(version, &front[..n]);
         }
         if front.len() == room {
-            return Err(Fault {
-                kind: FaultKind::HeadTooLong,
-                offset: start,
-            });
+            return Err(FaultKind::HeadTooLong.at(start));
         }
         if crosses {
-            return Err(Fault {
-                kind: FaultKind::TooLong,
-                offset: MAX_ARCHIVE,
-            });
+            return Err(FaultKind::TooLong.at(MAX_ARCHIVE));
         }
         if self.head.extend_from_slice(front).is_err() {
-            return Err(Fault {
-                kind: FaultKind::Memory,
-                offset: start,
-            });
+            return Err(FaultKind::Memory.at(start));
         }
         self.position += front.len() as u64;
         Ok((front.len(), Event::More))
@@ -203,7 +188,7 @@ impl<A: Allocator + Copy> Decoder<A> {
         requires some { 0 < length end.now }
         requires room { self.old.position + length end.now ≤ 2 ^ 48 }
         ensures closes { ClosesHead self.old self.new end.now result }
-        ensures within { IfOk result (λ r. IsWithin (length end.now) r.0 r.1) }
+        ensures within { IfOk result (λ r. TakesWithin (length end.now) r.0 r.1) }
         ensures head { IfOk result (λ r. r.1 ≢ Event.More) }
         ensures still { OnErr result (self.new.position ≡ self.old.position) }
     {
@@ -213,10 +198,7 @@ impl<A: Allocator + Copy> Decoder<A> {
             read_fields(alloc, version, end.len(), end)
         } else {
             if self.head.extend_from_slice(end).is_err() {
-                return Err(Fault {
-                    kind: FaultKind::Memory,
-                    offset: start,
-                });
+                return Err(FaultKind::Memory.at(start));
             }
             read_fields(alloc, version, self.head.len(), &self.head)
         };
@@ -232,10 +214,7 @@ impl<A: Allocator + Copy> Decoder<A> {
                     Event::Head(head.version, head.fields, head.block_len),
                 ))
             }
-            Err(fault) => Err(Fault {
-                kind: fault.kind,
-                offset: start + fault.offset,
-            }),
+            Err(fault) => Err(fault.kind.at(start + fault.offset)),
         }
     }
 
@@ -246,17 +225,14 @@ impl<A: Allocator + Copy> Decoder<A> {
             → IsAt at taken told self.old → Near crosses at text (taken ++ near.now)
             → MatchResult result (λ r. Takes at taken told self.new near.now r.0 r.1)
             (λ fault. Refuses at text told fault) }
-        ensures within { IfOk result (λ r. IsWithin (length near.now) r.0 r.1) }
+        ensures within { IfOk result (λ r. TakesWithin (length near.now) r.0 r.1) }
         ensures empty { near.now ≡ [] → crosses ≡ false → result ≡ Ok (0, Event.More) }
         ensures more { IfOk result (λ r. r.1 ≡ Event.More → crosses ≡ false) }
         ensures still { OnErr result (self.new.position ≡ self.old.position) }
     {
         if near.is_empty() {
             if crosses {
-                return Err(Fault {
-                    kind: FaultKind::TooLong,
-                    offset: MAX_ARCHIVE,
-                });
+                return Err(FaultKind::TooLong.at(MAX_ARCHIVE));
             }
             return Ok((0, Event::More));
         }
@@ -277,24 +253,18 @@ impl<A: Allocator + Copy> Decoder<A> {
             → self.old.left ≡ 0 → IsAt at taken told self.old → Near crosses at text (taken ++ near.now)
             → MatchResult result (λ r. Takes at taken told self.new near.now r.0 r.1)
             (λ fault. Refuses at text told fault) }
-        ensures within { IfOk result (λ r. IsWithin (length near.now) r.0 r.1) }
+        ensures within { IfOk result (λ r. TakesWithin (length near.now) r.0 r.1) }
         ensures more { IfOk result (λ r. r.1 ≡ Event.More → crosses ≡ false) }
         ensures still { OnErr result (self.new.position ≡ self.old.position) }
     {
         let want = 4 - self.matched;
         let n = want.min(near.len());
         if !closes_on(&near[..n], self.matched) {
-            return Err(Fault {
-                kind: FaultKind::End,
-                offset: self.position - self.matched as u64,
-            });
+            return Err(FaultKind::End.at(self.position - self.matched as u64));
         }
         if n < want {
             if crosses {
-                return Err(Fault {
-                    kind: FaultKind::TooLong,
-                    offset: MAX_ARCHIVE,
-                });
+                return Err(FaultKind::TooLong.at(MAX_ARCHIVE));
             }
             self.matched += n;
             self.position += n as u64;

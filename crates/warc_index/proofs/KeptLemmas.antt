@@ -1,25 +1,24 @@
 -- What is kept of records, and what look-ups among it say of them.
-use Rattle.std.proofs.Common.{◌≡◌, ℕ, zero, suc, ◌+◌, ◌<◌, ◌≤◌, Bool, true, false, not, ◌&&◌, ◌||◌, List, [], ◌∷◌, ◌++◌, length, take, filter, Option, Some, None, Ok, Err, slice_get, get_or, cond, min, All, refl, sym, ap, subst, ◌∙◌, inl, inr, ◌⊎◌, arith, true≢false, if◌then◌else◌, append_assoc}
-use Rattle.std.specs.Prelude.{nat_lt, IsSome, IsTrue}
+use Rattle.std.proofs.Common.{◌≡◌, ℕ, zero, suc, ◌+◌, ◌<◌, ◌≤◌, Bool, true, false, not, ◌&&◌, ◌||◌, List, [], ◌∷◌, ◌++◌, length, take, filter, Option, Some, None, slice_get, get_or, cond, min, All, refl, sym, ap, subst, ◌∙◌, inl, inr, ◌⊎◌, arith, true≢false, if◌then◌else◌, append_assoc}
+use Rattle.std.specs.Prelude.{nat_lt, IsSome}
 use Rattle.std.specs.Option.{option_to_list}
 use Rattle.std.specs.List.{Contains, position, position_or_len}
 use Rattle.std.proofs.lemmas.List.Sums.{position_or_len_is}
 use Rattle.std.proofs.lemmas.Option.{slice_get_within, slice_get-get_or, get_or_from_slice_get}
-use Rattle.std.specs.Str.{bytes_eq}
 use Rattle.std.proofs.lemmas.Bool.{cases_Bool, cases_lt, and_from, and_parts}
 use Rattle.std.proofs.lemmas.Bool.Decides.{nat_tests}
-use Rattle.std.proofs.lemmas.List.{append-nil, length-append, length-take-le, take_all}
+use Rattle.std.proofs.lemmas.List.{append-nil, map-append, length-append, length-take-le, take_all, take-map}
 use Rattle.std.proofs.lemmas.List.Elements.{All-head, All-tail, All-push, All-cons, All-append, All-weaker, All-take, filter-append, filter_passes}
 use Rattle.std.proofs.lemmas.Slice.Eq.{bytes_eq-Decides}
-use Rattle.warc_value.specs.Dates.{Instant, is_before}
+use Rattle.warc_value.specs.Dates.{Instant}
 use Rattle.warc_record.specs.Texts.{is_text}
 use Rattle.warc_order.specs.declared.mark.Mark.{Mark}
 use Rattle.warc_order.specs.Entries.{Entry, entry_of, mark_lt, is_later as is_later_entry, IsUpTo, IsFrom, IsLast, IsFirst, IsNone}
-use Rattle.warc_index.specs.declared.unfound.Unfound.TheVariants.{NoCapture, NotYet}
-use Rattle.warc_index.specs.Captures.{Indexed, is_capture, is_capture_of, is_earlier, is_by, is_later, chosen_of, IsChosen, SomePasses, NonePasses}
+use Rattle.warc_index.specs.Captures.{Indexed, is_capture, is_capture_of, is_earlier, is_by, is_later, IsChosen, SomePasses, NonePasses}
 use Rattle.warc_index.specs.Referents.{has_key, by_key, first_with}
-use Rattle.warc_index.specs.Orders.{IsBelow, instant_mark, kind_mark, id_entry_of, id_entry, target_entry, capture_entry, entries_from, Kept, IsKeptOf}
-use Rattle.warc_index.proofs.ChoiceLemmas.{chosen_is_latest}
+use Rattle.warc_index.specs.Links.{Link}
+use Rattle.warc_index.specs.Linked.{instant_mark, link_of}
+use Rattle.warc_index.specs.Orders.{IsBelow, kind_mark, id_entry_of, id_entry, target_entry, capture_entry, entries_from, Kept, IsKeptOf, ArePlacedOf}
 
 -- ---- entries and records
 
@@ -145,18 +144,18 @@ pub capture_has : (p : ℕ) (r : Indexed) (t : List ℕ) (i : Instant) → is_ca
 capture_has p r t i k h j = ap (λ b. if b then target_entry p r.target r.instant else None) k
     ∙ (ap (λ x. target_entry p x r.instant) h ∙ ap (λ x. target_entry p (Some t) x) j)
 
-text_found : (uri : List ℕ) (found : Option (List ℕ)) → is_text uri found ≡ true → found ≡ Some uri
+pub text_found : (uri : List ℕ) (found : Option (List ℕ)) → is_text uri found ≡ true → found ≡ Some uri
 text_found uri None e = absurd (true≢false (sym e))
 text_found uri (Some t) e = ap Some (sym ((bytes_eq-Decides uri t).0 e))
 
-text_is : (uri : List ℕ) (found : Option (List ℕ)) → found ≡ Some uri → is_text uri found ≡ true
+pub text_is : (uri : List ℕ) (found : Option (List ℕ)) → found ≡ Some uri → is_text uri found ≡ true
 text_is uri found e = ap (is_text uri) e ∙ (bytes_eq-Decides uri uri).1 refl
 
 some_instant : (o : Option Instant) → IsSome o → (i : Instant) × (o ≡ Some i)
 some_instant None it = absurd (true≢false (sym it))
 some_instant (Some i) it = (i, refl)
 
-timed_at : (all : List Indexed) (k : ℕ) (r : Indexed) → All (λ (r : Indexed). IsSome r.instant) all →
+pub timed_at : (all : List Indexed) (k : ℕ) (r : Indexed) → All (λ (r : Indexed). IsSome r.instant) all →
     slice_get all k ≡ Some r → IsSome r.instant
 timed_at [] k r timed at = cc
 timed_at (x ∷ all) zero r timed at = let same : x ≡ r = (cc) in subst (λ (y : Indexed). IsSome y.instant) same
@@ -183,15 +182,15 @@ capture_stands all uri q r timed at hit =
           z ∙ capture_has q r uri i.0 both.0 (text_found uri r.target both.1) i.1);
     }
 
-by_mark : (m : Instant) (r : Indexed) (i : Instant) → r.instant ≡ Some i →
+pub by_mark : (m : Instant) (r : Indexed) (i : Instant) → r.instant ≡ Some i →
     is_by (Some m) r ≡ not (mark_lt (instant_mark m) (instant_mark i))
 by_mark m r i e = ap (λ x. not (is_earlier (Some m) x)) e
 
-not_true : (b : Bool) → not b ≡ true → b ≡ false
+pub not_true : (b : Bool) → not b ≡ true → b ≡ false
 not_true true e = absurd (true≢false (sym e))
 not_true false e = refl
 
-later_same : (p q : ℕ) (r s : Indexed) (t u : List ℕ) (i j : Instant) → r.instant ≡ Some i → s.instant ≡ Some j →
+pub later_same : (p q : ℕ) (r s : Indexed) (t u : List ℕ) (i j : Instant) → r.instant ≡ Some i → s.instant ≡ Some j →
     is_later (q, s) (p, r) ≡ is_later_entry (entry_of u (instant_mark j) q) (entry_of t (instant_mark i) p)
 later_same p q r s t u i j e f = ap (λ x. is_earlier x s.instant || (not (is_earlier s.instant x) && nat_lt p q)) e
     ∙ ap (λ x. is_earlier (Some i) x || (not (is_earlier x (Some i)) && nat_lt p q)) f
@@ -367,8 +366,9 @@ entries_take entry says p (suc n) (r ∷ all) =
 
 pub kept_more : (all : List Indexed) (kept more : Kept) (r : Indexed) → IsSome r.instant → IsKeptOf all kept →
     more.count ≡ kept.count + 1 → more.ids ≡ kept.ids ++ option_to_list (id_entry kept.count r) →
-    more.captures ≡ kept.captures ++ option_to_list (capture_entry kept.count r) → IsKeptOf (all ++ r ∷ []) more
-kept_more all kept more r timed it n i c =
+    more.captures ≡ kept.captures ++ option_to_list (capture_entry kept.count r) →
+    more.links ≡ kept.links ++ link_of r ∷ [] → IsKeptOf (all ++ r ∷ []) more
+kept_more all kept more r timed it n i c l2 =
     let l : length (all ++ r ∷ []) ≡ length all + 1 = length-append all (r ∷ []) in
     let z : 0 + length all ≡ kept.count = omega (arith, it.count) in
     record {
@@ -380,12 +380,14 @@ kept_more all kept more r timed it n i c =
       captures = c ∙ (ap (λ es. es ++ option_to_list (capture_entry kept.count r)) it.captures
           ∙ (ap (λ m. entries_from capture_entry 0 all ++ option_to_list (capture_entry m r)) (sym z)
           ∙ sym (entries_push capture_entry 0 all r)));
+      links = l2 ∙ (ap (λ ls. ls ++ link_of r ∷ []) it.links ∙ sym (map-append link_of all (r ∷ [])));
     }
 
 pub kept_fewer : (all : List Indexed) (kept less : Kept) (n : ℕ) → n < kept.count → IsKeptOf all kept →
     less.count ≡ n → less.ids ≡ filter (λ e. nat_lt e.position n) kept.ids →
-    less.captures ≡ filter (λ e. nat_lt e.position n) kept.captures → IsKeptOf (take n all) less
-kept_fewer all kept less n lt it l i c =
+    less.captures ≡ filter (λ e. nat_lt e.position n) kept.captures → less.links ≡ take n kept.links →
+    IsKeptOf (take n all) less
+kept_fewer all kept less n lt it l i c l2 =
     let k : kept.count ≡ length all = it.count in
     let z : 0 + n ≡ n = omega arith in
     record {
@@ -397,6 +399,7 @@ kept_fewer all kept less n lt it l i c =
       captures = c ∙ (ap (λ es. filter (λ e. nat_lt e.position n) es) it.captures
           ∙ (ap (λ m. filter (λ e. nat_lt e.position m) (entries_from capture_entry 0 all)) (sym z)
           ∙ sym (entries_take capture_entry capture_says 0 n all)));
+      links = l2 ∙ (ap (take n) it.links ∙ take-map link_of n all);
     }
 
 pub kept_same : (all : List Indexed) (kept : Kept) (n : ℕ) → kept.count ≤ n → IsKeptOf all kept →
@@ -413,7 +416,7 @@ below_kept es n k d h = lt_holds _ n (filter_passes (λ (e : Entry). nat_lt e.po
 
 -- ---- the first with an id
 
-position_at : (t : Indexed → Bool) (all : List Indexed) (k : ℕ) (r : Indexed) → slice_get all k ≡ Some r →
+pub position_at : (t : Indexed → Bool) (all : List Indexed) (k : ℕ) (r : Indexed) → slice_get all k ≡ Some r →
     t r ≡ true → ((j : ℕ) (s : Indexed) → j < k → slice_get all j ≡ Some s → t s ≡ false) → position t all ≡ Some k
 position_at t all k r at hit miss =
     let lt : k < length all = slice_get_within all k r at in
@@ -423,7 +426,7 @@ position_at t all k r at hit miss =
     ap (λ n. cond (nat_lt n (length all)) (Some n) None) first
     ∙ ap (λ b. cond b (Some k) None) (lt_true k (length all) lt)
 
-position_none : (t : Indexed → Bool) (all : List Indexed) → ((j : ℕ) (s : Indexed) → slice_get all j ≡ Some s →
+pub position_none : (t : Indexed → Bool) (all : List Indexed) → ((j : ℕ) (s : Indexed) → slice_get all j ≡ Some s →
     t s ≡ false) → position t all ≡ None
 position_none t [] miss = refl
 position_none t (x ∷ all) miss =
@@ -682,3 +685,13 @@ none_with all key none =
       }))
       | inr miss ↦ miss
     ])
+
+-- ---- the captures and the links alone
+
+pub placed_of : (all : List Indexed) (count : ℕ) (ids es : List Entry) (ls : List Link) (kept : Kept) →
+    record { count = count; ids = ids; captures = es; links = ls } ≡ kept → IsKeptOf all kept → ArePlacedOf all es ls
+placed_of all count ids es ls kept is it = record {
+  timed = it.timed;
+  captures = ap (λ (k : Kept). k.captures) is ∙ it.captures;
+  links = ap (λ (k : Kept). k.links) is ∙ it.links;
+}

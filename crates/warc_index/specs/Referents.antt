@@ -80,6 +80,10 @@ origin_within (suc steps) all p =
 abbrev pub origin_of : List Indexed → ℕ → Result ℕ Unfound
 origin_of all p = origin_within (length all) all p
 
+-- the origin of a record is one of the records
+abbrev pub OriginsStand : Type 0
+OriginsStand = (all : List Indexed) (p q : ℕ) → p < length all → origin_of all p ≡ Ok q → q < length all
+
 -- where the chain goes on from p, none where it ends or breaks
 abbrev pub next_of : List Indexed → ℕ → Option ℕ
 next_of all p = if is_revisit_at all p then result_ok (referent_at all (slice_get all p)) else None

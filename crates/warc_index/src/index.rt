@@ -1,43 +1,29 @@
 //! The records of an archive, found by target and instant, and by id.
 
-ghost use Rattle.std.specs.Prelude.{◌≡◌, ◌+◌, ◌<◌, [], ◌∷◌, ◌++◌, List, length, min, take, OnOk, OnErr, IfSome, All};
-ghost use Rattle.std.specs.Prelude.{Some};
+ghost use Rattle.std.specs.Prelude.{◌≡◌, ◌<◌, [], ◌∷◌, ◌++◌, List, Some, not, length, min, take, ok_or};
+ghost use Rattle.std.specs.Prelude.{OnOk, OnErr, All, IsSome};
 ghost use Rattle.std.specs.Option.{option_to_list};
-ghost use Rattle.std.specs.List.{sum_by};
+ghost use Rattle.warc_value.specs.Dates.{Instant};
 ghost use Rattle.warc_record.specs.Seen.{said};
-ghost use Rattle.warc_index.specs.Captures.{Indexed, indexed_of, is_capture, chosen_of};
-ghost use Rattle.warc_index.specs.Referents.{by_key, first_with};
-ghost use Rattle.warc_index.specs.Orders.{IsKeptOf, id_entry, capture_entry, instant_mark, kind_mark};
+ghost use Rattle.warc_index.specs.declared.unfound.Unfound.TheVariants.{NoReference, Unresolved};
+ghost use Rattle.warc_index.specs.Captures.{Indexed, indexed_of, chosen_of};
+ghost use Rattle.warc_index.specs.Referents.{by_key, by_pair, by_payload, first_with, is_revisit_at};
+ghost use Rattle.warc_index.specs.Referents.{referent_of, origin_of};
+ghost use Rattle.warc_index.specs.Links.{link_seen};
+ghost use Rattle.warc_index.specs.Linked.{instant_mark, revisit_link};
+ghost use Rattle.warc_index.specs.Orders.{IsKeptOf, IsBelow, id_entry, capture_entry, text_bytes};
+ghost use Rattle.warc_index.specs.Orders.{step_of};
 
+use crate::key::{OTHERS, capture_key, id_key};
+use crate::link::{FIRST, Link, Links, Role};
+use crate::linked::{link_of, mark_at};
+use crate::lookup::{capture_with, ends_chain, first_of_pair, latest_of_payload};
 use crate::unfound::Unfound;
 use std::alloc::{AllocError, Allocator, Global};
 use std::marker::Model;
-use warc_order::{Mark, Order};
-use warc_record::{IdKey, Kind, Typed};
+use warc_order::Order;
+use warc_record::{IdKey, Typed};
 use warc_value::Moment;
-
-/// The least mark.
-const FIRST: Mark = Mark { major: 0, minor: 0 };
-
-/// The mark of records that are no captures, in the order by id.
-const OTHERS: Mark = Mark { major: 1, minor: 0 };
-
-/// Whether a record of this kind can answer: a response, a resource or a revisit.
-fn is_capture(kind: Kind) -> bool
-    ensures { result ≡ is_capture kind }
-{
-    matches!(kind, Kind::Response | Kind::Resource | Kind::Revisit)
-}
-
-/// The mark of an instant.
-fn mark_at(moment: &Moment) -> Mark
-    ensures { result ≡ instant_mark moment.now }
-{
-    Mark {
-        major: moment.day(),
-        minor: moment.nanosecond(),
-    }
-}
 
 /// Adds a record to the order by id.
 fn put_id<A: Allocator + Copy, B: Allocator>(
@@ -50,12 +36,8 @@ fn put_id<A: Allocator + Copy, B: Allocator>(
         (said typed.now)))) }
     ensures err { OnErr result (order.new ≡ order.old) }
 {
-    let mark = if is_capture(typed.kind) {
-        FIRST
-    } else {
-        OTHERS
-    };
-    order.add(typed.id.bytes(), mark, position)
+    let key = id_key(typed);
+    order.add(key.text, key.mark, position)
 }
 
 /// Adds a record to the order by target and instant, if it is a capture with a target.
@@ -69,12 +51,36 @@ fn put_capture<A: Allocator + Copy, B: Allocator>(
         (said typed.now)))) }
     ensures err { OnErr result (order.new ≡ order.old) }
 {
-    if !is_capture(typed.kind) {
-        return Ok(());
-    }
-    match &typed.target {
-        Some(target) => order.add(target.bytes(), mark_at(&typed.moment), position),
+    match capture_key(typed) {
+        Some(key) => order.add(key.text, key.mark, position),
         None => Ok(()),
+    }
+}
+
+/// Adds a record to both orders.
+fn put<A: Allocator + Copy, B: Allocator>(
+    by_id: &mut Order<A>,
+    by_target: &mut Order<A>,
+    position: usize,
+    typed: &Typed<B>,
+) -> Result<(), AllocError>
+    requires ids { All (λ e. e.position < position) by_id.old }
+    requires captures { All (λ e. e.position < position) by_target.old }
+    ensures ids { OnOk result (by_id.new ≡ by_id.old ++ option_to_list (id_entry position (indexed_of
+        (said typed.now)))) }
+    ensures captures { OnOk result (by_target.new ≡ by_target.old ++ option_to_list (capture_entry position (indexed_of
+        (said typed.now)))) }
+    ensures err_ids { OnErr result (by_id.new ≡ by_id.old) }
+    ensures err_captures { OnErr result (by_target.new ≡ by_target.old) }
+{
+    put_id(by_id, position, typed)?;
+    match put_capture(by_target, position, typed) {
+        Ok(()) => Ok(()),
+        Err(refused) => {
+            // What was added is taken back, which takes no memory.
+            by_id.forget_after(position);
+            Err(refused)
+        }
     }
 }
 
@@ -84,17 +90,22 @@ pub struct Index<A: Allocator = Global> {
     count: usize,
     by_id: Order<A>,
     by_target: Order<A>,
+    links: Links<A>,
 }
 
 impl<A: Allocator> Model for Index<A> {
-    ghost use Rattle.std.specs.Prelude.{◌<◌, All};
+    ghost use Rattle.std.specs.Prelude.{◌≡◌, length};
     ghost use Rattle.warc_index.specs.Orders.{Kept, IsBelow};
 
     ghost Value = { Kept };
 
-    ghost view = { λ s. record { count = s.count; ids = s.by_id; captures = s.by_target } };
+    ghost view = { λ s. record { count = s.count; ids = s.by_id; captures = s.by_target; links = s.links } };
 
-    ghost invariant = { λ s. record { ids : IsBelow s.count s.by_id; captures : IsBelow s.count s.by_target } };
+    ghost invariant = { λ s. record {
+      ids : IsBelow s.count s.by_id;
+      captures : IsBelow s.count s.by_target;
+      links : length s.links ≡ s.count;
+    } };
 }
 
 impl<A: Allocator + Copy> Index<A> {
@@ -106,6 +117,27 @@ impl<A: Allocator + Copy> Index<A> {
             count: 0,
             by_id: Order::new(alloc),
             by_target: Order::new(alloc),
+            links: Links::new(alloc),
+        }
+    }
+
+    /// An index of these parts.
+    pub(crate) fn of(
+        count: usize,
+        by_id: Order<A>,
+        by_target: Order<A>,
+        links: Links<A>,
+    ) -> Index<A>
+        requires ids { IsBelow count by_id }
+        requires captures { IsBelow count by_target }
+        requires links { length links ≡ count }
+        ensures { result ≡ record { count = count; ids = by_id; captures = by_target; links = links } }
+    {
+        Index {
+            count,
+            by_id,
+            by_target,
+            links,
         }
     }
 
@@ -119,15 +151,14 @@ impl<A: Allocator + Copy> Index<A> {
         let Some(count) = position.checked_add(1) else {
             return Err(AllocError);
         };
-        put_id(&mut self.by_id, position, typed)?;
-        match put_capture(&mut self.by_target, position, typed) {
+        self.links.push(&link_of(typed))?;
+        match put(&mut self.by_id, &mut self.by_target, position, typed) {
             Ok(()) => {
                 self.count = count;
                 Ok(())
             }
             Err(refused) => {
-                // What was added is taken back, which takes no memory.
-                self.by_id.forget_after(position);
+                self.links.truncate(position);
                 Err(refused)
             }
         }
@@ -140,17 +171,17 @@ impl<A: Allocator + Copy> Index<A> {
         if count < self.count {
             self.by_id.forget_after(count);
             self.by_target.forget_after(count);
+            self.links.truncate(count);
             self.count = count;
         }
     }
 
-    /// The bytes of the ids' keys and of the targets that are kept.
+    /// The bytes of the texts that are kept: ids' keys, targets, payload digests and what revisits name.
     pub fn kept(&self) -> u64
-        ensures { result ≡ min
-            (sum_by (λ e. length e.text) self.now.ids + sum_by (λ e. length e.text) self.now.captures)
-            18446744073709551615 }
+        ensures { result ≡ min (text_bytes self.now) 18446744073709551615 }
     {
-        self.by_id.kept().saturating_add(self.by_target.kept())
+        let orders = self.by_id.kept().saturating_add(self.by_target.kept());
+        orders.saturating_add(self.links.kept())
     }
 
     /// The latest capture of a target that isn't after a moment, by its position. `Err`: P1 where no capture has the
@@ -171,10 +202,14 @@ impl<A: Allocator + Copy> Index<A> {
     pub fn by_key<B: Allocator>(&self, key: &IdKey<B>) -> Option<usize>
         ensures { (all : List Indexed) → IsKeptOf all self.now → result ≡ by_key all key.now }
     {
-        match self.by_id.first_from(key.bytes(), FIRST) {
-            Some(found) if self.by_id.mark(found).major == 0 => Some(self.by_id.position(found)),
-            _ => None,
-        }
+        capture_with(&self.by_id, key.bytes())
+    }
+
+    /// The first response or resource of a target and an instant, by its position.
+    pub fn by_pair(&self, target: &[u8], moment: &Moment) -> Option<usize>
+        ensures { (all : List Indexed) → IsKeptOf all self.now → result ≡ by_pair all (target.now, moment.now) }
+    {
+        first_of_pair(&self.by_target, &self.links, target, mark_at(moment))
     }
 
     /// The first record of any kind with an id, by its position.
@@ -187,6 +222,100 @@ impl<A: Allocator + Copy> Index<A> {
                 None => Some(self.by_id.position(first)),
             },
             None => None,
+        }
+    }
+
+    /// The first response or resource of the pair that a link names.
+    fn named_pair(&self, link: &Link<'_>) -> Result<usize, Unfound>
+        ensures { (all : List Indexed) → IsKeptOf all self.now → (instant : Instant)
+            → link.now.mark ≡ instant_mark instant
+            → result ≡ ok_or (by_pair all (link.now.second.now, instant)) Unresolved }
+    {
+        match first_of_pair(&self.by_target, &self.links, link.second, link.mark) {
+            Some(position) => Ok(position),
+            None => Err(Unfound::Unresolved),
+        }
+    }
+
+    /// The response or resource of the target and the payload digest that a link holds.
+    fn same_payload(&self, link: &Link<'_>) -> Result<usize, Unfound>
+        ensures { (all : List Indexed) → IsKeptOf all self.now → (revisit : Indexed)
+            → revisit.target ≡ Some link.now.second.now → revisit.payload_digest ≡ Some link.now.first.now
+            → (instant : Instant) → revisit.instant ≡ Some instant → link.now.mark ≡ instant_mark instant
+            → result ≡ ok_or (by_payload all revisit) NoReference }
+    {
+        match latest_of_payload(
+            &self.by_target,
+            &self.links,
+            link.second,
+            link.first,
+            link.mark,
+        ) {
+            Some(position) => Ok(position),
+            None => Err(Unfound::NoReference),
+        }
+    }
+
+    /// The record that a link leads to.
+    fn referent(&self, link: &Link<'_>) -> Result<usize, Unfound>
+        ensures { (all : List Indexed) → IsKeptOf all self.now → (r : Indexed) → IsSome r.instant
+            → link_seen link.now ≡ revisit_link r.reference.known_profile r → result ≡ referent_of all r }
+    {
+        match link.role {
+            Role::NamesId => match capture_with(&self.by_id, link.first) {
+                Some(position) => Ok(position),
+                None => Err(Unfound::Unresolved),
+            },
+            Role::NamesPair => self.named_pair(link),
+            Role::NamesBoth => match capture_with(&self.by_id, link.first) {
+                Some(position) => Ok(position),
+                None => self.named_pair(link),
+            },
+            Role::NamesNothing => self.same_payload(link),
+            Role::UnknownProfile => Err(Unfound::UnknownProfile),
+            _ => Err(Unfound::NoReference),
+        }
+    }
+
+    /// Whether a chain ends at a position: whether the record there is no revisit.
+    fn ends(&self, position: usize) -> bool
+        ensures { (all : List Indexed) → IsKeptOf all self.now → result ≡ not (is_revisit_at all position) }
+    {
+        ends_chain(&self.links, position)
+    }
+
+    /// The record that the one at a position refers to, `None` where it is no revisit.
+    fn next(&self, position: usize) -> Result<Option<usize>, Unfound>
+        ensures { (all : List Indexed) → IsKeptOf all self.now → result ≡ step_of all position }
+    {
+        if self.ends(position) {
+            return Ok(None);
+        }
+        match self.referent(&self.links.link(position)) {
+            Ok(next) => Ok(Some(next)),
+            Err(unfound) => Err(unfound),
+        }
+    }
+
+    /// The origin of the capture at a position: the capture itself, or what a revisit leads to in the end. `Err`: P3
+    /// where the profile of a revisit isn't known; P4 where one names nothing and no payload of its target by its own
+    /// instant has its digest; P5 where what one names isn't there; P6 where they lead back. It takes no memory, and
+    /// as many look-ups as there are revisits on the way, never more than there are records.
+    pub fn origin(&self, position: usize) -> Result<usize, Unfound>
+        ensures { (all : List Indexed) → IsKeptOf all self.now → result ≡ origin_of all position }
+    {
+        let mut at = position;
+        for _step in 0..self.count {
+            match self.next(at) {
+                Ok(Some(next)) => at = next,
+                Ok(None) => return Ok(at),
+                Err(unfound) => return Err(unfound),
+            }
+        }
+        if self.ends(at) {
+            Ok(at)
+        } else {
+            Err(Unfound::Loop)
         }
     }
 }

@@ -1,6 +1,6 @@
 //! Laws over the definitions: functions that do nothing, each with a law as its contract.
 ghost use Rattle.warc_index.specs.Captures.{ChosenIsLatest, LatestIsLast};
-ghost use Rattle.warc_index.specs.Referents.{ChainLoops};
+ghost use Rattle.warc_index.specs.Referents.{ChainLoops, OriginsStand};
 ghost use Rattle.warc_index.specs.Walks.{LoopsWhereUnfinished};
 
 /// Among n positions, a walk hasn't ended after n steps exactly if it comes back to one that it has left.
@@ -17,6 +17,11 @@ pub fn latest_is_last()
 /// position. There is none where no capture has the target, or where some has and none is early enough.
 pub fn chosen_is_latest()
     ensures { ChosenIsLatest }
+{}
+
+/// The origin of a record is one of the records.
+pub fn origins_stand()
+    ensures { OriginsStand }
 {}
 
 /// A capture has no origin for a loop exactly if the chain of referents comes back to a record that it has left.

@@ -29,9 +29,10 @@ fn part(bytes: &[u8], start: usize, end: usize) -> &[u8]
     &bytes[start..end]
 }
 
-/// Entries as one vector of lines and one of the bytes of their texts.
+/// Entries in the order in which they were added, and in no other: one vector of lines and one of the bytes of their
+/// texts.
 #[derive(Drop)]
-pub(crate) struct Entries<A: Allocator> {
+pub struct Entries<A: Allocator> {
     lines: Vec<Line, A>,
     bytes: Vec<u8, A>,
 }
@@ -52,7 +53,8 @@ impl<A: Allocator> Model for Entries<A> {
 }
 
 impl<A: Allocator + Copy> Entries<A> {
-    pub(crate) fn new(alloc: A) -> Entries<A>
+    /// No entries.
+    pub fn new(alloc: A) -> Entries<A>
         ensures { result.list ≡ [] }
     {
         Entries {
@@ -66,14 +68,14 @@ impl<A: Allocator + Copy> Entries<A> {
     }
 
     /// How many entries there are.
-    pub(crate) fn len(&self) -> usize
+    pub fn len(&self) -> usize
         ensures { result ≡ length self.now.list }
     {
         self.lines.len()
     }
 
     /// The sum of the texts' lengths.
-    pub(crate) fn kept(&self) -> u64
+    pub fn kept(&self) -> u64
         ensures { result ≡ sum_by (λ e. length e.text) self.now.list }
     {
         self.bytes.len() as u64
@@ -88,7 +90,7 @@ impl<A: Allocator + Copy> Entries<A> {
     }
 
     /// The text at an index, or the empty text past the end.
-    pub(crate) fn text(&self, i: usize) -> &[u8]
+    pub fn text(&self, i: usize) -> &[u8]
         ensures { result.now ≡ (entry_at self.now.list i).text }
     {
         if i < self.len() {
@@ -101,7 +103,7 @@ impl<A: Allocator + Copy> Entries<A> {
     }
 
     /// The mark at an index, or the least mark past the end.
-    pub(crate) fn mark(&self, i: usize) -> Mark
+    pub fn mark(&self, i: usize) -> Mark
         ensures { result ≡ (entry_at self.now.list i).mark }
     {
         if i < self.len() {
@@ -116,7 +118,7 @@ impl<A: Allocator + Copy> Entries<A> {
     }
 
     /// The position at an index, or 0 past the end.
-    pub(crate) fn position(&self, i: usize) -> usize
+    pub fn position(&self, i: usize) -> usize
         ensures { result ≡ (entry_at self.now.list i).position }
     {
         if i < self.len() {
@@ -145,7 +147,7 @@ impl<A: Allocator + Copy> Entries<A> {
     }
 
     /// Makes room for one more entry whose text has so many bytes.
-    pub(crate) fn reserve_for(&mut self, bytes: usize) -> Result<(), AllocError>
+    pub fn reserve_for(&mut self, bytes: usize) -> Result<(), AllocError>
         ensures list { self.new.list ≡ self.old.list }
         ensures lines { OnOk result (0 < self.new.free_lines) }
         ensures bytes { OnOk result (bytes ≤ self.new.free_bytes) }
@@ -154,8 +156,8 @@ impl<A: Allocator + Copy> Entries<A> {
         self.bytes.reserve(bytes)
     }
 
-    /// Adds an entry for which there is room.
-    pub(crate) fn push_reserved(&mut self, text: &[u8], mark: Mark, position: u32)
+    /// Adds an entry, for which `reserve_for` has made room.
+    pub fn push_reserved(&mut self, text: &[u8], mark: Mark, position: u32)
         requires lines { 0 < self.old.free_lines }
         requires bytes { length text.now ≤ self.old.free_bytes }
         ensures { self.new.list ≡ self.old.list ++ entry_of text.now mark position ∷ [] }
@@ -174,7 +176,7 @@ impl<A: Allocator + Copy> Entries<A> {
     }
 
     /// Keeps the first so many entries. It takes no memory.
-    pub(crate) fn truncate(&mut self, count: usize)
+    pub fn truncate(&mut self, count: usize)
         ensures { self.new.list ≡ take count self.old.list }
     {
         if count < self.len() {

@@ -28,7 +28,7 @@ mod mark;
 mod ranked;
 mod slot;
 
-use entries::Entries;
+pub use entries::Entries;
 pub use mark::Mark;
 use ranked::{Place, Ranked};
 use std::alloc::{AllocError, Allocator, Global};

@@ -1,3 +1,5 @@
+mod ByteLemmas
+mod KindLemmas
 mod UuidLemmas
 mod ValueLemmas
 mod HeadLemmas

@@ -9,3 +9,4 @@ pub mod Seen
 pub mod Table
 pub mod Findings
 pub mod FindingLaws
+pub mod Blocks

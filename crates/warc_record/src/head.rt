@@ -1,16 +1,15 @@
-ghost use Rattle.std.specs.Prelude.{◌≡◌, IfOk, MatchResult, Some, None, true, codes, option_map};
+ghost use Rattle.std.specs.Prelude.{◌≡◌, [], IfOk, MatchResult, Some, None, true, codes, option_map, unwrap_or};
 ghost use Rattle.warc_field.specs.Area.{first_value};
 ghost use Rattle.warc_value.specs.Dates.{instant_of};
 ghost use Rattle.warc_frame.specs.FaultText.{name_of};
 ghost use Rattle.warc_record.specs.Ids.{is_id};
-ghost use Rattle.warc_record.specs.Readings.{both, present_bare, instant_in, reference_of, segment_of, digest_wanted, reading_of};
+ghost use Rattle.warc_record.specs.Readings.{both, present_bare, instant_in, reference_of, segment_of, digest_wanted, reading_of, target_of};
 ghost use Rattle.warc_record.specs.Heads.{count_fault, type_fault, id_fault, head_fault};
 ghost use Rattle.warc_record.specs.Seen.{pair_said, reference_said, segment_said, said, RefusesFor};
 
 use crate::ids::{IdKey, bare, id_key, is_bare_id};
 use crate::readings::{
     SegmentNumber, bare_in, is_known_profile, key_in, number_in, present, segment_number, text_in,
-    value_of,
 };
 use crate::types::Kind;
 use std::alloc::{AllocError, Allocator, Global};
@@ -210,9 +209,9 @@ fn read_typed<A: Allocator + Copy>(
     };
     Ok(Typed {
         kind: Kind::named(type_text.bytes()),
-        type_text: value_of(alloc, type_text.bytes())?,
-        id_text: value_of(alloc, id_text.bytes())?,
-        date_text: value_of(alloc, date_text.bytes())?,
+        type_text: Value::from_checked(alloc, type_text.bytes())?,
+        id_text: Value::from_checked(alloc, id_text.bytes())?,
+        date_text: Value::from_checked(alloc, date_text.bytes())?,
         id,
         moment,
         target: bare_in(alloc, fields, b"WARC-Target-URI")?,
@@ -242,5 +241,68 @@ pub fn type_head<A: Allocator + Copy>(alloc: A, fields: &Fields<A>) -> Result<Ty
     match read_typed(alloc, fields, type_text, id_text, date_text, moment) {
         Ok(typed) => Ok(typed),
         Err(_) => Err(FaultKind::Memory),
+    }
+}
+
+/// The digest that a head wants of its block, or the first refusal of its type, its id and its date, in the order of
+/// `type_head`. It takes no memory.
+pub fn judge_head<A: Allocator>(fields: &Fields<A>) -> Result<Wanted, FaultKind>
+    ensures { MatchResult result
+        (λ wanted. (head_fault fields.now ≡ None) × (wanted ≡ digest_wanted fields.now))
+        (λ fault. head_fault fields.now ≡ Some fault) }
+{
+    type_text(fields)?;
+    id_text(fields)?;
+    let date_text = only(fields, Mandatory::Date)?;
+    match read_date(date_text.bytes()) {
+        Some(_) => Ok(wanted(fields)),
+        None => Err(FaultKind::Date),
+    }
+}
+
+/// The texts of a head that are listed, each empty where it is absent, and whether the record is marked as truncated.
+#[derive(Clone, Copy)]
+pub struct HeadTexts<'a> {
+    pub kind: &'a [u8],
+    pub date: &'a [u8],
+    pub id: &'a [u8],
+    pub target: &'a [u8],
+    pub is_truncated: bool,
+}
+
+/// The value of the first field of the name, empty where there is none.
+fn first_or_empty<'a, A: Allocator>(fields: &'a Fields<A>, name: &[u8]) -> &'a [u8]
+    ensures { result.now ≡ unwrap_or (first_value name.now fields.now) [] }
+{
+    match fields.first(name) {
+        Some(value) => value.bytes(),
+        None => b"",
+    }
+}
+
+/// The bare text of the head's target, empty where it is absent.
+fn bare_target<A: Allocator>(fields: &Fields<A>) -> &[u8]
+    ensures { result.now ≡ unwrap_or (target_of fields.now) [] }
+{
+    match present(fields, b"WARC-Target-URI") {
+        Some(value) => bare(value.bytes()),
+        None => b"",
+    }
+}
+
+/// What of a head is listed: the values of its type, date and id as they stand, and its target without brackets.
+pub fn head_texts<A: Allocator>(fields: &Fields<A>) -> HeadTexts<'_>
+    ensures kind { result.kind.now ≡ unwrap_or (reading_of fields.now).type_text [] }
+    ensures date { result.date.now ≡ unwrap_or (reading_of fields.now).date_text [] }
+    ensures id { result.id.now ≡ unwrap_or (reading_of fields.now).id_text [] }
+    ensures target { result.target.now ≡ unwrap_or (reading_of fields.now).target [] }
+    ensures truncated { result.is_truncated ≡ (reading_of fields.now).truncated }
+{
+    HeadTexts {
+        kind: first_or_empty(fields, b"WARC-Type"),
+        date: first_or_empty(fields, b"WARC-Date"),
+        id: first_or_empty(fields, b"WARC-Record-ID"),
+        target: bare_target(fields),
+        is_truncated: present(fields, b"WARC-Truncated").is_some(),
     }
 }

@@ -6,9 +6,11 @@ ghost use Rattle.std.specs.Cmp.Rules.{comparing};
 ghost use Rattle.std.specs.Cmp.Lexicographic.{slice_cmp, pointwise};
 ghost use Rattle.std.specs.Ordering.{nat_cmp, as_partial_cmp};
 ghost use Rattle.uuid.specs.Text.{parsed_urn};
+ghost use Rattle.warc_field.specs.Text.{is_blank};
 ghost use Rattle.warc_record.specs.Keys.{form_bytes};
 ghost use Rattle.warc_record.specs.Ids.{is_bracket, ends_id, is_bracketed, bare_text, is_bare_id, id_key, key_of};
 
+use memchr::memchr2;
 use std::alloc::{AllocError, Allocator, Global};
 use std::cmp::Ordering;
 use std::marker::Model;
@@ -95,26 +97,20 @@ impl<A: Allocator> Ord for IdKey<A> {
     }
 }
 
-/// Whether the byte is `<` or `>`.
-fn is_bracket(byte: u8) -> bool
-    ensures { result ≡ is_bracket byte }
-{
-    byte == b'<' || byte == b'>'
-}
-
-/// Whether a bracket stands in the text.
+/// Whether a bracket stands in the text, `<` or `>`.
+#[tactic(auto, using(crate::proofs::ByteLemmas::bracket_found))]
 fn holds_bracket(text: &[u8]) -> bool
     ensures { result ≡ list_any is_bracket text.now }
 {
-    text.iter().any(|byte| is_bracket(*byte))
+    memchr2(b'<', b'>', text).is_some()
 }
 
-/// Whether the byte stands in no id: a bracket, a space or a tab.
-#[tactic(auto, unfolding(warc_field::specs::Text::is_blank))]
-fn ends_id(byte: u8) -> bool
-    ensures { result ≡ ends_id byte }
+/// Whether a space or a tab stands in the text.
+#[tactic(auto, using(crate::proofs::ByteLemmas::blank_found))]
+fn holds_blank(text: &[u8]) -> bool
+    ensures { result ≡ list_any is_blank text.now }
 {
-    is_bracket(byte) || byte == b' ' || byte == b'\t'
+    memchr2(b' ', b'\t', text).is_some()
 }
 
 /// Whether the text begins with `<`, ends with `>` and holds no other of the two.
@@ -138,11 +134,11 @@ pub fn bare(text: &[u8]) -> &[u8]
     }
 }
 
-/// Whether a byte stands in the text that no id holds.
+/// Whether a byte stands in the text that no id holds: a bracket, a space or a tab.
 fn holds_id_end(text: &[u8]) -> bool
     ensures { result ≡ list_any ends_id text.now }
 {
-    text.iter().any(|byte| ends_id(*byte))
+    holds_bracket(text) || holds_blank(text)
 }
 
 /// Whether a bare text is an id: it isn't empty, and holds no bracket, space or tab.

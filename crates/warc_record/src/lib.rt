@@ -11,7 +11,9 @@ mod table;
 mod types;
 
 pub use checks::{ArchiveFacts, Finding, all_findings, findings};
-pub use head::{NamedPair, Reference, Segment, Typed, type_head, wanted};
+pub use head::{
+    HeadTexts, NamedPair, Reference, Segment, Typed, head_texts, judge_head, type_head, wanted,
+};
 pub use ids::{IdKey, bare, id_key, urn_uuid};
 pub use readings::SegmentNumber;
 pub use table::{FieldRule, field_rules};

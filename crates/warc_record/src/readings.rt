@@ -1,11 +1,10 @@
-ghost use Rattle.std.specs.Prelude.{◌≡◌, true, IfOk, Some};
+ghost use Rattle.std.specs.Prelude.{◌≡◌, IfOk, Some};
 ghost use Rattle.std.specs.Option.{option_copied};
-ghost use Rattle.warc_field.specs.Text.{is_value};
 ghost use Rattle.warc_record.specs.Readings.{present_value, present_bare, key_in, number_in, is_known_profile, segment_number};
 
 use crate::ids::{IdKey, bare, id_key};
 use std::alloc::{AllocError, Allocator};
-use warc_field::{Fields, TextFault, Value, decimal};
+use warc_field::{Fields, Value, decimal};
 
 /// The segment number that a head states.
 #[derive(Clone, Copy, Debug, PartialEq, Eq)]
@@ -32,18 +31,6 @@ pub(crate) fn present<'a, A: Allocator>(fields: &'a Fields<A>, name: &[u8]) -> O
     }
 }
 
-/// The value that the text is.
-pub(crate) fn value_of<A: Allocator>(alloc: A, text: &[u8]) -> Result<Value<A>, AllocError>
-    requires { is_value text.now ≡ true }
-    ensures { IfOk result (λ value. value ≡ text.now) }
-{
-    match Value::new(alloc, text) {
-        Ok(value) => Ok(value),
-        Err(TextFault::Memory) => Err(AllocError),
-        Err(TextFault::BadText) => unreachable!(),
-    }
-}
-
 /// A copy of the first field's value, where it isn't empty.
 pub(crate) fn text_in<A: Allocator + Copy>(
     alloc: A,
@@ -53,7 +40,7 @@ pub(crate) fn text_in<A: Allocator + Copy>(
     ensures { IfOk result (λ value. value ≡ present_value name.now fields.now) }
 {
     match present(fields, name) {
-        Some(value) => Ok(Some(value_of(alloc, value.bytes())?)),
+        Some(value) => Ok(Some(Value::from_checked(alloc, value.bytes())?)),
         None => Ok(None),
     }
 }
@@ -74,7 +61,7 @@ pub(crate) fn bare_in<A: Allocator + Copy>(
     if text.is_empty() {
         Ok(None)
     } else {
-        Ok(Some(value_of(alloc, text)?))
+        Ok(Some(Value::from_checked(alloc, text)?))
     }
 }
 

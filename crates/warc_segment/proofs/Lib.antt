@@ -2,6 +2,7 @@ pub mod LeastLemmas
 pub mod CountLemmas
 pub mod SeriesLemmas
 pub mod PlaceLemmas
+pub mod TotalLemmas
 pub mod OrderedLemmas
 pub mod ContinuationLemmas
 pub mod SameLemmas

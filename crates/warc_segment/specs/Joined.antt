@@ -1,6 +1,6 @@
 -- The joined block of a record, and its places in the source: the blocks of its segments, one behind another in the
 -- order of their numbers (ISO 28500:2017, 7), or the first gap.
-use Rattle.std.specs.Prelude.{◌≡◌, ℕ, ◌+◌, ◌≤◌, List, [], ◌∷◌, length, take, drop, map, slice_get, Result, Ok, Err}
+use Rattle.std.specs.Prelude.{◌≡◌, ◌⊎◌, ℕ, ◌+◌, ◌≤◌, List, [], ◌∷◌, length, take, drop, map, slice_get, Some, Result, Ok, Err}
 use Rattle.std.specs.List.{filter_map, flat_map}
 use Rattle.warc_value.specs.Digests.{verdict_of}
 use Rattle.warc_record.specs.Readings.{Reading}
@@ -95,3 +95,10 @@ PlacesHoldTheBlock =
     (bytes : List ℕ) (ps : List PlacedRecord) (rs : List ReadRecord) (p : PlacedRecord) (r : ReadRecord)
     → AreStored bytes ps rs → p.head ≡ r.head → IsPlaceOf bytes p.place r
     → texts_at bytes (joined_places ps p) ≡ joined_block rs r
+
+-- a record that is joined stands alone, or the joined block is as long as the total that some record states
+abbrev pub JoinedHasTotal : Type 0
+JoinedHasTotal =
+    (all : List ReadRecord) (r : ReadRecord) (joined : List ReadRecord) → joined_records all r ≡ Ok joined
+    → (joined ≡ r ∷ []) ⊎ ((k : ℕ) × (last : ReadRecord) × (slice_get all k ≡ Some last)
+    × (last.head.segment.total ≡ Some (length (flat_map (λ q. q.block) joined))))

@@ -1,5 +1,5 @@
 //! Laws over the definitions: functions that do nothing, each with a law as its contract.
-ghost use Rattle.warc_segment.specs.Joined.{PlacesAreOfRecords, PlacesHoldTheBlock};
+ghost use Rattle.warc_segment.specs.Joined.{JoinedHasTotal, PlacesAreOfRecords, PlacesHoldTheBlock};
 ghost use Rattle.warc_segment.specs.SeriesLaws.{LeastAbsentIsFirst, InOrderIsEach};
 
 /// The least absent number is the first of 2 to n that no segment has.
@@ -20,4 +20,9 @@ pub fn places_are_of_records()
 /// The bytes at those places, one behind another, are the joined block.
 pub fn places_hold_the_block()
     ensures { PlacesHoldTheBlock }
+{}
+
+/// A joined block is its record's own alone, or as long as the total that the last of its segments states.
+pub fn joined_has_total()
+    ensures { JoinedHasTotal }
 {}

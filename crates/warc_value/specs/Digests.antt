@@ -1,6 +1,6 @@
 -- Block digests (ISO 28500:2017, 5.8, which leaves algorithm and encoding open; SHA-1 by FIPS 180-4). That SHA-1 in base32
 -- is checked, and nothing else, is this project's own choice.
-use Rattle.std.specs.Prelude.{ℕ, List, take, drop, codes, Option, Some, None, if◌then◌else◌}
+use Rattle.std.specs.Prelude.{ℕ, Bool, true, false, List, take, drop, codes, Option, Some, None, if◌then◌else◌}
 use Rattle.std.specs.Str.{str_eq_ignore_ascii_case, bytes_eq}
 use Rattle.sha1.specs.Sha1.{sha1}
 use Rattle.warc_value.specs.Base32.{unbase32_of}
@@ -23,3 +23,9 @@ wanted_digest value =
 abbrev pub verdict_of : Wanted → List ℕ → Verdict
 verdict_of Unchecked block = NotChecked
 verdict_of (Sha1 digest) block = if bytes_eq digest (sha1 block) then Good else Bad
+
+-- a digest was checked and differs
+abbrev pub is_bad : Verdict → Bool
+is_bad Good = false
+is_bad Bad = true
+is_bad NotChecked = false

@@ -1,6 +1,6 @@
 ghost use Rattle.std.specs.Prelude.{◌≡◌, ◌++◌, ◌↔◌, List, ℕ, []};
 ghost use Rattle.sha1.specs.Sha1.{sha1};
-ghost use Rattle.warc_value.specs.Digests.{wanted_digest, verdict_of};
+ghost use Rattle.warc_value.specs.Digests.{is_bad, wanted_digest, verdict_of};
 
 use crate::symbols::unbase32;
 use sha1::Sha1;
@@ -25,6 +25,18 @@ pub enum Verdict {
     Bad,
     /// No digest was wanted.
     Unchecked,
+}
+
+impl Verdict {
+    /// Whether the digest was checked and differs.
+    pub fn is_bad(self) -> bool
+        ensures { result ≡ is_bad self }
+    {
+        match self {
+            Verdict::Bad => true,
+            Verdict::Good | Verdict::Unchecked => false,
+        }
+    }
 }
 
 impl Wanted {
@@ -72,6 +84,14 @@ impl Running {
         ensures { (taken : List ℕ) → HasTaken self.old taken → HasTaken self.new (taken ++ piece.now) }
     {
         self.state.update(piece);
+    }
+
+    /// The SHA-1 of the pieces joined (FIPS 180-4).
+    pub fn digest(self) -> [u8; 20]
+        ensures { (taken : List ℕ) → HasTaken self taken → result ≡ sha1 taken }
+    {
+        let Running { state } = self;
+        state.finalize()
     }
 
     /// Whether the pieces joined have the digest that is wanted.

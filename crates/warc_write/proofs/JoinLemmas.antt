@@ -32,7 +32,9 @@ use Rattle.warc_write.specs.declared.splitting.SplitFault.{SplitFault}
 use Rattle.warc_write.specs.declared.splitting.SplitFault.TheVariants.{AlreadySegmented, BadDigest, TooLong}
 use Rattle.warc_write.specs.declared.splitting.SplitFault.TheVariants.{Kind as BadKind}
 use Rattle.warc_write.specs.Joining.{JoinsTo, NoBadDigest, SplitJoins, read_of}
-use Rattle.warc_write.specs.Splitting.{count_of, first_fields, has_bad_digest, has_field, has_room, is_bad}
+use Rattle.warc_value.specs.Digests.{is_bad}
+use Rattle.warc_record.specs.Blocks.{has_bad_digest}
+use Rattle.warc_write.specs.Splitting.{count_of, first_fields, has_field, has_room}
 use Rattle.warc_write.specs.Splitting.{is_segmented}
 use Rattle.warc_write.specs.Splitting.{may_be_split, next_fields, part_of, piece_at, segment_fields, segment_of}
 use Rattle.warc_write.specs.Splitting.{segments_of, split_of, splittable, total_at}

@@ -25,7 +25,8 @@ use Rattle.warc_record.specs.Readings.{segment_number, unless_empty}
 use Rattle.warc_record.specs.Texts.{is_same_text}
 use Rattle.warc_segment.specs.Series.{Piece, member_of, numbered}
 use Rattle.warc_write.specs.declared.splitting.Part.{Part}
-use Rattle.warc_write.specs.Splitting.{first_fields, is_bad, kept, next_fields}
+use Rattle.warc_value.specs.Digests.{is_bad}
+use Rattle.warc_write.specs.Splitting.{first_fields, kept, next_fields}
 use Rattle.warc_write.specs.Written.{digest_text}
 use Rattle.warc_write.proofs.KeptLemmas.{first_behind, first_hit, first_miss, kept_first, no_digest_kept}
 use Rattle.warc_write.proofs.TextLemmas.{decimal_is_read, sha1_fits, sha1_len}

@@ -8,31 +8,12 @@ use Rattle.std.specs.List.{concat, flat_map}
 use Rattle.warc_field.specs.Area.{Pair, canonical_line, canonical_fields}
 use Rattle.warc_field.specs.Lines.{crlf}
 use Rattle.warc_frame.specs.VersionLine.{version_line}
-use Rattle.warc_frame.specs.Record.{Record, IsFramed}
+use Rattle.warc_frame.specs.Record.{Record, IsFramed, head_text}
+use Rattle.warc_frame.specs.declared.version.Version.{Version}
 use Rattle.warc_frame.specs.Spelling.{Spells, SpellsAll, canonical}
 use Rattle.warc_write.specs.Rendering.{AllGood, RenderedOpensAsSame, canonical_texts}
-use Rattle.warc_frame.specs.Device.{Staged}
-use Rattle.warc_frame.specs.Send.{IsStaged, WentOut}
 
--- one more piece, and the pieces behind it
-pub pieces_more : (output : List ℕ) (pieces : List (Bor (List ℕ))) (i : ℕ) (d : Bor (List ℕ)) → i < length pieces
-    → (output ++ concat (map (λ p. p.now) (take i pieces))) ++ (get_or pieces i d).now ≡ output ++ concat (map (λ p. p.now) (take (i + 1) pieces))
-pieces_more output pieces i d lt =
-    let now : Bor (List ℕ) → List ℕ = λ p. p.now in
-    let last = ap (λ l. concat (map now l)) (take_more pieces i d lt) ∙ ap concat (map-append now (take i pieces) (get_or pieces i d ∷ []))
-    ∙ concat-append (map now (take i pieces)) ((get_or pieces i d).now ∷ [])
-    ∙ ap (λ l. concat (map now (take i pieces)) ++ l) (append-nil (get_or pieces i d).now) in
-    append_assoc output (concat (map now (take i pieces))) (get_or pieces i d).now ∙ ap (λ l. output ++ l) (sym last)
-
-pub pieces_rest : (output : List ℕ) (pieces : List (Bor (List ℕ))) (i : ℕ)
-    → (output ++ concat (map (λ p. p.now) (take i pieces))) ++ concat (map (λ p. p.now) (drop i pieces)) ≡ output ++ concat (map (λ p. p.now) pieces)
-pieces_rest output pieces i =
-    let now : Bor (List ℕ) → List ℕ = λ p. p.now in
-    append_assoc output (concat (map now (take i pieces))) (concat (map now (drop i pieces)))
-    ∙ ap (λ l. output ++ l) (sym (concat-append (map now (take i pieces)) (map now (drop i pieces)))
-    ∙ ap concat (sym (map-append now (take i pieces) (drop i pieces))) ∙ ap (λ l. concat (map now l)) (take-append-drop i pieces))
-
--- the same for the texts of a list's elements
+-- one more text of a list's elements, and the texts behind it
 pub texts_more : {X : Type 0} (text : X → List ℕ) (output : List ℕ) (xs : List X) (i : ℕ) (x : X) → i < length xs → x ≡ get_or xs i x
     → (output ++ flat_map text (take i xs)) ++ text x ≡ output ++ flat_map text (take (i + 1) xs)
 texts_more text output xs i x lt is =
@@ -52,32 +33,33 @@ pub fields_more : (output : List ℕ) (fields : List Pair) (i : ℕ) (field : Pa
 fields_more output fields i field name value lt is name_is value_is =
     rw (name_is, value_is) (texts_more canonical_line output fields i field lt is)
 
-six : (output line area crlfs block : List ℕ)
-    → ((output ++ line) ++ area) ++ (crlfs ++ (block ++ (crlfs ++ crlfs))) ≡ output ++ (((((line ++ area) ++ crlfs) ++ block) ++ crlfs) ++ crlfs)
-six output line area crlfs block = simp append_assoc
+three : (output line area crlfs : List ℕ) → ((output ++ line) ++ area) ++ crlfs ≡ output ++ ((line ++ area) ++ crlfs)
+three output line area crlfs = simp append_assoc
 
--- what follows the fields of a record with this block
-abbrev pub behind_fields : List ℕ → List ℕ
-behind_fields block = crlf ++ (block ++ (crlf ++ crlf))
+-- a head is put together from its version line, its lines and the empty line
+pub head_from : (version : Version) (fields : List Pair) (line : List ℕ) (given : List Pair) (output : List ℕ) → line ≡ version_line version → given ≡ fields
+    → ((output ++ line) ++ canonical_fields given) ++ crlf ≡ output ++ head_text version (canonical_fields fields)
+head_from version fields line given output line_is given_is =
+    rw (line_is, given_is) (three output (version_line version) (canonical_fields fields) crlf)
 
--- the text of a record is put together from its version line, its lines and what follows them
-pub record_from : (r : Record) (line : List ℕ) (fields : List Pair) (block output : List ℕ) → line ≡ version_line r.version → fields ≡ r.fields → block ≡ r.block
-    → ((output ++ line) ++ canonical_fields fields) ++ behind_fields block ≡ output ++ canonical r
+pub head_behind_line : (version : Version) (fields : List Pair) (line output : List ℕ) → line ≡ version_line version
+    → (output ++ line) ++ (canonical_fields fields ++ crlf) ≡ output ++ head_text version (canonical_fields fields)
+head_behind_line version fields line output line_is =
+    sym (append_assoc (output ++ line) (canonical_fields fields) crlf) ∙ head_from version fields line fields output line_is refl
+
+-- what follows the head of a record with this block
+abbrev pub behind_head : List ℕ → List ℕ
+behind_head block = block ++ (crlf ++ crlf)
+
+closed : (output head block crlfs : List ℕ) → (output ++ head) ++ (block ++ (crlfs ++ crlfs)) ≡ output ++ (((head ++ block) ++ crlfs) ++ crlfs)
+closed output head block crlfs = simp append_assoc
+
+-- the text of a record is put together from its head and what follows it
+pub record_from : (r : Record) (version : Version) (fields : List Pair) (block output : List ℕ) → version ≡ r.version → fields ≡ r.fields → block ≡ r.block
+    → (output ++ head_text version (canonical_fields fields)) ++ behind_head block ≡ output ++ canonical r
 unfolding canonical
-record_from r line fields block output line_is fields_is block_is =
-    rw (line_is, fields_is, block_is) (six output (version_line r.version) (canonical_fields r.fields) crlf r.block)
-
-pub record_behind_line : (r : Record) (line output : List ℕ) → line ≡ version_line r.version
-    → (output ++ line) ++ (canonical_fields r.fields ++ behind_fields r.block) ≡ output ++ canonical r
-record_behind_line r line output line_is =
-    sym (append_assoc (output ++ line) (canonical_fields r.fields) (behind_fields r.block)) ∙ record_from r line r.fields r.block output line_is refl refl
-
--- the same output
-pub same_out : {start now : Option (List ℕ)} {a b : List ℕ} {sent : ℕ} → a ≡ b → WentOut start a now sent → WentOut start b now sent
-same_out {start} {now} {a} {b} {sent} same out = let P : List ℕ → Type 0 = λ l. WentOut start l now sent in subst P same out
-
-pub same_staged : {start now : Option (List ℕ)} {a b : List ℕ} {buffer : Staged} → a ≡ b → IsStaged start a now buffer → IsStaged start b now buffer
-same_staged {start} {now} {a} {b} {buffer} same is = let P : List ℕ → Type 0 = λ l. IsStaged start l now buffer in subst P same is
+record_from r version fields block output version_is fields_is block_is =
+    rw (version_is, fields_is, block_is) (closed output (head_text r.version (canonical_fields r.fields)) r.block crlf)
 
 -- ---- what is written spells the records
 

@@ -5,7 +5,8 @@ use Rattle.warc_frame.specs.Record.{Record}
 use Rattle.warc_record.specs.Good.{IsGood}
 use Rattle.warc_record.specs.Readings.{reading_of}
 use Rattle.warc_segment.specs.Joined.{ReadRecord, joined_block}
-use Rattle.warc_write.specs.Splitting.{has_bad_digest, split_of}
+use Rattle.warc_record.specs.Blocks.{has_bad_digest}
+use Rattle.warc_write.specs.Splitting.{split_of}
 
 -- what a record's head says, and its block
 abbrev pub read_of : Record → ReadRecord

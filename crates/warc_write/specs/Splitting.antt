@@ -11,9 +11,6 @@ use Rattle.uuid.specs.Parts.{with_variant, with_version}
 use Rattle.uuid.specs.Text.{parsed_urn}
 use Rattle.warc_field.specs.Text.{same}
 use Rattle.warc_field.specs.Area.{Pair, first_value}
-use Rattle.warc_value.specs.Digests.{verdict_of}
-use Rattle.warc_value.specs.declared.hash.Verdict.{Verdict}
-use Rattle.warc_value.specs.declared.hash.Verdict.TheVariants.{Good, Bad, Unchecked}
 use Rattle.warc_frame.specs.Record.{Record, IsFramed, canonical_len, content_length, max_head}
 use Rattle.warc_record.specs.declared.types.Kind.{Kind}
 use Rattle.warc_record.specs.declared.types.Kind.TheVariants.{Warcinfo, Response, Resource, Request, Metadata}
@@ -21,7 +18,8 @@ use Rattle.warc_record.specs.declared.types.Kind.TheVariants.{Revisit}
 use Rattle.warc_record.specs.declared.types.Kind.TheVariants.{Conversion, Continuation, Other}
 use Rattle.warc_record.specs.Heads.{head_fault}
 use Rattle.warc_record.specs.Ids.{bare_text}
-use Rattle.warc_record.specs.Readings.{digest_wanted, kind_of, target_of}
+use Rattle.warc_record.specs.Blocks.{has_bad_digest}
+use Rattle.warc_record.specs.Readings.{kind_of, target_of}
 use Rattle.warc_write.specs.declared.splitting.Part.{Part}
 use Rattle.warc_write.specs.declared.splitting.SplitFault.{SplitFault}
 use Rattle.warc_write.specs.declared.splitting.SplitFault.TheVariants.{NotUuid, AlreadySegmented}
@@ -155,15 +153,6 @@ cut_of r uuid n =
     if nat_le (length r.block) n then Ok (r ∷ [])
     else if list_all has_room (segments_of r uuid n) then Ok (segments_of r uuid n)
     else Err TooLong
-
--- a digest was checked and differs
-abbrev pub is_bad : Verdict → Bool
-is_bad Good = false
-is_bad Bad = true
-is_bad Unchecked = false
-
-abbrev pub has_bad_digest : Record → Bool
-has_bad_digest r = is_bad (verdict_of (digest_wanted r.fields) r.block)
 
 -- the records that a record is split into, or the first refusal, in the order S4, S3, S2, S1, S7, S6
 unfoldable pub split_of : Record → ℕ → Result (List Record) SplitFault

@@ -2,7 +2,7 @@
 ghost use Rattle.std.specs.Prelude.{◌≡◌, IfOk};
 ghost use Rattle.warc_write.specs.Conversion.{converted, converted_field, converted_fields};
 
-use crate::parts::{framed_of, name_of, value_of};
+use crate::parts::framed_of;
 use std::alloc::{AllocError, Allocator};
 use warc_field::{Fields, Name, Value};
 use warc_frame::{Framed, Version};
@@ -19,9 +19,9 @@ fn converted_value<A: Allocator>(
 {
     bare_texts_of_values();
     if name.is(b"WARC-Target-URI") {
-        value_of(alloc, bare(value.bytes()))
+        Value::from_checked(alloc, bare(value.bytes()))
     } else {
-        value_of(alloc, value.bytes())
+        Value::from_checked(alloc, value.bytes())
     }
 }
 
@@ -34,11 +34,22 @@ fn converted_all<A: Allocator + Copy>(
 {
     let mut all = Fields::new(alloc);
     for field in fields {
-        let name = name_of(alloc, field.0.bytes())?;
+        let name = Name::from_checked(alloc, field.0.bytes())?;
         let value = converted_value(alloc, &field.0, &field.1)?;
         all.push(name, value)?;
     }
     Ok(all)
+}
+
+/// The fields of a head as WARC 1.1 writes them, without a block in memory: each value of a `WARC-Target-URI` field is
+/// its bare text, and all else is as it was. It fails only where memory is refused.
+pub fn convert_fields<A: Allocator + Copy>(
+    alloc: A,
+    fields: &Fields<A>,
+) -> Result<Fields<A>, AllocError>
+    ensures { IfOk result (λ new. new ≡ converted_fields fields.now) }
+{
+    converted_all(alloc, fields.as_slice())
 }
 
 /// The record as one of WARC 1.1 (ISO 28500:2017, 5.14, whose targets stand without brackets): its version is
@@ -47,7 +58,7 @@ fn converted_all<A: Allocator + Copy>(
 pub fn convert<A: Allocator + Copy>(alloc: A, framed: &Framed<A>) -> Result<Framed<A>, AllocError>
     ensures { IfOk result (λ new. new ≡ converted framed.now) }
 {
-    let fields = converted_all(alloc, framed.fields().as_slice())?;
+    let fields = convert_fields(alloc, framed.fields())?;
     let block = Vec::from_slice(alloc, framed.block())?;
     Ok(framed_of(Version::V1_1, fields, block))
 }

@@ -9,7 +9,7 @@ mod sending;
 mod splitting;
 mod written;
 
-pub use conversion::convert;
+pub use conversion::{convert, convert_fields};
 pub use making::{MakeFault, make};
-pub use sending::render;
+pub use sending::{put_head, render};
 pub use splitting::{Part, SplitFault, segment_head, split, splittable};

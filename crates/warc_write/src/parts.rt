@@ -1,37 +1,13 @@
 //! Records put together from their parts.
-ghost use Rattle.std.specs.Prelude.{◌≡◌, [], ◌∷◌, ◌++◌, true, IfOk, OnOk, decimal};
+ghost use Rattle.std.specs.Prelude.{◌≡◌, [], ◌∷◌, ◌++◌, true, OnOk, decimal};
 ghost use Rattle.warc_field.specs.Text.{is_name, is_value};
 ghost use Rattle.warc_frame.specs.Record.{IsFramed};
 ghost use Rattle.warc_write.specs.Written.{label_text};
 
 use itoa::Buffer;
 use std::alloc::{AllocError, Allocator};
-use warc_field::{Fields, Name, TextFault, Value};
+use warc_field::{Fields, Name, Value};
 use warc_frame::{Framed, Version};
-
-/// The name that the text is.
-pub(crate) fn name_of<A: Allocator>(alloc: A, text: &[u8]) -> Result<Name<A>, AllocError>
-    requires { is_name text.now ≡ true }
-    ensures { IfOk result (λ name. name ≡ text.now) }
-{
-    match Name::new(alloc, text) {
-        Ok(name) => Ok(name),
-        Err(TextFault::Memory) => Err(AllocError),
-        Err(TextFault::BadText) => unreachable!(),
-    }
-}
-
-/// The value that the text is.
-pub(crate) fn value_of<A: Allocator>(alloc: A, text: &[u8]) -> Result<Value<A>, AllocError>
-    requires { is_value text.now ≡ true }
-    ensures { IfOk result (λ value. value ≡ text.now) }
-{
-    match Value::new(alloc, text) {
-        Ok(value) => Ok(value),
-        Err(TextFault::Memory) => Err(AllocError),
-        Err(TextFault::BadText) => unreachable!(),
-    }
-}
 
 /// The record of these parts.
 pub(crate) fn framed_of<A: Allocator>(
@@ -96,7 +72,10 @@ pub(crate) fn add_copy<A: Allocator + Copy>(
     requires valued { is_value value.now ≡ true }
     ensures { OnOk result (fields.new ≡ fields.old ++ (name.now, value.now) ∷ []) }
 {
-    fields.push(name_of(alloc, name)?, value_of(alloc, value)?)
+    fields.push(
+        Name::from_checked(alloc, name)?,
+        Value::from_checked(alloc, value)?,
+    )
 }
 
 /// Adds a field at the end, by its value.

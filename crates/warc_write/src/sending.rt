@@ -1,33 +1,20 @@
 //! Sends the canonical texts of records to a sink.
-ghost use Rattle.std.specs.Prelude.{◌≡◌, ℕ, ◌++◌, List, Option, OnOk, IfErr, map, is_err, if◌then◌else◌};
-ghost use Rattle.std.specs.List.{concat};
+ghost use Rattle.std.specs.Prelude.{◌≡◌, ℕ, ◌++◌, List, Option, OnOk, IfErr, is_err, if◌then◌else◌};
 ghost use Rattle.std.specs.Io.KnownBytes.{append_known};
 ghost use Rattle.warc_field.specs.Area.{Pair, canonical_line, canonical_fields};
 ghost use Rattle.warc_frame.specs.Count.{raised};
+ghost use Rattle.warc_frame.specs.Putting.{Puts};
+ghost use Rattle.warc_frame.specs.Record.{head_text};
+ghost use Rattle.warc_frame.specs.Seen.{seen};
 ghost use Rattle.warc_frame.specs.Send.{IsStaged, WentOut, sent_of};
 ghost use Rattle.warc_frame.specs.Spelling.{canonical};
 ghost use Rattle.warc_frame.specs.declared.fault.OutFault.TheVariants.{Write};
 ghost use Rattle.warc_write.specs.Rendering.{canonical_texts};
 
 use std::alloc::Allocator;
-use warc_field::{Name, Value};
+use warc_field::{Fields, Name, Value};
 use warc_frame::laws::went_out_of_longer;
-use warc_frame::{Framed, OutBuffer, OutFault, SendFault, Sink};
-
-/// Adds the pieces to the output, one after another.
-fn put_all<W: Sink>(pieces: &[&[u8]], buffer: &mut OutBuffer, out: &mut W) -> Result<(), SendFault>
-    ensures out { (start : Option (List ℕ)) (output : List ℕ) → IsStaged start output (W.tells out.old) buffer.old →
-        OnOk result (IsStaged start (output ++ concat (map (λ p. p.now) pieces.now)) (W.tells out.new) buffer.new) }
-    ensures cut { (start : Option (List ℕ)) (output : List ℕ) → IsStaged start output (W.tells out.old) buffer.old →
-        IfErr result (λ e. WentOut start (output ++ concat (map (λ p. p.now) pieces.now)) (W.tells out.new) e.sent) }
-    ensures cause { W.faults out.new ≡ (if is_err result then raised (W.faults out.old) else W.faults out.old) }
-{
-    went_out_of_longer();
-    'putting: for piece in pieces {
-        buffer.put(out, piece)?;
-    }
-    Ok(())
-}
+use warc_frame::{Framed, OutBuffer, OutFault, SendFault, Sink, Version, put_all};
 
 /// Adds the canonical lines of fields to the output.
 fn put_fields<A: Allocator, W: Sink>(
@@ -64,6 +51,22 @@ fn put_line<W: Sink>(
     put_all(&[name, b": ", value, b"\r\n"], buffer, out)
 }
 
+/// Adds a canonical head to the output: the version line, a line for each field, and the empty line.
+pub fn put_head<A: Allocator, W: Sink>(
+    version: Version,
+    fields: &Fields<A>,
+    buffer: &mut OutBuffer,
+    out: &mut W,
+) -> Result<(), SendFault>
+    ensures { Puts (seen (W.tells out.old) (W.faults out.old)) (seen (W.tells out.new) (W.faults out.new))
+        buffer.old buffer.new result (head_text version (canonical_fields fields.now)) }
+{
+    went_out_of_longer();
+    buffer.put(out, version.line())?;
+    put_fields(fields.as_slice(), buffer, out)?;
+    put_all(&[b"\r\n"], buffer, out)
+}
+
 /// Adds the canonical text of a record to the output. Its block isn't copied unless it fits the buffer.
 fn put_record<A: Allocator, W: Sink>(
     framed: &Framed<A>,
@@ -77,9 +80,8 @@ fn put_record<A: Allocator, W: Sink>(
     ensures cause { W.faults out.new ≡ (if is_err result then raised (W.faults out.old) else W.faults out.old) }
 {
     went_out_of_longer();
-    buffer.put(out, framed.version().line())?;
-    put_fields(framed.fields().as_slice(), buffer, out)?;
-    put_all(&[b"\r\n", framed.block(), b"\r\n\r\n"], buffer, out)
+    put_head(framed.version(), framed.fields(), buffer, out)?;
+    put_all(&[framed.block(), b"\r\n\r\n"], buffer, out)
 }
 
 /// Adds the canonical texts of records to the output, in their order.

@@ -8,7 +8,8 @@ ghost use Rattle.warc_record.specs.Heads.{head_fault};
 ghost use Rattle.warc_record.specs.Readings.{kind_of, target_of};
 ghost use Rattle.warc_write.specs.Joining.{Join};
 ghost use Rattle.warc_write.specs.Rendering.{AllGood};
-ghost use Rattle.warc_write.specs.Splitting.{AllFramed, OrMemory, RefusesSegment, count_of, has_bad_digest};
+ghost use Rattle.warc_write.specs.Splitting.{AllFramed, OrMemory, RefusesSegment, count_of};
+ghost use Rattle.warc_record.specs.Blocks.{has_bad_digest};
 ghost use Rattle.warc_write.specs.Splitting.{has_room, split_of, part_of, piece_at, segment_of, segments_of};
 ghost use Rattle.warc_write.specs.Splitting.{RefusesHead, Splits, first_fields, is_segmented, kept};
 ghost use Rattle.warc_write.specs.Splitting.{may_be_split, next_fields, origin_fields};
@@ -26,7 +27,7 @@ use warc_field::{Fields, Name, Value};
 use warc_frame::{FaultKind, Framed};
 use warc_record::laws::{bare_texts_of_values, good_heads_read};
 use warc_record::{Kind, bare, type_head, urn_uuid, wanted};
-use warc_value::{Running, Verdict, digest};
+use warc_value::{Running, digest};
 
 /// Why a record isn't split: S1 to S7.
 #[derive(Clone, Copy, PartialEq, Eq, Debug, Error)]
@@ -414,10 +415,7 @@ fn has_bad_digest<A: Allocator>(framed: &Framed<A>) -> bool
 {
     let mut running = Running::new();
     running.update(framed.block());
-    match running.verdict(&wanted(framed.fields())) {
-        Verdict::Bad => true,
-        Verdict::Good | Verdict::Unchecked => false,
-    }
+    running.verdict(&wanted(framed.fields())).is_bad()
 }
 
 /// A copy of the fields.

@@ -1,5 +1,6 @@
 use Rattle.std.proofs.Common.{ap, ◌∙◌, sym}
-use Rattle.warc.specs.Checking.{is_bad, is_used}
+use Rattle.warc_value.specs.Digests.{is_bad}
+use Rattle.warc.specs.Checking.{is_used}
 use Rattle.warc.specs.Row.{Row}
 use Rattle.warc.proofs.CheckLemmas.{key_by_row}
 use Rattle.warc.proofs.check.examine.Goals as goal

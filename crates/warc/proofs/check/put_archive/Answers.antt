@@ -2,7 +2,7 @@ use Rattle.std.proofs.Common.{rules, ◌≡◌, ◌<◌, ◌++◌, length, sym, 
 use Rattle.std.proofs.lemmas.Result.{IfErr-weaker, IfOk-weaker, on_ok_weaker}
 use Rattle.warc_frame.specs.Count.{capped}
 use Rattle.warc.proofs.ArchiveTextLemmas.{none_number, none_text, some_findings, some_text}
-use Rattle.warc.proofs.LineLemmas.{same_out, same_staged}
+use Rattle.warc_frame.proofs.LawLemmas.{same_out, same_staged}
 use Rattle.warc.proofs.check.put_archive.Goals as goal
 
 pub returns-in-Ok-clause-out : goal.returns-in-Ok-clause-out

@@ -2,7 +2,7 @@ use Rattle.std.proofs.Common.{◌++◌, length, map, ap, ◌∙◌, arith}
 use Rattle.std.proofs.lemmas.List.{length-map}
 use Rattle.warc_record.specs.Findings.{finding_seen}
 use Rattle.warc.specs.Examining.{record_text}
-use Rattle.warc.proofs.LineLemmas.{same_out, same_staged}
+use Rattle.warc_frame.proofs.LawLemmas.{same_out, same_staged}
 use Rattle.warc.proofs.check.put_examined.Goals as goal
 
 pub returns-in_default-clause-cut : goal.returns-in_default-clause-cut

@@ -2,7 +2,7 @@ use Rattle.std.proofs.Common.{rules, ◌+◌, None, drop, map, ◌∙◌, ap, �
 use Rattle.warc_record.specs.Findings.{finding_seen}
 use Rattle.warc.specs.Examining.{record_text}
 use Rattle.warc.proofs.CheckLemmas.{findings_more, findings_rest}
-use Rattle.warc.proofs.LineLemmas.{same_out, same_staged}
+use Rattle.warc_frame.proofs.LawLemmas.{same_out, same_staged}
 use Rattle.warc.proofs.check.put_findings.Goals as goal
 
 pub returns-in_err-put_finding : goal.returns-in_err-put_finding

@@ -5,7 +5,7 @@ use Rattle.warc.specs.Archive.{contents}
 use Rattle.warc.specs.Checking.{line_text}
 use Rattle.warc.specs.Examining.{findings_of_first, first_text}
 use Rattle.warc.specs.Row.{Row}
-use Rattle.warc.proofs.LineLemmas.{same_out, same_staged}
+use Rattle.warc_frame.proofs.LawLemmas.{same_out, same_staged}
 use Rattle.warc.proofs.ReadLemmas.{reads_all, reads_more}
 use Rattle.warc.proofs.RecordsLemmas.{failed_halted, first_all, met_one, number_more, record_at, rest_text, sent_halted, text_more, text_rest}
 use Rattle.warc.proofs.check.put_records.Goals as goal

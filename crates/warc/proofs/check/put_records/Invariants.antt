@@ -6,7 +6,7 @@ use Rattle.warc.specs.Archive.{contents}
 use Rattle.warc.specs.Row.{Placed}
 use Rattle.warc.specs.Examining.{AreCheckable, HasMet, findings_of_first, first_text}
 use Rattle.warc.specs.Heads.{ReadsHeads}
-use Rattle.warc.specs.Seen.{tapped}
+use Rattle.warc_frame.specs.Seen.{tapped}
 use Rattle.warc.proofs.check.put_records.Given as goal
 
 -- the lines of the records so far are staged, their ids are met, and nothing has failed

@@ -18,7 +18,7 @@ returns-in-Err-clause-ends g c = inr (inl (record {
 
 pub returns-in-Ok-list-clause-ends : goal.returns-in-Ok-list-clause-ends
 returns-in-Ok-list-clause-ends g c = inl (record {
-  rows = c.in-Ok.archive.rows;
+  rows = c.in-Ok.listing.rows;
   are = c.in-Ok.ensures.accepted;
   told = c.in-Ok-list.ensures.told;
   sound = ap g.S.Source.faults c.into_source.ensures ∙ c.in-Ok.ensures.cause;
@@ -28,7 +28,7 @@ returns-in-Ok-list-clause-ends g c = inl (record {
 
 pub returns-in-Err-list-clause-ends : goal.returns-in-Err-list-clause-ends
 returns-in-Err-list-clause-ends g c = inr (inr (record {
-  rows = c.in-Ok.archive.rows;
+  rows = c.in-Ok.listing.rows;
   are = c.in-Ok.ensures.accepted;
   sent = sent_of c.in-Err-list.fault;
   front = c.in-Err-list.ensures.cut;

@@ -87,7 +87,7 @@ returns g c =
       asked = c.in-Ok.ensures.asked;
       watched = c.in-Ok.ensures.watched;
       strayed = c.in-Ok.ensures.strayed;
-    })) short c.rows_of.result refl
+    })) short c.kept_of.result refl
     (λ bytes held. ends bytes i.text c.read_at.new.buf c.position-at.result c.in-Ok.n at (i.given.front bytes held) (c.in-Ok.ensures.bytes bytes (i.given.kept ∙ held))
-    (omega (arith, c.requires, i.room, c.read_at.auto.buf)) c.if-n-eq0.true)
-    (c.rows_of.ensures i.text i.stands)
+    (omega (arith, c.requires.room, i.room, c.read_at.auto.buf)) c.if-n-eq0.true)
+    (c.kept_of.ensures i.text i.stands)

@@ -1,5 +1,5 @@
 use Rattle.std.proofs.Common.{◌≡◌, ℕ, ◌+◌, ◌-◌, ◌^◌, List, length}
-use Rattle.warc.specs.Seen.{tapped}
+use Rattle.warc_frame.specs.Seen.{tapped}
 use Rattle.warc.specs.Stream.{HasGiven, Stands}
 use Rattle.warc.proofs.reading.read_through.Given as goal
 
@@ -7,7 +7,7 @@ use Rattle.warc.proofs.reading.read_through.Given as goal
 abbrev pub invariant-reading : goal.invariant-reading
 invariant-reading g l = record {
   text : List ℕ;
-  stands : Stands text l.decoder l.reading;
+  stands : Stands g.L.Keep.keeps text l.decoder l.reading;
   given : HasGiven
       (tapped (g.S.Source.holds l.fn.source) (g.S.Source.faults l.fn.source) (g.S.Source.reads l.fn.source) (g.S.Source.asked l.fn.source) (g.S.Source.watches l.fn.source)
       (g.S.Source.strays l.fn.source))

@@ -2,7 +2,7 @@ use Rattle.std.proofs.Common.{◌≡◌, ℕ, List, ◌++◌, length, take, inl,
 use Rattle.std.proofs.lemmas.Result.{err_from_is_err_and}
 use Rattle.warc.proofs.OpeningLemmas.{step_wants}
 use Rattle.warc.proofs.RefusalLemmas.{step_refused}
-use Rattle.warc.proofs.StepLemmas.{end_stands, head_stands, head_stops, memory_stops, more_stands, ok_then, part_stands, refused_then}
+use Rattle.warc.proofs.StepLemmas.{end_stands, head_stands, err_then, head_stops, memory_stops, more_stands, ok_then, part_stands}
 use Rattle.warc.proofs.reading.take_front.Goals as goal
 use Rattle.warc.proofs.reading.take_front.Goals.{in-More, in-Head, in-Part, in-End+in-Ok, in-End+in-Err}
 
@@ -26,16 +26,17 @@ returns-in-Ok-kept-clause-history g c = λ text stands.
       | in-Head w ↦
           let (k, current, of, seen, start, len) = ok_then w.begin_block-kept.result c.in-Ok-kept.field-0 w.begin_block-kept.ensures.current (sym w.kept-is ∙ c.in-Ok-kept.is) in
           head_stands text piece stands.told c.step.new.self took c.in_ok-took.event takes old new stands.has w.in-Head.field-0 w.in-Head.fields w.in-Head.block_len k w.in-Head.is
-          (ap (λ r. r.rows) w.reading-is ∙ w.begin_block-kept.ensures.rows) (ap (λ r. r.begin) w.reading-is ∙ w.begin_block-kept.ensures.begin)
+          (ap (λ r. r.rows) w.reading-is ∙ w.begin_block-kept.ensures.rows) (ap (λ r. r.beside) w.reading-is ∙ w.begin_block-kept.ensures.beside) (ap (λ r. r.begin) w.reading-is ∙ w.begin_block-kept.ensures.begin)
           (ap (λ r. r.current) w.reading-is ∙ current) of seen (start ∙ here) len
       | in-Part w ↦
           part_stands text piece stands.told c.step.new.self took c.in_ok-took.event takes old new stands.has w.in-Part.from w.in-Part.to w.in-Part.is
-          (ap (λ r. r.rows) w.reading-is ∙ w.take_part.ensures.rows) (ap (λ r. r.begin) w.reading-is ∙ w.take_part.ensures.begin)
+          (ap (λ r. r.rows) w.reading-is ∙ w.take_part.ensures.rows) (ap (λ r. r.beside) w.reading-is ∙ w.take_part.ensures.beside) (ap (λ r. r.begin) w.reading-is ∙ w.take_part.ensures.begin)
           (λ k is. let (e, now, typed, start, len, wanted, seen) = w.take_part.ensures.current k is in (e, ap (λ r. r.current) w.reading-is ∙ now, typed, start, len, wanted, seen))
       | in-End+in-Ok w ↦
           end_stands text piece stands.told c.step.new.self took c.in_ok-took.event takes old new stands.has w.in-End.is
           (ap (λ r. r.begin) w.reading-is ∙ w.in-Ok.ensures.begin ∙ here) (ap (λ r. r.current) w.reading-is ∙ w.end_record.ensures.current)
           (λ k bytes is seen. ap (λ r. r.rows) w.reading-is ∙ w.in-Ok.ensures.row k bytes is seen)
+          (λ k bytes records p is seen kept same good placed. rw w.reading-is (w.in-Ok.ensures.beside k bytes records p is seen kept same good placed))
       | in-End+in-Err w ↦ cc (sym c.in-Ok-kept.is ∙ w.kept-is)
     ]
 
@@ -51,8 +52,8 @@ returns-in-Err-kept-clause-history g c = λ text stands.
     elim c.match-event.branch [
       | in-More w ↦ cc (sym c.in-Err-kept.is ∙ w.kept-is)
       | in-Head w ↦
-          head_stops text piece stands.told c.step.new.self took c.in_ok-took.event takes old new stands.has (Unit {0}) w.in-Head.field-0 w.in-Head.fields w.in-Head.block_len c.in-Err-kept.kind w.in-Head.is
-          (refused_then (Unit {0}) w.begin_block-kept.result c.in-Err-kept.kind _ w.begin_block-kept.ensures.fault (sym w.kept-is ∙ c.in-Err-kept.is)) (omega (arith, here, c.position-position.ensures.limit))
+          head_stops text piece stands.told c.step.new.self took c.in_ok-took.event takes old new stands.has w.in-Head.field-0 w.in-Head.fields w.in-Head.block_len c.in-Err-kept.kind w.in-Head.is
+          (err_then _ w.begin_block-kept.result c.in-Err-kept.kind w.begin_block-kept.ensures.fault (sym w.kept-is ∙ c.in-Err-kept.is)) (omega (arith, here, c.position-position.ensures.limit))
       | in-Part w ↦ cc (sym c.in-Err-kept.is ∙ w.kept-is)
       | in-End+in-Ok w ↦ cc (sym c.in-Err-kept.is ∙ w.kept-is)
       | in-End+in-Err w ↦

@@ -10,7 +10,7 @@ pub taking-init : goal.taking-init
 taking-init g c = record {
   within = omega arith;
   stands = λ text is.
-      let P : List ℕ → Type 0 = λ t. Stands t c.args.decoder.now c.args.reading.now in
+      let P : List ℕ → Type 0 = λ t. Stands g.L.Keep.keeps t c.args.decoder.now c.args.reading.now in
       subst P (sym (append-nil text)) is;
   begins = λ text is. inl refl;
 }
@@ -49,7 +49,7 @@ taking-preserved g c =
       within = omega (arith, size, c.in_ok-from.ensures.within, c.taking-test.true, c.taking.invariant.within);
       stands = λ text is.
           let done : List ℕ = text ++ take from piece in
-          let P : List ℕ → Type 0 = λ t. Stands t c.take_front.new.decoder c.take_front.new.reading in
+          let P : List ℕ → Type 0 = λ t. Stands g.L.Keep.keeps t c.take_front.new.decoder c.take_front.new.reading in
           let whole : done ++ take took rest ≡ text ++ take (from + took) piece =
           append_assoc text (take from piece) (take took rest) ∙ ap (λ x. text ++ (take from piece ++ take took x)) (take_rest piece from)
           ∙ ap (λ x. text ++ x) (sym (take-add from took piece)) in
@@ -60,5 +60,5 @@ taking-preserved g c =
 
 pub returns-clause-history : goal.returns-clause-history
 returns-clause-history g c = λ text is.
-    let P : List ℕ → Type 0 = λ t. Stands t c.taking.decoder c.taking.reading in
+    let P : List ℕ → Type 0 = λ t. Stands g.L.Keep.keeps t c.taking.decoder c.taking.reading in
     subst P (ap (λ x. text ++ x) (take_all c.taking.from c.args.piece.now (omega (arith, c.taking-test.false)))) (c.taking.invariant.stands text is)

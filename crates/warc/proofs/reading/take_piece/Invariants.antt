@@ -6,8 +6,8 @@ use Rattle.warc.proofs.reading.take_piece.Given as goal
 abbrev pub invariant-taking : goal.invariant-taking
 invariant-taking g l = record {
   within : l.from ≤ length l.piece;
-  stands : (text : List ℕ) → Stands text l.initial.decoder l.initial.reading → Stands (text ++ take l.from l.piece) l.decoder l.reading;
-  begins : (text : List ℕ) → Stands text l.initial.decoder l.initial.reading → BeginsSince text l.initial.reading.begin l.reading.begin;
+  stands : (text : List ℕ) → Stands g.L.Keep.keeps text l.initial.decoder l.initial.reading → Stands g.L.Keep.keeps (text ++ take l.from l.piece) l.decoder l.reading;
+  begins : (text : List ℕ) → Stands g.L.Keep.keeps text l.initial.decoder l.initial.reading → BeginsSince text l.initial.reading.begin l.reading.begin;
 }
 
 abbrev pub decreases-taking : goal.decreases-taking

@@ -5,4 +5,4 @@ use Rattle.warc.proofs.words.warc_parser.Goals as goal
 pub returns : goal.returns
 returns c =
     let start : app_of c.subcommand_required-parser.result ≡ on_top (λ s. record s { has_version = true; subcommand_required = true }) (new_app (codes "warc")) = search rules in
-    c.with_command-2.ensures _ (c.in_ok-parser.ensures _ start)
+    c.with_commands.ensures _ start

@@ -7,6 +7,6 @@ use Rattle.warc.proofs.words.with_command.Given as goal
 -- the command has the words so far
 abbrev pub invariant-loop-word : goal.invariant-loop-word
 invariant-loop-word l = record {
-  app : app_of l.command ≡ fold (λ app word. with_rule app (required_word word.name.now)) (new_app l.fn.name) (take l.word-index l.words);
+  app : app_of l.command ≡ fold (λ app word. with_rule app (required_word word.name.now)) (new_app l.entry.name.now) (take l.word-index l.entry.words.now);
   local : (out-Command l.command).has_globals ≡ false;
 }

@@ -2,6 +2,7 @@ use Rattle.std.proofs.Common.{◌≡◌, ℕ, ◌+◌, ◌-◌, ◌++◌, List, 
 use Rattle.std.proofs.lemmas.List.{append_assoc, length-drop, take_rest}
 use Rattle.std.proofs.lemmas.Result.{err_from_is_err_and}
 use Rattle.warc_frame.specs.Told.{tell}
+use Rattle.warc_frame.specs.declared.fault.Fault.{Fault}
 use Rattle.warc_frame.specs.Pieces.{start_on, StandsBehind, Keeping, Keeps, IsPieceFault, IsMemoryFault}
 use Rattle.warc_frame.proofs.StreamPieces.{may_keep, takes_some, take_further, whole_piece, refused, refused_memory, stands_more, keeps_on, on_ok, on_err}
 use Rattle.warc_frame.proofs.pieces.feed.Goals as goal
@@ -31,7 +32,7 @@ returns-in_err-took-clause-memory g c =
     subst P (whole_piece taken piece from) stops)
 
 pub returns-then-is_err-clause-kept : goal.returns-then-is_err-clause-kept
-returns-then-is_err-clause-kept g c = λ at taken holds other. absurd (other refl)
+returns-then-is_err-clause-kept g c = λ at taken holds other. absurd (other (ap (λ (f : Fault). f.kind) c.at.ensures))
 
 pub returns-then-is_err-clause-memory : goal.returns-then-is_err-clause-memory
 returns-then-is_err-clause-memory g c = λ at taken holds is.
@@ -43,7 +44,8 @@ returns-then-is_err-clause-memory g c = λ at taken holds is.
     let same : c.kept.inside.start ≡ c.loop-from.kept.start = ap (λ (x : Keeping). x.start) c.kept.view_is ∙ still in
     let P : List ℕ → Type 0 = λ x. StandsBehind at x c.loop-from.kept.told.records c.loop-from.kept.start in
     let Q : ℕ → Type 0 = λ x. StandsBehind at (taken ++ piece) c.loop-from.kept.told.records x in
-    (c.loop-from.kept.told.records, subst Q (sym same) (subst P (whole_piece taken piece from) there))
+    let R : Fault → Type 0 = λ f. StandsBehind at (taken ++ piece) c.loop-from.kept.told.records f.offset in
+    (c.loop-from.kept.told.records, subst R (sym c.at.ensures) (subst Q (sym same) (subst P (whole_piece taken piece from) there)))
 
 pub keep-requires : goal.keep-requires
 keep-requires g c =

@@ -9,7 +9,7 @@ loop-field-preserved g c =
     let i = c.loop-field.field-index in
     let fields = c.args.fields.now in
     let field = c.field-item.result in
-    let name : c.in_ok-name.name ≡ field.0 = c.in_ok-name.ensures ∙ c.bytes.ensures.text in
+    let name : c.in_ok-name.name ≡ field.0 = c.in_ok-name.ensures.value ∙ c.bytes.ensures.text in
     let pair : ◌≡◌ {A = Pair} (c.in_ok-name.name, c.in_ok-value.value) (converted_field field) =
     ap (λ n. (n, c.in_ok-value.value)) name ∙ c.in_ok-value.ensures in
     c.in_ok-push.ensures.ok ∙ ap (λ l. l ++ (c.in_ok-name.name, c.in_ok-value.value) ∷ []) c.loop-field.invariant

@@ -1,6 +1,7 @@
 use Rattle.std.proofs.Common.{rules, ◌+◌, ◌++◌, drop, ap, ◌∙◌}
 use Rattle.warc_field.specs.Area.{canonical_line, canonical_fields}
-use Rattle.warc_write.proofs.RenderLemmas.{fields_more, texts_rest, same_out, same_staged}
+use Rattle.warc_frame.proofs.LawLemmas.{same_out, same_staged}
+use Rattle.warc_write.proofs.RenderLemmas.{fields_more, texts_rest}
 use Rattle.warc_write.proofs.sending.put_fields.Goals as goal
 
 pub returns-in_err-put_line-clause-cut : goal.returns-in_err-put_line-clause-cut

@@ -1,7 +1,8 @@
 use Rattle.std.proofs.Common.{rules, ◌+◌, ◌++◌, drop, ap, ◌∙◌}
 use Rattle.warc_frame.specs.Spelling.{canonical}
 use Rattle.warc_write.specs.Rendering.{canonical_texts}
-use Rattle.warc_write.proofs.RenderLemmas.{texts_more, texts_rest, same_out, same_staged}
+use Rattle.warc_frame.proofs.LawLemmas.{same_out, same_staged}
+use Rattle.warc_write.proofs.RenderLemmas.{texts_more, texts_rest}
 use Rattle.warc_write.proofs.sending.put_records.Goals as goal
 
 pub returns-in_err-put_record-clause-cut : goal.returns-in_err-put_record-clause-cut

@@ -1,7 +1,7 @@
 use Rattle.std.proofs.Common.{[], ◌≡◌, ℕ, List, ◌+◌, ◌-◌, ◌++◌, length, take, refl, sym, ap, ◌∙◌, subst, arith}
 use Rattle.std.proofs.lemmas.List.{length-take-le, append-nil, nil_from_length}
 use Rattle.warc_frame.specs.declared.stream.Phase.TheVariants as phases
-use Rattle.warc_frame.specs.Told.{Lies}
+use Rattle.warc_frame.specs.Told.{Lies, Refuses}
 use Rattle.warc_frame.specs.Decoding.{State, IsAt}
 use Rattle.warc_frame.proofs.StreamState.{lies_there}
 use Rattle.warc_frame.proofs.StreamFaults.{too_long}
@@ -12,8 +12,8 @@ pub returns-then-crosses-clause-history : goal.returns-then-crosses-clause-histo
 returns-then-crosses-clause-history g c = λ at taken text told ph s near.
     let none : c.args.near.now ≡ [] = nil_from_length c.args.near.now (grind arith) in
     let P : List ℕ → Type 0 = λ x. Lies x told in
-    too_long at text (taken ++ c.args.near.now) told near.front (near.beyond ∙ c.if-crosses.true)
-    (subst P (sym (ap (λ x. taken ++ x) none ∙ append-nil taken)) (lies_there at taken told c.args.self.now s))
+    subst (Refuses at text told) (sym c.at.ensures) (too_long at text (taken ++ c.args.near.now) told near.front (near.beyond ∙ c.if-crosses.true)
+    (subst P (sym (ap (λ x. taken ++ x) none ∙ append-nil taken)) (lies_there at taken told c.args.self.now s)))
 
 pub returns-then-self-gt0-clause-history : goal.returns-then-self-gt0-clause-history
 returns-then-self-gt0-clause-history g c = λ at taken text told ph s near.

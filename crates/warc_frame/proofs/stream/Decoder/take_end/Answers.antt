@@ -2,6 +2,7 @@ use Rattle.std.proofs.Common.{◌≡◌, ℕ, List, ◌+◌, ◌++◌, length, t
 use Rattle.std.proofs.lemmas.List.{take_all, length-take-le}
 use Rattle.warc_frame.specs.declared.stream.Phase.TheVariants as phases
 use Rattle.warc_frame.specs.Decoding.{State, IsAt, closing}
+use Rattle.warc_frame.specs.Told.{Refuses}
 use Rattle.warc_frame.proofs.StreamFaults.{too_long}
 use Rattle.warc_frame.proofs.StreamSteps.{end_more, end_closed, end_refused, lies_in_end, block_was_told, end_exact, true_false}
 use Rattle.warc_frame.proofs.stream.Decoder.take_end.Goals as goal
@@ -14,8 +15,8 @@ returns-then-not-closes_on-clause-history g c = λ at taken text told ph none s 
     let block : d.phase ≡ phases.Block = ap (λ (x : State). x.phase) is ∙ ph in
     let done : d.left ≡ 0 = ap (λ (x : State). x.left) is ∙ none in
     let len : length (take c.min-n.result c.args.near.now) ≡ c.min-n.result = length-take-le c.min-n.result c.args.near.now (omega (arith, c.min-n.ensures)) in
-    end_refused at taken told d text c.args.near.now c.min-n.result now block done near.front c.min-n.ensures
-    (λ same. true_false (sym (c.closes_on.ensures.1 (same ∙ ap (λ k. take k (drop d.matched closing)) (sym len))) ∙ c.if-not-closes_on.true))
+    subst (Refuses at text told) (sym c.at.ensures) (end_refused at taken told d text c.args.near.now c.min-n.result now block done near.front c.min-n.ensures
+    (λ same. true_false (sym (c.closes_on.ensures.1 (same ∙ ap (λ k. take k (drop d.matched closing)) (sym len))) ∙ c.if-not-closes_on.true)))
 
 pub returns-then-crosses-clause-history : goal.returns-then-crosses-clause-history
 returns-then-crosses-clause-history g c = λ at taken text told ph none s near.
@@ -26,8 +27,8 @@ returns-then-crosses-clause-history g c = λ at taken text told ph none s near.
     let done : d.left ≡ 0 = ap (λ (x : State). x.left) is ∙ none in
     let all : take c.min-n.result c.args.near.now ≡ c.args.near.now = take_all c.min-n.result c.args.near.now (omega (arith, c.min-n.ensures, c.if-n-want.true)) in
     let P : List ℕ → Type 0 = λ x. x ≡ take (length x) (drop d.matched closing) in
-    too_long at text (taken ++ c.args.near.now) told near.front (near.beyond ∙ c.if-crosses.true)
-    (lies_in_end at taken told d c.args.near.now now block done (subst P all (c.closes_on.ensures.0 c.if-not-closes_on.false)) (omega (arith, c.min-n.ensures, c.if-n-want.true)))
+    subst (Refuses at text told) (sym c.at-then-crosses.ensures) (too_long at text (taken ++ c.args.near.now) told near.front (near.beyond ∙ c.if-crosses.true)
+    (lies_in_end at taken told d c.args.near.now now block done (subst P all (c.closes_on.ensures.0 c.if-not-closes_on.false)) (omega (arith, c.min-n.ensures, c.if-n-want.true))))
 
 pub returns-else-crosses-clause-history : goal.returns-else-crosses-clause-history
 returns-else-crosses-clause-history g c = λ at taken text told ph none s near.

@@ -5,6 +5,7 @@ use Rattle.warc_frame.specs.declared.fault.FaultKind.TheVariants as kinds
 use Rattle.warc_frame.specs.Reading.{fault, any_fields, version_of, empty_line, head_len}
 use Rattle.warc_frame.specs.Decoding.{State, IsAt}
 use Rattle.warc_frame.specs.Steps.{ClosesHead}
+use Rattle.warc_frame.specs.Told.{Refuses}
 use Rattle.warc_frame.proofs.StreamHeads.{no_version, long_head}
 use Rattle.warc_frame.proofs.StreamFaults.{too_long}
 use Rattle.warc_frame.proofs.StreamSteps.{head_refused, head_none, head_outcome, whole_head, lies_in_head, no_memory, head_more_at, extended}
@@ -19,7 +20,7 @@ returns-in_default-clause-history g c = λ at taken text told ph s front.
     let near : List ℕ = c.args.near.now in
     let size : c.len.result ≡ length d.kept = c.len.ensures ∙ sym c.deref.ensures.len ∙ ap length c.deref.ensures.value in
     let none : version_of (d.kept ++ near) ≡ None = ap (λ x. version_of (x ++ near)) (sym c.deref.ensures.value) ∙ sym c.version_across.ensures ∙ c.in_default.is in
-    head_refused at taken told d text near (fault kinds.Version 0) (fault kinds.Version (d.position - c.len.result)) now head front.front (no_version any_fields (d.kept ++ near) none) (λ e. cc) (ap (fault kinds.Version) (omega (arith, size)))
+    subst (Refuses at text told) (sym c.at.ensures) (head_refused at taken told d text near (fault kinds.Version 0) (fault kinds.Version (d.position - c.len.result)) now head front.front (no_version any_fields (d.kept ++ near) none) (λ e. cc) (ap (fault kinds.Version) (omega (arith, size))))
 
 pub close_head-requires-clause-version : goal.close_head-requires-clause-version
 close_head-requires-clause-version g c =
@@ -86,7 +87,7 @@ returns-then-front-room-clause-history g c = λ at taken text told ph s front.
     let room : 65536 - c.len-room.result ≡ 65536 - length d.kept = ap (λ k. 65536 - k) (c.len-room.ensures ∙ sym c.len.ensures ∙ size) in
     let none : head_len (d.kept ++ near) ≡ None = head_none d.kept near (65536 - c.len-room.result) m c.self.invariant.room room c.min.ensures (ap (λ x. empty_line (x ++ take m near)) (sym c.deref-2.ensures.value) ∙ c.in_default-find_end.ensures.end) in
     let long : 65536 ≤ length (d.kept ++ near) = omega (arith, length-append d.kept near, length-take m near, c.if-front-room.true, room, c.self.invariant.room) in
-    head_refused at taken told d text near (fault kinds.HeadTooLong 0) (fault kinds.HeadTooLong (d.position - c.len.result)) now head front.front (long_head any_fields (d.kept ++ near) c.in-Some.version version none long) (λ e. cc) (ap (fault kinds.HeadTooLong) (omega (arith, size)))
+    subst (Refuses at text told) (sym c.at-then-front-room.ensures) (head_refused at taken told d text near (fault kinds.HeadTooLong 0) (fault kinds.HeadTooLong (d.position - c.len.result)) now head front.front (long_head any_fields (d.kept ++ near) c.in-Some.version version none long) (λ e. cc) (ap (fault kinds.HeadTooLong) (omega (arith, size))))
 
 pub returns-then-crosses-clause-history : goal.returns-then-crosses-clause-history
 returns-then-crosses-clause-history g c = λ at taken text told ph s front.
@@ -103,7 +104,7 @@ returns-then-crosses-clause-history g c = λ at taken text told ph s front.
     let few : m ≡ length near = omega (arith, c.min.ensures, c.if-front-room.false, length-take m near) in
     let all : take m near ≡ near = take_all m near (omega (arith, few)) in
     let small : length (d.kept ++ near) < 65536 = omega (arith, length-append d.kept near, few, c.min.ensures, c.if-front-room.false, length-take m near, room, c.self.invariant.room) in
-    too_long at text (taken ++ near) told front.front (front.beyond ∙ c.if-crosses.true) (lies_in_head at taken told d near c.in-Some.version now head version none small)
+    subst (Refuses at text told) (sym c.at-then-crosses.ensures) (too_long at text (taken ++ near) told front.front (front.beyond ∙ c.if-crosses.true) (lies_in_head at taken told d near c.in-Some.version now head version none small))
 
 pub returns-then-is_err-clause-history : goal.returns-then-is_err-clause-history
 returns-then-is_err-clause-history g c = λ at taken text told ph s front.
@@ -113,7 +114,7 @@ returns-then-is_err-clause-history g c = λ at taken text told ph s front.
     let head : d.phase ≡ phases.Head = ap (λ (x : State). x.phase) is ∙ ph in
     let near : List ℕ = c.args.near.now in
     let size : c.len.result ≡ length d.kept = c.len.ensures ∙ sym c.deref.ensures.len ∙ ap length c.deref.ensures.value in
-    no_memory at taken told d text near (fault kinds.Memory (d.position - c.len.result)) now head front.front (omega (arith, size))
+    subst (Refuses at text told) (sym c.at-then-is_err.ensures) (no_memory at taken told d text near (fault kinds.Memory (d.position - c.len.result)) now head front.front (omega (arith, size)))
 
 pub returns-clause-history : goal.returns-clause-history
 returns-clause-history g c = λ at taken text told ph s front.

@@ -1,7 +1,6 @@
-use Rattle.std.proofs.Common.{◌≡◌, ◌∙◌, ap, sym, subst, Some, min, ℕ}
+use Rattle.std.proofs.Common.{◌≡◌, ◌∙◌, ap, sym, subst, Some, min}
 use Rattle.warc_order.specs.Entries.{Entry, entry_at, IsFirst, IsNone, IsFrom}
-use Rattle.warc_index.specs.Captures.{Indexed}
-use Rattle.warc_index.specs.Orders.{IsKeptOf, entries_from, id_entry}
+use Rattle.warc_index.specs.Orders.{entries_from, id_entry}
 use Rattle.warc_index.proofs.KeptLemmas.{least_of_both, first_alone, none_with}
 use Rattle.warc_index.proofs.index.Index.first_with.Goals as goal
 

@@ -1,4 +1,5 @@
-use Rattle.std.proofs.Common.{◌≡◌, sym, subst, refl}
+use Rattle.std.proofs.Common.{◌∙◌, ap, sym, subst, refl, length, arith}
+use Rattle.std.proofs.lemmas.List.{length-take-le}
 use Rattle.warc_index.specs.Orders.{IsKeptOf, IsBelow}
 use Rattle.warc_index.proofs.KeptLemmas.{kept_fewer, below_kept}
 use Rattle.warc_index.proofs.index.Index.forget_after.Goals as goal
@@ -8,6 +9,10 @@ invariant_of-self g c = record {
   ids = subst (IsBelow c.args.count) (sym c.forget_after.ensures) (below_kept c.self.inside.by_id c.args.count);
   captures = subst (IsBelow c.args.count) (sym c.forget_after-then-count-self.ensures) (below_kept
       c.self.inside.by_target c.args.count);
+  links = ap length c.truncate.ensures ∙ length-take-le c.args.count c.self.inside.links (omega (
+    arith,
+    c.self.invariant.links,
+  ));
 }
 
 pub returns-then-count-self : goal.returns-then-count-self
@@ -15,8 +20,8 @@ returns-then-count-self g c all kept =
     kept_fewer all (record {
       count = c.self.inside.count;
       ids = c.self.inside.by_id;
-      captures =
-          c.self.inside.by_target;
+      captures = c.self.inside.by_target;
+      links = c.self.inside.links;
     }) _
     c.args.count c.if-count-self.true (subst (IsKeptOf all) (sym c.self.view_is) kept) refl c.forget_after.ensures
-    c.forget_after-then-count-self.ensures
+    c.forget_after-then-count-self.ensures c.truncate.ensures

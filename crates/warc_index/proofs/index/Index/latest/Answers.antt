@@ -1,7 +1,8 @@
-use Rattle.std.proofs.Common.{◌≡◌, ◌∙◌, ap, sym, subst, List, ℕ}
+use Rattle.std.proofs.Common.{◌≡◌, ◌∙◌, ap, sym, subst}
 use Rattle.warc_order.specs.Entries.{Entry, entry_at, IsLast, IsFirst, IsNone, IsUpTo, IsFrom}
-use Rattle.warc_index.specs.Captures.{Indexed, IsChosen}
-use Rattle.warc_index.specs.Orders.{IsKeptOf, entries_from, capture_entry, instant_mark}
+use Rattle.warc_index.specs.Captures.{IsChosen}
+use Rattle.warc_index.specs.Linked.{instant_mark}
+use Rattle.warc_index.specs.Orders.{entries_from, capture_entry}
 use Rattle.warc_index.proofs.ChoiceLemmas.{chosen_is_latest}
 use Rattle.warc_index.proofs.KeptLemmas.{chosen, no_capture, some_capture, none_early}
 use Rattle.warc_index.proofs.index.Index.latest.Goals as goal

@@ -1,0 +1,558 @@
+//! Origins by table: where revisits lead, and each reason why one leads nowhere.
+
+use crate::rows::{Field, Row, typed};
+use std::alloc::{AllocError, Allocator, Global};
+use std::test::Fail;
+use warc_index::{Filling, Index, Unfound};
+use warc_value::read_date;
+use warc_vectors::RefusingAllocator;
+
+/// A record with more fields.
+type Record = (Row, &'static [Field]);
+
+/// What an archive is called, its records, and the origin of the last one.
+type Case = (&'static str, &'static [Record], Result<usize, Unfound>);
+
+const U: &str = "http://a.example/x";
+
+const PROFILE: Field = (
+    "WARC-Profile",
+    "<http://netpreserve.org/warc/1.1/revisit/identical-payload-digest>",
+);
+
+const A: Field = ("WARC-Payload-Digest", "sha1:A");
+
+const B: Field = ("WARC-Payload-Digest", "sha1:B");
+
+const TO_A: Field = ("WARC-Refers-To", "<a>");
+
+const TO_B: Field = ("WARC-Refers-To", "<b>");
+
+const TO_X: Field = ("WARC-Refers-To", "<x>");
+
+const TO_U: Field = ("WARC-Refers-To-Target-URI", "<http://a.example/x>");
+
+const TO_2020: Field = ("WARC-Refers-To-Date", "2020-01-01T00:00Z");
+
+const RESOURCE_A: Record = (("resource", "<a>", "2020", U), &[A]);
+
+const RESPONSE_B: Record = (("response", "<b>", "2020-01-01", U), &[B]);
+
+const LATER_A: Record = (("resource", "<l>", "2022", U), &[A]);
+
+const REVISIT_OF_2020: Record = (("revisit", "<r>", "2020", U), &[PROFILE, TO_X]);
+
+/// A capture that is no revisit is its own origin.
+const PLAIN: &[Case] = &[
+    ("a resource", &[RESOURCE_A], Ok(0)),
+    (
+        "a record of metadata",
+        &[(("metadata", "<m>", "2020", U), &[])],
+        Ok(0),
+    ),
+];
+
+/// P3: profiles that aren't known.
+const PROFILES: &[Case] = &[
+    (
+        "P3, no profile",
+        &[RESOURCE_A, (("revisit", "<r>", "2021", U), &[TO_A])],
+        Err(Unfound::UnknownProfile),
+    ),
+    (
+        "P3, another profile",
+        &[
+            RESOURCE_A,
+            (
+                ("revisit", "<r>", "2021", U),
+                &[("WARC-Profile", "http://b.example/"), TO_A],
+            ),
+        ],
+        Err(Unfound::UnknownProfile),
+    ),
+];
+
+/// Revisits that name an id.
+const BY_ID: &[Case] = &[
+    (
+        "by id",
+        &[
+            RESPONSE_B,
+            RESOURCE_A,
+            (("revisit", "<r>", "2021", U), &[PROFILE, TO_B]),
+        ],
+        Ok(0),
+    ),
+    (
+        "by id, though it is later and of another target",
+        &[
+            (("response", "<b>", "2029", "http://b.example/"), &[]),
+            (("revisit", "<r>", "2021", U), &[PROFILE, TO_B]),
+        ],
+        Ok(0),
+    ),
+    (
+        "by the first with the id that is a capture",
+        &[
+            (("request", "<b>", "2020", U), &[]),
+            RESPONSE_B,
+            RESPONSE_B,
+            (("revisit", "<r>", "2021", U), &[PROFILE, TO_B]),
+        ],
+        Ok(1),
+    ),
+];
+
+/// P5: ids that no capture has.
+const ABSENT_IDS: &[Case] = &[
+    (
+        "P5, an id of a request alone",
+        &[
+            (("request", "<b>", "2020", U), &[]),
+            (("revisit", "<r>", "2021", U), &[PROFILE, TO_B]),
+        ],
+        Err(Unfound::Unresolved),
+    ),
+    (
+        "P5, though a digest would be found",
+        &[
+            RESOURCE_A,
+            (("revisit", "<r>", "2021", U), &[PROFILE, TO_X, A]),
+        ],
+        Err(Unfound::Unresolved),
+    ),
+];
+
+/// Revisits that name a pair.
+const BY_PAIR: &[Case] = &[
+    (
+        "by pair",
+        &[
+            RESOURCE_A,
+            RESPONSE_B,
+            (("revisit", "<r>", "2021", U), &[PROFILE, TO_U, TO_2020]),
+        ],
+        Ok(0),
+    ),
+    (
+        "by pair, behind revisits and a request of the pair",
+        &[
+            REVISIT_OF_2020,
+            (("request", "<q>", "2020", U), &[]),
+            REVISIT_OF_2020,
+            RESPONSE_B,
+            (("revisit", "<r>", "2021", U), &[PROFILE, TO_U, TO_2020]),
+        ],
+        Ok(3),
+    ),
+];
+
+/// Revisits that name an id and a pair.
+const IDS_AND_PAIRS: &[Case] = &[
+    (
+        "an absent id beside a pair that is found",
+        &[
+            RESPONSE_B,
+            (
+                ("revisit", "<r>", "2021", U),
+                &[PROFILE, TO_X, TO_U, TO_2020],
+            ),
+        ],
+        Ok(0),
+    ),
+    (
+        "an id before a pair",
+        &[
+            RESPONSE_B,
+            (("resource", "<a>", "2023", U), &[]),
+            (
+                ("revisit", "<r>", "2021", U),
+                &[PROFILE, TO_A, TO_U, TO_2020],
+            ),
+        ],
+        Ok(1),
+    ),
+];
+
+/// P5: pairs that no payload has.
+const ABSENT_PAIRS: &[Case] = &[
+    (
+        "P5, a pair of another instant",
+        &[
+            LATER_A,
+            (("revisit", "<r>", "2023", U), &[PROFILE, TO_U, TO_2020, A]),
+        ],
+        Err(Unfound::Unresolved),
+    ),
+    (
+        "P5, a pair of revisits alone",
+        &[
+            REVISIT_OF_2020,
+            (("revisit", "<r>", "2023", U), &[PROFILE, TO_U, TO_2020]),
+        ],
+        Err(Unfound::Unresolved),
+    ),
+];
+
+/// Half a pair names nothing.
+const HALF_PAIRS: &[Case] = &[
+    (
+        "half a pair names nothing",
+        &[
+            RESPONSE_B,
+            RESOURCE_A,
+            (("revisit", "<r>", "2021", U), &[PROFILE, TO_U, B]),
+        ],
+        Ok(0),
+    ),
+    (
+        "a date alone names nothing",
+        &[
+            RESPONSE_B,
+            RESOURCE_A,
+            (("revisit", "<r>", "2021", U), &[PROFILE, TO_2020, B]),
+        ],
+        Ok(0),
+    ),
+];
+
+/// Revisits that name nothing.
+const BY_PAYLOAD: &[Case] = &[
+    (
+        "by payload",
+        &[
+            RESOURCE_A,
+            RESPONSE_B,
+            LATER_A,
+            (("revisit", "<r>", "2021", U), &[PROFILE, A]),
+        ],
+        Ok(0),
+    ),
+    (
+        "by payload, the last of a tie",
+        &[
+            RESOURCE_A,
+            RESOURCE_A,
+            RESPONSE_B,
+            (("revisit", "<r>", "2021", U), &[PROFILE, A]),
+        ],
+        Ok(1),
+    ),
+];
+
+/// The instant of a revisit that names nothing.
+const INSTANTS: &[Case] = &[
+    (
+        "by payload, of its own instant",
+        &[
+            RESOURCE_A,
+            LATER_A,
+            (("revisit", "<r>", "2022", U), &[PROFILE, A]),
+        ],
+        Ok(1),
+    ),
+    (
+        "by payload, behind a revisit of the digest",
+        &[
+            RESOURCE_A,
+            (("revisit", "<s>", "2020-06", U), &[PROFILE, A]),
+            (("revisit", "<r>", "2021", U), &[PROFILE, A]),
+        ],
+        Ok(0),
+    ),
+];
+
+/// P4: no payload has the digest.
+const NO_PAYLOAD: &[Case] = &[
+    (
+        "P4, a later payload",
+        &[LATER_A, (("revisit", "<r>", "2021", U), &[PROFILE, A])],
+        Err(Unfound::NoReference),
+    ),
+    (
+        "P4, another digest",
+        &[RESOURCE_A, (("revisit", "<r>", "2021", U), &[PROFILE, B])],
+        Err(Unfound::NoReference),
+    ),
+];
+
+/// P4: revisits without a digest or a target.
+const NO_REFERENCE: &[Case] = &[
+    (
+        "P4, no digest",
+        &[RESOURCE_A, (("revisit", "<r>", "2021", U), &[PROFILE])],
+        Err(Unfound::NoReference),
+    ),
+    (
+        "P4, no target",
+        &[RESOURCE_A, (("revisit", "<r>", "2021", ""), &[PROFILE, A])],
+        Err(Unfound::NoReference),
+    ),
+    (
+        "P4, another target",
+        &[
+            RESOURCE_A,
+            (
+                ("revisit", "<r>", "2021", "http://b.example/"),
+                &[PROFILE, A],
+            ),
+        ],
+        Err(Unfound::NoReference),
+    ),
+];
+
+/// P6: revisits that lead back.
+const LOOPS: &[Case] = &[
+    (
+        "P6, itself",
+        &[(("revisit", "<x>", "2021", U), &[PROFILE, TO_X])],
+        Err(Unfound::Loop),
+    ),
+    (
+        "P6, each other",
+        &[
+            (("revisit", "<a>", "2021", U), &[PROFILE, TO_B]),
+            (("revisit", "<b>", "2021", U), &[PROFILE, TO_A]),
+        ],
+        Err(Unfound::Loop),
+    ),
+];
+
+/// Revisits of revisits.
+const BEHIND: &[Case] = &[
+    (
+        "P5 behind a revisit",
+        &[
+            (("revisit", "<a>", "2021", U), &[PROFILE, TO_X]),
+            (("revisit", "<b>", "2021", U), &[PROFILE, TO_A]),
+        ],
+        Err(Unfound::Unresolved),
+    ),
+    (
+        "a payload behind two revisits",
+        &[
+            RESPONSE_B,
+            (("revisit", "<a>", "2021", U), &[PROFILE, B]),
+            (("revisit", "<x>", "2021", U), &[PROFILE, TO_A]),
+            (("revisit", "<y>", "2021", U), &[PROFILE, TO_X]),
+        ],
+        Ok(0),
+    ),
+];
+
+/// Adds the records one by one.
+fn add_all<A: Allocator + Copy>(
+    index: &mut Index<A>,
+    records: &[Record],
+    heap: Global,
+) -> Result<(), AllocError> {
+    for (row, more) in records {
+        index.add(&typed(heap, row, more)?)?;
+    }
+    Ok(())
+}
+
+/// Fills an index with all records at once.
+fn filled<A: Allocator + Copy>(
+    alloc: A,
+    records: &[Record],
+    heap: Global,
+) -> Result<Index<A>, AllocError> {
+    let mut filling = Filling::new(alloc);
+    for (row, more) in records {
+        filling.push(&typed(heap, row, more)?)?;
+    }
+    filling.into_index()
+}
+
+/// The name of the first case whose last record has another origin, in an index that is added to or in one that is filled.
+fn first_wrong(cases: &[Case], heap: Global) -> Result<Option<&'static str>, AllocError> {
+    for (name, records, expected) in cases {
+        let mut added = Index::new(heap);
+        add_all(&mut added, records, heap)?;
+        let filled = filled(heap, records, heap)?;
+        let last = records.len().saturating_sub(1);
+        if added.origin(last) != *expected || filled.origin(last) != *expected {
+            return Ok(Some(name));
+        }
+    }
+    Ok(None)
+}
+
+#[test]
+fn payloads_are_origins(rt: HostRuntime) -> Result<(), Fail> {
+    assert_eq!(rt; first_wrong(PLAIN, rt.alloc())?, None);
+    Ok(())
+}
+
+#[test]
+fn unknown_profiles(rt: HostRuntime) -> Result<(), Fail> {
+    assert_eq!(rt; first_wrong(PROFILES, rt.alloc())?, None);
+    Ok(())
+}
+
+#[test]
+fn origins_by_id(rt: HostRuntime) -> Result<(), Fail> {
+    assert_eq!(rt; first_wrong(BY_ID, rt.alloc())?, None);
+    Ok(())
+}
+
+#[test]
+fn absent_ids(rt: HostRuntime) -> Result<(), Fail> {
+    assert_eq!(rt; first_wrong(ABSENT_IDS, rt.alloc())?, None);
+    Ok(())
+}
+
+#[test]
+fn origins_by_pair(rt: HostRuntime) -> Result<(), Fail> {
+    assert_eq!(rt; first_wrong(BY_PAIR, rt.alloc())?, None);
+    Ok(())
+}
+
+#[test]
+fn origins_by_id_and_pair(rt: HostRuntime) -> Result<(), Fail> {
+    assert_eq!(rt; first_wrong(IDS_AND_PAIRS, rt.alloc())?, None);
+    Ok(())
+}
+
+#[test]
+fn absent_pairs(rt: HostRuntime) -> Result<(), Fail> {
+    assert_eq!(rt; first_wrong(ABSENT_PAIRS, rt.alloc())?, None);
+    Ok(())
+}
+
+#[test]
+fn half_pairs_name_nothing(rt: HostRuntime) -> Result<(), Fail> {
+    assert_eq!(rt; first_wrong(HALF_PAIRS, rt.alloc())?, None);
+    Ok(())
+}
+
+#[test]
+fn origins_by_payload(rt: HostRuntime) -> Result<(), Fail> {
+    assert_eq!(rt; first_wrong(BY_PAYLOAD, rt.alloc())?, None);
+    Ok(())
+}
+
+#[test]
+fn origins_by_payload_and_instant(rt: HostRuntime) -> Result<(), Fail> {
+    assert_eq!(rt; first_wrong(INSTANTS, rt.alloc())?, None);
+    Ok(())
+}
+
+#[test]
+fn no_payload(rt: HostRuntime) -> Result<(), Fail> {
+    assert_eq!(rt; first_wrong(NO_PAYLOAD, rt.alloc())?, None);
+    Ok(())
+}
+
+#[test]
+fn no_reference(rt: HostRuntime) -> Result<(), Fail> {
+    assert_eq!(rt; first_wrong(NO_REFERENCE, rt.alloc())?, None);
+    Ok(())
+}
+
+#[test]
+fn loops_are_told(rt: HostRuntime) -> Result<(), Fail> {
+    assert_eq!(rt; first_wrong(LOOPS, rt.alloc())?, None);
+    Ok(())
+}
+
+#[test]
+fn origins_behind_revisits(rt: HostRuntime) -> Result<(), Fail> {
+    assert_eq!(rt; first_wrong(BEHIND, rt.alloc())?, None);
+    Ok(())
+}
+
+#[test]
+fn pairs(rt: HostRuntime) -> Result<(), Fail> {
+    let records = [REVISIT_OF_2020, RESPONSE_B, RESOURCE_A, LATER_A];
+    let index = filled(rt.alloc(), &records, rt.alloc())?;
+    for (target, date, expected) in [
+        (U, "2020", Some(1usize)),
+        (U, "2022-01", Some(3)),
+        (U, "2021", None),
+        ("http://b.example/", "2020", None),
+    ] {
+        let moment = read_date(date.as_bytes()).ok_or("a date")?;
+        assert_eq!(rt;
+            index.by_pair(target.as_bytes(), &moment),
+            expected,
+            "{target} {date}"
+        );
+    }
+    Ok(())
+}
+
+#[test]
+fn referents_come_and_go(rt: HostRuntime) -> Result<(), Fail> {
+    let mut index = Index::new(rt.alloc());
+    add_all(
+        &mut index,
+        &[(("revisit", "<r>", "2021", U), &[PROFILE, TO_B])],
+        rt.alloc(),
+    )?;
+    // The id, the target, and the id that is named.
+    assert_eq!(rt; index.kept(), 1 + 18 + 1);
+    assert_eq!(rt; index.origin(0), Err(Unfound::Unresolved));
+    add_all(&mut index, &[RESPONSE_B], rt.alloc())?;
+    assert_eq!(rt; index.kept(), 1 + 18 + 1 + 1 + 18 + 6);
+    assert_eq!(rt; index.origin(0), Ok(1));
+    index.forget_after(1);
+    assert_eq!(rt; index.kept(), 1 + 18 + 1);
+    assert_eq!(rt; index.origin(0), Err(Unfound::Unresolved));
+    Ok(())
+}
+
+/// Records that ask for memory in each way.
+const RECORDS: &[Record] = &[
+    RESOURCE_A,
+    (
+        ("revisit", "<b>", "2021", U),
+        &[PROFILE, TO_X, TO_U, TO_2020],
+    ),
+    (("revisit", "<c>", "2021", U), &[PROFILE, A]),
+    (("request", "<d>", "2021", U), &[]),
+    (("revisit", "<e>", "2021", U), &[PROFILE, TO_B]),
+];
+
+#[test]
+fn refused_additions_change_nothing(rt: HostRuntime) -> Result<(), Fail> {
+    for number in 1..100u64 {
+        let heap = RefusingAllocator::new(rt.alloc(), number);
+        let mut index = Index::new(&heap);
+        for (row, more) in RECORDS {
+            let typed = typed(rt.alloc(), row, more)?;
+            let kept = index.kept();
+            if index.add(&typed).is_err() {
+                assert!(rt; heap.has_refused());
+                assert_eq!(rt; index.kept(), kept);
+                index.add(&typed)?;
+            }
+        }
+        for position in [0usize, 1, 2, 4] {
+            assert_eq!(rt; index.origin(position), Ok(0), "{number} {position}");
+        }
+        if !heap.has_refused() {
+            assert!(rt; number > 10);
+            break;
+        }
+    }
+    Ok(())
+}
+
+#[test]
+fn refused_fillings(rt: HostRuntime) -> Result<(), Fail> {
+    for number in 1..100u64 {
+        let heap = RefusingAllocator::new(rt.alloc(), number);
+        match filled(&heap, RECORDS, rt.alloc()) {
+            Ok(index) => {
+                assert!(rt; !heap.has_refused());
+                assert!(rt; number > 10);
+                assert_eq!(rt; index.origin(4), Ok(0));
+                break;
+            }
+            Err(_) => assert!(rt; heap.has_refused()),
+        }
+    }
+    Ok(())
+}

@@ -1,0 +1,60 @@
+-- What is kept beside the rows, and what opening gives of it.
+use Rattle.std.proofs.Common.{◌≡◌, ℕ, List, [], ◌∷◌, ◌++◌, map, Ok, Err, IfErr, sym, ap, subst, ◌∙◌}
+use Rattle.std.proofs.lemmas.List.{map-append}
+use Rattle.warc_frame.specs.declared.fault.Fault.{Fault}
+use Rattle.warc_frame.specs.Seen.{Tapped}
+use Rattle.warc_record.specs.Readings.{Reading, reading_of}
+use Rattle.warc_index.specs.Captures.{indexed_of}
+use Rattle.warc_index.specs.Orders.{IsKeptOf, Kept as Indexes}
+use Rattle.warc_segment.specs.Kept.{Kept as Parts, kept_in}
+use Rattle.warc_segment.specs.declared.place.Place.{Place}
+use Rattle.warc.specs.Indexed.{AreOf, indexed_record, place_of, placed_record}
+use Rattle.warc.specs.Opening.{Opens}
+use Rattle.warc.specs.Row.{Placed}
+
+-- one more record
+index_more : (records : List Placed) (p : Placed) (index : Indexes) (head : Reading) → head ≡ reading_of p.content.fields → IsKeptOf (map indexed_record records ++ indexed_of head ∷ []) index
+    → IsKeptOf (map indexed_record (records ++ p ∷ [])) index
+index_more records p index head is kept =
+    let whole : map indexed_record records ++ indexed_of head ∷ [] ≡ map indexed_record (records ++ p ∷ []) =
+    ap (λ h. map indexed_record records ++ indexed_of h ∷ []) is ∙ sym (map-append indexed_record records (p ∷ [])) in
+    subst (λ l. IsKeptOf l index) whole kept
+
+parts_more : (records : List Placed) (p : Placed) (parts : Parts) (head : Reading) (place : Place) → head ≡ reading_of p.content.fields → place ≡ place_of p
+    → parts ≡ kept_in (map placed_record records ++ record { head = head; place = place } ∷ []) → parts ≡ kept_in (map placed_record (records ++ p ∷ []))
+parts_more records p parts head place is at kept =
+    kept ∙ ap (λ h. kept_in (map placed_record records ++ record { head = h; place = place } ∷ [])) is
+    ∙ ap (λ q. kept_in (map placed_record records ++ record { head = reading_of p.content.fields; place = q } ∷ [])) at
+    ∙ ap kept_in (sym (map-append placed_record records (p ∷ [])))
+
+pub kept_more : (records : List Placed) (p : Placed) (index : Indexes) (parts : Parts) (head : Reading) (place : Place) → head ≡ reading_of p.content.fields → place ≡ place_of p
+    → IsKeptOf (map indexed_record records ++ indexed_of head ∷ []) index → parts ≡ kept_in (map placed_record records ++ record { head = head; place = place } ∷ [])
+    → AreOf (records ++ p ∷ []) index parts
+kept_more records p index parts head place is at indexed joined =
+    record { index_is = index_more records p index head is indexed; parts_are = parts_more records p parts head place is at joined }
+
+-- the same opening, by what is made of its answer
+pub opens_with : {X Y : Type 0} {Is : List ℕ → X → Type 0} {Gives : List ℕ → Y → Type 0} {old new : Tapped} (x : X) (y : Y) → ((bytes : List ℕ) → Is bytes x → Gives bytes y) → Opens Is old new (Ok x)
+    → Opens Gives old new (Ok y)
+opens_with x y gives opens = record {
+  accepted = λ bytes held. gives bytes (opens.accepted bytes held);
+  refused = λ bytes held. tt;
+  kept = opens.kept;
+  cause = opens.cause;
+  asked = tt;
+  near = opens.near;
+  bound = opens.bound;
+  cost = opens.cost;
+}
+
+pub refuses_with : {X Y : Type 0} {Is : List ℕ → X → Type 0} {Gives : List ℕ → Y → Type 0} {old new : Tapped} (f : Fault) → Opens Is old new (Err f) → Opens Gives old new (Err f)
+refuses_with f opens = record {
+  accepted = λ bytes held. tt;
+  refused = opens.refused;
+  kept = opens.kept;
+  cause = opens.cause;
+  asked = opens.asked;
+  near = opens.near;
+  bound = opens.bound;
+  cost = opens.cost;
+}

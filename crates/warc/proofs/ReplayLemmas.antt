@@ -1,0 +1,171 @@
+-- What a replay gives over the bytes of an archive.
+use Rattle.std.proofs.Common.{◌≡◌, ℕ, zero, suc, ◌+◌, ◌-◌, ◌*◌, ◌<◌, ◌≤◌, List, [], ◌∷◌, length, map, take, drop, Some, None, Ok, Err, refl, sym, ap, subst, ◌∙◌, arith}
+use Rattle.std.specs.Prelude.{Option, Result, option_map}
+use Rattle.std.specs.List.{slice_get}
+use Rattle.std.proofs.lemmas.List.Sums.{sum_by-cons}
+use Rattle.warc_value.specs.Dates.{Instant}
+use Rattle.warc_frame.specs.Failing.{HasFailedBy, MayHaveFailedBy}
+use Rattle.warc_frame.specs.Send.{sent_of}
+use Rattle.warc_record.specs.Readings.{reading_of}
+use Rattle.std.proofs.lemmas.List.{length-map}
+use Rattle.warc_index.specs.Captures.{ChosenIsLatest, Indexed, chosen_of}
+use Rattle.warc_index.specs.Referents.{OriginsStand, ok_then, origin_of}
+use Rattle.warc_index.specs.declared.unfound.Unfound.{Unfound}
+use Rattle.warc_segment.specs.Joined.{ArePlacesJoined, ArePlacesOf, AreStored, IsPlaceOf, PlacedRecord, PlacesAreOfRecords, ReadRecord, joined_places, joined_records}
+use Rattle.std.specs.declared.vec.Vec.{Vec}
+use Rattle.warc_segment.specs.Joining.{IsJoin}
+use Rattle.warc_segment.specs.declared.fault.JoinFault.{JoinFault}
+use Rattle.warc_segment.specs.declared.fault.JoinFault.TheVariants.{Gap as IsGap}
+use Rattle.warc_segment.specs.declared.gap.Gap.{Gap}
+use Rattle.warc_segment.specs.declared.place.Place.{Place}
+use Rattle.warc_answer.specs.Answers.{index_of, path_of}
+use Rattle.warc_answer.specs.Laws.{IsFound, PlacesAreAsLong}
+use Rattle.warc_answer.specs.Payloads.{read_record}
+use Rattle.warc_answer.specs.Places.{len_of}
+use Rattle.warc_answer.specs.declared.answer.Path.{Path}
+use Rattle.warc.specs.Archive.{contents}
+use Rattle.warc.specs.Heads.{heads_len}
+use Rattle.warc.specs.Indexed.{indexed_record, place_of, placed_record}
+use Rattle.warc.specs.Replaying.{joined_len, most_reads, origin_reads, path_reads}
+use Rattle.warc.specs.Examining.{HasFailed, MayHaveFailed, halted}
+use Rattle.warc.specs.Row.{Placed, Row, row_of}
+use Rattle.warc.specs.Standing.{IsOrigin, IsWritten}
+use Rattle.warc.specs.declared.heads.Halt.{Halt}
+use Rattle.warc.specs.declared.heads.Halt.TheVariants.{Read, Memory}
+use Rattle.warc.proofs.StandLemmas.{written}
+
+-- the records, read
+abbrev pub read_all : List Placed → List ReadRecord
+read_all records = map read_record (contents records)
+
+-- the block of a record that stands in the bytes is at its place
+place_here : (bytes : List ℕ) (p : Placed) → IsWritten bytes p → IsPlaceOf bytes (place_of p) (read_record p.content)
+place_here bytes p has = record { within = omega (arith, has.end, has.within); block = has.block; verdict = refl; truncated = refl }
+
+-- all records, by place and by block
+stored_by : (bytes : List ℕ) (records : List Placed) → ((i : ℕ) (p : Placed) → slice_get records i ≡ Some p → IsWritten bytes p)
+    → AreStored bytes (map placed_record records) (read_all records)
+stored_by bytes [] all = tt
+stored_by bytes (p ∷ ps) all = (refl, place_here bytes p (all 0 p refl), stored_by bytes ps (λ i q is. all (suc i) q is))
+
+-- what an index keeps of them
+pub same_index : (records : List Placed) → index_of (read_all records) ≡ map indexed_record records
+same_index [] = refl
+same_index (p ∷ ps) = ap (λ l. indexed_record p ∷ l) (same_index ps)
+
+read_at : (records : List Placed) (i : ℕ) (p : Placed) → slice_get records i ≡ Some p → slice_get (read_all records) i ≡ Some (read_record p.content)
+read_at [] i p is = absurd (cc is)
+read_at (x ∷ xs) zero p is = let same : x ≡ p = cc is in ap (λ (q : Placed). Some (read_record q.content)) same
+read_at (x ∷ xs) (suc i) p is = read_at xs i p is
+
+module _ (bytes : List ℕ) (records : List Placed) (uri : List ℕ) (moment : Instant) (path : Path) (p : Placed) (is : IsOrigin bytes records uri moment path p) where
+  there : IsWritten bytes p
+  there = written bytes records is.spelled path.given p is.stands
+
+  joined_as : (q : PlacedRecord) → q.head ≡ reading_of p.content.fields → q.place ≡ place_of p → PlacesAreOfRecords
+      → ArePlacesJoined bytes (joined_places (map placed_record records) q) (joined_records (read_all records) (read_record p.content))
+  joined_as q head place law =
+      law bytes (map placed_record records) (read_all records) q (read_record p.content) (stored_by bytes records (λ i r at. written bytes records is.spelled i r at)) head
+      (subst (λ (x : Place). IsPlaceOf bytes x (read_record p.content)) (sym place) (place_here bytes p there))
+
+  pub found_as : (joined : Result (List ReadRecord) Gap) → joined_records (read_all records) (read_record p.content) ≡ joined → IsFound (read_all records) uri moment path (read_record p.content) joined
+  found_as joined same = record {
+    path_is = ap (λ l. path_of l uri moment) (same_index records) ∙ is.path_is;
+    stands = read_at records path.given p is.stands;
+    joined_is = same;
+  }
+
+  by_gap : (r : Result (List ReadRecord) Gap) (gap : Gap) → ArePlacesJoined bytes (Err gap) r → r ≡ Err gap
+  by_gap (Ok records) gap is = absurd is
+  by_gap (Err other) gap is = ap Err (sym is)
+
+  pub gap_is : (q : PlacedRecord) (gap : Gap) → q.head ≡ reading_of p.content.fields → q.place ≡ place_of p → PlacesAreOfRecords → joined_places (map placed_record records) q ≡ Err gap
+      → joined_records (read_all records) (read_record p.content) ≡ Err gap
+  gap_is q gap head place law same =
+      by_gap _ gap (subst (λ x. ArePlacesJoined bytes x (joined_records (read_all records) (read_record p.content))) same (joined_as q head place law))
+
+  by_places : (r : Result (List ReadRecord) Gap) (places : List Place) → ArePlacesJoined bytes (Ok places) r → (joined : List ReadRecord) × (r ≡ Ok joined) × ArePlacesOf bytes places joined
+  by_places (Ok joined) places is = (joined, refl, is)
+  by_places (Err gap) places is = absurd is
+
+  pub places_are : (q : PlacedRecord) (places : List Place) → q.head ≡ reading_of p.content.fields → q.place ≡ place_of p → PlacesAreOfRecords
+      → joined_places (map placed_record records) q ≡ Ok places
+      → (joined : List ReadRecord) × (joined_records (read_all records) (read_record p.content) ≡ Ok joined) × ArePlacesOf bytes places joined
+  places_are q places head place law same =
+      by_places _ places (subst (λ x. ArePlacesJoined bytes x (joined_records (read_all records) (read_record p.content))) same (joined_as q head place law))
+
+  -- the places are as long as what is joined
+  pub reads_are : (places : List Place) (joined : List ReadRecord) (old new : ℕ) → PlacesAreAsLong → joined_records (read_all records) (read_record p.content) ≡ Ok joined
+      → ArePlacesOf bytes places joined → new ≤ old + 2 * len_of places → new ≤ old + 2 * joined_len (joined_records (read_all records) (read_record p.content))
+  reads_are places joined old new law same are bound =
+      let size : len_of places ≡ joined_len (joined_records (read_all records) (read_record p.content)) = law bytes places joined are ∙ ap joined_len (sym same) in
+      omega (arith, bound, size)
+
+-- the place that a row says is the place of its record's block
+pub place_by_row : (p : Placed) (row : Row) → row ≡ row_of p → ◌≡◌ {A = Place} (record { start = row.block_start; len = row.block_len; verdict = row.verdict; truncated = row.is_truncated }) (place_of p)
+place_by_row p row same = ap (λ (r : Row). let x : Place = record { start = r.block_start; len = r.block_len; verdict = r.verdict; truncated = r.is_truncated } in x) same
+
+-- a head that isn't read again, as the end of an output
+pub halted_sent : (halt : Halt) → sent_of (halted halt 0) ≡ 0
+halted_sent Read = refl
+halted_sent Memory = refl
+
+pub halted_failed : (halt : Halt) (old new : ℕ) → HasFailed halt old new → HasFailedBy {X = Unit {0}} (Err (halted halt 0)) old new
+halted_failed Read old new is = is
+halted_failed Memory old new is = is
+
+pub halted_may : (halt : Halt) (old new : ℕ) → MayHaveFailed halt old new → MayHaveFailedBy {X = Unit {0}} (Err (halted halt 0)) old new
+halted_may Read old new is = is
+halted_may Memory old new is = is
+
+-- the reads of a head, and of what is joined
+pub row_reads : (p : Placed) (row : Row) (old mid new n : ℕ) → row ≡ row_of p → mid ≤ old + heads_len (row ∷ []) → new ≤ mid + 2 * n → new ≤ old + (p.block_start - p.offset + 2 * n)
+row_reads p row old mid new n same head rest =
+    let one : row.block_start - row.offset ≡ p.block_start - p.offset = ap (λ (r : Row). r.block_start - r.offset) same in
+    omega (arith, head, rest, one, sum_by-cons (λ (r : Row). r.block_start - r.offset) row [])
+
+-- the two ends of a path
+path_from : (n : ℕ) (r : Result ℕ Unfound) (path : Path) → ok_then (λ given. let x : Result Path Unfound = Ok (record { chosen = n; given = given }) in x) r ≡ Ok path → (n ≡ path.chosen) × (r ≡ Ok path.given)
+path_from n (Ok m) path is =
+    let same : ◌≡◌ {A = Path} (record { chosen = n; given = m }) path = cc is in
+    (ap (λ (x : Path). x.chosen) same, ap (λ (x : Path). Ok x.given) same)
+path_from n (Err u) path is = cc is
+
+path_by : (all : List Indexed) (c : Result ℕ Unfound) (path : Path)
+    → ok_then (λ chosen. ok_then (λ given. let x : Result Path Unfound = Ok (record { chosen = chosen; given = given }) in x) (origin_of all chosen)) c ≡ Ok path
+    → (c ≡ Ok path.chosen) × (origin_of all path.chosen ≡ Ok path.given)
+path_by all (Ok n) path is =
+    let (same, origin) = path_from n (origin_of all n) path is in
+    (ap (λ (m : ℕ). Ok m) same, ap (origin_of all) (sym same) ∙ origin)
+path_by all (Err u) path is = cc is
+
+in_list : {X : Type 0} (xs : List X) (i : ℕ) (x : X) → slice_get xs i ≡ Some x → i < length xs
+in_list [] i x is = absurd (cc is)
+in_list (y ∷ ys) zero x is = omega arith
+in_list (y ∷ ys) (suc i) x is = let lt = in_list ys i x is in omega (arith, lt)
+
+-- an origin stands among the records
+given_below : (all : List Indexed) (uri : List ℕ) (moment : Instant) (path : Path) → ChosenIsLatest → OriginsStand → path_of all uri moment ≡ Ok path → path.given < length all
+given_below all uri moment path latest stand is =
+    let (chosen, origin) = path_by all (chosen_of all uri moment) path is in
+    let first = ((latest all uri moment).0 path.chosen).0 chosen in
+    stand all path.chosen path.given (in_list all path.chosen first.it first.stands) origin
+
+not_there : (records : List Placed) (i : ℕ) → i < length records → slice_get (map row_of records) i ≡ None → ⊥
+not_there [] i low is = omega (arith, low)
+not_there (p ∷ ps) zero low is = cc is
+not_there (p ∷ ps) (suc i) low is = not_there ps i (omega (arith, low)) is
+
+pub row_missing : (records : List Placed) (uri : List ℕ) (moment : Instant) (path : Path) → ChosenIsLatest → OriginsStand → path_of (map indexed_record records) uri moment ≡ Ok path
+    → slice_get (map row_of records) path.given ≡ None → ⊥
+row_missing records uri moment path latest stand is none =
+    let low = given_below (map indexed_record records) uri moment path latest stand is in
+    not_there records path.given (omega (arith, low, length-map records indexed_record)) none
+
+pub join_gap : {A : Type 0} (r : Result (Vec Place A) JoinFault) (gap : Gap) (joined : Result (List Place) Gap) → r ≡ Err (IsGap gap) → IsJoin r joined → joined ≡ Err gap
+join_gap {A} r gap joined is join = let P : Result (Vec Place A) JoinFault → Type 0 = λ x. IsJoin x joined in subst P is join
+
+-- the most reads, where there is an origin
+pub most_is : (records : List Placed) (uri : List ℕ) (moment : Instant) (path : Path) (p : Placed) → path_of (map indexed_record records) uri moment ≡ Ok path → slice_get records path.given ≡ Some p
+    → most_reads records uri moment ≡ origin_reads records (Some p)
+most_is records uri moment path p is there = ap (path_reads records) is ∙ ap (origin_reads records) there

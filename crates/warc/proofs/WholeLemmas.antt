@@ -1,0 +1,247 @@
+-- The records that bytes spell stand among them whole, and the texts that are written of them.
+use Rattle.std.proofs.Common.{◌≡◌, ℕ, ◌+◌, ◌-◌, ◌^◌, ◌<◌, ◌≤◌, List, [], ◌∷◌, ◌++◌, length, map, take, drop, None, Some, append_assoc, length-append, refl, sym, ap, subst, ◌∙◌, arith}
+use Rattle.std.proofs.Math.Seq.{drop-append_seam, take-append_seam}
+use Rattle.std.proofs.lemmas.List.{append-nil, take-append-drop}
+use Rattle.std.proofs.lemmas.List.Sums.{sum_by-cons, sum_by-take-le, sum_by_push}
+use Rattle.std.specs.List.{AllByRecursion, slice_get, sum_by}
+use Rattle.warc_field.specs.Area.{Pair, canonical_fields}
+use Rattle.warc_field.specs.Lines.{crlf}
+use Rattle.warc_frame.specs.Copying.{HasRange}
+use Rattle.warc_frame.specs.Faults.{AllAccepted}
+use Rattle.warc_frame.specs.Record.{Record, head_text}
+use Rattle.warc_frame.specs.Spelling.{Spells, canonical}
+use Rattle.warc_frame.specs.declared.version.Version.{Version}
+use Rattle.warc_frame.specs.declared.version.Version.TheVariants.{V1_1}
+use Rattle.warc_record.specs.Heads.{head_fault}
+use Rattle.warc_write.specs.Conversion.{converted, converted_fields}
+use Rattle.warc.specs.Archive.{IsArchiveOf, SpellsFrom, contents}
+use Rattle.warc.specs.Copied.{AreTextsOf, HasWhole, IsCopiedOf, IsCopy, IsTextOf}
+use Rattle.warc.specs.Examining.{HasHead, IsHeadOf}
+use Rattle.warc.specs.Forms.{IsInRecord, IsInRow, ReadsOnly, read_len, text_as, texts_as}
+use Rattle.warc.specs.Heads.{ReadsHeads}
+use Rattle.warc_frame.specs.Seen.{Tapped}
+use Rattle.warc.specs.Row.{Placed, Row, row_of}
+use Rattle.warc.specs.declared.copying.Copied.{Copied}
+use Rattle.warc.specs.declared.copying.Form.{Form}
+use Rattle.warc.specs.declared.copying.Form.TheVariants.{Canonical, Converted}
+use Rattle.warc_frame.specs.declared.reading.Head.{Head}
+use Rattle.warc.proofs.EmitLemmas.{Begins, InTurn, reads_both, reads_within}
+use Rattle.warc.proofs.GoodLemmas.{accepted}
+use Rattle.warc.proofs.PlaceLemmas.{HeadsAreRead, head_here}
+use Rattle.warc.proofs.ReadLemmas.{one_row}
+use Rattle.warc.proofs.RecordsLemmas.{take_one}
+
+front_len : (head block : List ℕ) → length (((head ++ block) ++ crlf) ++ crlf) ≡ length head + length block + 4
+front_len head block = simp length-append (omega arith)
+
+around : (before head block rest : List ℕ) → before ++ ((((head ++ block) ++ crlf) ++ crlf) ++ rest) ≡ (before ++ head) ++ (block ++ (crlf ++ (crlf ++ rest)))
+around before head block rest = simp append_assoc
+
+whole_here : HeadsAreRead → (q : ℕ) (p : Placed) (before front rest : List ℕ) → q ≡ length before → Spells p.content front → p.offset ≡ q
+    → p.block_start + length p.content.block + 4 ≡ q + length front → head_fault p.content.fields ≡ None → length (before ++ (front ++ rest)) < 2 ^ 64
+    → HasWhole (before ++ (front ++ rest)) p
+whole_here law q p before front rest q_is one at start good short =
+    let head = head_text p.content.version one.area in
+    let block = p.content.block in
+    let size : length front ≡ length head + length block + 4 = ap length one.text_is ∙ front_len head block in
+    let begins : p.block_start ≡ length (before ++ head) = omega (arith, start, size, q_is, length-append before head) in
+    let bytes = before ++ (front ++ rest) in
+    let parts : bytes ≡ (before ++ head) ++ (block ++ (crlf ++ (crlf ++ rest))) = ap (λ l. before ++ (l ++ rest)) one.text_is ∙ around before head block rest in
+    let behind : drop p.block_start bytes ≡ block ++ (crlf ++ (crlf ++ rest)) =
+    ap (λ n. drop n bytes) begins ∙ ap (drop (length (before ++ head))) parts ∙ drop-append_seam (before ++ head) (block ++ (crlf ++ (crlf ++ rest))) in
+    let end : p.block_start + length block ≤ length bytes = omega (arith, start, q_is, length-append before (front ++ rest), length-append front rest) in
+    record {
+      head = head_here law q p before front rest q_is one at start good;
+      range = (end, short);
+      block = ap (take (length block)) behind ∙ take-append_seam block (crlf ++ (crlf ++ rest));
+    }
+
+wholes_from : HeadsAreRead → (q : ℕ) (before : List ℕ) (records : List Placed) (text : List ℕ) → q ≡ length before → SpellsFrom q records text
+    → AllAccepted head_fault (contents records) → length (before ++ text) < 2 ^ 64 → AllByRecursion (HasWhole (before ++ text)) records
+wholes_from law q before [] text q_is spelled good short = tt
+wholes_from law q before (r ∷ rs) text q_is (front, rest, one, at, start, text_is, more) good short =
+    let size : q + length front ≡ length (before ++ front) = sym (length-append before front ∙ ap (λ n. n + length front) (sym q_is)) in
+    let whole : (before ++ front) ++ rest ≡ before ++ text = append_assoc before front rest ∙ ap (λ t. before ++ t) (sym text_is) in
+    let P : List ℕ → Type 0 = λ t. HasWhole (before ++ t) r in
+    let Q : List ℕ → Type 0 = λ t. AllByRecursion (HasWhole t) rs in
+    let short_front : length (before ++ (front ++ rest)) < 2 ^ 64 = (let R : List ℕ → Type 0 = λ t. length (before ++ t) < 2 ^ 64 in subst R text_is short) in
+    let short_whole : length ((before ++ front) ++ rest) < 2 ^ 64 = (let R : List ℕ → Type 0 = λ t. length t < 2 ^ 64 in subst R (sym whole) short) in (
+      subst P (sym text_is) (whole_here law q r before front rest q_is one at start good.0 short_front),
+      subst Q whole (wholes_from law (q + length front) (before ++ front) rs rest size more good.1 short_whole),
+    )
+
+-- the texts of the records of an archive
+pub texts_of_archive : HeadsAreRead → (form : Form) (bytes : List ℕ) (rows seen : List Row) (is : IsArchiveOf bytes seen) → rows ≡ seen
+    → AreTextsOf form rows bytes (texts_as form (contents is.are.records))
+texts_of_archive law form bytes rows seen is same = record {
+  records = is.are.records;
+  whole = wholes_from law 0 [] is.are.records bytes refl is.are.spelled (accepted (contents is.are.records) is.are.good) (omega (arith, is.short));
+  rows_are = same ∙ is.are.rows_are;
+  is = refl;
+}
+
+-- ---- the texts of rows, one behind another
+
+texts_parts_on : (form : Form) (bytes : List ℕ) (xs ys : List Row) (text : List ℕ) (records : List Placed) → AllByRecursion (HasWhole bytes) records
+    → xs ++ ys ≡ map row_of records → text ≡ texts_as form (contents records) → InTurn (AreTextsOf form xs) (AreTextsOf form ys) bytes text
+texts_parts_on form bytes [] ys text records whole rows_are is =
+    ([], text, refl, record { records = []; whole = tt; rows_are = refl; is = refl }, record { records = records; whole = whole; rows_are = rows_are; is = is })
+texts_parts_on form bytes (x ∷ xs) ys text [] whole rows_are is = absurd (cc rows_are)
+texts_parts_on form bytes (x ∷ xs) ys text (p ∷ ps) whole rows_are is =
+    let head : x ≡ row_of p = cc rows_are in
+    let tail : xs ++ ys ≡ map row_of ps = cc rows_are in
+    let (one, two, same, first, second) = texts_parts_on form bytes xs ys (texts_as form (contents ps)) ps whole.1 tail refl in (
+      text_as form p.content ++ one,
+      two,
+      is ∙ ap (λ l. text_as form p.content ++ l) same ∙ sym (append_assoc (text_as form p.content) one two),
+      record {
+        records = p ∷ first.records;
+        whole = (whole.0, first.whole);
+        rows_are = ap (λ r. r ∷ xs) head ∙ ap (λ l. row_of p ∷ l) first.rows_are;
+        is = ap (λ l. text_as form p.content ++ l) first.is;
+      },
+      second,
+    )
+
+pub texts_parts : (form : Form) (bytes : List ℕ) (xs ys : List Row) (text : List ℕ) → AreTextsOf form (xs ++ ys) bytes text
+    → InTurn (AreTextsOf form xs) (AreTextsOf form ys) bytes text
+texts_parts form bytes xs ys text are = texts_parts_on form bytes xs ys text are.records are.whole are.rows_are are.is
+
+text_of_one_on : (form : Form) (bytes : List ℕ) (row : Row) (text : List ℕ) (records : List Placed) → AllByRecursion (HasWhole bytes) records
+    → row ∷ [] ≡ map row_of records → text ≡ texts_as form (contents records) → IsTextOf form row bytes text
+text_of_one_on form bytes row text [] whole rows_are is = absurd (cc rows_are)
+text_of_one_on form bytes row text (p ∷ []) whole rows_are is =
+    record { placed = p; whole = whole.0; row_is = cc rows_are; is = is ∙ append-nil (text_as form p.content) }
+text_of_one_on form bytes row text (p ∷ q ∷ ps) whole rows_are is = absurd (cc rows_are)
+
+-- the texts of one more row
+pub texts_more : (form : Form) (rows : List Row) (i : ℕ) (row : Row) (bytes text : List ℕ) → slice_get rows i ≡ Some row → AreTextsOf form (take (i + 1) rows) bytes text
+    → InTurn (AreTextsOf form (take i rows)) (IsTextOf form row) bytes text
+texts_more form rows i row bytes text is are =
+    let P : List Row → Type 0 = λ l. AreTextsOf form l bytes text in
+    let (one, two, same, first, second) = texts_parts form bytes (take i rows) (row ∷ []) text (subst P (take_one rows i row is) are) in
+    (one, two, same, first, text_of_one_on form bytes row two second.records second.whole second.rows_are second.is)
+
+pub texts_begin : (form : Form) (rows : List Row) (n : ℕ) (bytes text : List ℕ) → AreTextsOf form rows bytes text → Begins (AreTextsOf form (take n rows)) bytes text
+texts_begin form rows n bytes text are =
+    let P : List Row → Type 0 = λ l. AreTextsOf form l bytes text in
+    let (one, two, same, first, second) = texts_parts form bytes (take n rows) (drop n rows) text (subst P (sym (take-append-drop n rows)) are) in
+    (one, two, same, first)
+
+pub texts_begin_more : (form : Form) (rows : List Row) (i : ℕ) (row : Row) (bytes text : List ℕ) → slice_get rows i ≡ Some row → AreTextsOf form rows bytes text
+    → Begins (InTurn (AreTextsOf form (take i rows)) (IsTextOf form row)) bytes text
+texts_begin_more form rows i row bytes text is are =
+    let (one, more, same, first) = texts_begin form rows (i + 1) bytes text are in
+    (one, more, same, texts_more form rows i row bytes one is first)
+
+none_on : (form : Form) (text : List ℕ) (records : List Placed) → [] ≡ map row_of records → text ≡ texts_as form (contents records) → text ≡ []
+none_on form text [] rows_are is = is
+none_on form text (p ∷ ps) rows_are is = absurd (cc rows_are)
+
+pub texts_none : (form : Form) (bytes text : List ℕ) → AreTextsOf form [] bytes text → text ≡ []
+texts_none form bytes text are = none_on form text are.records are.rows_are are.is
+
+-- ---- a record whose block is copied
+
+closed : (head block : List ℕ) → ((head ++ block) ++ crlf) ++ crlf ≡ head ++ (block ++ (crlf ++ crlf))
+closed head block = simp append_assoc
+
+-- its head, its block and what closes it
+pub copy_parts : {A : Type 0} (c : Copied A) (bytes text : List ℕ) → IsCopy c bytes text
+    → (text ≡ head_text c.version (canonical_fields c.fields) ++ (take c.block_len (drop c.block_start bytes) ++ (crlf ++ crlf)))
+copy_parts {A} c bytes text copy = copy.is ∙ closed (head_text c.version (canonical_fields c.fields)) (take c.block_len (drop c.block_start bytes))
+
+abbrev pub IsHeadText : {A : Type 0} → Copied A → List ℕ → List ℕ → Type 0
+IsHeadText {A} c bytes text = text ≡ head_text c.version (canonical_fields c.fields)
+
+abbrev pub IsBlock : {A : Type 0} → Copied A → List ℕ → List ℕ → Type 0
+IsBlock {A} c bytes text = HasRange c.block_start c.block_len bytes × (text ≡ take c.block_len (drop c.block_start bytes))
+
+abbrev pub IsClosing : List ℕ → List ℕ → Type 0
+IsClosing bytes text = text ≡ crlf ++ crlf
+
+pub copy_in_turn : {A : Type 0} (c : Copied A) (bytes text : List ℕ) → IsCopy c bytes text → InTurn (IsHeadText c) (InTurn (IsBlock c) IsClosing) bytes text
+copy_in_turn {A} c bytes text copy =
+    let head = head_text c.version (canonical_fields c.fields) in
+    let block = take c.block_len (drop c.block_start bytes) in
+    (head, block ++ (crlf ++ crlf), copy_parts c bytes text copy, refl, (block, crlf ++ crlf, refl, (copy.range, refl), refl))
+
+pub copy_begins : {A : Type 0} (c : Copied A) (bytes text : List ℕ) → IsCopy c bytes text → Begins (IsHeadText c) bytes text
+copy_begins {A} c bytes text copy =
+    (head_text c.version (canonical_fields c.fields), take c.block_len (drop c.block_start bytes) ++ (crlf ++ crlf), copy_parts c bytes text copy, refl)
+
+pub copy_begins_block : {A : Type 0} (c : Copied A) (bytes text : List ℕ) → IsCopy c bytes text → Begins (InTurn (IsHeadText c) (IsBlock c)) bytes text
+copy_begins_block {A} c bytes text copy =
+    let head = head_text c.version (canonical_fields c.fields) in
+    let block = take c.block_len (drop c.block_start bytes) in
+    (head ++ block, crlf ++ crlf, copy_parts c bytes text copy ∙ sym (append_assoc head block (crlf ++ crlf)), (head, block, refl, refl, (copy.range, refl)))
+
+-- the copy that is written of a row's record
+pub copy_of : {A : Type 0} (form : Form) (row : Row) (c : Copied A) (bytes text : List ℕ) (is : IsTextOf form row bytes text) → IsCopiedOf form is.placed c → IsCopy c bytes text
+copy_of {A} form row c bytes text is copied =
+    let p = is.placed in
+    let block : p.content.block ≡ take c.block_len (drop c.block_start bytes) =
+    sym is.whole.block ∙ ap (λ n. take n (drop p.block_start bytes)) (sym copied.len) ∙ ap (λ n. take c.block_len (drop n bytes)) (sym copied.start) in
+    record {
+      range = (omega (arith, is.whole.range.0, copied.start, copied.len), is.whole.range.1);
+      is = is.is ∙ sym copied.text ∙ ap (λ b. head_text c.version (canonical_fields c.fields) ++ b ++ crlf ++ crlf) block;
+    }
+
+canonical_text : (p : Placed) (version : Version) (fields : List Pair) → version ≡ p.content.version → fields ≡ p.content.fields
+    → head_text version (canonical_fields fields) ++ p.content.block ++ crlf ++ crlf ≡ text_as Canonical p.content
+unfolding canonical
+canonical_text p version fields version_is fields_are = rw (version_is, fields_are) refl
+
+converted_text : (p : Placed) (version : Version) (fields : List Pair) → version ≡ V1_1 → fields ≡ converted_fields p.content.fields
+    → head_text version (canonical_fields fields) ++ p.content.block ++ crlf ++ crlf ≡ text_as Converted p.content
+unfolding canonical converted
+converted_text p version fields version_is fields_are = rw (version_is, fields_are) refl
+
+pub canonical_copy : {A : Type 0} (form : Form) (p : Placed) (row : Row) (c : Copied A) → form ≡ Canonical → row ≡ row_of p → c.version ≡ p.content.version
+    → c.fields ≡ p.content.fields → c.block_start ≡ row.block_start → c.block_len ≡ row.block_len → IsCopiedOf form p c
+canonical_copy {A} form p row c form_is row_is version fields start len = record {
+  start = start ∙ ap (λ (r : Row). r.block_start) row_is;
+  len = len ∙ ap (λ (r : Row). r.block_len) row_is;
+  text = canonical_text p c.version c.fields version fields ∙ ap (λ f. text_as f p.content) (sym form_is);
+}
+
+pub converted_copy : {A : Type 0} (form : Form) (p : Placed) (row : Row) (c : Copied A) → form ≡ Converted → row ≡ row_of p → c.version ≡ V1_1
+    → c.fields ≡ converted_fields p.content.fields → c.block_start ≡ row.block_start → c.block_len ≡ row.block_len → IsCopiedOf form p c
+converted_copy {A} form p row c form_is row_is version fields start len = record {
+  start = start ∙ ap (λ (r : Row). r.block_start) row_is;
+  len = len ∙ ap (λ (r : Row). r.block_len) row_is;
+  text = converted_text p c.version c.fields version fields ∙ ap (λ f. text_as f p.content) (sym form_is);
+}
+
+-- ---- what is read for it
+
+-- a head of a row
+pub reads_head_of : (row : Row) {old new : Tapped} → ReadsHeads (row ∷ []) old new → ReadsOnly (IsInRow row) (row.block_start - row.offset) old new
+reads_head_of row {old} {new} has = record {
+  near = λ off. has.near (λ at in_.
+      let same = one_row row in_.row in_.place in_.is in
+      off at (omega (arith, in_.from, ap (λ (r : Row). r.offset) same), omega (arith, in_.to, ap (λ (r : Row). r.block_start) same)));
+  bound = omega (arith, has.bound, sum_by-cons (λ (r : Row). r.block_start - r.offset) row []);
+  watched = has.watched;
+}
+
+-- the block of a row's record
+pub reads_block_of : (row : Row) (start len : ℕ) {old new : Tapped} → row.offset ≤ row.block_start → start ≡ row.block_start → len ≡ row.block_len
+    → ReadsOnly (λ at. (start ≤ at) × (at < start + len)) len old new → ReadsOnly (IsInRow row) row.block_len old new
+reads_block_of row start len {old} {new} order start_is len_is reads =
+    reads_within (λ at in_. (omega (arith, in_.0, start_is, order), omega (arith, in_.1, start_is, len_is))) (omega (arith, len_is)) reads
+
+-- the records of the first rows, and of one more
+pub reads_row : (form : Form) (rows : List Row) (i : ℕ) (row : Row) {old mid new : Tapped} → slice_get rows i ≡ Some row
+    → ReadsOnly (IsInRecord rows) (sum_by (read_len form) (take i rows)) old mid → ReadsOnly (IsInRow row) (read_len form row) mid new
+    → ReadsOnly (IsInRecord rows) (sum_by (read_len form) (take (i + 1) rows)) old new
+reads_row form rows i row {old} {mid} {new} is first one =
+    let whole : sum_by (read_len form) (take (i + 1) rows) ≡ sum_by (read_len form) (take i rows) + read_len form row =
+    ap (sum_by (read_len form)) (take_one rows i row is) ∙ sum_by_push (read_len form) (take i rows) row in
+    let last : ReadsOnly (IsInRecord rows) (read_len form row) mid new =
+    reads_within (λ at in_. record { place = i; row = row; is = is; inside = in_ }) (omega arith) one in
+    reads_within (λ at in_. in_) (omega (arith, whole)) (reads_both first last)
+
+pub reads_rows : (form : Form) (rows : List Row) (n : ℕ) {old new : Tapped} → ReadsOnly (IsInRecord rows) (sum_by (read_len form) (take n rows)) old new
+    → ReadsOnly (IsInRecord rows) (sum_by (read_len form) rows) old new
+reads_rows form rows n {old} {new} reads = reads_within (λ at in_. in_) (sum_by-take-le (read_len form) rows n) reads

@@ -1,0 +1,17 @@
+use Rattle.std.proofs.Common.{[]}
+use Rattle.warc.proofs.copying.write_rows.Goals as goal
+
+pub returns-in-Ok-flush-clause-told : goal.returns-in-Ok-flush-clause-told
+returns-in-Ok-flush-clause-told g c = λ bytes text held are.
+    let start = g.W.Sink.tells c.args.out.now in
+    c.in-Ok-flush.ensures.told start _ (c.in-Ok-put_records.ensures.emits.out bytes text held are start [] (c.new-buffer.ensures.begins start))
+
+pub returns-in-Err-clause-cut : goal.returns-in-Err-clause-cut
+returns-in-Err-clause-cut g c = λ bytes text held are.
+    let start = g.W.Sink.tells c.args.out.now in
+    c.in-Err.ensures.emits.cut bytes text held are start [] (c.new-buffer.ensures.begins start)
+
+pub returns-clause-cut : goal.returns-clause-cut
+returns-clause-cut g c = λ bytes text held are.
+    let start = g.W.Sink.tells c.args.out.now in
+    c.in-Err-flush.ensures.cut start _ (c.in-Ok-put_records.ensures.emits.out bytes text held are start [] (c.new-buffer.ensures.begins start))

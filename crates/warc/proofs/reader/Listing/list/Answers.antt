@@ -1,0 +1,35 @@
+use Rattle.std.proofs.Common.{rules, ◌≡◌, ◌+◌, Some, refl, sym, ap, ◌∙◌}
+use Rattle.std.specs.List.{slice_get}
+use Rattle.warc.specs.Listing.{listing}
+use Rattle.warc_frame.proofs.LawLemmas.{longer, same_out, same_staged}
+use Rattle.warc.proofs.LineLemmas.{listing_front, listing_next}
+use Rattle.warc.proofs.PlaceLemmas.{same_rows}
+use Rattle.warc.proofs.reader.Listing.list.Goals as goal
+
+pub listing-init : goal.listing-init
+unfolding listing
+listing-init g c = record {
+  staged = c.new-buffer.ensures.begins (g.W.Sink.tells c.args.out.now);
+  sound = refl;
+}
+
+pub returns-in_err-put_line-clause-cut : goal.returns-in_err-put_line-clause-cut
+returns-in_err-put_line-clause-cut g c =
+    let i = c.listing.position in
+    let rows = same_rows c.self.view_is in
+    let at : slice_get c.args.self.now.rows i ≡ Some c.in-Some.row = ap (λ l. slice_get l i) (sym rows) ∙ sym c.get.ensures ∙ c.in-Some.is in
+    let next = listing_next c.args.self.now.rows i c.in-Some.row at in
+    let out = longer _ (same_out next (c.in_err-put_line.ensures.cut _ _ c.listing.invariant.staged)) in
+    let whole = same_out (sym (listing_front c.args.self.now.rows (i + 1))) out in
+    search rules
+
+pub listing-preserved : goal.listing-preserved
+listing-preserved g c =
+    let i = c.listing.position in
+    let rows = same_rows c.self.view_is in
+    let at : slice_get c.args.self.now.rows i ≡ Some c.in-Some.row = ap (λ l. slice_get l i) (sym rows) ∙ sym c.get.ensures ∙ c.in-Some.is in
+    let next = listing_next c.args.self.now.rows i c.in-Some.row at in
+    record {
+      staged = same_staged next (c.in_ok-put_line.ensures.out _ _ c.listing.invariant.staged);
+      sound = search rules;
+    }

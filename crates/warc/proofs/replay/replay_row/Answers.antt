@@ -1,0 +1,23 @@
+use Rattle.std.proofs.Common.{◌≡◌, ap, ◌∙◌}
+use Rattle.warc_record.specs.Readings.{reading_of}
+use Rattle.warc.proofs.ReplayLemmas.{halted_failed, place_by_row, row_reads}
+use Rattle.warc.proofs.replay.replay_row.Goals as goal
+
+pub returns-in-Err-clause-failed : goal.returns-in-Err-clause-failed
+returns-in-Err-clause-failed g c = λ bytes records uri moment p held is has same parts.
+    rw c.after.ensures (halted_failed c.in-Err.halt _ _ (c.in-Err.ensures.failed bytes p held has same))
+
+pub returns-clause-told : goal.returns-clause-told
+returns-clause-told g c = λ bytes records uri moment p held is has same parts.
+    let says = c.in-Ok.ensures.said ∙ ap reading_of (c.in-Ok.ensures.read bytes p held has same) in
+    c.replay_origin.ensures.told bytes records uri moment p (c.in-Ok.ensures.kept ∙ held) is parts says (place_by_row p _ (c.row.view_is ∙ same))
+
+pub returns-clause-failed : goal.returns-clause-failed
+returns-clause-failed g c = λ bytes records uri moment p held is has same parts.
+    let says = c.in-Ok.ensures.said ∙ ap reading_of (c.in-Ok.ensures.read bytes p held has same) in
+    rw (← c.in-Ok.ensures.sound) (c.replay_origin.ensures.failed bytes records uri moment p (c.in-Ok.ensures.kept ∙ held) is parts says (place_by_row p _ (c.row.view_is ∙ same)))
+
+pub returns-clause-cost : goal.returns-clause-cost
+returns-clause-cost g c = λ bytes records uri moment p held is has same parts.
+    let says = c.in-Ok.ensures.said ∙ ap reading_of (c.in-Ok.ensures.read bytes p held has same) in
+    row_reads p c.args.row.now _ _ _ _ same c.in-Ok.ensures.heads.bound (c.replay_origin.ensures.cost bytes records uri moment p (c.in-Ok.ensures.kept ∙ held) is parts says (place_by_row p _ (c.row.view_is ∙ same)))

@@ -1,0 +1,29 @@
+use Rattle.std.proofs.Common.{◌≡◌, ◌∙◌, length, take, drop, refl, ap, sym, arith}
+use Rattle.warc.proofs.HeadLemmas.{len_is_there}
+use Rattle.warc.proofs.TakeLemmas.{end_below, end_by_row, reads_record, spells_there, taken_by}
+use Rattle.warc.specs.Row.{Row}
+use Rattle.warc.proofs.taking.take_record.Goals as goal
+
+pub returns-in_default-clause-failed : goal.returns-in_default-clause-failed
+returns-in_default-clause-failed g c = λ bytes p held short has same.
+    absurd (len_is_there c.record_len.result has.len (c.record_len.ensures.only has.len (end_by_row bytes p c.args.row.now has same) (end_below bytes p c.args.row.now has same short)) c.in_default.is)
+
+pub returns-clause-taken : goal.returns-clause-taken
+returns-clause-taken g c = λ bytes p held short has same.
+    let size : length c.deref_mut.result.now ≡ c.in-Some.len = c.deref_mut.ensures.len ∙ c.in-Ok.ensures.len in
+    let offset : c.row.inside.offset ≡ c.args.row.now.offset = ap (λ (r : Row). r.offset) c.row.view_is in
+    let spells = spells_there bytes (take c.in-Some.len (drop c.args.row.now.offset bytes)) p c.args.row.now c.in-Some.len has same c.in-Some.ensures.within.0 refl in
+    taken_by c.read_record.result p (c.read_record.ensures.taken bytes p.content held (rw (size, offset) spells)) c.read_record.ensures.is
+
+pub returns-clause-failed : goal.returns-clause-failed
+returns-clause-failed g c = λ bytes p held short has same.
+    let size : length c.deref_mut.result.now ≡ c.in-Some.len = c.deref_mut.ensures.len ∙ c.in-Ok.ensures.len in
+    let offset : c.row.inside.offset ≡ c.args.row.now.offset = ap (λ (r : Row). r.offset) c.row.view_is in
+    let spells = spells_there bytes (take c.in-Some.len (drop c.args.row.now.offset bytes)) p c.args.row.now c.in-Some.len has same c.in-Some.ensures.within.0 refl in
+    c.read_record.ensures.failed bytes p.content held (rw (size, offset) spells)
+    (omega (arith, size, offset, c.in-Some.ensures.within.0, ap (λ (r : Row). r.offset) same, ap (λ (r : Row). r.block_start) same, ap (λ (r : Row). r.block_len) same, has.end, has.within))
+
+pub returns-clause-reads : goal.returns-clause-reads
+returns-clause-reads g c =
+    let size : length c.deref_mut.result.now ≡ c.in-Some.len = c.deref_mut.ensures.len ∙ c.in-Ok.ensures.len in
+    reads_record c.args.row.now c.in-Some.len _ _ c.in-Some.ensures.within.0 (rw (ap (λ (r : Row). r.offset) (sym c.row.view_is), sym size) c.read_record.ensures.filled)

@@ -1,0 +1,55 @@
+-- What a replay from an archive answers, what goes out, and how often the source is read.
+use Rattle.std.specs.Prelude.{◌≡◌, ℕ, ◌+◌, ◌-◌, ◌*◌, ◌≤◌, List, length, map, slice_get, Option, Some, None, Result, Ok, Err}
+use Rattle.warc_value.specs.Dates.{Instant}
+use Rattle.warc_frame.specs.Failing.{HasFailedBy, MayHaveFailedBy, failed_by}
+use Rattle.warc_frame.specs.Seen.{IfHeld, Seen, Tapped}
+use Rattle.warc_index.specs.declared.unfound.Unfound.{Unfound}
+use Rattle.warc_segment.specs.Joined.{ReadRecord, joined_records}
+use Rattle.warc_segment.specs.declared.gap.Gap.{Gap}
+use Rattle.warc_answer.specs.Answers.{path_of}
+use Rattle.warc_answer.specs.Payloads.{read_record, whole_block}
+use Rattle.warc_answer.specs.Replays.{IsReplay, IsSilent, out_result}
+use Rattle.warc_answer.specs.declared.answer.Answer.{Answer}
+use Rattle.warc_answer.specs.declared.answer.Path.{Path}
+use Rattle.warc_answer.specs.declared.answer.ReplayFault.{ReplayFault}
+use Rattle.warc_index.specs.Orders.{Kept as Indexes}
+use Rattle.warc_segment.specs.Kept.{Kept as Parts}
+use Rattle.warc.specs.Archive.{IsArchiveOf, contents}
+use Rattle.warc.specs.Indexed.{AreOf, indexed_record}
+use Rattle.warc.specs.Row.{Placed, Row}
+
+-- how many bytes the blocks have that are joined, none where they don't join
+abbrev pub joined_len : Result (List ReadRecord) Gap → ℕ
+joined_len (Ok joined) = length (whole_block joined)
+joined_len (Err gap) = 0
+
+-- the most reads for an origin: the length of its head, and twice that of its joined block
+abbrev pub origin_reads : List Placed → Option Placed → ℕ
+origin_reads all None = 0
+origin_reads all (Some p) =
+    p.block_start - p.offset
+    + 2 * joined_len (joined_records (map read_record (contents all)) (read_record p.content))
+
+-- none where there is no origin
+abbrev pub path_reads : List Placed → Result Path Unfound → ℕ
+path_reads all (Ok path) = origin_reads all (slice_get all path.given)
+path_reads all (Err unfound) = 0
+
+abbrev pub most_reads : List Placed → List ℕ → Instant → ℕ
+most_reads all uri moment = path_reads all (path_of (map indexed_record all) uri moment)
+
+-- A replay for a URI as of a moment, by rows, an index and parts. Where the archive's source holds its bytes, what goes out and what is answered are
+-- as the definition of the answer says of its records, in so many reads at most, and the source has failed once more
+-- exactly where a read is told. Any source still holds what it held; before a reason nothing goes out
+pub record Replays (rows : List Row) (index : Indexes) (parts : Parts) (uri : List ℕ) (moment : Instant)
+    (old new : Tapped) (before after : Seen) (answer : Result Answer ReplayFault) : Type 0 where
+  pub told : IfHeld old.holds (λ bytes. (is : IsArchiveOf bytes rows) → AreOf is.are.records index parts
+      → IsReplay (contents is.are.records) uri moment answer before.tells after.tells)
+  pub failed : IfHeld old.holds (λ bytes. (is : IsArchiveOf bytes rows) → AreOf is.are.records index parts
+      → HasFailedBy (out_result answer) old.faults new.faults)
+  pub cost : IfHeld old.holds (λ bytes. (is : IsArchiveOf bytes rows) → AreOf is.are.records index parts
+      → new.reads ≤ old.reads + most_reads is.are.records uri moment)
+  pub silent : IsSilent answer before.tells after.tells
+  pub kept : new.holds ≡ old.holds
+  pub may : MayHaveFailedBy (out_result answer) old.faults new.faults
+  pub cause : after.faults ≡ failed_by (out_result answer) before.faults

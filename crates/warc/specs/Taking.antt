@@ -1,0 +1,56 @@
+-- What giving a record again answers, and what it reads of the source. This project's own notion.
+use Rattle.std.specs.Prelude.{◌≡◌, ◌↔◌, ℕ, ◌+◌, ◌-◌, ◌<◌, ◌≤◌, List, slice_get, Option, Some, None, IsSome, Result, Ok, Err}
+use Rattle.warc_frame.specs.Failing.{HasFailedBy, MayHaveFailedBy}
+use Rattle.warc_frame.specs.Record.{Record}
+use Rattle.warc_frame.specs.Seen.{AsksOnly, IfHeld, Tapped}
+use Rattle.warc_frame.specs.declared.fault.OutFault.{OutFault}
+use Rattle.warc_frame.specs.declared.fault.OutFault.TheVariants as outs
+use Rattle.warc.specs.Archive.{IsArchiveOf}
+use Rattle.warc.specs.Row.{Placed, Row}
+use Rattle.warc.specs.declared.fault.TakeFault.{TakeFault}
+use Rattle.warc.specs.declared.fault.TakeFault.TheVariants.{NoRecord, Read, Memory}
+
+-- the record that stands there, and none where there is none; where there is one, a read or a growth of the memory may
+-- fail
+abbrev pub IsTaken : Option Placed → Result Record TakeFault → Type 0
+IsTaken found (Ok r) = (p : Placed) × (found ≡ Some p) × (r ≡ p.content)
+IsTaken found (Err NoRecord) = found ≡ None
+IsTaken found (Err Read) = IsSome found
+IsTaken found (Err Memory) = IsSome found
+
+-- the same as an output of which nothing goes out: there a missing record is no failure
+abbrev pub take_result : Result Record TakeFault → Result (Unit {0}) OutFault
+take_result (Ok r) = Ok tt
+take_result (Err NoRecord) = Ok tt
+take_result (Err Read) = Err (outs.Read 0)
+take_result (Err Memory) = Err (outs.Memory 0)
+
+-- the offset of a byte of the record of a row, the two line ends behind its block included
+abbrev pub IsInRecord : Option Row → ℕ → Type 0
+IsInRecord None at = ⊥
+IsInRecord (Some row) at = (row.offset ≤ at) × (at < row.block_start + row.block_len + 4)
+
+-- how many bytes it has
+abbrev pub record_len : Option Row → ℕ
+record_len None = 0
+record_len (Some row) = row.block_start + row.block_len + 4 - row.offset
+
+-- no other offsets are asked for than the record's, and at most a read for each of its bytes is made
+pub record ReadsRecord (found : Option Row) (old new : Tapped) : Type 0 where
+  pub near : AsksOnly (IsInRecord found) old new
+  pub bound : new.reads ≤ old.reads + record_len found
+  pub watched : new.watches ≡ old.watches
+
+-- giving the record at a position of an archive of these rows. Where its source holds the archive's bytes it is that
+-- of the records that they spell, and the source has failed once more exactly where a read is told. Any source still
+-- holds what it held, is asked for no byte outside the record, and read at most once for each of its bytes; that there
+-- is no record is told exactly where there is no row
+pub record Takes (rows : List Row) (position : ℕ) (old new : Tapped) (answer : Result Record TakeFault) : Type 0 where
+  pub taken : IfHeld old.holds (λ bytes. (is : IsArchiveOf bytes rows)
+      → IsTaken (slice_get is.are.records position) answer)
+  pub failed : IfHeld old.holds (λ bytes. IsArchiveOf bytes rows
+      → HasFailedBy (take_result answer) old.faults new.faults)
+  pub absent : (answer ≡ Err NoRecord) ↔ (slice_get rows position ≡ None)
+  pub kept : new.holds ≡ old.holds
+  pub may : MayHaveFailedBy (take_result answer) old.faults new.faults
+  pub reads : ReadsRecord (slice_get rows position) old new

@@ -1,0 +1,200 @@
+//! An archive: a listing, and beside it what finds its records and joins those in segments.
+ghost use Rattle.std.specs.Prelude.{◌≡◌, List, length, IfErr, IfOk, OnOk, is_err, slice_get, if◌then◌else◌};
+ghost use Rattle.std.specs.Io.KnownBytes.{append_known};
+ghost use Rattle.warc_frame.specs.Count.{raised};
+ghost use Rattle.warc_frame.specs.Seen.{seen, tapped};
+ghost use Rattle.warc_frame.specs.Send.{WentOut, sent_of};
+ghost use Rattle.warc.specs.Checks.{Checks};
+ghost use Rattle.warc.specs.Extracting.{Extracts, position_with};
+ghost use Rattle.warc.specs.Indexed.{AreOf, IsIndexed, archive_of, source_left};
+ghost use Rattle.warc.specs.Listing.{listing};
+ghost use Rattle.warc.specs.Opening.{Opens};
+ghost use Rattle.warc.specs.Replaying.{Replays};
+ghost use Rattle.warc.specs.Row.{Placed};
+ghost use Rattle.warc.specs.Taking.{Takes};
+
+use crate::beside::Lookup;
+use crate::fault::{ExtractFault, TakeFault};
+use crate::reader::Listing;
+use crate::reading::read_records;
+use crate::rows::Row;
+use std::alloc::{AllocError, Allocator, Global};
+use std::marker::Model;
+use warc_answer::{Answer, ReplayFault};
+use warc_frame::{Fault, Framed, OutFault, Sink, Source};
+use warc_record::id_key;
+use warc_value::Moment;
+
+/// An archive, whose records are listed, found by target, moment and id, and joined. Contracts see its listing, and what
+/// its index and its parts keep.
+#[derive(Drop)]
+pub struct Archive<S: Source, A: Allocator = Global> {
+    listing: Listing<S, A>,
+    lookup: Lookup<A>,
+}
+
+impl<S: Source, A: Allocator> Model for Archive<S, A> {
+    ghost use Rattle.warc.specs.Indexed.{Archived};
+
+    ghost Value = { Archived S };
+
+    ghost view = { λ a. record { listing = a.listing; index = a.lookup.index; parts = a.lookup.parts } };
+}
+
+impl<S: Source, A: Allocator> Archive<S, A> {
+    /// How many records there are.
+    pub fn count(&self) -> usize
+        ensures { result ≡ length self.now.listing.rows }
+    {
+        self.listing.count()
+    }
+
+    /// What is kept of the record at a position, if there is one.
+    pub fn row(&self, position: usize) -> Option<Row<'_>>
+        ensures { result ≡ slice_get self.now.listing.rows position }
+    {
+        self.listing.row(position)
+    }
+
+    /// Gives the source back.
+    pub fn into_source(self) -> S
+        ensures { result ≡ self.listing.source }
+    {
+        self.listing.into_source()
+    }
+
+    /// Writes a line for each record, as a listing does.
+    pub fn list<W: Sink>(&self, out: &mut W) -> Result<(), OutFault>
+        ensures told { OnOk result
+            (W.tells out.new ≡ append_known (W.tells out.old) (listing self.now.listing.rows)) }
+        ensures cut { IfErr result (λ e.
+            WentOut (W.tells out.old) (listing self.now.listing.rows) (W.tells out.new) (sent_of e)) }
+        ensures write { IfErr result (λ e. e ≡ OutFault.Write (sent_of e)) }
+        ensures cause { W.faults out.new ≡ (if is_err result then raised (W.faults out.old) else W.faults out.old) }
+    {
+        self.listing.list(out)
+    }
+}
+
+impl<S: Source, A: Allocator + Copy> Archive<S, A> {
+    /// Reads the source as a listing is read, and keeps beside the rows what finds the records and what joins them.
+    pub fn open(alloc: A, source: S) -> Result<Archive<S, A>, (Fault, S)>
+        ensures { Opens IsIndexed
+            (tapped (S.holds source) (S.faults source) (S.reads source) (S.asked source) (S.watches source)
+            (S.strays source))
+            (tapped (S.holds (source_left result)) (S.faults (source_left result)) (S.reads (source_left result))
+            (S.asked (source_left result)) (S.watches (source_left result)) (S.strays (source_left result)))
+            (archive_of result) }
+    {
+        let mut source = source;
+        match read_records(alloc, &mut source, Lookup::new(alloc)) {
+            Ok((rows, lookup)) => {
+                let listing = Listing { source, rows };
+                Ok(Archive { listing, lookup })
+            }
+            Err(fault) => Err((fault, source)),
+        }
+    }
+
+    /// The record at a position, as a listing gives it.
+    pub fn record(&mut self, position: usize) -> Result<Framed<A>, TakeFault>
+        ensures takes { Takes self.old.listing.rows position
+            (tapped (S.holds self.old.listing.source) (S.faults self.old.listing.source)
+            (S.reads self.old.listing.source) (S.asked self.old.listing.source)
+            (S.watches self.old.listing.source) (S.strays self.old.listing.source))
+            (tapped (S.holds self.new.listing.source) (S.faults self.new.listing.source)
+            (S.reads self.new.listing.source) (S.asked self.new.listing.source)
+            (S.watches self.new.listing.source) (S.strays self.new.listing.source)) result }
+        ensures rows { self.new.listing.rows ≡ self.old.listing.rows }
+        ensures index { self.new.index ≡ self.old.index }
+        ensures parts { self.new.parts ≡ self.old.parts }
+    {
+        self.listing.record(position)
+    }
+
+    /// The position of the first record of any kind with the id that a text holds.
+    fn first_with(&self, id: &[u8]) -> Result<Option<usize>, AllocError>
+        ensures { (records : List Placed) → AreOf records self.now.index self.now.parts →
+            IfOk result (λ found. found ≡ position_with records id.now) }
+    {
+        match id_key(self.listing.rows.allocator(), id)? {
+            Some(key) => Ok(self.lookup.index.first_with(&key)),
+            None => Ok(None),
+        }
+    }
+
+    /// Writes the block of the first record of any kind with the id, in brackets or without, and answers its length.
+    /// Where no record has the id, or the text holds none, it is `NoRecord`, and nothing is written. The block isn't
+    /// kept: it goes through a buffer of 8,192 bytes.
+    ///
+    /// A read that fails, or a source that no longer gives what it gave at opening, is `Read`; a write that fails is
+    /// `Write`. Each tells how many bytes went out, which are the first of the block. `Memory` comes before any byte.
+    pub fn extract<W: Sink>(&mut self, id: &[u8], out: &mut W) -> Result<u64, ExtractFault>
+        ensures extracts { Extracts self.old id.now
+            (tapped (S.holds self.old.listing.source) (S.faults self.old.listing.source)
+            (S.reads self.old.listing.source) (S.asked self.old.listing.source)
+            (S.watches self.old.listing.source) (S.strays self.old.listing.source))
+            (tapped (S.holds self.new.listing.source) (S.faults self.new.listing.source)
+            (S.reads self.new.listing.source) (S.asked self.new.listing.source)
+            (S.watches self.new.listing.source) (S.strays self.new.listing.source))
+            (seen (W.tells out.old) (W.faults out.old)) (seen (W.tells out.new) (W.faults out.new)) result }
+        ensures rows { self.new.listing.rows ≡ self.old.listing.rows }
+        ensures index { self.new.index ≡ self.old.index }
+        ensures parts { self.new.parts ≡ self.old.parts }
+    {
+        let Ok(found) = self.first_with(id) else {
+            return Err(ExtractFault::Out(OutFault::Memory(0)));
+        };
+        let Some(position) = found else {
+            return Err(ExtractFault::NoRecord);
+        };
+        self.listing.extract_at(position, out)
+    }
+
+    /// Writes the body that was captured of a URI, as of a moment: the payload of the origin of the latest capture
+    /// that isn't after it, its segments joined, behind the head of an HTTP response. The answer says which records it
+    /// comes from, by their positions, the status of the response, whether a record was truncated, and its length. For
+    /// a reason P1 to P10 nothing is written. No block is kept: the source is read again.
+    ///
+    /// A read that fails, or a source that no longer gives what it gave at opening, is `Read`; a write that fails is
+    /// `Write`. Each tells how many bytes went out, which are the first of the body. `Memory` comes before any byte.
+    pub fn replay<W: Sink>(
+        &mut self,
+        uri: &[u8],
+        moment: &Moment,
+        out: &mut W,
+    ) -> Result<Answer, ReplayFault>
+        ensures replays { Replays self.old.listing.rows self.old.index self.old.parts uri.now moment.now
+            (tapped (S.holds self.old.listing.source) (S.faults self.old.listing.source)
+            (S.reads self.old.listing.source) (S.asked self.old.listing.source)
+            (S.watches self.old.listing.source) (S.strays self.old.listing.source))
+            (tapped (S.holds self.new.listing.source) (S.faults self.new.listing.source)
+            (S.reads self.new.listing.source) (S.asked self.new.listing.source)
+            (S.watches self.new.listing.source) (S.strays self.new.listing.source))
+            (seen (W.tells out.old) (W.faults out.old)) (seen (W.tells out.new) (W.faults out.new)) result }
+        ensures rows { self.new.listing.rows ≡ self.old.listing.rows }
+        ensures index { self.new.index ≡ self.old.index }
+        ensures parts { self.new.parts ≡ self.old.parts }
+    {
+        self.listing.replay(&self.lookup, uri, moment, out)
+    }
+
+    /// Writes a line for each finding, as a listing does, and answers how many there are.
+    pub fn check<W: Sink>(&mut self, out: &mut W) -> Result<usize, OutFault>
+        ensures checks { Checks self.old.listing.rows
+            (tapped (S.holds self.old.listing.source) (S.faults self.old.listing.source)
+            (S.reads self.old.listing.source) (S.asked self.old.listing.source)
+            (S.watches self.old.listing.source) (S.strays self.old.listing.source))
+            (tapped (S.holds self.new.listing.source) (S.faults self.new.listing.source)
+            (S.reads self.new.listing.source) (S.asked self.new.listing.source)
+            (S.watches self.new.listing.source) (S.strays self.new.listing.source))
+            (seen (W.tells out.old) (W.faults out.old)) (seen (W.tells out.new) (W.faults out.new)) result }
+
+        // The rows stay, and so does what finds and joins the records.
+        ensures rows { self.new.listing.rows ≡ self.old.listing.rows }
+        ensures index { self.new.index ≡ self.old.index }
+        ensures parts { self.new.parts ≡ self.old.parts }
+    {
+        self.listing.check(out)
+    }
+}

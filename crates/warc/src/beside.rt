@@ -1,0 +1,82 @@
+//! What is kept of records beside their rows: nothing in a listing; in an archive, what finds them and what joins them.
+ghost use Rattle.std.specs.Prelude.{◌≡◌, None, List, [], ◌∷◌, ◌++◌, OnOk};
+ghost use Rattle.warc_record.specs.Heads.{head_fault};
+ghost use Rattle.warc_record.specs.Readings.{reading_of};
+ghost use Rattle.warc_record.specs.Seen.{said};
+ghost use Rattle.warc.specs.Indexed.{AreOf, place_of};
+ghost use Rattle.warc.specs.Row.{Placed};
+
+use std::alloc::{AllocError, Allocator};
+use warc_field::Fields;
+use warc_index::Index;
+use warc_record::{Typed, type_head};
+use warc_segment::{Parts, Place};
+
+/// What is kept of records beside their rows, as they are read.
+pub(crate) trait Keep<A: Allocator> {
+    /// It is kept of these records.
+    ghost keeps: { Self → List Placed → Type 0 };
+
+    /// Keeps what is wanted of the next record, by the fields of its good head and where its block stands.
+    fn keep(&mut self, alloc: A, fields: &Fields<A>, place: Place) -> Result<(), AllocError>
+        ensures { (records : List Placed) (p : Placed) → keeps self.old records →
+            fields.now ≡ p.content.fields → head_fault p.content.fields ≡ None → place ≡ place_of p →
+            OnOk result (keeps self.new (records ++ p ∷ [])) };
+}
+
+/// Rows alone are kept.
+#[derive(Drop)]
+pub(crate) struct Nothing;
+
+impl<A: Allocator> Keep<A> for Nothing {
+    ghost keeps = { λ _ _. Unit {0} };
+
+    fn keep(&mut self, _alloc: A, _fields: &Fields<A>, _place: Place) -> Result<(), AllocError> {
+        Ok(())
+    }
+}
+
+/// What finds the records of an archive, and what joins those that are in segments.
+#[derive(Drop)]
+pub(crate) struct Lookup<A: Allocator> {
+    pub(crate) index: Index<A>,
+    pub(crate) parts: Parts<A>,
+}
+
+impl<A: Allocator + Copy> Lookup<A> {
+    /// Of no records.
+    pub(crate) fn new(alloc: A) -> Lookup<A>
+        ensures { AreOf [] result.index result.parts }
+    {
+        Lookup {
+            index: Index::new(alloc),
+            parts: Parts::new(alloc),
+        }
+    }
+
+    /// Keeps the next record, by what its head says and where its block stands.
+    fn add(&mut self, typed: &Typed<A>, place: Place) -> Result<(), AllocError>
+        ensures { (records : List Placed) (p : Placed) → AreOf records self.old.index self.old.parts →
+            said typed.now ≡ reading_of p.content.fields → place ≡ place_of p →
+            OnOk result (AreOf (records ++ p ∷ []) self.new.index self.new.parts) }
+    {
+        self.index.add(typed)?;
+        self.parts.add(typed, place)
+    }
+}
+
+impl<A: Allocator + Copy> Keep<A> for Lookup<A> {
+    ghost keeps = { λ l records. AreOf records l.index l.parts };
+
+    fn keep(&mut self, alloc: A, fields: &Fields<A>, place: Place) -> Result<(), AllocError>
+        ensures { (records : List Placed) (p : Placed) → AreOf records self.old.index self.old.parts →
+            fields.now ≡ p.content.fields → head_fault p.content.fields ≡ None → place ≡ place_of p →
+            OnOk result (AreOf (records ++ p ∷ []) self.new.index self.new.parts) }
+    {
+        // The head is good, so that nothing but memory fails.
+        let Ok(typed) = type_head(alloc, fields) else {
+            return Err(AllocError);
+        };
+        self.add(&typed, place)
+    }
+}

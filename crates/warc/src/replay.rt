@@ -1,0 +1,169 @@
+//! What an archive gives for a URI as of a moment.
+ghost use Rattle.std.specs.Prelude.{◌≡◌, ℕ, ◌+◌, ◌-◌, ◌*◌, ◌≤◌, List, length, map, Some};
+ghost use Rattle.warc_value.specs.Dates.{Instant};
+ghost use Rattle.warc_frame.specs.Failing.{HasFailedBy, MayHaveFailedBy, failed_by};
+ghost use Rattle.warc_frame.specs.Record.{max_head};
+ghost use Rattle.warc_frame.specs.Seen.{seen, tapped};
+ghost use Rattle.warc_record.specs.Readings.{reading_of};
+ghost use Rattle.warc_record.specs.Seen.{said};
+ghost use Rattle.warc_segment.specs.Joined.{joined_records};
+ghost use Rattle.warc_segment.specs.Kept.{kept_in};
+ghost use Rattle.warc_answer.specs.Answers.{path_of};
+ghost use Rattle.warc_answer.specs.Payloads.{read_record};
+ghost use Rattle.warc_answer.specs.Replays.{IsReplay, IsSilent, out_result};
+ghost use Rattle.warc.specs.Archive.{contents};
+ghost use Rattle.warc.specs.Indexed.{AreOf, indexed_record, place_of, placed_record};
+ghost use Rattle.warc.specs.Examining.{HasHead};
+ghost use Rattle.warc.specs.Replaying.{Replays, joined_len};
+ghost use Rattle.warc.specs.Row.{Placed, row_of};
+ghost use Rattle.warc.specs.Standing.{IsOrigin};
+
+use crate::beside::Lookup;
+use crate::heads::{head_buffer, read_again};
+use crate::rows::{Row, Rows};
+use std::alloc::Allocator;
+use warc_answer::laws::{fails_before_all, places_are_as_long, reasons_are_answers};
+use warc_answer::{Answer, Path, Reason, ReplayFault, replay_joined};
+use warc_frame::laws::head_of_spelled;
+use warc_frame::{OutFault, Sink, Source};
+use warc_index::Unfound;
+use warc_index::laws::{chosen_is_latest, origins_stand};
+use warc_record::Typed;
+use warc_segment::laws::places_are_of_records;
+use warc_segment::{JoinFault, Parts, Place};
+use warc_value::Moment;
+
+impl<A: Allocator + Copy> Lookup<A> {
+    /// From the capture that is chosen for a URI as of a moment to its origin.
+    pub(crate) fn path(&self, uri: &[u8], moment: &Moment) -> Result<Path, Unfound>
+        ensures { (records : List Placed) → AreOf records self.now.index self.now.parts →
+            result ≡ path_of (map indexed_record records) uri.now moment.now }
+    {
+        let chosen = match self.index.latest(uri, moment) {
+            Ok(chosen) => chosen,
+            Err(unfound) => return Err(unfound),
+        };
+        match self.index.origin(chosen) {
+            Ok(given) => Ok(Path { chosen, given }),
+            Err(unfound) => Err(unfound),
+        }
+    }
+}
+
+/// Writes the payload of the origin at the end of a path, of which the head says this and whose block stands there.
+fn replay_origin<S: Source, W: Sink, A: Allocator + Copy>(
+    source: &mut S,
+    parts: &Parts<A>,
+    path: Path,
+    origin: &Typed<A>,
+    place: Place,
+    out: &mut W,
+) -> Result<Answer, ReplayFault>
+    ensures told { (bytes : List ℕ) (records : List Placed) (uri : List ℕ) (moment : Instant) (p : Placed) →
+        S.holds source.old ≡ Some bytes → IsOrigin bytes records uri moment path p →
+        parts.now ≡ kept_in (map placed_record records) → said origin.now ≡ reading_of p.content.fields →
+        place ≡ place_of p → IsReplay (contents records) uri moment result (W.tells out.old) (W.tells out.new) }
+    ensures failed { (bytes : List ℕ) (records : List Placed) (uri : List ℕ) (moment : Instant) (p : Placed) →
+        S.holds source.old ≡ Some bytes → IsOrigin bytes records uri moment path p →
+        parts.now ≡ kept_in (map placed_record records) → said origin.now ≡ reading_of p.content.fields →
+        place ≡ place_of p → HasFailedBy (out_result result) (S.faults source.old) (S.faults source.new) }
+    ensures cost { (bytes : List ℕ) (records : List Placed) (uri : List ℕ) (moment : Instant) (p : Placed) →
+        S.holds source.old ≡ Some bytes → IsOrigin bytes records uri moment path p →
+        parts.now ≡ kept_in (map placed_record records) → said origin.now ≡ reading_of p.content.fields →
+        place ≡ place_of p → S.reads source.new ≤ S.reads source.old
+        + 2 * joined_len (joined_records (map read_record (contents records)) (read_record p.content)) }
+    ensures silent { IsSilent result (W.tells out.old) (W.tells out.new) }
+    ensures kept { S.holds source.new ≡ S.holds source.old }
+    ensures may { MayHaveFailedBy (out_result result) (S.faults source.old) (S.faults source.new) }
+    ensures cause { W.faults out.new ≡ failed_by (out_result result) (W.faults out.old) }
+{
+    reasons_are_answers();
+    fails_before_all();
+    places_are_of_records();
+    places_are_as_long();
+    let places = match parts.join(origin, place) {
+        Ok(places) => places,
+        Err(JoinFault::Gap(gap)) => return Err(ReplayFault::Reason(Reason::Segments(gap))),
+        Err(JoinFault::Memory) => return Err(ReplayFault::Out(OutFault::Memory(0))),
+    };
+    replay_joined(source, path, origin, &places, out)
+}
+
+/// Writes the payload of the origin at the end of a path, by its row. Its head is read again, through a buffer that any
+/// head fits.
+fn replay_row<S: Source, W: Sink, A: Allocator + Copy>(
+    alloc: A,
+    source: &mut S,
+    parts: &Parts<A>,
+    path: Path,
+    row: &Row<'_>,
+    buf: &mut [u8],
+    out: &mut W,
+) -> Result<Answer, ReplayFault>
+    requires { max_head ≤ length buf.old }
+    ensures told { (bytes : List ℕ) (records : List Placed) (uri : List ℕ) (moment : Instant) (p : Placed) →
+        S.holds source.old ≡ Some bytes → IsOrigin bytes records uri moment path p → HasHead bytes p →
+        row.now ≡ row_of p → parts.now ≡ kept_in (map placed_record records) →
+        IsReplay (contents records) uri moment result (W.tells out.old) (W.tells out.new) }
+    ensures failed { (bytes : List ℕ) (records : List Placed) (uri : List ℕ) (moment : Instant) (p : Placed) →
+        S.holds source.old ≡ Some bytes → IsOrigin bytes records uri moment path p → HasHead bytes p →
+        row.now ≡ row_of p → parts.now ≡ kept_in (map placed_record records) →
+        HasFailedBy (out_result result) (S.faults source.old) (S.faults source.new) }
+    ensures cost { (bytes : List ℕ) (records : List Placed) (uri : List ℕ) (moment : Instant) (p : Placed) →
+        S.holds source.old ≡ Some bytes → IsOrigin bytes records uri moment path p → HasHead bytes p →
+        row.now ≡ row_of p → parts.now ≡ kept_in (map placed_record records) →
+        S.reads source.new ≤ S.reads source.old + (p.block_start - p.offset
+        + 2 * joined_len (joined_records (map read_record (contents records)) (read_record p.content))) }
+    ensures silent { IsSilent result (W.tells out.old) (W.tells out.new) }
+    ensures kept { S.holds source.new ≡ S.holds source.old }
+    ensures may { MayHaveFailedBy (out_result result) (S.faults source.old) (S.faults source.new) }
+    ensures cause { W.faults out.new ≡ failed_by (out_result result) (W.faults out.old) }
+{
+    fails_before_all();
+    let origin = match read_again(alloc, source, row, buf) {
+        Ok(origin) => origin,
+        Err(halt) => return Err(ReplayFault::Out(halt.after(0))),
+    };
+    let place = Place {
+        start: row.block_start,
+        len: row.block_len,
+        verdict: row.verdict,
+        truncated: row.is_truncated,
+    };
+    replay_origin(source, parts, path, &origin.typed, place, out)
+}
+
+/// Writes the payload that the records of a source give for a URI as of a moment.
+pub(crate) fn replay_rows<S: Source, W: Sink, A: Allocator + Copy>(
+    source: &mut S,
+    rows: &Rows<A>,
+    lookup: &Lookup<A>,
+    uri: &[u8],
+    moment: &Moment,
+    out: &mut W,
+) -> Result<Answer, ReplayFault>
+    ensures { Replays rows.now lookup.now.index lookup.now.parts uri.now moment.now
+        (tapped (S.holds source.old) (S.faults source.old) (S.reads source.old) (S.asked source.old)
+        (S.watches source.old) (S.strays source.old))
+        (tapped (S.holds source.new) (S.faults source.new) (S.reads source.new) (S.asked source.new)
+        (S.watches source.new) (S.strays source.new))
+        (seen (W.tells out.old) (W.faults out.old)) (seen (W.tells out.new) (W.faults out.new)) result }
+{
+    head_of_spelled();
+    reasons_are_answers();
+    fails_before_all();
+    chosen_is_latest();
+    origins_stand();
+    let path = match lookup.path(uri, moment) {
+        Ok(path) => path,
+        Err(unfound) => return Err(ReplayFault::Reason(Reason::NotFound(unfound))),
+    };
+    let alloc = rows.allocator();
+    let Ok(mut buf) = head_buffer(alloc) else {
+        return Err(ReplayFault::Out(OutFault::Memory(0)));
+    };
+    let Some(row) = rows.get(path.given) else {
+        return Err(ReplayFault::Out(OutFault::Read(0)));
+    };
+    replay_row(alloc, source, &lookup.parts, path, &row, &mut buf, out)
+}

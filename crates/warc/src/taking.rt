@@ -1,0 +1,116 @@
+//! Records, read again through the source.
+ghost use Rattle.std.specs.Prelude.{◌≡◌, ℕ, ◌^◌, ◌+◌, ◌<◌, ◌≤◌, List, length, take, drop, Some, None, IfSome, IfOk, IfErr, MatchResult};
+ghost use Rattle.warc_frame.specs.Failing.{HasFailedBy, MayHaveFailedBy};
+ghost use Rattle.warc_frame.specs.Ranges.{HasFilled};
+ghost use Rattle.warc_frame.specs.Record.{Record, max_archive};
+ghost use Rattle.warc_frame.specs.Spelling.{Spells};
+ghost use Rattle.warc_frame.specs.Seen.{tapped};
+ghost use Rattle.warc.specs.Row.{Placed, row_of};
+ghost use Rattle.warc.specs.Standing.{IsEnd, IsWritten};
+ghost use Rattle.warc.specs.Taking.{IsTaken, ReadsRecord, take_result};
+
+use crate::fault::TakeFault;
+use crate::rows::Row;
+use std::alloc::Allocator;
+use warc_frame::{FaultKind, Framed, Source, read_one, read_range};
+
+/// The length of a record, the two line ends behind its block included, where it ends before offset 2^64.
+fn record_len(row: &Row<'_>) -> Option<usize>
+    ensures within { IfSome result (λ len. (row.now.offset + len ≡ row.now.block_start + row.now.block_len + 4)
+        × (row.now.offset + len < 2 ^ 64)) }
+    ensures only { (len : ℕ) → row.now.offset + len ≡ row.now.block_start + row.now.block_len + 4 →
+        row.now.offset + len < 2 ^ 64 → result ≡ Some len }
+{
+    let end = row.block_start.checked_add(row.block_len)?.checked_add(4)?;
+    if end < row.offset {
+        return None;
+    }
+    Some((end - row.offset) as usize)
+}
+
+/// Why a record isn't given, from what reading it answered.
+fn fault_of(kind: FaultKind) -> TakeFault
+    ensures is { IsEnd result }
+    ensures memory { kind ≡ FaultKind.Memory → result ≡ TakeFault.Memory }
+{
+    match kind {
+        FaultKind::Memory => TakeFault::Memory,
+        _ => TakeFault::Read,
+    }
+}
+
+/// The record that a whole text is.
+fn whole_record<A: Allocator + Copy>(alloc: A, text: &[u8]) -> Result<Framed<A>, TakeFault>
+    ensures is { IfErr result IsEnd }
+    ensures only { (r : Record) → Spells r text.now →
+        MatchResult result (λ framed. framed ≡ r) (λ fault. fault ≡ TakeFault.Memory) }
+{
+    let (framed, len) = match read_one(alloc, text) {
+        Ok(found) => found,
+        Err(fault) => return Err(fault_of(fault.kind)),
+    };
+    if len != text.len() {
+        return Err(TakeFault::Read);
+    }
+    Ok(framed)
+}
+
+/// The record that stands at an offset and fills the buffer.
+fn read_record<S: Source, A: Allocator + Copy>(
+    alloc: A,
+    source: &mut S,
+    at: u64,
+    text: &mut [u8],
+) -> Result<Framed<A>, TakeFault>
+    requires { at + length text.old < 2 ^ 64 }
+    ensures taken { (bytes : List ℕ) (r : Record) →
+        S.holds source.old ≡ Some bytes → Spells r (take (length text.old) (drop at bytes)) →
+        IfOk result (λ framed. framed ≡ r) }
+    ensures failed { (bytes : List ℕ) (r : Record) →
+        S.holds source.old ≡ Some bytes → Spells r (take (length text.old) (drop at bytes)) →
+        at + length text.old ≤ length bytes →
+        HasFailedBy (take_result result) (S.faults source.old) (S.faults source.new) }
+    ensures is { IfErr result IsEnd }
+    ensures kept { S.holds source.new ≡ S.holds source.old }
+    ensures may { MayHaveFailedBy (take_result result) (S.faults source.old) (S.faults source.new) }
+    ensures filled { HasFilled at (length text.old)
+        (tapped (S.holds source.old) (S.faults source.old) (S.reads source.old) (S.asked source.old)
+        (S.watches source.old) (S.strays source.old))
+        (tapped (S.holds source.new) (S.faults source.new) (S.reads source.new) (S.asked source.new)
+        (S.watches source.new) (S.strays source.new)) }
+{
+    if read_range(source, at, text).is_err() {
+        return Err(TakeFault::Read);
+    }
+    whole_record(alloc, text)
+}
+
+/// The record of a row, read again.
+pub(crate) fn take_record<S: Source, A: Allocator + Copy>(
+    alloc: A,
+    source: &mut S,
+    row: &Row<'_>,
+) -> Result<Framed<A>, TakeFault>
+    ensures taken { (bytes : List ℕ) (p : Placed) →
+        S.holds source.old ≡ Some bytes → length bytes ≤ max_archive → IsWritten bytes p → row.now ≡ row_of p →
+        IsTaken (Some p) result }
+    ensures failed { (bytes : List ℕ) (p : Placed) →
+        S.holds source.old ≡ Some bytes → length bytes ≤ max_archive → IsWritten bytes p → row.now ≡ row_of p →
+        HasFailedBy (take_result result) (S.faults source.old) (S.faults source.new) }
+    ensures is { IfErr result IsEnd }
+    ensures kept { S.holds source.new ≡ S.holds source.old }
+    ensures may { MayHaveFailedBy (take_result result) (S.faults source.old) (S.faults source.new) }
+    ensures reads { ReadsRecord (Some row.now)
+        (tapped (S.holds source.old) (S.faults source.old) (S.reads source.old) (S.asked source.old)
+        (S.watches source.old) (S.strays source.old))
+        (tapped (S.holds source.new) (S.faults source.new) (S.reads source.new) (S.asked source.new)
+        (S.watches source.new) (S.strays source.new)) }
+{
+    let Some(len) = record_len(row) else {
+        return Err(TakeFault::Read);
+    };
+    let Ok(mut text) = vec![in alloc; 0u8; len] else {
+        return Err(TakeFault::Memory);
+    };
+    read_record(alloc, source, row.offset, &mut text)
+}

@@ -1,0 +1,94 @@
+-- Each replay gives one thing, and no other.
+use Rattle.std.proofs.Common.{◌≡◌, ℕ, zero, suc, ◌<◌, List, [], ◌∷◌, length, map, Option, Some, None, Result, Ok, Err, slice_get, refl, sym, ◌∙◌, ap, subst, arith}
+use Rattle.std.proofs.lemmas.List.{length-map}
+use Rattle.warc_value.specs.Dates.{Instant}
+use Rattle.warc_index.specs.Captures.{Indexed, ChosenIsLatest, indexed_of, chosen_of}
+use Rattle.warc_index.specs.Referents.{OriginsStand, ok_then, origin_of}
+use Rattle.warc_index.specs.declared.unfound.Unfound.{Unfound}
+use Rattle.warc_payload.specs.Laws.{AtMostOneBody, NoBodyWhereCoded, OneOfThree}
+use Rattle.warc_segment.specs.Joined.{ReadRecord, joined_records}
+use Rattle.warc_segment.specs.declared.gap.Gap.{Gap}
+use Rattle.warc_answer.specs.Answers.{path_of, index_of, Given, is_truncated, given_by, IsGivenBy, IsGivenAt, IsGivenOn, IsOutcome, IsAnswer}
+use Rattle.warc_answer.specs.Laws.{AnswersOnce}
+use Rattle.warc_answer.specs.Payloads.{read_record}
+use Rattle.warc_answer.specs.declared.answer.Path.{Path}
+use Rattle.warc_answer.specs.declared.answer.Reason.{Reason}
+use Rattle.warc_answer.specs.declared.answer.Reason.TheVariants.{NotFound}
+use Rattle.warc_answer.proofs.PayloadLemmas.{payload_once, payload_some}
+
+-- ---- the origin stands in the list
+
+below_stands : {A : Type 0} (xs : List A) (p : ℕ) (x : A) → slice_get xs p ≡ Some x → p < length xs
+below_stands [] p x e = absurd (cc)
+below_stands (y ∷ xs) zero x e = omega arith
+below_stands (y ∷ xs) (suc p) x e = let lt : p < length xs = below_stands xs p x e in omega arith
+
+stands_below : {A : Type 0} (xs : List A) (p : ℕ) → p < length xs → (x : A) × (slice_get xs p ≡ Some x)
+stands_below [] p lt = absurd (omega arith)
+stands_below (y ∷ xs) zero lt = (y, refl)
+stands_below (y ∷ xs) (suc p) lt = stands_below xs p (omega arith)
+
+abbrev path_by : ℕ → Result ℕ Unfound → Result Path Unfound
+path_by chosen origin = ok_then (λ given. Ok (record { chosen = chosen; given = given })) origin
+
+path_below : ChosenIsLatest → OriginsStand → (all : List Indexed) (uri : List ℕ) (moment : Instant) (path : Path)
+    → path_of all uri moment ≡ Ok path → path.given < length all
+path_below latest stand all uri moment path e = by_chosen (chosen_of all uri moment) refl e
+  where
+    by_origin : (p : ℕ) → p < length all → (o : Result ℕ Unfound) → origin_of all p ≡ o → path_by p o ≡ Ok path
+        → path.given < length all
+    by_origin p lt (Err why) is e = absurd (cc)
+    by_origin p lt (Ok q) is e =
+        let same : q ≡ path.given =
+        (let w : Path = record { chosen = p; given = q } in let f : w ≡ path = (cc) in ap (λ (v : Path). v.given) f) in
+        subst (λ (n : ℕ). n < length all) same (stand all p q lt is)
+
+    by_chosen : (c : Result ℕ Unfound) → chosen_of all uri moment ≡ c
+        → ok_then (λ p. path_by p (origin_of all p)) c ≡ Ok path → path.given < length all
+    by_chosen (Err why) is e = absurd (cc)
+    by_chosen (Ok p) is e =
+        let chosen = ((latest all uri moment).0 p).0 is in
+        by_origin p (below_stands all p chosen.it chosen.stands) (origin_of all p) refl e
+
+-- ---- one outcome
+
+given_once : AtMostOneBody → NoBodyWhereCoded → (path : Path) (origin : ReadRecord)
+    (joined : Result (List ReadRecord) Gap) (a b : Result Given Reason)
+    → IsGivenBy path origin joined a → IsGivenBy path origin joined b → a ≡ b
+given_once once coded path origin joined a b x y =
+    x.2 ∙ (ap (given_by path (is_truncated joined)) (payload_once once coded origin joined x.0 y.0 x.1 y.1) ∙ sym y.2)
+
+at_once : AtMostOneBody → NoBodyWhereCoded → (all : List ReadRecord) (path : Path) (o : Option ReadRecord)
+    (a b : Result Given Reason) → IsGivenAt all path o a → IsGivenAt all path o b → a ≡ b
+at_once once coded all path None a b x y = absurd x
+at_once once coded all path (Some origin) a b x y =
+    given_once once coded path origin (joined_records all origin) a b x y
+
+on_once : AtMostOneBody → NoBodyWhereCoded → (all : List ReadRecord) (path : Result Path Unfound)
+    (a b : Result Given Reason) → IsGivenOn all path a → IsGivenOn all path b → a ≡ b
+on_once once coded all (Err why) a b x y = x ∙ sym y
+on_once once coded all (Ok path) a b x y = at_once once coded all path (slice_get all path.given) a b x y
+
+on_some : OneOfThree → (all : List ReadRecord) (path : Result Path Unfound)
+    → ((p : Path) → path ≡ Ok p → p.given < length all) → (outcome : Result Given Reason) × IsGivenOn all path outcome
+on_some three all (Err why) within = (Err (NotFound why), refl)
+on_some three all (Ok path) within =
+    let at = stands_below all path.given (within path refl) in
+    let payload = payload_some three at.0 (joined_records all at.0) in
+    let outcome : Result Given Reason = given_by path (is_truncated (joined_records all at.0)) payload.0 in
+    let here : IsGivenAt all path (Some at.0) outcome = (payload.0, payload.1, refl) in
+    (outcome, subst (λ (o : Option ReadRecord). IsGivenAt all path o outcome) (sym at.1) here)
+
+outcome_some : OneOfThree → ChosenIsLatest → OriginsStand → (all : List ReadRecord) (uri : List ℕ) (moment : Instant)
+    → (outcome : Result Given Reason) × IsOutcome all uri moment outcome
+outcome_some three latest stand all uri moment =
+    on_some three all (path_of (index_of all) uri moment)
+    (λ path e. subst (λ (n : ℕ). path.given < n) (length-map all (λ r. indexed_of r.head))
+    (path_below latest stand (index_of all) uri moment path e))
+
+pub answers_once : AtMostOneBody → NoBodyWhereCoded → OneOfThree → ChosenIsLatest → OriginsStand → AnswersOnce
+unfolding IsAnswer
+answers_once once coded three latest stand records uri moment =
+    let all : List ReadRecord = map read_record records in
+    let some = outcome_some three latest stand all uri moment in
+    (some.0, some.1, λ other is. on_once once coded all (path_of (index_of all) uri moment) some.0 other some.1 is)

@@ -1,0 +1,337 @@
+-- Where a body begins, what is given of it, and what a replay is by that.
+use Rattle.std.proofs.Common.{◌≡◌, inl, inr, ℕ, zero, suc, All, ◌+◌, ◌^◌, ◌≤◌, Bool, true, false, ◌||◌, nat_lt, nat_le, ◌&&◌, List, [], ◌∷◌, ◌++◌, length, length-append, length-take, length-drop, take, drop, map, append-nil, Option, Some, None, option_and_then, Result, Ok, Err, slice_get, MatchBool, if◌then◌else◌, refl, sym, ap, subst, ◌∙◌, arith}
+use Rattle.std.specs.Io.KnownBytes.{append_known}
+use Rattle.std.specs.List.{list_any}
+use Rattle.std.specs.Prelude.{codes}
+use Rattle.std.specs.Str.{all_ascii_digits}
+use Rattle.std.proofs.lemmas.Bool.{leb-true}
+use Rattle.std.proofs.lemmas.List.Elements.{All-cons, All-nil}
+use Rattle.std.proofs.lemmas.List.Sums.{sum_by-cons}
+use Rattle.httparse.specs.Grammar.{ResponseHead, print_response}
+use Rattle.warc_value.specs.Dates.{Instant}
+use Rattle.warc_value.specs.Digests.{is_bad}
+use Rattle.warc_field.specs.Area.{Pair}
+use Rattle.warc_field.specs.Decimal.{decimal_of, number_of}
+use Rattle.warc_frame.specs.Failing.{HasFailedBy}
+use Rattle.warc_frame.specs.Record.{Record, max_archive}
+use Rattle.warc_frame.specs.Send.{WentOut, sent_of}
+use Rattle.warc_frame.specs.declared.fault.OutFault.{OutFault}
+use Rattle.warc_record.specs.Readings.{number_in, present_value}
+use Rattle.warc_payload.specs.declared.HeadInfo.{HeadInfo}
+use Rattle.warc_payload.specs.Head.{HasNoHead, IsInfoOf, front_of}
+use Rattle.warc_payload.specs.Laws.{OneOfThree}
+use Rattle.warc_payload.specs.Payload.{GivesBody, GivesCodedBody}
+use Rattle.warc_segment.specs.declared.place.Place.{Place}
+use Rattle.warc_segment.specs.Joined.{ReadRecord, ArePlacesOf, JoinedHasTotal}
+use Rattle.warc_answer.specs.Answers.{Given, is_truncated, given_by}
+use Rattle.warc_answer.specs.Giving.{BeginsAt, BeginsNowhere, IsStart}
+use Rattle.warc_answer.specs.Laws.{AnswersOnce, FailsBeforeAll, IsFound, PlacesAreAsLong}
+use Rattle.warc_answer.specs.Payloads.{Payload, IsBehindHead, IsPayload, has_bad_block, is_http_response, read_record, whole_block}
+use Rattle.warc_answer.specs.Places.{LieIn, len_of, text_at}
+use Rattle.warc_answer.specs.Replays.{IsReplay, body_of, out_result}
+use Rattle.warc_answer.specs.declared.answer.Path.{Path}
+use Rattle.warc_answer.specs.declared.answer.Reason.{Reason as Why}
+use Rattle.warc_answer.specs.declared.answer.Reason.TheVariants.{NotFound, Segments, BadDigest, BadHead, Coded}
+use Rattle.warc_answer.specs.declared.answer.ReplayFault.{ReplayFault}
+use Rattle.warc_answer.specs.declared.answer.ReplayFault.TheVariants.{Reason, Out}
+use Rattle.warc_answer.specs.declared.body.BodyStart.{BodyStart}
+use Rattle.warc_answer.proofs.PayloadLemmas.{payload_some}
+use Rattle.warc_answer.proofs.ReasonLemmas.{answer_of}
+
+-- ---- where a body begins
+
+-- the front of a text, as it was read
+pub front_is : (buf text : List ℕ) (n room : ℕ) → room ≡ 65536 → take n buf ≡ take room text → take n buf ≡ front_of text
+unfolding front_of
+front_is buf text n room size same = same ∙ ap (λ k. take k text) size
+
+pub on_true : (P Q : Type 0) (b : Bool) → b ≡ true → P → MatchBool b P Q
+on_true P Q b is p = subst (λ (x : Bool). MatchBool x P Q) (sym is) p
+
+pub on_false : (P Q : Type 0) (b : Bool) → b ≡ false → Q → MatchBool b P Q
+on_false P Q b is q = subst (λ (x : Bool). MatchBool x P Q) (sym is) q
+
+pub info_at : (front block : List ℕ) (info : HeadInfo) (head : ResponseHead) → front ≡ front_of block
+    → IsInfoOf front info head → IsInfoOf (front_of block) info head
+info_at front block info head same is = subst (λ (t : List ℕ). IsInfoOf t info head) same is
+
+pub none_at : (front block : List ℕ) → front ≡ front_of block → HasNoHead front → HasNoHead (front_of block)
+none_at front block same none = subst HasNoHead same none
+
+pub coded_body : (block : List ℕ) (info : HeadInfo) (head : ResponseHead) → IsInfoOf block info head
+    → info.coded ≡ true → GivesCodedBody block
+coded_body block info head is coded = (head, drop info.head_len block, is.front, sym is.coded ∙ coded)
+
+pub plain_body : (block : List ℕ) (info : HeadInfo) (head : ResponseHead) → IsInfoOf block info head
+    → info.coded ≡ false → GivesBody block info.status (drop info.head_len block)
+plain_body block info head is plain = (head, is.front, is.status, sym is.coded ∙ plain)
+
+pub head_within : (block : List ℕ) (info : HeadInfo) (head : ResponseHead) → IsInfoOf block info head
+    → info.head_len ≤ length block
+head_within block info head is =
+    omega (arith, is.head_len, ap length is.front.reads.1, length-append (print_response head) (drop info.head_len block))
+
+-- ---- places and records
+
+abbrev Lies : List ℕ → Place → Type 0
+Lies bytes p = p.start + p.len ≤ length bytes
+
+places_within : (bytes : List ℕ) (ps : List Place) (rs : List ReadRecord) → ArePlacesOf bytes ps rs
+    → All (Lies bytes) ps
+places_within bytes [] [] are = All-nil (Lies bytes)
+places_within bytes (p ∷ ps) (r ∷ rs) are = All-cons (Lies bytes) p ps are.0.within (places_within bytes ps rs are.1)
+places_within bytes [] (r ∷ rs) are = absurd are
+places_within bytes (p ∷ ps) [] are = absurd are
+
+pub places_lie : (bytes : List ℕ) (ps : List Place) (rs : List ReadRecord) → length bytes ≤ max_archive
+    → ArePlacesOf bytes ps rs → LieIn ps bytes
+places_lie bytes ps rs short are = record { within = places_within bytes ps rs are; short = omega arith }
+
+pub places_text : (bytes : List ℕ) (ps : List Place) (rs : List ReadRecord) → ArePlacesOf bytes ps rs
+    → text_at ps bytes ≡ whole_block rs
+places_text bytes [] [] are = refl
+places_text bytes (p ∷ ps) (r ∷ rs) are =
+    ap (λ l. l ++ text_at ps bytes) are.0.block ∙ ap (λ l. r.block ++ l) (places_text bytes ps rs are.1)
+places_text bytes [] (r ∷ rs) are = absurd are
+places_text bytes (p ∷ ps) [] are = absurd are
+
+pub places_bad : (bytes : List ℕ) (ps : List Place) (rs : List ReadRecord) → ArePlacesOf bytes ps rs
+    → list_any (λ (p : Place). is_bad p.verdict) ps ≡ list_any has_bad_block rs
+places_bad bytes [] [] are = refl
+places_bad bytes (p ∷ ps) (r ∷ rs) are =
+    ap (λ v. is_bad v || list_any (λ (q : Place). is_bad q.verdict) ps) are.0.verdict
+    ∙ ap (λ b. has_bad_block r || b) (places_bad bytes ps rs are.1)
+places_bad bytes [] (r ∷ rs) are = absurd are
+places_bad bytes (p ∷ ps) [] are = absurd are
+
+pub places_marked : (bytes : List ℕ) (ps : List Place) (rs : List ReadRecord) → ArePlacesOf bytes ps rs
+    → list_any (λ (p : Place). p.truncated) ps ≡ list_any (λ (r : ReadRecord). r.head.truncated) rs
+places_marked bytes [] [] are = refl
+places_marked bytes (p ∷ ps) (r ∷ rs) are =
+    ap (λ b. b || list_any (λ (q : Place). q.truncated) ps) are.0.truncated
+    ∙ ap (λ b. r.head.truncated || b) (places_marked bytes ps rs are.1)
+places_marked bytes [] (r ∷ rs) are = absurd are
+places_marked bytes (p ∷ ps) [] are = absurd are
+
+pub places_len : (bytes : List ℕ) (ps : List Place) (rs : List ReadRecord) → ArePlacesOf bytes ps rs
+    → len_of ps ≡ length (whole_block rs)
+places_len bytes [] [] are = refl
+places_len bytes (p ∷ ps) (r ∷ rs) are =
+    let one : len_of (p ∷ ps) ≡ p.len + len_of ps = sum_by-cons (λ (q : Place). q.len) p ps in
+    let rest : len_of ps ≡ length (whole_block rs) = places_len bytes ps rs are.1 in
+    let within : p.start + p.len ≤ length bytes = are.0.within in
+    let same : length (take p.len (drop p.start bytes)) ≡ length r.block = ap length are.0.block in
+    let whole : length (whole_block (r ∷ rs)) ≡ length r.block + length (whole_block rs) =
+    length-append r.block (whole_block rs) in
+    omega (arith, length-take p.len (drop p.start bytes), length-drop p.start bytes)
+places_len bytes [] (r ∷ rs) are = absurd are
+places_len bytes (p ∷ ps) [] are = absurd are
+
+-- ---- a joined block is no longer than an archive
+
+decimal_short : (text : List ℕ) (n : ℕ) → decimal_of text ≡ Some n → n ≤ max_archive
+unfolding decimal_of
+decimal_short text n e = by_test (nat_lt 0 (length text) && all_ascii_digits text) (nat_le (number_of text) (2 ^ 48)) refl e
+  where
+    by_test : (a b : Bool) → nat_le (number_of text) (2 ^ 48) ≡ b → (if a && b then Some (number_of text) else None) ≡ Some n
+        → n ≤ max_archive
+    by_test false b is f = absurd (cc)
+    by_test true false is f = absurd (cc)
+    by_test true true is f = let same : number_of text ≡ n = (cc) in omega (arith, leb-true (number_of text) (2 ^ 48) is)
+
+number_short : (name : List ℕ) (fields : List Pair) (n : ℕ) → number_in name fields ≡ Some n → n ≤ max_archive
+number_short name fields n e = by_value (present_value name fields) e
+  where
+    by_value : (o : Option (List ℕ)) → option_and_then decimal_of o ≡ Some n → n ≤ max_archive
+    by_value None f = absurd (cc)
+    by_value (Some text) f = decimal_short text n f
+
+total_short : (records : List Record) (k n : ℕ) (last : ReadRecord) → slice_get (map read_record records) k ≡ Some last
+    → last.head.segment.total ≡ Some n → n ≤ max_archive
+total_short [] k n last at e = absurd (cc)
+total_short (r ∷ rs) zero n last at e =
+    let same : read_record r ≡ last = (cc) in
+    number_short (codes "WARC-Segment-Total-Length") r.fields n (ap (λ (x : ReadRecord). x.head.segment.total) same ∙ e)
+total_short (r ∷ rs) (suc k) n last at e = total_short rs k n last at e
+
+pub joined_short : JoinedHasTotal → (bytes : List ℕ) (records : List Record) (uri : List ℕ) (moment : Instant)
+    (path : Path) (origin : ReadRecord) (joined : List ReadRecord) (ps : List Place) → length bytes ≤ max_archive
+    → IsFound (map read_record records) uri moment path origin (Ok joined) → ArePlacesOf bytes ps joined
+    → len_of ps ≤ max_archive
+joined_short total bytes records uri moment path origin joined ps short found are =
+    elim (total (map read_record records) origin joined found.joined_is) [
+      | inl alone ↦ one ps (subst (ArePlacesOf bytes ps) alone are)
+      | inr stated ↦
+          let le : length (whole_block joined) ≤ max_archive =
+          total_short records stated.0 (length (whole_block joined)) stated.1 stated.2 stated.3 in
+          let len : len_of ps ≡ length (whole_block joined) = places_len bytes ps joined are in
+          omega arith
+    ]
+  where
+    one : (qs : List Place) → ArePlacesOf bytes qs (origin ∷ []) → len_of qs ≤ max_archive
+    one [] is = absurd is
+    one (q ∷ []) is =
+        let len : len_of (q ∷ []) ≡ q.len + len_of [] = sum_by-cons (λ (p : Place). p.len) q [] in
+        let none : len_of [] ≡ 0 = refl in
+        let within : q.start + q.len ≤ length bytes = is.0.within in
+        omega arith
+    one (q ∷ p ∷ qs) is = absurd is.1
+
+-- ---- the payload
+
+pub bad_payload : (origin : ReadRecord) (joined : List ReadRecord) → list_any has_bad_block joined ≡ true
+    → IsPayload origin (Ok joined) (Err BadDigest)
+bad_payload origin joined bad = on_true _ _ (list_any has_bad_block joined) bad refl
+
+abbrev payload_at : BodyStart → List ℕ → Result Payload Why
+payload_at start block = Ok (record { status = start.status; bytes = drop start.skip block })
+
+pub good_payload : (origin : ReadRecord) (joined : List ReadRecord) (start : BodyStart)
+    → list_any has_bad_block joined ≡ false → BeginsAt (is_http_response origin.head) (whole_block joined) start
+    → IsPayload origin (Ok joined) (payload_at start (whole_block joined))
+good_payload origin joined start fine begins =
+    on_false _ _ (list_any has_bad_block joined) fine (by_http (is_http_response origin.head) begins.1)
+  where
+    block : List ℕ
+    block = whole_block joined
+
+    by_http : (b : Bool)
+        → MatchBool b ((status : ℕ) × (start.status ≡ Some status) × GivesBody block status (drop start.skip block))
+        ((start.status ≡ None) × (start.skip ≡ 0))
+        → MatchBool b (IsBehindHead block (payload_at start block))
+        (payload_at start block ≡ Ok (record { status = None; bytes = block }))
+    by_http true x = x
+    by_http false x = λ i. Ok (record { status = x.0 i; bytes = drop (x.1 i) block })
+
+no_payload : (origin : ReadRecord) (joined : List ReadRecord) (why : Why) → list_any has_bad_block joined ≡ false
+    → BeginsNowhere (is_http_response origin.head) (whole_block joined) why → IsPayload origin (Ok joined) (Err why)
+no_payload origin joined why fine nowhere =
+    on_false _ _ (list_any has_bad_block joined) fine (by_http (is_http_response origin.head) why nowhere)
+  where
+    whole : Result Payload Why
+    whole = Ok (record { status = None; bytes = whole_block joined })
+
+    by_http : (b : Bool) (w : Why) → BeginsNowhere b (whole_block joined) w
+        → MatchBool b (IsBehindHead (whole_block joined) (Err w)) (Err w ≡ whole)
+    by_http true BadHead x = x
+    by_http false BadHead x = absurd x
+    by_http true Coded x = x
+    by_http false Coded x = absurd x
+    by_http b BadDigest x = absurd x
+    by_http b (NotFound why) x = absurd x
+    by_http b (Segments gap) x = absurd x
+
+-- ---- what went out
+
+same_known : (o : Option (List ℕ)) → o ≡ append_known o []
+same_known None = refl
+same_known (Some l) = ap Some (sym (append-nil l))
+
+none_out : (start : Option (List ℕ)) (output : List ℕ) → WentOut start output start 0
+none_out start output =
+    record { count = 0; within = omega arith; told = same_known start; number = omega arith }
+
+-- ---- what a replay is
+
+-- where the body begins, by the records
+begun_by : (http : Bool) (text : List ℕ) (origin : ReadRecord) (joined : List ReadRecord)
+    (r : Result BodyStart ReplayFault) → http ≡ is_http_response origin.head → text ≡ whole_block joined
+    → IsStart http text r → IsStart (is_http_response origin.head) (whole_block joined) r
+begun_by http text origin joined r same whole is =
+    subst (λ (b : Bool). IsStart b (whole_block joined) r) same (subst (λ (t : List ℕ). IsStart http t r) whole is)
+
+abbrev Found : List Record → List ℕ → Instant → Path → ReadRecord → List ReadRecord → Type 0
+Found records uri moment path origin joined = IsFound (map read_record records) uri moment path origin (Ok joined)
+
+-- a bad digest is the answer
+pub replay_of_bad : (bytes : List ℕ) (records : List Record) (uri : List ℕ) (moment : Instant) (path : Path)
+    (origin : ReadRecord) (joined : List ReadRecord) (ps : List Place) (old : Option (List ℕ))
+    → Found records uri moment path origin joined → ArePlacesOf bytes ps joined
+    → list_any (λ (p : Place). is_bad p.verdict) ps ≡ true
+    → IsReplay records uri moment (Err (Reason BadDigest)) old old
+replay_of_bad bytes records uri moment path origin joined ps old found are bad =
+    let payload = bad_payload origin joined (sym (places_bad bytes ps joined are) ∙ bad) in
+    (answer_of records uri moment path origin (Ok joined) (Err BadDigest) found (Err BadDigest, payload, refl), refl)
+
+-- no body begins, or a read failed before it is known where
+pub replay_of_none : OneOfThree → (bytes : List ℕ) (records : List Record) (uri : List ℕ) (moment : Instant)
+    (path : Path) (origin : ReadRecord) (joined : List ReadRecord) (ps : List Place) (old : Option (List ℕ))
+    (http : Bool) (fault : ReplayFault) → Found records uri moment path origin joined → ArePlacesOf bytes ps joined
+    → list_any (λ (p : Place). is_bad p.verdict) ps ≡ false → http ≡ is_http_response origin.head
+    → IsStart http (text_at ps bytes) (Err fault) → IsReplay records uri moment (Err fault) old old
+replay_of_none three bytes records uri moment path origin joined ps old http (Reason why) found are fine same start =
+    let begun = begun_by http (text_at ps bytes) origin joined (Err (Reason why)) same (places_text bytes ps joined are) start in
+    let payload = no_payload origin joined why (sym (places_bad bytes ps joined are) ∙ fine) begun in
+    (answer_of records uri moment path origin (Ok joined) (Err why) found (Err why, payload, refl), refl)
+replay_of_none three bytes records uri moment path origin joined ps old http (Out e) found are fine same start =
+    let payload = payload_some three origin (Ok joined) in
+    let outcome : Result Given Why = given_by path (is_truncated (Ok joined)) payload.0 in
+    let sent : sent_of e ≡ 0 = ap sent_of start in (
+      outcome,
+      answer_of records uri moment path origin (Ok joined) outcome found (payload.0, payload.1, refl),
+      subst (λ (n : ℕ). WentOut old (body_of outcome) old n) (sym sent) (none_out old (body_of outcome)),
+    )
+
+-- the body went out
+pub replay_of_body : (bytes : List ℕ) (records : List Record) (uri : List ℕ) (moment : Instant) (path : Path)
+    (origin : ReadRecord) (joined : List ReadRecord) (ps : List Place) (old new : Option (List ℕ)) (http : Bool)
+    (start : BodyStart) (truncated : Bool) (len : ℕ) → Found records uri moment path origin joined
+    → ArePlacesOf bytes ps joined → list_any (λ (p : Place). is_bad p.verdict) ps ≡ false
+    → http ≡ is_http_response origin.head → IsStart http (text_at ps bytes) (Ok start)
+    → truncated ≡ list_any (λ (p : Place). p.truncated) ps → len ≡ length (drop start.skip (text_at ps bytes))
+    → new ≡ append_known old (drop start.skip (text_at ps bytes))
+    → IsReplay records uri moment (Ok (record { chosen = path.chosen; given = path.given; status = start.status; truncated = truncated; length = len })) old new
+replay_of_body bytes records uri moment path origin joined ps old new http start truncated len found are fine same is mark size told =
+    let whole : text_at ps bytes ≡ whole_block joined = places_text bytes ps joined are in
+    let begun = begun_by http (text_at ps bytes) origin joined (Ok start) same whole is in
+    let payload = good_payload origin joined start (sym (places_bad bytes ps joined are) ∙ fine) begun in
+    let body : List ℕ = drop start.skip (whole_block joined) in
+    let marked : truncated ≡ is_truncated (Ok joined) = mark ∙ places_marked bytes ps joined are in
+    let long : len ≡ length body = size ∙ ap (λ l. length (drop start.skip l)) whole in (
+      body,
+      answer_of records uri moment path origin (Ok joined) _ found (
+        payload_at start (whole_block joined),
+        payload,
+        λ i. Ok (record { answer = record { chosen = path.chosen; given = path.given; status = start.status; truncated = marked i; length = long i }; body = body }),
+      ),
+      told ∙ ap (λ l. append_known old (drop start.skip l)) whole,
+    )
+
+-- a front of it did
+pub replay_of_front : (bytes : List ℕ) (records : List Record) (uri : List ℕ) (moment : Instant) (path : Path)
+    (origin : ReadRecord) (joined : List ReadRecord) (ps : List Place) (old new : Option (List ℕ)) (http : Bool)
+    (start : BodyStart) (e : OutFault) → Found records uri moment path origin joined
+    → ArePlacesOf bytes ps joined → list_any (λ (p : Place). is_bad p.verdict) ps ≡ false
+    → http ≡ is_http_response origin.head → IsStart http (text_at ps bytes) (Ok start)
+    → WentOut old (drop start.skip (text_at ps bytes)) new (sent_of e)
+    → IsReplay records uri moment (Err (Out e)) old new
+replay_of_front bytes records uri moment path origin joined ps old new http start e found are fine same is out =
+    let whole : text_at ps bytes ≡ whole_block joined = places_text bytes ps joined are in
+    let begun = begun_by http (text_at ps bytes) origin joined (Ok start) same whole is in
+    let payload = good_payload origin joined start (sym (places_bad bytes ps joined are) ∙ fine) begun in
+    let outcome : Result Given Why = given_by path (is_truncated (Ok joined)) (payload_at start (whole_block joined)) in (
+      outcome,
+      answer_of records uri moment path origin (Ok joined) outcome found (payload_at start (whole_block joined), payload, refl),
+      subst (λ (l : List ℕ). WentOut old (drop start.skip l) new (sent_of e)) whole out,
+    )
+
+-- ---- failures
+
+pub same_failed : (X Y : Type 0) (fault : ReplayFault) (old new : ℕ) → HasFailedBy (out_result {X = X} (Err fault)) old new
+    → HasFailedBy (out_result {X = Y} (Err fault)) old new
+same_failed X Y (Reason why) old new has = has
+same_failed X Y (Out e) old new has = has
+
+pub failed_from : (e : OutFault) (old mid new : ℕ) → mid ≡ old → HasFailedBy {X = Unit {0}} (Err e) mid new
+    → HasFailedBy {X = Unit {0}} (Err e) old new
+failed_from e old mid new same has = subst (λ (n : ℕ). HasFailedBy {X = Unit {0}} (Err e) n new) same has
+
+-- ---- laws
+
+pub places_are_as_long : PlacesAreAsLong
+places_are_as_long bytes places joined are = places_len bytes places joined are
+
+pub fails_before_all : AnswersOnce → FailsBeforeAll
+fails_before_all once records uri moment told e none =
+    let it = once records uri moment in
+    (it.0, it.1, subst (λ (n : ℕ). WentOut told (body_of it.0) told n) (sym none) (none_out told (body_of it.0)))

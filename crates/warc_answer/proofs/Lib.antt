@@ -1,0 +1,7 @@
+pub mod PayloadLemmas
+pub mod AnswerLemmas
+pub mod MigrationLemmas
+pub mod ReasonLemmas
+pub mod PlaceLemmas
+pub mod GiveLemmas
+mod WorkedValues

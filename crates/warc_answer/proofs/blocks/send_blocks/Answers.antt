@@ -1,0 +1,19 @@
+use Rattle.std.proofs.Common.{[]}
+use Rattle.warc_answer.proofs.blocks.send_blocks.Goals as goal
+
+pub returns-in-Err-clause-cut : goal.returns-in-Err-clause-cut
+returns-in-Err-clause-cut g c = λ bytes held lie.
+    c.in-Err.ensures.copied.cut bytes held lie (g.W.Sink.tells c.args.out.now) []
+    (c.new-buffer.ensures.begins (g.W.Sink.tells c.args.out.now))
+
+pub returns-in-Ok-clause-told : goal.returns-in-Ok-clause-told
+returns-in-Ok-clause-told g c = λ bytes held lie.
+    c.in-Ok.ensures.told (g.W.Sink.tells c.args.out.now) _
+    (c.in_default.ensures.copied.out bytes held lie (g.W.Sink.tells c.args.out.now) []
+    (c.new-buffer.ensures.begins (g.W.Sink.tells c.args.out.now)))
+
+pub returns-in-Err-flush-clause-cut : goal.returns-in-Err-flush-clause-cut
+returns-in-Err-flush-clause-cut g c = λ bytes held lie.
+    c.in-Err-flush.ensures.cut (g.W.Sink.tells c.args.out.now) _
+    (c.in_default.ensures.copied.out bytes held lie (g.W.Sink.tells c.args.out.now) []
+    (c.new-buffer.ensures.begins (g.W.Sink.tells c.args.out.now)))

@@ -1,0 +1,5 @@
+use Rattle.warc_answer.proofs.GiveLemmas.{fails_before_all}
+use Rattle.warc_answer.proofs.laws.fails_before_all.Goals as goal
+
+pub returns : goal.returns
+returns c = fails_before_all c.answers_once.ensures

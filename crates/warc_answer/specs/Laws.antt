@@ -1,0 +1,63 @@
+-- The laws of the definitions.
+use Rattle.std.specs.Prelude.{◌≡◌, ◌↔◌, ℕ, List, length, map, slice_get, Option, Some, Result, Ok, Err}
+use Rattle.warc_value.specs.Dates.{Instant}
+use Rattle.warc_frame.specs.Record.{Record}
+use Rattle.warc_frame.specs.Send.{sent_of}
+use Rattle.warc_frame.specs.declared.fault.OutFault.{OutFault}
+use Rattle.warc_index.specs.declared.unfound.Unfound.{Unfound}
+use Rattle.warc_segment.specs.Joined.{ReadRecord, ArePlacesOf, joined_records}
+use Rattle.warc_segment.specs.declared.gap.Gap.{Gap}
+use Rattle.warc_segment.specs.declared.place.Place.{Place}
+use Rattle.warc_write.specs.Conversion.{converted}
+use Rattle.warc_write.specs.Rendering.{AllGood}
+use Rattle.warc_answer.specs.Payloads.{read_record, whole_block}
+use Rattle.warc_answer.specs.Answers.{path_of, index_of, Given, IsAnswer}
+use Rattle.warc_answer.specs.Places.{len_of}
+use Rattle.warc_answer.specs.Replays.{IsReplay}
+use Rattle.warc_answer.specs.declared.answer.Path.{Path}
+use Rattle.warc_answer.specs.declared.answer.Reason.{Reason}
+use Rattle.warc_answer.specs.declared.answer.Reason.TheVariants.{NotFound, Segments}
+use Rattle.warc_answer.specs.declared.answer.ReplayFault.TheVariants.{Out}
+
+-- each replay gives one thing, and no other
+abbrev pub AnswersOnce : Type 0
+AnswersOnce =
+    (records : List Record) (uri : List ℕ) (moment : Instant)
+    → (outcome : Result Given Reason) × IsAnswer records uri moment outcome
+    × ((other : Result Given Reason) → IsAnswer records uri moment other → outcome ≡ other)
+
+-- converting good records changes no answer
+abbrev pub ConversionKeepsAnswers : Type 0
+ConversionKeepsAnswers =
+    (records : List Record) (uri : List ℕ) (moment : Instant) (outcome : Result Given Reason) → AllGood records
+    → IsAnswer (map converted records) uri moment outcome ↔ IsAnswer records uri moment outcome
+
+-- on the way to an answer: the path for a URI as of a moment, the origin at its end, and the records that are joined to
+-- it or their gap
+pub record IsFound (all : List ReadRecord) (uri : List ℕ) (moment : Instant) (path : Path) (origin : ReadRecord)
+    (joined : Result (List ReadRecord) Gap) : Type 0 where
+  pub path_is : path_of (index_of all) uri moment ≡ Ok path
+  pub stands : slice_get all path.given ≡ Some origin
+  pub joined_is : joined_records all origin ≡ joined
+
+-- the reasons before the payload: no path, and a gap
+abbrev pub ReasonsAreAnswers : Type 0
+ReasonsAreAnswers =
+    (records : List Record) (uri : List ℕ) (moment : Instant)
+    → ((unfound : Unfound) → path_of (index_of (map read_record records)) uri moment ≡ Err unfound
+    → IsAnswer records uri moment (Err (NotFound unfound)))
+    × ((path : Path) (origin : ReadRecord) (gap : Gap)
+    → IsFound (map read_record records) uri moment path origin (Err gap)
+    → IsAnswer records uri moment (Err (Segments gap)))
+
+-- places hold as many bytes as the blocks that they are of
+abbrev pub PlacesAreAsLong : Type 0
+PlacesAreAsLong =
+    (bytes : List ℕ) (places : List Place) (joined : List ReadRecord) → ArePlacesOf bytes places joined
+    → len_of places ≡ length (whole_block joined)
+
+-- a replay that fails before anything goes out is one, whatever the answer is
+abbrev pub FailsBeforeAll : Type 0
+FailsBeforeAll =
+    (records : List Record) (uri : List ℕ) (moment : Instant) (told : Option (List ℕ)) (e : OutFault) → sent_of e ≡ 0
+    → IsReplay records uri moment (Err (Out e)) told told

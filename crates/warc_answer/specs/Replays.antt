@@ -1,0 +1,52 @@
+-- What a replay of records gives, and what went out. This project's own notion.
+use Rattle.std.specs.Prelude.{◌≡◌, ℕ, List, [], Option, Result, Ok, Err, ⊤}
+use Rattle.std.specs.Io.KnownBytes.{append_known}
+use Rattle.warc_value.specs.Dates.{Instant}
+use Rattle.warc_frame.specs.Copying.{IsOfDevice}
+use Rattle.warc_frame.specs.Record.{Record}
+use Rattle.warc_frame.specs.Send.{WentOut, sent_of}
+use Rattle.warc_frame.specs.declared.fault.OutFault.{OutFault}
+use Rattle.warc_frame.specs.declared.fault.OutFault.TheVariants as outs
+use Rattle.warc_answer.specs.Answers.{Given, IsAnswer}
+use Rattle.warc_answer.specs.declared.answer.Answer.{Answer}
+use Rattle.warc_answer.specs.declared.answer.Reason.{Reason as Why}
+use Rattle.warc_answer.specs.declared.answer.ReplayFault.{ReplayFault}
+use Rattle.warc_answer.specs.declared.answer.ReplayFault.TheVariants.{Reason, Out}
+
+-- a body, with what is said of it
+abbrev pub given : Answer → List ℕ → Result Given Why
+given answer body = Ok (record { answer = answer; body = body })
+
+-- the body that an outcome has, none for a reason
+abbrev pub body_of : Result Given Why → List ℕ
+body_of (Ok it) = it.body
+body_of (Err why) = []
+
+-- What a sink tells after a replay: exactly the body of the answer; for a reason, what it told before; after a failed
+-- read or write, a front of the body that there is, as long as the fault tells.
+abbrev pub IsReplay : List Record → List ℕ → Instant → Result Answer ReplayFault → Option (List ℕ) → Option (List ℕ)
+    → Type 0
+IsReplay records uri moment (Ok answer) old new =
+    (body : List ℕ) × IsAnswer records uri moment (given answer body) × (new ≡ append_known old body)
+IsReplay records uri moment (Err (Reason why)) old new = IsAnswer records uri moment (Err why) × (new ≡ old)
+IsReplay records uri moment (Err (Out e)) old new =
+    (outcome : Result Given Why) × IsAnswer records uri moment outcome × WentOut old (body_of outcome) new (sent_of e)
+
+-- nothing goes out before a reason, or before memory is refused, whatever the source holds
+abbrev pub IsSilent : {X : Type 0} → Result X ReplayFault → Option (List ℕ) → Option (List ℕ) → Type 0
+IsSilent (Ok x) old new = ⊤
+IsSilent (Err (Reason why)) old new = new ≡ old
+IsSilent (Err (Out (outs.Read n))) old new = ⊤
+IsSilent (Err (Out (outs.Write n))) old new = ⊤
+IsSilent (Err (Out (outs.Memory n))) old new = (n ≡ 0) × (new ≡ old)
+
+-- what the failures of source and sink go by: a reason is none
+abbrev pub out_result : {X : Type 0} → Result X ReplayFault → Result (Unit {0}) OutFault
+out_result (Ok x) = Ok tt
+out_result (Err (Reason why)) = Ok tt
+out_result (Err (Out e)) = Err e
+
+-- a reason, or a failed read or write
+abbrev pub WantsNoMemory : ReplayFault → Type 0
+WantsNoMemory (Reason why) = ⊤
+WantsNoMemory (Out e) = IsOfDevice e

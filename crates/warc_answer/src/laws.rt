@@ -1,0 +1,42 @@
+//! Laws over the definitions: functions that do nothing, each with a law as its contract.
+ghost use Rattle.warc_answer.specs.Laws.{AnswersOnce, ConversionKeepsAnswers, FailsBeforeAll, PlacesAreAsLong, ReasonsAreAnswers};
+
+use warc_index::laws::{chosen_is_latest, origins_stand};
+use warc_payload::laws::{at_most_one_body, no_body_where_coded, one_of_three};
+use warc_write::laws::converted_says_the_same;
+
+/// For every list of records, URI and moment there is one outcome, a body with what is said of it or a reason, and no
+/// other.
+pub fn answers_once()
+    ensures { AnswersOnce }
+{
+    at_most_one_body();
+    no_body_where_coded();
+    one_of_three();
+    chosen_is_latest();
+    origins_stand();
+}
+
+/// Converting good records changes no answer: neither bodies, positions, statuses, marks and lengths, nor reasons.
+pub fn conversion_keeps_answers()
+    ensures { ConversionKeepsAnswers }
+{
+    converted_says_the_same();
+}
+
+/// Where no capture or no origin is found, that is the answer; and so is a gap in the segments of the origin.
+pub fn reasons_are_answers()
+    ensures { ReasonsAreAnswers }
+{}
+
+/// The places of blocks hold as many bytes as the blocks, one behind another.
+pub fn places_are_as_long()
+    ensures { PlacesAreAsLong }
+{}
+
+/// Where a read fails or memory is refused before anything is written, that is a replay too, whatever the answer is.
+pub fn fails_before_all()
+    ensures { FailsBeforeAll }
+{
+    answers_once();
+}

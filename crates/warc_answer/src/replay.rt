@@ -1,0 +1,108 @@
+//! The end of a replay, behind the look-up of the capture and of its origin, and the joining of its segments.
+ghost use Rattle.std.specs.Prelude.{◌≡◌, ℕ, ◌+◌, ◌*◌, ◌≤◌, List, length, map, Some, Ok, IfErr};
+ghost use Rattle.std.specs.List.{list_any};
+ghost use Rattle.warc_value.specs.Dates.{Instant};
+ghost use Rattle.warc_value.specs.Digests.{is_bad};
+ghost use Rattle.warc_frame.specs.Count.{capped};
+ghost use Rattle.warc_frame.specs.Failing.{HasFailedBy, MayHaveFailedBy, failed_by};
+ghost use Rattle.warc_frame.specs.Record.{Record, max_archive};
+ghost use Rattle.warc_frame.specs.Seen.{tapped};
+ghost use Rattle.warc_record.specs.Seen.{said};
+ghost use Rattle.warc_segment.specs.Joined.{ReadRecord, ArePlacesOf};
+ghost use Rattle.warc_answer.specs.Laws.{IsFound};
+ghost use Rattle.warc_answer.specs.Payloads.{read_record};
+ghost use Rattle.warc_answer.specs.Places.{HasRead, len_of};
+ghost use Rattle.warc_answer.specs.Replays.{IsReplay, IsSilent, WantsNoMemory, out_result};
+
+use crate::answer::{Answer, Path, Reason, ReplayFault};
+use crate::blocks::send_blocks;
+use crate::body::{find_body, is_http_response};
+use std::alloc::Allocator;
+use warc_frame::{Sink, Source};
+use warc_payload::laws::one_of_three;
+use warc_record::Typed;
+use warc_segment::Place;
+use warc_segment::laws::joined_has_total;
+
+/// Whether some block isn't what its digest says.
+fn any_bad(places: &[Place]) -> bool
+    ensures { result ≡ list_any (λ p. is_bad p.verdict) places.now }
+{
+    places.iter().any(|place| place.verdict.is_bad())
+}
+
+/// Whether some record is marked as truncated.
+fn any_truncated(places: &[Place]) -> bool
+    ensures { result ≡ list_any (λ p. p.truncated) places.now }
+{
+    places.iter().any(|place| place.truncated)
+}
+
+/// The sum of the lengths of the blocks, up to 2^64 - 1.
+fn total(places: &[Place]) -> u64
+    ensures { result ≡ capped (len_of places.now) }
+{
+    let mut total = 0u64;
+    'adding: for place in places {
+        total = total.saturating_add(place.len);
+    }
+    total
+}
+
+/// Writes the payload of an origin, and answers what it is. `places` are those of the blocks that are joined, as
+/// `Parts::join` gives them; `origin` is what the origin's head says. For a reason, nothing is written. No block is
+/// kept: the joined blocks are read through a buffer of 8,192 bytes, and the first 65,536 bytes of them twice where an
+/// HTTP head is looked for.
+pub fn replay_joined<S: Source, W: Sink, A: Allocator>(
+    source: &mut S,
+    path: Path,
+    origin: &Typed<A>,
+    places: &[Place],
+    out: &mut W,
+) -> Result<Answer, ReplayFault>
+    ensures replayed { (bytes : List ℕ) (records : List Record) (uri : List ℕ) (moment : Instant) (read : ReadRecord)
+        (joined : List ReadRecord) → S.holds source.old ≡ Some bytes → length bytes ≤ max_archive →
+        IsFound (map read_record records) uri moment path read (Ok joined) → said origin.now ≡ read.head →
+        ArePlacesOf bytes places.now joined →
+        IsReplay records uri moment result (W.tells out.old) (W.tells out.new) }
+
+    // Nothing is written before a reason, whatever the source holds; and no memory is wanted.
+    ensures silent { IsSilent result (W.tells out.old) (W.tells out.new) }
+    ensures device { IfErr result WantsNoMemory }
+
+    // The sink has failed once more exactly where the answer is `Write`, and the source where it is `Read`, unless it
+    // gives other bytes than it gave.
+    ensures cause { W.faults out.new ≡ failed_by (out_result result) (W.faults out.old) }
+    ensures kept { S.holds source.new ≡ S.holds source.old }
+    ensures may { MayHaveFailedBy (out_result result) (S.faults source.old) (S.faults source.new) }
+    ensures failed { (bytes : List ℕ) (joined : List ReadRecord) → S.holds source.old ≡ Some bytes →
+        length bytes ≤ max_archive → ArePlacesOf bytes places.now joined →
+        HasFailedBy (out_result result) (S.faults source.old) (S.faults source.new) }
+
+    // It asks for no byte but those of the joined blocks, and reads at most twice for each.
+    ensures read { HasRead (2 * len_of places.now) places.now
+        (tapped (S.holds source.old) (S.faults source.old) (S.reads source.old) (S.asked source.old)
+        (S.watches source.old) (S.strays source.old))
+        (tapped (S.holds source.new) (S.faults source.new) (S.reads source.new) (S.asked source.new)
+        (S.watches source.new) (S.strays source.new)) }
+{
+    one_of_three();
+    joined_has_total();
+    if any_bad(places) {
+        return Err(ReplayFault::Reason(Reason::BadDigest));
+    }
+    let start = match find_body(source, is_http_response(origin), places) {
+        Ok(start) => start,
+        Err(fault) => return Err(fault),
+    };
+    match send_blocks(source, places, start.skip, out) {
+        Ok(()) => Ok(Answer {
+            chosen: path.chosen,
+            given: path.given,
+            status: start.status,
+            truncated: any_truncated(places),
+            length: total(places).saturating_sub(start.skip),
+        }),
+        Err(fault) => Err(ReplayFault::Out(fault)),
+    }
+}

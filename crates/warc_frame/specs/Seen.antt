@@ -1,0 +1,33 @@
+-- What contracts see of a source and of a sink, before a call and after it.
+use Rattle.std.specs.Prelude.{◌≡◌, ℕ, Bool, false, List, Option, Some}
+
+-- a source: the bytes that it holds, where they are known, how often it has failed and was read, the offset that
+-- was asked for last, the offsets that it watches, and how often it was asked for one of those
+pub record Tapped : Type 0 where
+  pub holds : Option (List ℕ)
+  pub faults : ℕ
+  pub reads : ℕ
+  pub asked : ℕ
+  pub watches : ℕ → Bool
+  pub strays : ℕ
+
+abbrev pub tapped : Option (List ℕ) → ℕ → ℕ → ℕ → (ℕ → Bool) → ℕ → Tapped
+tapped holds faults reads asked watches strays =
+    record { holds = holds; faults = faults; reads = reads; asked = asked; watches = watches; strays = strays }
+
+-- a fact about the bytes that a source holds, where they are known
+abbrev pub IfHeld : Option (List ℕ) → (List ℕ → Type 0) → Type 0
+IfHeld holds P = (bytes : List ℕ) → holds ≡ Some bytes → P bytes
+
+-- of a source no other offsets were asked for than these: one that watches none of them was never asked for one that it
+-- watches
+abbrev pub AsksOnly : (ℕ → Type 0) → Tapped → Tapped → Type 0
+AsksOnly These old new = ((at : ℕ) → These at → old.watches at ≡ false) → new.strays ≡ old.strays
+
+-- a sink: the bytes that it tells, where they are known, and how often it has failed
+pub record Seen : Type 0 where
+  pub tells : Option (List ℕ)
+  pub faults : ℕ
+
+abbrev pub seen : Option (List ℕ) → ℕ → Seen
+seen tells faults = record { tells = tells; faults = faults }

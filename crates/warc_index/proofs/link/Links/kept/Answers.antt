@@ -1,0 +1,10 @@
+use Rattle.std.proofs.Common.{◌∙◌, ap}
+use Rattle.std.specs.List.{sum_by}
+use Rattle.warc_index.specs.Links.{link_bytes}
+use Rattle.warc_index.proofs.LinkLemmas.{bytes_links}
+use Rattle.warc_index.proofs.link.Links.kept.Goals as goal
+
+pub returns : goal.returns
+returns g c =
+    c.kept.ensures ∙ (bytes_links c.self.inside.roles.items c.self.inside.texts.list c.self.invariant
+    ∙ ap (sum_by link_bytes) c.self.view_is)

@@ -1,0 +1,62 @@
+//! Under which text and mark a record stands in the two orders.
+
+ghost use Rattle.std.specs.Prelude.{◌≡◌, ℕ, option_map};
+ghost use Rattle.warc_record.specs.Seen.{said};
+ghost use Rattle.warc_order.specs.Entries.{entry_of};
+ghost use Rattle.warc_index.specs.Captures.{indexed_of, is_capture};
+ghost use Rattle.warc_index.specs.Orders.{kind_mark, capture_entry};
+
+use crate::link::FIRST;
+use crate::linked::mark_at;
+use std::alloc::Allocator;
+use warc_order::Mark;
+use warc_record::{Kind, Typed};
+
+/// The mark of records that are no captures, in the order by id.
+pub(crate) const OTHERS: Mark = Mark { major: 1, minor: 0 };
+
+/// A text and a mark.
+#[derive(Clone, Copy)]
+pub(crate) struct Key<'a> {
+    pub(crate) text: &'a [u8],
+    pub(crate) mark: Mark,
+}
+
+/// Whether a record of this kind can answer: a response, a resource or a revisit.
+fn is_capture(kind: Kind) -> bool
+    ensures { result ≡ is_capture kind }
+{
+    matches!(kind, Kind::Response | Kind::Resource | Kind::Revisit)
+}
+
+/// Where a record stands in the order by id: captures come first.
+pub(crate) fn id_key<A: Allocator>(typed: &Typed<A>) -> Key<'_>
+    ensures text { result.text.now ≡ typed.now.id }
+    ensures mark { result.mark ≡ kind_mark (indexed_of (said typed.now)) }
+{
+    Key {
+        text: typed.id.bytes(),
+        mark: if is_capture(typed.kind) {
+            FIRST
+        } else {
+            OTHERS
+        },
+    }
+}
+
+/// Where a record stands in the order by target and instant, if it is a capture with a target.
+pub(crate) fn capture_key<A: Allocator>(typed: &Typed<A>) -> Option<Key<'_>>
+    ensures { (p : ℕ) → capture_entry p (indexed_of (said typed.now))
+        ≡ option_map (λ k. entry_of k.text.now k.mark p) result }
+{
+    if !is_capture(typed.kind) {
+        return None;
+    }
+    match &typed.target {
+        Some(target) => Some(Key {
+            text: target.bytes(),
+            mark: mark_at(&typed.moment),
+        }),
+        None => None,
+    }
+}

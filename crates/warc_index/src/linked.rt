@@ -1,0 +1,95 @@
+//! What is kept of a record for the chain of referents.
+
+ghost use Rattle.std.specs.Prelude.{◌≡◌, Some};
+ghost use Rattle.warc_record.specs.Seen.{said};
+ghost use Rattle.warc_index.specs.Captures.{indexed_of};
+ghost use Rattle.warc_index.specs.Links.{link_seen};
+ghost use Rattle.warc_index.specs.Linked.{instant_mark, payload_link, unnamed_link, revisit_link, link_of};
+
+use crate::link::{FIRST, Link, Role, bare};
+use std::alloc::Allocator;
+use warc_order::Mark;
+use warc_record::{Kind, Typed};
+use warc_value::Moment;
+
+/// The mark of an instant.
+pub(crate) fn mark_at(moment: &Moment) -> Mark
+    ensures { result ≡ instant_mark moment.now }
+{
+    Mark {
+        major: moment.day(),
+        minor: moment.nanosecond(),
+    }
+}
+
+/// What is kept of a response or a resource.
+fn payload_link<A: Allocator>(typed: &Typed<A>) -> Link<'_>
+    ensures { link_seen result ≡ payload_link typed.now.payload_digest }
+{
+    match &typed.payload_digest {
+        Some(digest) => Link {
+            role: Role::Digested,
+            first: digest.bytes(),
+            second: &[],
+            mark: FIRST,
+        },
+        None => bare(Role::Payload),
+    }
+}
+
+/// What is kept of a revisit that names nothing.
+fn unnamed_link<A: Allocator>(typed: &Typed<A>) -> Link<'_>
+    ensures { link_seen result ≡ unnamed_link typed.now.payload_digest typed.now.target (Some typed.now.moment) }
+{
+    match (&typed.payload_digest, &typed.target) {
+        (Some(digest), Some(target)) => Link {
+            role: Role::NamesNothing,
+            first: digest.bytes(),
+            second: target.bytes(),
+            mark: mark_at(&typed.moment),
+        },
+        _ => bare(Role::LeadsNowhere),
+    }
+}
+
+/// What is kept of a revisit.
+fn revisit_link<A: Allocator>(typed: &Typed<A>) -> Link<'_>
+    ensures { link_seen result ≡ revisit_link typed.now.reference.known_profile (indexed_of (said typed.now)) }
+{
+    let reference = &typed.reference;
+    if !reference.known_profile {
+        return bare(Role::UnknownProfile);
+    }
+    match (&reference.named_id, &reference.named_pair) {
+        (None, None) => unnamed_link(typed),
+        (Some(id), None) => Link {
+            role: Role::NamesId,
+            first: id.bytes(),
+            second: &[],
+            mark: FIRST,
+        },
+        (None, Some(pair)) => Link {
+            role: Role::NamesPair,
+            first: &[],
+            second: pair.target.bytes(),
+            mark: mark_at(&pair.moment),
+        },
+        (Some(id), Some(pair)) => Link {
+            role: Role::NamesBoth,
+            first: id.bytes(),
+            second: pair.target.bytes(),
+            mark: mark_at(&pair.moment),
+        },
+    }
+}
+
+/// What is kept of a record.
+pub(crate) fn link_of<A: Allocator>(typed: &Typed<A>) -> Link<'_>
+    ensures { link_seen result ≡ link_of (indexed_of (said typed.now)) }
+{
+    match typed.kind {
+        Kind::Response | Kind::Resource => payload_link(typed),
+        Kind::Revisit => revisit_link(typed),
+        _ => bare(Role::Other),
+    }
+}
