@@ -1,11 +1,9 @@
-//! The suites of records as bytes: devices, records in whole texts, and in pieces.
+//! The suites of records as bytes: devices, and records in whole texts.
 #![tactic(auto)]
 
 #[cfg(test)]
 mod devices;
 #[cfg(test)]
 mod framing;
-#[cfg(test)]
-mod pieces;
 #[cfg(test)]
 mod worked;

@@ -15,21 +15,8 @@ use Rattle.warc_record.specs.Blocks.{has_bad_digest}
 use Rattle.warc.specs.Checking.{about_record, findings_at, findings_behind, findings_of_archive, findings_of_records, is_used, key_of}
 use Rattle.warc.specs.Laws.{FindingsAreCounted}
 use Rattle.warc.specs.Row.{Row}
+use Rattle.warc.proofs.OutputLemmas.{area_short, fields_few, records_len}
 use Rattle.warc.proofs.StreamLemmas.{spells_all}
-
-line_some : (field : Pair) → 0 < length (canonical_line field)
-line_some field = simp length-append (omega arith)
-
-fields_few : (fields : List Pair) → length fields ≤ length (canonical_fields fields)
-fields_few [] = omega arith
-fields_few (f ∷ fs) = omega (arith, line_some f, fields_few fs, length-append (canonical_line f) (canonical_fields fs))
-
-head_few : (r : Record) → IsFramed r → length r.fields ≤ 65536
-unfolding canonical_len
-head_few r framed =
-    let area = canonical_fields r.fields in
-    let size : length (head_text r.version area) ≡ length (version_line r.version) + length area + length crlf = simp length-append refl in
-    omega (arith, framed.head, size, fields_few r.fields)
 
 -- a record has fewer than 2^17 findings
 record_few : (before : List Record) (i : ℕ) (r : Record) → IsGood r → length (findings_at before i r) ≤ 65594
@@ -37,7 +24,8 @@ record_few before i r good =
     omega (
       arith,
       length-map (findings_behind (take i before) r) (about_record i),
-      head_few r good.framed,
+      area_short r good.framed,
+      fields_few r.fields,
       findings_are_few r.fields (length r.block) (has_bad_digest r) (is_used (take i before) (key_of r)),
     )
 
@@ -51,23 +39,11 @@ some_few all n (r ∷ rs) (one, good) =
       length-append (findings_at all n r) (flat_map (λ p. findings_at all p.0 p.1) (enumerate_from (n + 1) rs)),
     )
 
--- a record takes at least the four bytes that close it
-record_len : (r : Record) (text : List ℕ) → Spells r text → 4 ≤ length text
-record_len r text is =
-    let head = head_text r.version is.area in
-    let size : length (head ++ r.block ++ crlf ++ crlf) ≡ length head + length r.block + 4 = simp length-append (omega arith) in
-    omega (arith, ap length is.text_is, size)
-
-records_len : (rs : List Record) (text : List ℕ) → SpellsAll rs text → 4 * length rs ≤ length text
-records_len [] text is = omega arith
-records_len (r ∷ rs) text (front, rest, one, whole, more) =
-    omega (arith, record_len r front one, records_len rs rest more, ap length whole, length-append front rest)
-
 archive_few : (rs : List Record) (bytes : List ℕ) → SpellsAll rs bytes → AreGood rs → length bytes ≤ max_archive → length (findings_of_archive rs) < 2 ^ 64
 archive_few [] bytes is good short = omega arith
 archive_few (r ∷ rs) bytes is good short =
     let few : length (findings_of_records (r ∷ rs)) ≤ 65594 * length (r ∷ rs) = some_few (r ∷ rs) 0 (r ∷ rs) good in
-    let many : 4 * length (r ∷ rs) ≤ length bytes = records_len (r ∷ rs) bytes is in
+    let many : 16 * length (r ∷ rs) ≤ length bytes = records_len (r ∷ rs) bytes is in
     omega (arith, few, many, short)
 
 pub findings_are_counted : FindingsAreCounted

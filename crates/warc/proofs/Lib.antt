@@ -1,6 +1,7 @@
 pub mod ArchiveTextLemmas
 pub mod CheckLemmas
 pub mod ClapLaws
+pub mod OutputLemmas
 pub mod CountLemmas
 pub mod EmitLemmas
 pub mod ExtractLemmas

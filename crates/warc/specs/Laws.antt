@@ -5,7 +5,10 @@ use Rattle.warc_frame.specs.Spelling.{SpellsAll}
 use Rattle.warc_frame.specs.declared.fault.Fault.{Fault}
 use Rattle.warc_frame.specs.declared.fault.FaultKind.TheVariants.{Truncated}
 use Rattle.warc.specs.Archive.{AreGood, IsArchiveOf, IsFaultOf, contents}
-use Rattle.warc.specs.Checking.{findings_of_archive}
+use Rattle.warc.specs.Checking.{check_text, findings_of_archive}
+use Rattle.warc.specs.Forms.{texts_as}
+use Rattle.warc.specs.Listing.{listing}
+use Rattle.warc.specs.declared.copying.Form.TheVariants.{Canonical, Converted}
 use Rattle.warc.specs.Row.{Placed, Row, row_of}
 
 -- these good records are spelled by the bytes
@@ -40,3 +43,10 @@ OneFault = (bytes : List ℕ) (one other : Fault) → IsFaultOf bytes one → Is
 abbrev pub FindingsAreCounted : Type 0
 FindingsAreCounted = (bytes : List ℕ) (rows : List Row) (is : IsArchiveOf bytes rows)
     → length (findings_of_archive (contents is.are.records)) < 2 ^ 64
+
+-- what is written of an archive, in each form, has fewer bytes than 2^64: a fault tells exactly how many went out
+abbrev pub OutputsAreCounted : Type 0
+OutputsAreCounted = (bytes : List ℕ) (rows : List Row) (is : IsArchiveOf bytes rows)
+    → (length (listing rows) < 2 ^ 64) × (length (check_text (contents is.are.records)) < 2 ^ 64)
+    × (length (texts_as Canonical (contents is.are.records)) < 2 ^ 64)
+    × (length (texts_as Converted (contents is.are.records)) < 2 ^ 64)

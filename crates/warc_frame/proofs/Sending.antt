@@ -1,10 +1,12 @@
 -- What went out of an output, piece by piece.
-use Rattle.std.proofs.Common.{◌≡◌, ℕ, ◌+◌, ◌-◌, ◌^◌, ◌<◌, List, length, take, ◌++◌, min, Option, Some, None, refl, ap, sym, ◌∙◌, arith, append_assoc}
+use Rattle.std.proofs.Common.{◌≡◌, ℕ, ◌+◌, ◌-◌, ◌^◌, ◌<◌, List, [], length, take, ◌++◌, min, Option, Some, None, Result, Ok, Err, refl, ap, sym, ◌∙◌, arith, append_assoc, append-nil}
+use Rattle.std.specs.Prelude.{OnOk}
 use Rattle.std.proofs.lemmas.Grind.{common_steps}
 use Rattle.std.proofs.Math.Seq.{take-append-add}
 use Rattle.std.specs.Io.KnownBytes.{append_known}
 use Rattle.warc_frame.specs.Count.{capped}
-use Rattle.warc_frame.specs.Send.{WentOut}
+use Rattle.warc_frame.specs.Device.{Staged}
+use Rattle.warc_frame.specs.Send.{IsStaged, WentOut}
 
 pub append_known-append : (o : Option (List ℕ)) (xs ys : List ℕ) → append_known (append_known o xs) ys ≡ append_known o (xs ++ ys)
 append_known-append None xs ys = refl
@@ -22,3 +24,15 @@ went_out_more start before now gone piece old n new told number took short sum =
   told = took ∙ ap (λ o. append_known o (take n piece)) told ∙ append_known-append start gone (take n piece) ∙ ap (λ l. append_known start l) (sym (take-append-add gone piece n));
   number = capped-add old n (length gone) new number sum;
 }
+
+-- a piece that went out behind what had gone, with nothing waiting
+pub sent_is_staged : {X Y : Type 0} (answer : Result X Y) (start now : Option (List ℕ)) (output gone piece : List ℕ) (buffer : Staged) → output ≡ gone → buffer.bytes ≡ []
+    → OnOk answer (now ≡ append_known start (gone ++ piece)) → OnOk answer (buffer.sent ≡ capped (length (gone ++ piece)))
+    → OnOk answer (IsStaged start (output ++ piece) now buffer)
+sent_is_staged (Ok x) start now output gone piece buffer same empty told number = record {
+  gone = gone ++ piece;
+  whole = ap (λ l. l ++ piece) same ∙ sym (append-nil (gone ++ piece)) ∙ ap (λ l. (gone ++ piece) ++ l) (sym empty);
+  told = told;
+  number = number;
+}
+sent_is_staged (Err e) start now output gone piece buffer same empty told number = tt

@@ -117,12 +117,9 @@ impl OutBuffer {
     /// Adds a piece to the output. One that is longer than the buffer goes through without being
     /// copied. After a failed write the buffer is empty.
     pub fn put<W: Sink>(&mut self, out: &mut W, piece: &[u8]) -> Result<(), SendFault>
-        ensures out { (start : Option (List ℕ)) (output : List ℕ) → IsStaged start output (W.tells out.old) self.old →
-            OnOk result (IsStaged start (output ++ piece.now) (W.tells out.new) self.new) }
-        ensures cut { (start : Option (List ℕ)) (output : List ℕ) → IsStaged start output (W.tells out.old) self.old →
-            IfErr result (λ e. WentOut start (output ++ piece.now) (W.tells out.new) e.sent) }
+        ensures puts { Puts (seen (W.tells out.old) (W.faults out.old)) (seen (W.tells out.new) (W.faults out.new))
+            self.old self.new result piece.now }
         ensures failed { IfErr result (λ e. self.new ≡ record { bytes = []; sent = e.sent }) }
-        ensures cause { W.faults out.new ≡ (if is_err result then raised (W.faults out.old) else W.faults out.old) }
     {
         self.make_room(out, piece.len())?;
         if piece.len() > SIZE - self.len {

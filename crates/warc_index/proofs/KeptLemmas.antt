@@ -13,7 +13,7 @@ use Rattle.std.proofs.lemmas.Slice.Eq.{bytes_eq-Decides}
 use Rattle.warc_value.specs.Dates.{Instant}
 use Rattle.warc_record.specs.Texts.{is_text}
 use Rattle.warc_order.specs.declared.mark.Mark.{Mark}
-use Rattle.warc_order.specs.Entries.{Entry, entry_of, mark_lt, is_later as is_later_entry, IsUpTo, IsFrom, IsLast, IsFirst, IsNone}
+use Rattle.warc_order.specs.Entries.{Entry, entry_of, mark_lt, comes_later, IsUpTo, IsFrom, IsLast, IsFirst, IsNone}
 use Rattle.warc_index.specs.Captures.{Indexed, is_capture, is_capture_of, is_earlier, is_by, is_later, IsChosen, SomePasses, NonePasses}
 use Rattle.warc_index.specs.Referents.{has_key, by_key, first_with}
 use Rattle.warc_index.specs.Links.{Link}
@@ -191,7 +191,7 @@ not_true true e = absurd (true≢false (sym e))
 not_true false e = refl
 
 pub later_same : (p q : ℕ) (r s : Indexed) (t u : List ℕ) (i j : Instant) → r.instant ≡ Some i → s.instant ≡ Some j →
-    is_later (q, s) (p, r) ≡ is_later_entry (entry_of u (instant_mark j) q) (entry_of t (instant_mark i) p)
+    is_later (q, s) (p, r) ≡ comes_later (entry_of u (instant_mark j) q) (entry_of t (instant_mark i) p)
 later_same p q r s t u i j e f = ap (λ x. is_earlier x s.instant || (not (is_earlier s.instant x) && nat_lt p q)) e
     ∙ ap (λ x. is_earlier (Some i) x || (not (is_earlier x (Some i)) && nat_lt p q)) f
 
@@ -220,7 +220,7 @@ chosen all uri m e timed last =
           let up : mark_lt (instant_mark m) (instant_mark h.instant) ≡ false =
           not_true _ (sym (by_mark m r h.instant h.has_instant) ∙ by1) in
           later_same w.place q w.it r c.target uri c.instant h.instant c.has_instant h.has_instant
-          ∙ (ap (λ f. is_later_entry (entry_of uri (instant_mark h.instant) q) f) (sym is)
+          ∙ (ap (λ f. comes_later (entry_of uri (instant_mark h.instant) q) f) (sym is)
           ∙ last.last (entry_of uri (instant_mark h.instant) q) h.stands (record { text_is = refl; up_to = up }));
     }
 
@@ -473,7 +473,7 @@ least_from : (key : List ℕ) (q : ℕ) → IsFrom key (record { major = 0; mino
 }) q)
 least_from key q = record { text_is = refl; from = refl }
 
-later_there : (key text : List ℕ) (p q : ℕ) → q < p → is_later_entry (entry_of text (record {
+later_there : (key text : List ℕ) (p q : ℕ) → q < p → comes_later (entry_of text (record {
   major = 0;
   minor =
       0;
@@ -498,7 +498,7 @@ first_key all key e first zero1 =
           (and_from (is_capture w.it.kind) (is_text key w.it.id) yes1 (text_is key w.it.id (c.has_id ∙ ap Some same)))
           (λ j r h stands. elim (cases_Bool (has_key key r)) [
             | inl hit ↦ absurd (true≢false (sym (later_there key c.key w.place j h)
-                ∙ (ap (λ f. is_later_entry f (entry_of key (record { major = 0; minor = 0 }) j)) (sym at)
+                ∙ (ap (λ f. comes_later f (entry_of key (record { major = 0; minor = 0 }) j)) (sym at)
                 ∙ first.first (entry_of key (record {
                   major = 0;
                   minor =
@@ -514,7 +514,7 @@ first_key all key e first zero1 =
     ]
 
 above_zero : (key : List ℕ) (j : ℕ) (e : Entry) → (e.mark.major ≡ 0 → ⊥) →
-    is_later_entry e (entry_of key (record { major = 0; minor = 0 }) j) ≡ true
+    comes_later e (entry_of key (record { major = 0; minor = 0 }) j) ≡ true
 above_zero key j e some1 =
     let lt : nat_lt 0 e.mark.major ≡ true = lt_true 0 e.mark.major (omega arith) in
     rw lt refl
@@ -525,7 +525,7 @@ pub other_key : (all : List Indexed) (key : List ℕ) (e : Entry) →
 other_key all key e first some1 =
     position_none (has_key key) all (λ j r stands. elim (cases_Bool (has_key key r)) [
       | inl hit ↦
-          let quiet : is_later_entry e (entry_of key (record { major = 0; minor = 0 }) j) ≡ false =
+          let quiet : comes_later e (entry_of key (record { major = 0; minor = 0 }) j) ≡ false =
           first.first (entry_of key (record {
             major = 0;
             minor =
@@ -561,7 +561,7 @@ id_stands all key q r at hit =
     (ap (λ n. id_entry n r) z ∙ ap (id_entry_of q (kind_mark r)) (text_found key r.id hit))
 
 later_at : (key : List ℕ) (m : Mark) (j : ℕ) (e : Entry) → mark_lt e.mark m ≡ false → j < e.position →
-    is_later_entry e (entry_of key m j) ≡ true
+    comes_later e (entry_of key m j) ≡ true
 later_at key m j e not_below h =
     let lt : nat_lt j e.position ≡ true = lt_true j e.position h in
     ap (λ b. mark_lt m e.mark || (not b && nat_lt j e.position)) not_below ∙ (ap (λ b. mark_lt m e.mark || b) lt

@@ -12,7 +12,7 @@ use Rattle.warc_record.specs.declared.types.Kind.TheVariants.{Warcinfo, Response
 use Rattle.warc_record.specs.Kinds.{is_revisit}
 use Rattle.warc_record.specs.Texts.{is_text, is_same_text}
 use Rattle.warc_order.specs.declared.mark.Mark.{Mark}
-use Rattle.warc_order.specs.Entries.{Entry, entry_at, entry_of, no_entry, mark_lt, is_later as is_later_entry, IsFrom, IsUpTo}
+use Rattle.warc_order.specs.Entries.{Entry, entry_at, entry_of, no_entry, mark_lt, comes_later, IsFrom, IsUpTo}
 use Rattle.warc_index.specs.declared.link.Role.{Role}
 use Rattle.warc_index.specs.declared.link.Role.TheVariants.{Other as OtherRole, Payload, Digested, UnknownProfile, NamesId, NamesPair, NamesBoth, NamesNothing, LeadsNowhere}
 use Rattle.warc_index.specs.declared.unfound.Unfound.{Unfound}
@@ -218,9 +218,9 @@ mark_not_below a = numbers a.major a.minor
     numbers m n = grind (arith, nat_tests)
 
 later_by_position : (uri text : List ℕ) (a b : Mark) (p q : ℕ) → a ≡ b → q < p →
-    is_later_entry (entry_of text a p) (entry_of uri b q) ≡ true
+    comes_later (entry_of text a p) (entry_of uri b q) ≡ true
 later_by_position uri text a b p q same lt =
-    ap (λ w. is_later_entry (entry_of text w p) (entry_of uri b q)) same ∙ numbers b.major b.minor
+    ap (λ w. comes_later (entry_of text w p) (entry_of uri b q)) same ∙ numbers b.major b.minor
   where
     numbers : (m n : ℕ) → ((nat_lt m m || (m == m && nat_lt n n)) || (not (nat_lt m m || (m == m && nat_lt n n))
         && nat_lt q p)) ≡ true
@@ -281,9 +281,9 @@ over_pair es uri mark links i reached other q at is = elim (cases_Bool (is_same_
   | inl on ↦
       let e : Entry = entry_at es i in
       let same : q.mark ≡ mark = same_marks q.mark mark on in
-      let later : is_later_entry e (entry_of q.text mark q.position) ≡ true =
+      let later : comes_later e (entry_of q.text mark q.position) ≡ true =
       numbers_above e.mark.major e.mark.minor e.position mark.major mark.minor q.position reached.passes.from other in
-      reached.before q at is (ap (λ w. is_later_entry e (entry_of q.text w q.position)) same ∙ later)
+      reached.before q at is (ap (λ w. comes_later e (entry_of q.text w q.position)) same ∙ later)
 ]
 
 -- of what is kept
@@ -404,8 +404,8 @@ found_payload all uri digest m revisit i timed is reached hit =
           passes in
           let f : Entry = entry_of uri (instant_mark h.instant) q in
           later_same e.position q w.it r e.text uri w.instant h.instant w.has_instant h.has_instant
-          ∙ (ap (λ k. is_later_entry f (entry_of e.text k e.position)) (sym w.mark)
-          ∙ elim (cases_Bool (is_later_entry f e)) [
+          ∙ (ap (λ k. comes_later f (entry_of e.text k e.position)) (sym w.mark)
+          ∙ elim (cases_Bool (comes_later f e)) [
             | inl later ↦ absurd (true≢false (sym h.passes ∙ reached.before f h.stands h.up_to later))
             | inr off ↦ off
           ]);

@@ -8,7 +8,7 @@ use Rattle.warc_index.specs.declared.unfound.Unfound.{Unfound}
 use Rattle.warc_index.specs.declared.unfound.Unfound.TheVariants.{UnknownProfile, NoReference, Unresolved, Loop}
 use Rattle.warc_value.specs.Dates.{Instant}
 use Rattle.warc_index.specs.Captures.{Indexed}
-use Rattle.warc_index.specs.Referents.{has_key, is_of_pair, by_key, by_pair, named, names_something, is_candidate, by_payload, referent_of, referent_at, next_of, ok_then, is_revisit_at, origin_within, ChainLoops}
+use Rattle.warc_index.specs.Referents.{has_key, is_of_pair, by_key, by_pair, record_named, names_something, is_candidate, by_payload, referent_of, referent_at, next_of, ok_then, is_revisit_at, origin_within, ChainLoops}
 use Rattle.warc_index.proofs.ChoiceLemmas.{latest_below}
 use Rattle.warc_index.specs.Walks.{walk, StaysBelow}
 use Rattle.warc_index.proofs.WalkLemmas.{comes_back, goes_on}
@@ -41,7 +41,7 @@ by_table true true a b e = ok_or_not_loop a Unresolved (λ f. cc) e
 by_table true false a b e = ok_or_not_loop b NoReference (λ f. cc) e
 
 referent-not_loop : (all : List Indexed) (r : Indexed) → referent_of all r ≢ Err Loop
-referent-not_loop all r = by_table r.reference.known_profile (names_something r.reference) (named all r.reference)
+referent-not_loop all r = by_table r.reference.known_profile (names_something r.reference) (record_named all r.reference)
     (by_payload all r)
 
 by_key-below : (all : List Indexed) (r : Indexed) (id : Option (List ℕ)) (q : ℕ)
@@ -59,8 +59,8 @@ one_or_other : (n : ℕ) (a b : Option ℕ) (q : ℕ) → ((p : ℕ) → a ≡ S
 one_or_other n None b q below_a below_b e = below_b q e
 one_or_other n (Some p) b q below_a below_b e = below_a q e
 
-named-below : (all : List Indexed) (r : Indexed) (q : ℕ) → named all r.reference ≡ Some q → q < length all
-named-below all r q e =
+record_named-below : (all : List Indexed) (r : Indexed) (q : ℕ) → record_named all r.reference ≡ Some q → q < length all
+record_named-below all r q e =
     one_or_other (length all) (option_and_then (by_key all) r.reference.named_id) (option_and_then
     (by_pair all) r.reference.named_pair) q
     (by_key-below all r r.reference.named_id) (by_pair-below all r r.reference.named_pair) e
@@ -79,9 +79,9 @@ found_from n true false a b q below_a below_b e = below_b q (ok_or_some b _ q e)
 
 pub referent-below : (all : List Indexed) (r : Indexed) (q : ℕ) → referent_of all r ≡ Ok q → q < length all
 referent-below all r q e =
-    found_from (length all) r.reference.known_profile (names_something r.reference) (named all r.reference)
+    found_from (length all) r.reference.known_profile (names_something r.reference) (record_named all r.reference)
     (by_payload all r) q
-    (named-below all r) (latest_below (is_candidate r) all) e
+    (record_named-below all r) (latest_below (is_candidate r) all) e
 
 -- ---- one step
 

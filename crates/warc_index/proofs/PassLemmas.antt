@@ -5,16 +5,16 @@ use Rattle.std.proofs.lemmas.Bool.{cases_Bool}
 use Rattle.std.proofs.lemmas.Bool.Decides.{nat_tests}
 use Rattle.warc_order.specs.declared.Found.{Found}
 use Rattle.warc_order.specs.declared.mark.Mark.{Mark}
-use Rattle.warc_order.specs.Entries.{Entry, entry_at, is_later, IsFrom, IsUpTo, IsAfter, IsBefore, IsFirst, IsLast, IsNone}
+use Rattle.warc_order.specs.Entries.{Entry, entry_at, comes_later, IsFrom, IsUpTo, IsAfter, IsBefore, IsFirst, IsLast, IsNone}
 
 -- ---- ways
 
 -- the second is ahead of the first, on the way forward and on the way back
 abbrev pub forward : Entry → Entry → Bool
-forward e q = is_later q e
+forward e q = comes_later q e
 
 abbrev pub back : Entry → Entry → Bool
-back e q = is_later e q
+back e q = comes_later e q
 
 -- a way along the entries of a text that pass
 pub record IsWay (ahead : Entry → Entry → Bool) (text : List ℕ) (Passes : Entry → Type 0) : Type 0 where
@@ -42,22 +42,22 @@ numbers_tie : (m n p x y z : ℕ) → numbers_later m n p x y z ≡ false → nu
 unfolding numbers_later
 numbers_tie m n p x y z a b = (grind (arith, nat_tests), grind (arith, nat_tests), grind (arith, nat_tests))
 
-later_numbers : (a b : Entry) → is_later a b ≡ numbers_later a.mark.major a.mark.minor a.position b.mark.major
+later_numbers : (a b : Entry) → comes_later a b ≡ numbers_later a.mark.major a.mark.minor a.position b.mark.major
     b.mark.minor b.position
 unfolding numbers_later
 later_numbers a b = refl
 
-later_onward : (a b c : Entry) → is_later a b ≡ true → is_later b c ≡ true → is_later a c ≡ true
+later_onward : (a b c : Entry) → comes_later a b ≡ true → comes_later b c ≡ true → comes_later a c ≡ true
 later_onward a b c h k = later_numbers a c ∙ numbers_onward _ _ _ b.mark.major b.mark.minor b.position _ _ _ (sym
     (later_numbers a b) ∙ h) (sym (later_numbers b c) ∙ k)
 
-later_apart : (a : Entry) → is_later a a ≡ false
+later_apart : (a : Entry) → comes_later a a ≡ false
 later_apart a = later_numbers a a ∙ numbers_apart _ _ _
 
 same_mark : (a b : Mark) → a.major ≡ b.major → a.minor ≡ b.minor → a ≡ b
 same_mark a b e f = λ i. record { major = e i; minor = f i }
 
-later_tie : (a b : Entry) → is_later a b ≡ false → is_later b a ≡ false → (b.mark ≡ a.mark) × (b.position ≡ a.position)
+later_tie : (a b : Entry) → comes_later a b ≡ false → comes_later b a ≡ false → (b.mark ≡ a.mark) × (b.position ≡ a.position)
 later_tie a b h k =
     let w = numbers_tie a.mark.major a.mark.minor a.position b.mark.major b.mark.minor b.position (sym (later_numbers a
     b) ∙ h) (sym (later_numbers b a) ∙ k) in

@@ -35,8 +35,8 @@ abbrev pub by_pair : List Indexed → List ℕ × Instant → Option ℕ
 by_pair all pair = position (is_of_pair pair) all
 
 -- what a revisit names: the first capture with the id, or else the first response or resource of the pair
-abbrev pub named : List Indexed → ReferenceReading → Option ℕ
-named all reference =
+abbrev pub record_named : List Indexed → ReferenceReading → Option ℕ
+record_named all reference =
     option_or (option_and_then (by_key all) reference.named_id) (option_and_then (by_pair all) reference.named_pair)
 
 abbrev pub names_something : ReferenceReading → Bool
@@ -56,7 +56,7 @@ by_payload all revisit = latest (is_candidate revisit) all
 abbrev pub referent_of : List Indexed → Indexed → Result ℕ Unfound
 referent_of all revisit =
     if not revisit.reference.known_profile then Err UnknownProfile
-    else if names_something revisit.reference then ok_or (named all revisit.reference) Unresolved
+    else if names_something revisit.reference then ok_or (record_named all revisit.reference) Unresolved
     else ok_or (by_payload all revisit) NoReference
 
 -- the same of the record at a position; at no position there is none

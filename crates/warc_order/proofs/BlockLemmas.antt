@@ -7,77 +7,77 @@ use Rattle.std.proofs.lemmas.Bool.{cases_lt, cases_Bool}
 use Rattle.std.proofs.lemmas.Option.{slice_get_read, slice_get_past}
 use Rattle.std.specs.List.Sorted.{IsPartitionedBy, IsPartitionPoint}
 use Rattle.warc_order.specs.declared.slot.Slot.{Slot}
-use Rattle.warc_order.specs.Ranking.{Held, joined, blank, lists_of, start_of, IsBlock, IsWide}
+use Rattle.warc_order.specs.Ranking.{Held, flattened, blank, lists_of, start_of, IsBlock, IsWide}
 
 -- ---- where a list begins
 
-joined-append : (ls ms : List (List Slot)) → joined (ls ++ ms) ≡ joined ls ++ joined ms
-joined-append [] ms = refl
-joined-append (l ∷ ls) ms = ap (λ us. l ++ us) (joined-append ls ms) ∙ sym (append_assoc l (joined ls) (joined ms))
+flattened-append : (ls ms : List (List Slot)) → flattened (ls ++ ms) ≡ flattened ls ++ flattened ms
+flattened-append [] ms = refl
+flattened-append (l ∷ ls) ms = ap (λ us. l ++ us) (flattened-append ls ms) ∙ sym (append_assoc l (flattened ls) (flattened ms))
 
 pub start_of-more : (ls : List (List Slot)) (b : ℕ) → b < length ls →
     start_of ls (b + 1) ≡ start_of ls b + length (get_or ls b [])
 start_of-more ls b h =
-    rw (take_more ls b [] h, joined-append (take b ls) (get_or ls b [] ∷ []), append-nil, length-append) refl
+    rw (take_more ls b [] h, flattened-append (take b ls) (get_or ls b [] ∷ []), append-nil, length-append) refl
 
 pub start_of-le : (ls : List (List Slot)) (b c : ℕ) → b ≤ c → start_of ls b ≤ start_of ls c
 start_of-le ls zero c h = omega arith
 start_of-le [] (suc b) c h = omega arith
 start_of-le (l ∷ ls) (suc b) zero h = absurd (omega arith)
 start_of-le (l ∷ ls) (suc b) (suc c) h =
-    rw (length-append l (joined (take b ls)), length-append l (joined (take c ls))) (omega (
+    rw (length-append l (flattened (take b ls)), length-append l (flattened (take c ls))) (omega (
       arith,
       start_of-le ls b c
           (omega arith),
     ))
 
-pub start_of-all : (ls : List (List Slot)) (b : ℕ) → length ls ≤ b → start_of ls b ≡ length (joined ls)
-start_of-all ls b h = ap (λ us. length (joined us)) (take_all b ls h)
+pub start_of-all : (ls : List (List Slot)) (b : ℕ) → length ls ≤ b → start_of ls b ≡ length (flattened ls)
+start_of-all ls b h = ap (λ us. length (flattened us)) (take_all b ls h)
 
-pub start_of-within : (ls : List (List Slot)) (b : ℕ) → start_of ls b ≤ length (joined ls)
+pub start_of-within : (ls : List (List Slot)) (b : ℕ) → start_of ls b ≤ length (flattened ls)
 start_of-within ls zero = omega arith
 start_of-within [] (suc b) = omega arith
 start_of-within (l ∷ ls) (suc b) =
-    rw (length-append l (joined (take b ls)), length-append l (joined ls)) (omega (arith, start_of-within ls b))
+    rw (length-append l (flattened (take b ls)), length-append l (flattened ls)) (omega (arith, start_of-within ls b))
 
 -- ---- what stands at a place
 
 pub at_place : (ls : List (List Slot)) (b o : ℕ) (d : Slot) → b < length ls → o < length (get_or ls b []) →
-    get_or (joined ls) (start_of ls b + o) d ≡ get_or (get_or ls b []) o d
+    get_or (flattened ls) (start_of ls b + o) d ≡ get_or (get_or ls b []) o d
 at_place [] b o d h k = absurd (omega arith)
 at_place (l ∷ ls) zero o d h k =
     let z : 0 + o ≡ o = omega arith in
-    rw z (get_or_append_left l (joined ls) d o k)
+    rw z (get_or_append_left l (flattened ls) d o k)
 at_place (l ∷ ls) (suc b) o d h k =
     let e : start_of (l ∷ ls) (suc b) + o ≡ length l + (start_of ls b + o) =
-    omega (arith, length-append l (joined (take b ls))) in
-    rw (e, get_or-append-add l (joined ls) (start_of ls b + o) d) (at_place ls b o d (omega arith) k)
+    omega (arith, length-append l (flattened (take b ls))) in
+    rw (e, get_or-append-add l (flattened ls) (start_of ls b + o) d) (at_place ls b o d (omega arith) k)
 
 -- ---- the place where a test ends
 
 pub order_of_firsts : (t : Slot → Bool) (ls : List (List Slot)) → ((k : ℕ) → k < length ls →
-    0 < length (get_or ls k [])) → IsPartitionedBy t (joined ls) → (i j : ℕ) → i ≤ j → j < length ls →
+    0 < length (get_or ls k [])) → IsPartitionedBy t (flattened ls) → (i j : ℕ) → i ≤ j → j < length ls →
     t (get_or (get_or ls j []) 0 blank) ≡ true → t (get_or (get_or ls i []) 0 blank) ≡ true
 order_of_firsts t ls some order i j le lt hit =
     let il : i < length ls = omega arith in
-    let a : get_or (joined ls) (start_of ls i + 0) blank ≡ get_or (get_or ls i []) 0 blank =
+    let a : get_or (flattened ls) (start_of ls i + 0) blank ≡ get_or (get_or ls i []) 0 blank =
     at_place ls i 0 blank il (some i il) in
-    let b : get_or (joined ls) (start_of ls j + 0) blank ≡ get_or (get_or ls j []) 0 blank =
+    let b : get_or (flattened ls) (start_of ls j + 0) blank ≡ get_or (get_or ls j []) 0 blank =
     at_place ls j 0 blank lt (some j lt) in
     let up : start_of ls i ≤ start_of ls j = start_of-le ls i j le in
     let more : start_of ls (j + 1) ≡ start_of ls j + length (get_or ls j []) = start_of-more ls j lt in
-    let within : start_of ls (j + 1) ≤ length (joined ls) = start_of-within ls (j + 1) in
+    let within : start_of ls (j + 1) ≤ length (flattened ls) = start_of-within ls (j + 1) in
     let first : 0 < length (get_or ls j []) = some j lt in
     ap t (sym a) ∙ order (start_of ls i + 0) (start_of ls j + 0) blank (omega arith) (omega arith) (ap t b ∙ hit)
 
-pub order_within : (t : Slot → Bool) (ls : List (List Slot)) (b : ℕ) → b < length ls → IsPartitionedBy t (joined ls) →
+pub order_within : (t : Slot → Bool) (ls : List (List Slot)) (b : ℕ) → b < length ls → IsPartitionedBy t (flattened ls) →
     IsPartitionedBy t (get_or ls b [])
 order_within t ls b h order i j d le lt hit =
-    let a : get_or (joined ls) (start_of ls b + i) d ≡ get_or (get_or ls b []) i d =
+    let a : get_or (flattened ls) (start_of ls b + i) d ≡ get_or (get_or ls b []) i d =
     at_place ls b i d h (omega arith) in
-    let e : get_or (joined ls) (start_of ls b + j) d ≡ get_or (get_or ls b []) j d = at_place ls b j d h lt in
+    let e : get_or (flattened ls) (start_of ls b + j) d ≡ get_or (get_or ls b []) j d = at_place ls b j d h lt in
     let more : start_of ls (b + 1) ≡ start_of ls b + length (get_or ls b []) = start_of-more ls b h in
-    let within : start_of ls (b + 1) ≤ length (joined ls) = start_of-within ls (b + 1) in
+    let within : start_of ls (b + 1) ≤ length (flattened ls) = start_of-within ls (b + 1) in
     ap t (sym a) ∙ order (start_of ls b + i) (start_of ls b + j) d (omega arith) (omega arith) (ap t e ∙ hit)
 
 -- the blocks before b + 1 begin with one that passes, and the later ones do not; o of block b pass
@@ -92,13 +92,13 @@ pub record IsPlace (t : Slot → Bool) (ls : List (List Slot)) (k b o : ℕ) : T
   pub back : (j : ℕ) → o ≤ j → j < length (get_or ls b []) → t (get_or (get_or ls b []) j blank) ≡ false
 
 point_front : (t : Slot → Bool) (ls : List (List Slot)) (k b o : ℕ) → ((k : ℕ) → k < length ls →
-    0 < length (get_or ls k [])) → IsPartitionedBy t (joined ls) → IsPlace t ls k b o → (m : ℕ) (d : Slot) →
-    m < start_of ls b + o → t (get_or (joined ls) m d) ≡ true
+    0 < length (get_or ls k [])) → IsPartitionedBy t (flattened ls) → IsPlace t ls k b o → (m : ℕ) (d : Slot) →
+    m < start_of ls b + o → t (get_or (flattened ls) m d) ≡ true
 point_front t ls k b o some order it m d lt =
     let h : b < length ls = it.block in
     let w : o ≤ length (get_or ls b []) = it.within in
     let more : start_of ls (b + 1) ≡ start_of ls b + length (get_or ls b []) = start_of-more ls b h in
-    let within : start_of ls (b + 1) ≤ length (joined ls) = start_of-within ls (b + 1) in
+    let within : start_of ls (b + 1) ≤ length (flattened ls) = start_of-within ls (b + 1) in
     elim (cases_lt m (start_of ls b)) [
       | inl low ↦
           let e : k ≡ b + 1 = it.down (elim (cases_lt 0 b) [
@@ -107,7 +107,7 @@ point_front t ls k b o some order it m d lt =
                 start_of ls 0 = start_of-le ls b 0 z in omega arith)
           ]) in
           let first : 0 < length (get_or ls b []) = some b h in
-          let a : get_or (joined ls) (start_of ls b + 0) d ≡ get_or (get_or ls b []) 0 d = at_place ls b 0 d h first in
+          let a : get_or (flattened ls) (start_of ls b + 0) d ≡ get_or (get_or ls b []) 0 d = at_place ls b 0 d h first in
           let c : get_or (get_or ls b []) 0 d ≡ get_or (get_or ls b []) 0 blank =
           get_or_default (get_or ls b []) 0 d blank first in
           order m (start_of ls b + 0) d (omega arith) (omega arith) (ap t (a ∙ c) ∙ it.firsts b (omega arith))
@@ -116,15 +116,15 @@ point_front t ls k b o some order it m d lt =
           let e : start_of ls b + j ≡ m = omega arith in
           let jo : j < o = omega arith in
           let jl : j < length (get_or ls b []) = omega arith in
-          let a : get_or (joined ls) (start_of ls b + j) d ≡ get_or (get_or ls b []) j d = at_place ls b j d h jl in
+          let a : get_or (flattened ls) (start_of ls b + j) d ≡ get_or (get_or ls b []) j d = at_place ls b j d h jl in
           let c : get_or (get_or ls b []) j d ≡ get_or (get_or ls b []) j blank =
           get_or_default (get_or ls b []) j d blank jl in
-          ap (λ n. t (get_or (joined ls) n d)) (sym e) ∙ (ap t (a ∙ c) ∙ it.front j jo)
+          ap (λ n. t (get_or (flattened ls) n d)) (sym e) ∙ (ap t (a ∙ c) ∙ it.front j jo)
     ]
 
 point_back : (t : Slot → Bool) (ls : List (List Slot)) (k b o : ℕ) → ((k : ℕ) → k < length ls →
-    0 < length (get_or ls k [])) → IsPartitionedBy t (joined ls) → IsPlace t ls k b o → (m : ℕ) (d : Slot) →
-    start_of ls b + o ≤ m → m < length (joined ls) → t (get_or (joined ls) m d) ≡ false
+    0 < length (get_or ls k [])) → IsPartitionedBy t (flattened ls) → IsPlace t ls k b o → (m : ℕ) (d : Slot) →
+    start_of ls b + o ≤ m → m < length (flattened ls) → t (get_or (flattened ls) m d) ≡ false
 point_back t ls k b o some order it m d ge lt =
     let h : b < length ls = it.block in
     let u : k ≤ b + 1 = it.up in
@@ -134,32 +134,32 @@ point_back t ls k b o some order it m d ge lt =
           let j : ℕ = m - start_of ls b in
           let e : start_of ls b + j ≡ m = omega arith in
           let jl : j < length (get_or ls b []) = omega arith in
-          let a : get_or (joined ls) (start_of ls b + j) d ≡ get_or (get_or ls b []) j d = at_place ls b j d h jl in
+          let a : get_or (flattened ls) (start_of ls b + j) d ≡ get_or (get_or ls b []) j d = at_place ls b j d h jl in
           let c : get_or (get_or ls b []) j d ≡ get_or (get_or ls b []) j blank =
           get_or_default (get_or ls b []) j d blank jl in
-          ap (λ n. t (get_or (joined ls) n d)) (sym e) ∙ (ap t (a ∙ c) ∙ it.back j (omega arith) jl)
+          ap (λ n. t (get_or (flattened ls) n d)) (sym e) ∙ (ap t (a ∙ c) ∙ it.back j (omega arith) jl)
       | inr high ↦
           let next : b + 1 < length ls = elim (cases_lt (b + 1) (length ls)) [
             | inl yes1 ↦ yes1
             | inr past ↦ absurd (let
-                s : start_of ls (b + 1) ≡ length (joined ls) = start_of-all ls (b + 1) past in omega arith)
+                s : start_of ls (b + 1) ≡ length (flattened ls) = start_of-all ls (b + 1) past in omega arith)
           ] in
           let first : 0 < length (get_or ls (b + 1) []) = some (b + 1) next in
-          let a : get_or (joined ls) (start_of ls (b + 1) + 0) d ≡ get_or (get_or ls (b + 1) []) 0 d =
+          let a : get_or (flattened ls) (start_of ls (b + 1) + 0) d ≡ get_or (get_or ls (b + 1) []) 0 d =
           at_place ls (b + 1) 0 d next first in
           let c : get_or (get_or ls (b + 1) []) 0 d ≡ get_or (get_or ls (b + 1) []) 0 blank =
           get_or_default (get_or ls (b + 1) []) 0 d blank first in
-          let miss : t (get_or (joined ls) (start_of ls (b + 1) + 0) d) ≡ false = ap t (a ∙ c)
+          let miss : t (get_or (flattened ls) (start_of ls (b + 1) + 0) d) ≡ false = ap t (a ∙ c)
           ∙ it.others (b + 1) u next in
-          elim (cases_Bool (t (get_or (joined ls) m d))) [
+          elim (cases_Bool (t (get_or (flattened ls) m d))) [
             | inl hit ↦ absurd (true≢false (sym (order (start_of ls (b + 1) + 0) m d (omega arith) lt hit) ∙ miss))
             | inr quiet ↦ quiet
           ]
     ]
 
 pub point : (t : Slot → Bool) (ls : List (List Slot)) (k b o : ℕ) → ((k : ℕ) → k < length ls →
-    0 < length (get_or ls k [])) → IsPartitionedBy t (joined ls) → IsPlace t ls k b o →
-    IsPartitionPoint (λ p. t p ≡ true) (λ p. t p ≡ false) (joined ls) (start_of ls b + o)
+    0 < length (get_or ls k [])) → IsPartitionedBy t (flattened ls) → IsPlace t ls k b o →
+    IsPartitionPoint (λ p. t p ≡ true) (λ p. t p ≡ false) (flattened ls) (start_of ls b + o)
 point t ls k b o some order it = (
   λ m d low lt. point_front t ls k b o some order it m d lt,
   λ m d ge lt. point_back t
@@ -168,26 +168,26 @@ point t ls k b o some order it = (
 
 -- ---- an addition
 
-pub joined-insert : (ls : List (List Slot)) (b o : ℕ) (q : Slot) → b < length ls → o ≤ length (get_or ls b []) →
-    joined (set ls b (insert (get_or ls b []) o q)) ≡ insert (joined ls) (start_of ls b + o) q
-joined-insert [] b o q h k = absurd (omega arith)
-joined-insert (l ∷ ls) zero o q h k =
+pub flattened-insert : (ls : List (List Slot)) (b o : ℕ) (q : Slot) → b < length ls → o ≤ length (get_or ls b []) →
+    flattened (set ls b (insert (get_or ls b []) o q)) ≡ insert (flattened ls) (start_of ls b + o) q
+flattened-insert [] b o q h k = absurd (omega arith)
+flattened-insert (l ∷ ls) zero o q h k =
     let z : 0 + o ≡ o = omega arith in
-    rw z (sym (insert-append_left l (joined ls) o q k))
-joined-insert (l ∷ ls) (suc b) o q h k =
+    rw z (sym (insert-append_left l (flattened ls) o q k))
+flattened-insert (l ∷ ls) (suc b) o q h k =
     let e : start_of (l ∷ ls) (suc b) + o ≡ length l + (start_of ls b + o) =
-    omega (arith, length-append l (joined (take b ls))) in
+    omega (arith, length-append l (flattened (take b ls))) in
     let d : (length l + (start_of ls b + o)) - length l ≡ start_of ls b + o = omega arith in
-    rw (e, insert-append_right l (joined ls) (length l) (length l + (start_of ls b + o)) q refl (omega arith), d) (ap
-    (λ us. l ++ us) (joined-insert ls b o q (omega arith) k))
+    rw (e, insert-append_right l (flattened ls) (length l) (length l + (start_of ls b + o)) q refl (omega arith), d) (ap
+    (λ us. l ++ us) (flattened-insert ls b o q (omega arith) k))
 
 -- a list that is cut in two
-pub joined-halved : (ls : List (List Slot)) (b m : ℕ) → b < length ls →
-    joined (insert (set ls b (take m (get_or ls b []))) (suc b) (drop m (get_or ls b []))) ≡ joined ls
-joined-halved [] b m h = absurd (omega arith)
-joined-halved (l ∷ ls) zero m h = sym (append_assoc (take m l) (drop m l) (joined ls))
-    ∙ ap (λ us. us ++ joined ls) (take-append-drop m l)
-joined-halved (l ∷ ls) (suc b) m h = ap (λ us. l ++ us) (joined-halved ls b m (omega arith))
+pub flattened-halved : (ls : List (List Slot)) (b m : ℕ) → b < length ls →
+    flattened (insert (set ls b (take m (get_or ls b []))) (suc b) (drop m (get_or ls b []))) ≡ flattened ls
+flattened-halved [] b m h = absurd (omega arith)
+flattened-halved (l ∷ ls) zero m h = sym (append_assoc (take m l) (drop m l) (flattened ls))
+    ∙ ap (λ us. us ++ flattened ls) (take-append-drop m l)
+flattened-halved (l ∷ ls) (suc b) m h = ap (λ us. l ++ us) (flattened-halved ls b m (omega arith))
 
 pub map-insert : {X Y : Type 0} (f : X → Y) (xs : List X) (i : ℕ) (x : X) →
     map f (insert xs i x) ≡ insert (map f xs) i (f x)
@@ -214,18 +214,18 @@ lists_of-insert bs b v = map-insert (λ (w : Held). w.list) bs b v
 -- one more in a block
 pub put_list : (bs : List (Held)) (b o : ℕ) (q : Slot) (old new : Held) → b < length bs → old ≡ get_or bs b old →
     o ≤ length (get_or (lists_of bs) b []) → new.list ≡ insert old.list o q →
-    joined (lists_of (set bs b new)) ≡ insert (joined (lists_of bs)) (start_of (lists_of bs) b + o) q
+    flattened (lists_of (set bs b new)) ≡ insert (flattened (lists_of bs)) (start_of (lists_of bs) b + o) q
 put_list bs b o q old new h e le n =
     let items : get_or (lists_of bs) b [] ≡ old.list = items_at bs b old h e in
     let more : new.list ≡ insert (get_or (lists_of bs) b []) o q = n ∙ ap (λ us. insert us o q) (sym items) in
     let l : b < length (lists_of bs) = rw length-map h in
-    ap joined (lists_of-set bs b new ∙ ap (set (lists_of bs) b) more) ∙ joined-insert (lists_of bs) b o q l le
+    ap flattened (lists_of-set bs b new ∙ ap (set (lists_of bs) b) more) ∙ flattened-insert (lists_of bs) b o q l le
 
 -- the same, where the block is then cut in two
 pub put_list-halved : (bs : List (Held)) (b o : ℕ) (q : Slot) (m : ℕ) (old front tail : Held) → b < length bs →
     old ≡ get_or bs b old → o ≤ length (get_or (lists_of bs) b []) → front.list ≡ take m (insert old.list o q) →
-    tail.list ≡ drop m (insert old.list o q) → joined (lists_of (insert (set bs b front) (b + 1) tail)) ≡ insert
-    (joined (lists_of bs)) (start_of (lists_of bs) b + o) q
+    tail.list ≡ drop m (insert old.list o q) → flattened (lists_of (insert (set bs b front) (b + 1) tail)) ≡ insert
+    (flattened (lists_of bs)) (start_of (lists_of bs) b + o) q
 put_list-halved bs b o q m old front tail h e le f t =
     let items : get_or (lists_of bs) b [] ≡ old.list = items_at bs b old h e in
     let l : b < length (lists_of bs) = rw length-map h in
@@ -235,18 +235,18 @@ put_list-halved bs b o q m old front tail h e le f t =
     let there : get_or wider b [] ≡ whole = get_or-set_same ls b whole [] l in
     let twice : set wider b (take m whole) ≡ set ls b (take m whole) = set-set ls b whole (take m whole) in
     let lw : b < length wider = rw length-set l in
-    let halved : joined (insert (set wider b (take m (get_or wider b []))) (suc b) (drop m (get_or wider b []))) ≡
-    joined wider = joined-halved wider b m lw in
-    let flat : joined (insert (set ls b (take m whole)) (suc b) (drop m whole)) ≡ joined wider =
-    ap (λ us. joined (insert us (suc b) (drop m whole))) (sym twice)
-    ∙ (ap (λ us. joined (insert (set wider b (take m us)) (suc b) (drop m us))) (sym there) ∙ halved) in
+    let halved : flattened (insert (set wider b (take m (get_or wider b []))) (suc b) (drop m (get_or wider b []))) ≡
+    flattened wider = flattened-halved wider b m lw in
+    let flat : flattened (insert (set ls b (take m whole)) (suc b) (drop m whole)) ≡ flattened wider =
+    ap (λ us. flattened (insert us (suc b) (drop m whole))) (sym twice)
+    ∙ (ap (λ us. flattened (insert (set wider b (take m us)) (suc b) (drop m us))) (sym there) ∙ halved) in
     let seen : lists_of (insert (set bs b front) (b + 1) tail) ≡ insert (set ls b (take m whole)) (b + 1) (drop m
     whole) =
     lists_of-insert (set bs b front) (b + 1) tail ∙ (ap (λ us. insert us (b + 1) tail.list) (lists_of-set bs b front
     ∙ ap (set ls b) f) ∙ ap (insert (set ls b (take m whole)) (b + 1)) t) in
     let one : b + 1 ≡ suc b = omega arith in
-    ap joined seen ∙ (ap (λ n. joined (insert (set ls b (take m whole)) n (drop m whole))) one ∙ (flat
-    ∙ (ap (λ us. joined (set ls b (insert us o q))) (sym items) ∙ joined-insert ls b o q l le)))
+    ap flattened seen ∙ (ap (λ n. flattened (insert (set ls b (take m whole)) n (drop m whole))) one ∙ (flat
+    ∙ (ap (λ us. flattened (set ls b (insert us o q))) (sym items) ∙ flattened-insert ls b o q l le)))
 
 pub All-insert : {X : Type 0} (P : X → Type 0) (xs : List X) (i : ℕ) (x : X) → All P xs → P x → All P (insert xs i x)
 All-insert P xs i x all one = All-append P (take i xs) (x ∷ drop i xs) (All-take P i xs all) (All-cons P x (drop i xs)
@@ -270,17 +270,17 @@ filters_more t ls ms i h e =
 
 -- ---- fewer indices
 
-pub joined-filter : (t : Slot → Bool) (ls : List (List Slot)) →
-    joined (map (λ ps. filter t ps) ls) ≡ filter t (joined ls)
-joined-filter t [] = refl
-joined-filter t (l ∷ ls) = ap (λ us. filter t l ++ us) (joined-filter t ls) ∙ sym (filter-append t l (joined ls))
+pub flattened-filter : (t : Slot → Bool) (ls : List (List Slot)) →
+    flattened (map (λ ps. filter t ps) ls) ≡ filter t (flattened ls)
+flattened-filter t [] = refl
+flattened-filter t (l ∷ ls) = ap (λ us. filter t l ++ us) (flattened-filter t ls) ∙ sym (filter-append t l (flattened ls))
 
-pub joined-kept : (bs : List (Held)) (p : Held → Bool) → ((b : Held) → p b ≡ false → b.list ≡ []) →
-    joined (lists_of (filter p bs)) ≡ joined (lists_of bs)
-joined-kept [] p none = refl
-joined-kept (b ∷ bs) p none = elim (cases_Bool (p b)) [
-  | inl kept ↦ rw kept (ap (λ us. b.list ++ us) (joined-kept bs p none))
-  | inr left ↦ rw (left, none b left) (joined-kept bs p none)
+pub flattened-kept : (bs : List (Held)) (p : Held → Bool) → ((b : Held) → p b ≡ false → b.list ≡ []) →
+    flattened (lists_of (filter p bs)) ≡ flattened (lists_of bs)
+flattened-kept [] p none = refl
+flattened-kept (b ∷ bs) p none = elim (cases_Bool (p b)) [
+  | inl kept ↦ rw kept (ap (λ us. b.list ++ us) (flattened-kept bs p none))
+  | inr left ↦ rw (left, none b left) (flattened-kept bs p none)
 ]
 
 pub blocks_kept : (limit : ℕ) (bs : List (Held)) (p : Held → Bool) → ((b : Held) → p b ≡ true → 0 < length b.list) →
@@ -322,20 +322,20 @@ halves_are_blocks m new front tail low high full f t fc tc =
 
 -- what a lookup gives
 pub some_at : (ls : List (List Slot)) (b o : ℕ) → b < length ls → o < length (get_or ls b []) →
-    slice_get (joined ls) (start_of ls b + o) ≡ Some (get_or (get_or ls b []) o blank)
+    slice_get (flattened ls) (start_of ls b + o) ≡ Some (get_or (get_or ls b []) o blank)
 some_at ls b o h k =
     let more : start_of ls (b + 1) ≡ start_of ls b + length (get_or ls b []) = start_of-more ls b h in
-    let within : start_of ls (b + 1) ≤ length (joined ls) = start_of-within ls (b + 1) in
+    let within : start_of ls (b + 1) ≤ length (flattened ls) = start_of-within ls (b + 1) in
     let x : Slot = get_or (get_or ls b []) o blank in
-    let e : x ≡ get_or (joined ls) (start_of ls b + o) x = sym (at_place ls b o x h k
+    let e : x ≡ get_or (flattened ls) (start_of ls b + o) x = sym (at_place ls b o x h k
     ∙ get_or_default (get_or ls b []) o x blank k) in
-    slice_get_read (joined ls) (length (joined ls)) (start_of ls b + o) x refl (omega arith) e
+    slice_get_read (flattened ls) (length (flattened ls)) (start_of ls b + o) x refl (omega arith) e
 
 pub place_within : (ls : List (List Slot)) (b o : ℕ) → b < length ls → o ≤ length (get_or ls b []) →
-    start_of ls b + o ≤ length (joined ls)
+    start_of ls b + o ≤ length (flattened ls)
 place_within ls b o h k =
     let more : start_of ls (b + 1) ≡ start_of ls b + length (get_or ls b []) = start_of-more ls b h in
-    let within : start_of ls (b + 1) ≤ length (joined ls) = start_of-within ls (b + 1) in
+    let within : start_of ls (b + 1) ≤ length (flattened ls) = start_of-within ls (b + 1) in
     omega arith
 
 -- past a block the next one begins
@@ -346,11 +346,11 @@ next_at ls b o h e =
     omega arith
 
 pub none_at : (ls : List (List Slot)) (b o : ℕ) → b < length ls → length ls ≤ b + 1 → o ≡ length (get_or ls b []) →
-    slice_get (joined ls) (start_of ls b + o) ≡ None
+    slice_get (flattened ls) (start_of ls b + o) ≡ None
 none_at ls b o h past e =
     let more : start_of ls (b + 1) ≡ start_of ls b + length (get_or ls b []) = start_of-more ls b h in
-    let all : start_of ls (b + 1) ≡ length (joined ls) = start_of-all ls (b + 1) past in
-    slice_get_past (joined ls) (start_of ls b + o) (omega arith)
+    let all : start_of ls (b + 1) ≡ length (flattened ls) = start_of-all ls (b + 1) past in
+    slice_get_past (flattened ls) (start_of ls b + o) (omega arith)
 
 -- where the first of the first block fails, nothing passes
 pub start_is_first : (t : Slot → Bool) (ls : List (List Slot)) (k b o : ℕ) → ((k : ℕ) → k < length ls →

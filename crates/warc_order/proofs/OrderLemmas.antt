@@ -22,7 +22,7 @@ use Rattle.warc_order.specs.declared.mark.Mark.{Mark}
 use Rattle.warc_order.specs.declared.slot.Slot.{Slot}
 use Rattle.warc_order.specs.Heads.{head_of}
 use Rattle.warc_order.specs.Ranking.{IsRanked, IsStrict, IsFirstOf, IsLastOf}
-use Rattle.warc_order.specs.Entries.{Entry, no_entry, entry_at, mark_lt, is_later, IsUpTo, IsFrom, IsAfter, IsBefore, IsFirst, IsLast, IsNone}
+use Rattle.warc_order.specs.Entries.{Entry, no_entry, entry_at, mark_lt, comes_later, IsUpTo, IsFrom, IsAfter, IsBefore, IsFirst, IsLast, IsNone}
 use Rattle.warc_order.specs.Layout.{Key, mark_cmp, text_cmp, key_cmp, key_at, key_for, in_order, slot_for, slots_of, same_index, IsSlotOf, IsOrderOf, IsGrowing, IsOrdered}
 
 pub mark_total : IsTotalOrder mark_cmp
@@ -214,7 +214,7 @@ positions_rise es i j growing h k = lt_rises i j (entry_at es i).position (entry
 
 -- the order of two slots of one text says which entry is later
 pub later_is : (es : List Entry) (s t : Slot) → IsGrowing es → IsSlotOf es (length es) s → IsSlotOf es (length es) t →
-    (entry_at es s.index).text ≡ (entry_at es t.index).text → is_gt (in_order es s t) ≡ is_later (entry_at es s.index)
+    (entry_at es s.index).text ≡ (entry_at es t.index).text → is_gt (in_order es s t) ≡ comes_later (entry_at es s.index)
     (entry_at es t.index)
 later_is es s t growing hs ht same =
     ap is_gt (order_with es s t hs.slot ht.slot same)
@@ -254,7 +254,7 @@ last_up_to es ss text mark s it last same =
         up_to = not_true _ (sym (mark_le (entry_at es s.index).mark mark)
             ∙ (sym (ap is_le (cmp_with es s text mark here.slot same)) ∙ last.passes));
       };
-      last = by_index es (λ q. IsUpTo text mark q → is_later q (entry_at es s.index) ≡ false) (λ k lt p.
+      last = by_index es (λ q. IsUpTo text mark q → comes_later q (entry_at es s.index) ≡ false) (λ k lt p.
           sym (later_is es (slot_for es k) s it.growing (one_slot es k lt) here (p.text_is ∙ sym same))
           ∙ last.last (slot_for es k) (it.order.all k lt) (ap is_le (cmp_with es (slot_for es k) text mark refl
           p.text_is) ∙ (mark_le (entry_at es k).mark mark ∙ not_false _ p.up_to)));
@@ -303,7 +303,7 @@ first_from es ss text mark s it first same =
         from = sym (mark_less (entry_at es s.index).mark mark)
             ∙ (sym (ap is_lt (cmp_with es s text mark here.slot same)) ∙ first.fails);
       };
-      first = by_index es (λ q. IsFrom text mark q → is_later (entry_at es s.index) q ≡ false) (λ k lt p.
+      first = by_index es (λ q. IsFrom text mark q → comes_later (entry_at es s.index) q ≡ false) (λ k lt p.
           sym (later_is es s (slot_for es k) it.growing here (one_slot es k lt) (same ∙ sym p.text_is))
           ∙ first.first (slot_for es k) (it.order.all k lt) (ap is_lt (cmp_with es (slot_for es k) text mark refl
           p.text_is) ∙ (mark_less (entry_at es k).mark mark ∙ p.from)));
@@ -345,7 +345,7 @@ next_entry es ss i s it h first same =
         later = sym (later_is es s (slot_for es i) it.growing here (one_slot es i h)
             same) ∙ not_le_gt _ first.fails;
       };
-      first = by_index es (λ q. IsAfter (entry_at es i) q → is_later (entry_at es s.index) q ≡ false) (λ k lt p.
+      first = by_index es (λ q. IsAfter (entry_at es i) q → comes_later (entry_at es s.index) q ≡ false) (λ k lt p.
           sym (later_is es s (slot_for es k) it.growing here (one_slot es k lt) (same ∙ sym p.text_is))
           ∙ first.first (slot_for es k) (it.order.all k lt) (gt_not_le _ (later_is es (slot_for es k) (slot_for es i)
           it.growing (one_slot es k lt) (one_slot es i h) p.text_is ∙ p.later)));
@@ -388,7 +388,7 @@ previous_entry es ss i s it h last same =
         later = sym (later_is es (slot_for es i) s it.growing (one_slot es i h) here
             (sym same)) ∙ (sym (lt_is_gt (in_order es) (in_order_total es) s (slot_for es i)) ∙ last.passes);
       };
-      last = by_index es (λ q. IsBefore (entry_at es i) q → is_later q (entry_at es s.index) ≡ false) (λ k lt p.
+      last = by_index es (λ q. IsBefore (entry_at es i) q → comes_later q (entry_at es s.index) ≡ false) (λ k lt p.
           sym (later_is es (slot_for es k) s it.growing (one_slot es k lt) here (p.text_is ∙ sym same))
           ∙ last.last (slot_for es k) (it.order.all k lt) (lt_is_gt (in_order es) (in_order_total es) (slot_for es k)
           (slot_for es i) ∙ (later_is es (slot_for es i) (slot_for es k) it.growing (one_slot es i h) (one_slot es

@@ -10,7 +10,7 @@ use Rattle.warc_order.specs.declared.slot.Slot.{Slot}
 use Rattle.warc_order.specs.declared.ranked.Standing.{Standing}
 use Rattle.std.proofs.lemmas.List.{get_or_default}
 use Rattle.std.proofs.lemmas.List.Elements.{All-head, All-tail}
-use Rattle.warc_order.specs.Ranking.{Held, IsBlock, lists_of, blank, joined, start_of, IsRanked, IsStrict, IsFirstOf, IsLastOf, find_last, before_in, slot_in}
+use Rattle.warc_order.specs.Ranking.{Held, IsBlock, lists_of, blank, flattened, start_of, IsRanked, IsStrict, IsFirstOf, IsLastOf, find_last, before_in, slot_in}
 use Rattle.warc_order.proofs.BlockLemmas.{at_place, start_of-more, start_of-within}
 use Rattle.warc_order.proofs.RankLemmas.{EndsAt, find-end, last_from-end, lt_is_gt, first_found, none_found, last_found, none_last, last_of_first}
 
@@ -99,14 +99,14 @@ none_past t xs (Some p) e = tt
 -- ---- places
 
 pub stands_there : (ls : List (List Slot)) (b o : ℕ) (s : Slot) → b < length ls → o < length (get_or ls b []) →
-    get_or (get_or ls b []) o blank ≡ s → (d : Slot) → get_or (joined ls) (start_of ls b + o) d ≡ s
+    get_or (get_or ls b []) o blank ≡ s → (d : Slot) → get_or (flattened ls) (start_of ls b + o) d ≡ s
 stands_there ls b o s h k is d = at_place ls b o d h k ∙ (get_or_default (get_or ls b []) o d blank k ∙ is)
 
 pub place_inside : (ls : List (List Slot)) (b o : ℕ) → b < length ls → o < length (get_or ls b []) →
-    start_of ls b + o < length (joined ls)
+    start_of ls b + o < length (flattened ls)
 place_inside ls b o h k =
     let more : start_of ls (b + 1) ≡ start_of ls b + length (get_or ls b []) = start_of-more ls b h in
-    let within : start_of ls (b + 1) ≤ length (joined ls) = start_of-within ls (b + 1) in
+    let within : start_of ls (b + 1) ≤ length (flattened ls) = start_of-within ls (b + 1) in
     omega arith
 
 -- the end of the block before one
@@ -121,24 +121,24 @@ end_before ls b o some h z more =
     omega arith
 
 pub next_found : (compare : Slot → Slot → Ordering) → IsTotalOrder compare →
-    (ls : List (List Slot)) (b o : ℕ) (s : Slot) → IsStrict compare (joined ls) → b < length ls →
+    (ls : List (List Slot)) (b o : ℕ) (s : Slot) → IsStrict compare (flattened ls) → b < length ls →
     o < length (get_or ls b []) → get_or (get_or ls b []) o blank ≡ s →
-    slice_get (joined ls) (start_of ls b + (o + 1)) ≡ find (λ p. not (is_le (compare p s))) (joined ls)
+    slice_get (flattened ls) (start_of ls b + (o + 1)) ≡ find (λ p. not (is_le (compare p s))) (flattened ls)
 next_found compare total ls b o s strict h k is =
-    ap (slice_get (joined ls)) (omega arith)
-    ∙ sym (find-end (λ p. is_le (compare p s)) (joined ls) ((start_of ls b + o) + 1)
-    (ends_behind compare total (joined ls) (start_of ls b + o) s strict (place_inside ls b o h k) (stands_there ls b o
+    ap (slice_get (flattened ls)) (omega arith)
+    ∙ sym (find-end (λ p. is_le (compare p s)) (flattened ls) ((start_of ls b + o) + 1)
+    (ends_behind compare total (flattened ls) (start_of ls b + o) s strict (place_inside ls b o h k) (stands_there ls b o
     s h k is)))
 
 pub previous_found : (compare : Slot → Slot → Ordering) → IsTotalOrder compare →
-    (ls : List (List Slot)) (b o : ℕ) (s : Slot) → IsStrict compare (joined ls) → b < length ls →
+    (ls : List (List Slot)) (b o : ℕ) (s : Slot) → IsStrict compare (flattened ls) → b < length ls →
     o < length (get_or ls b []) → get_or (get_or ls b []) o blank ≡ s →
-    before_in (joined ls) (start_of ls b + o) ≡ find_last (λ p. is_lt (compare p s)) (joined ls)
+    before_in (flattened ls) (start_of ls b + o) ≡ find_last (λ p. is_lt (compare p s)) (flattened ls)
 previous_found compare total ls b o s strict h k is =
-    let lt : start_of ls b + o < length (joined ls) = place_inside ls b o h k in
-    sym (last_from-end (λ p. is_lt (compare p s)) None (joined ls) (start_of ls b + o) (omega arith)
-    (ends_before compare total (joined ls) (start_of ls b + o) s strict lt (stands_there ls b o s h k is))
-    ∙ before_is (joined ls) (start_of ls b + o))
+    let lt : start_of ls b + o < length (flattened ls) = place_inside ls b o h k in
+    sym (last_from-end (λ p. is_lt (compare p s)) None (flattened ls) (start_of ls b + o) (omega arith)
+    (ends_before compare total (flattened ls) (start_of ls b + o) s strict lt (stands_there ls b o s h k is))
+    ∙ before_is (flattened ls) (start_of ls b + o))
 
 pub fews : (limit : ℕ) (bs : List Held) → All (IsBlock limit) bs → (k : ℕ) → k < length bs →
     length (get_or (lists_of bs) k []) < limit

@@ -24,8 +24,8 @@ abbrev pub mark_lt : Mark → Mark → Bool
 mark_lt a b = nat_lt a.major b.major || (a.major == b.major && nat_lt a.minor b.minor)
 
 -- an entry is later than another: by its mark, then by its position
-abbrev pub is_later : Entry → Entry → Bool
-is_later a b = mark_lt b.mark a.mark || (not (mark_lt a.mark b.mark) && nat_lt b.position a.position)
+abbrev pub comes_later : Entry → Entry → Bool
+comes_later a b = mark_lt b.mark a.mark || (not (mark_lt a.mark b.mark) && nat_lt b.position a.position)
 
 -- entries of a text whose marks aren't above one, and those whose marks aren't below one
 pub record IsUpTo (text : List ℕ) (mark : Mark) (e : Entry) : Type 0 where
@@ -39,23 +39,23 @@ pub record IsFrom (text : List ℕ) (mark : Mark) (e : Entry) : Type 0 where
 -- entries of the same text that are later than one, and those that it is later than
 pub record IsAfter (one e : Entry) : Type 0 where
   pub text_is : e.text ≡ one.text
-  pub later : is_later e one ≡ true
+  pub later : comes_later e one ≡ true
 
 pub record IsBefore (one e : Entry) : Type 0 where
   pub text_is : e.text ≡ one.text
-  pub later : is_later one e ≡ true
+  pub later : comes_later one e ≡ true
 
 -- an entry that passes and is later than no other that does
 pub record IsFirst (es : List Entry) (Passes : Entry → Type 0) (e : Entry) : Type 0 where
   pub stands : Contains es e
   pub passes : Passes e
-  pub first : (q : Entry) → Contains es q → Passes q → is_later e q ≡ false
+  pub first : (q : Entry) → Contains es q → Passes q → comes_later e q ≡ false
 
 -- an entry that passes, and no other that does is later
 pub record IsLast (es : List Entry) (Passes : Entry → Type 0) (e : Entry) : Type 0 where
   pub stands : Contains es e
   pub passes : Passes e
-  pub last : (q : Entry) → Contains es q → Passes q → is_later q e ≡ false
+  pub last : (q : Entry) → Contains es q → Passes q → comes_later q e ≡ false
 
 -- no entry passes
 abbrev pub IsNone : List Entry → (Entry → Type 0) → Type 0

@@ -60,9 +60,9 @@ pub record IsLastOf (compare : Slot → Slot → Ordering) (test : Slot → Bool
   pub last : (q : Slot) → Contains xs q → test q ≡ true → is_gt (compare q p) ≡ false
 
 -- lists one after another
-abbrev pub joined : {X : Type 0} → List (List X) → List X
-joined [] = []
-joined (l ∷ ls) = l ++ joined ls
+abbrev pub flattened : {X : Type 0} → List (List X) → List X
+flattened [] = []
+flattened (l ∷ ls) = l ++ flattened ls
 
 -- what a block holds, and how many slots it takes without a growth
 pub record Held : Type 0 where
@@ -91,7 +91,7 @@ lists_of blocks = map (λ b. b.list) blocks
 
 -- how many stand before the b-th list
 abbrev pub start_of : List (List Slot) → ℕ → ℕ
-start_of lists b = length (joined (take b lists))
+start_of lists b = length (flattened (take b lists))
 
 -- a block holds some indices, fewer than `limit`, and has room for so many
 pub record IsBlock (limit : ℕ) (b : Held) : Type 0 where

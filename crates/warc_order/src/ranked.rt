@@ -7,7 +7,7 @@ ghost use Rattle.std.specs.List.Sorted.{IsPartitionedBy, IsPartitionPoint, IsPer
 ghost use Rattle.std.specs.Cmp.{IsTotalOrder};
 ghost use Rattle.std.specs.Ordering.{is_lt, is_gt, is_le};
 ghost use Rattle.std.specs.declared.cmp.Ordering.{Ordering};
-ghost use Rattle.warc_order.specs.Ranking.{joined, blank, IsRanked, IsFirstOf, IsLastOf, IsStrict, placed, find_last};
+ghost use Rattle.warc_order.specs.Ranking.{flattened, blank, IsRanked, IsFirstOf, IsLastOf, IsStrict, placed, find_last};
 ghost use Rattle.warc_order.specs.Ranking.{before_in, slot_in, lists_of, start_of, IsBlock, IsWide};
 
 use crate::block::Block;
@@ -137,7 +137,7 @@ fn slot_behind<A: Allocator>(blocks: &[Block<A>], place: Place) -> Option<Standi
     requires blocks { All (IsBlock LIMIT) blocks.now }
     requires block { place.block < length blocks.now }
     requires within { place.offset ≤ length (slice_index_or (lists_of blocks.now) place.block []) }
-    ensures { slot_in result ≡ slice_get (joined (lists_of blocks.now)) (start_of
+    ensures { slot_in result ≡ slice_get (flattened (lists_of blocks.now)) (start_of
         (lists_of blocks.now) place.block + place.offset) }
 {
     if place.offset < length_of(blocks, place.block) {
@@ -154,7 +154,7 @@ fn slot_before<A: Allocator>(blocks: &[Block<A>], place: Place) -> Option<Standi
     requires blocks { All (IsBlock LIMIT) blocks.now }
     requires block { place.block < length blocks.now }
     requires within { place.offset ≤ length (slice_index_or (lists_of blocks.now) place.block []) }
-    ensures { slot_in result ≡ before_in (joined (lists_of blocks.now)) (start_of
+    ensures { slot_in result ≡ before_in (flattened (lists_of blocks.now)) (start_of
         (lists_of blocks.now) place.block + place.offset) }
 {
     if place.offset > 0 {
@@ -184,12 +184,12 @@ fn stands_at<A: Allocator>(blocks: &[Block<A>], place: Place, slot: Slot) -> boo
 fn find_place<T: SlotTest, A: Allocator>(blocks: &[Block<A>], test: &T) -> Place
     requires any { 0 < length blocks.now }
     requires blocks { All (IsBlock LIMIT) blocks.now }
-    requires order { IsPartitionedBy (T.passes test.now) (joined (lists_of blocks.now)) }
+    requires order { IsPartitionedBy (T.passes test.now) (flattened (lists_of blocks.now)) }
     ensures block { result.block < length blocks.now }
     ensures within { result.offset ≤ length (slice_index_or (lists_of blocks.now) result.block []) }
     ensures start { result.offset ≡ 0 → result.block ≡ 0 }
     ensures point { IsPartitionPoint (λ p. T.passes test.now p ≡ true) (λ p. T.passes test.now p ≡
-        false) (joined (lists_of blocks.now)) (start_of (lists_of blocks.now) result.block + result.offset) }
+        false) (flattened (lists_of blocks.now)) (start_of (lists_of blocks.now) result.block + result.offset) }
 {
     let count = cut_blocks(blocks, test);
     let block = count.saturating_sub(1);
@@ -200,8 +200,8 @@ fn find_place<T: SlotTest, A: Allocator>(blocks: &[Block<A>], test: &T) -> Place
 /// The first slot that fails a test.
 fn first_in<T: SlotTest, A: Allocator>(blocks: &[Block<A>], test: &T) -> Option<Standing>
     requires blocks { All (IsBlock LIMIT) blocks.now }
-    requires order { IsPartitionedBy (T.passes test.now) (joined (lists_of blocks.now)) }
-    ensures { slot_in result ≡ find (λ p. not (T.passes test.now p)) (joined (lists_of blocks.now)) }
+    requires order { IsPartitionedBy (T.passes test.now) (flattened (lists_of blocks.now)) }
+    ensures { slot_in result ≡ find (λ p. not (T.passes test.now p)) (flattened (lists_of blocks.now)) }
 {
     if blocks.is_empty() {
         return None;
@@ -213,8 +213,8 @@ fn first_in<T: SlotTest, A: Allocator>(blocks: &[Block<A>], test: &T) -> Option<
 /// The last slot that passes a test.
 fn last_in<T: SlotTest, A: Allocator>(blocks: &[Block<A>], test: &T) -> Option<Standing>
     requires blocks { All (IsBlock LIMIT) blocks.now }
-    requires order { IsPartitionedBy (T.passes test.now) (joined (lists_of blocks.now)) }
-    ensures { slot_in result ≡ find_last (T.passes test.now) (joined (lists_of blocks.now)) }
+    requires order { IsPartitionedBy (T.passes test.now) (flattened (lists_of blocks.now)) }
+    ensures { slot_in result ≡ find_last (T.passes test.now) (flattened (lists_of blocks.now)) }
 {
     if blocks.is_empty() {
         return None;
@@ -231,8 +231,8 @@ fn next_in<O: SlotOrder, A: Allocator>(
     place: Place,
 ) -> Option<Standing>
     requires blocks { All (IsBlock LIMIT) blocks.now }
-    requires strict { IsStrict (O.compare order.now) (joined (lists_of blocks.now)) }
-    ensures { slot_in result ≡ find (λ p. not (is_le (O.compare order.now p slot))) (joined (lists_of blocks.now)) }
+    requires strict { IsStrict (O.compare order.now) (flattened (lists_of blocks.now)) }
+    ensures { slot_in result ≡ find (λ p. not (is_le (O.compare order.now p slot))) (flattened (lists_of blocks.now)) }
 {
     if stands_at(blocks, place, slot) {
         let behind = Place {
@@ -254,8 +254,8 @@ fn previous_in<O: SlotOrder, A: Allocator>(
     place: Place,
 ) -> Option<Standing>
     requires blocks { All (IsBlock LIMIT) blocks.now }
-    requires strict { IsStrict (O.compare order.now) (joined (lists_of blocks.now)) }
-    ensures { slot_in result ≡ find_last (λ p. is_lt (O.compare order.now p slot)) (joined (lists_of blocks.now)) }
+    requires strict { IsStrict (O.compare order.now) (flattened (lists_of blocks.now)) }
+    ensures { slot_in result ≡ find_last (λ p. is_lt (O.compare order.now p slot)) (flattened (lists_of blocks.now)) }
 {
     if stands_at(blocks, place, slot) {
         slot_before(blocks, place)
@@ -291,8 +291,8 @@ fn put<A: Allocator + Copy>(
     requires spare_room { LIMIT ≤ spare.old.room }
     ensures blocks { All (IsBlock LIMIT) blocks.new.items }
     ensures spare { spare.new.list ≡ [] }
-    ensures list { joined (lists_of blocks.new.items) ≡
-        insert (joined (lists_of blocks.old.items)) (start_of
+    ensures list { flattened (lists_of blocks.new.items) ≡
+        insert (flattened (lists_of blocks.old.items)) (start_of
         (lists_of blocks.old.items) place.block + place.offset) slot }
 {
     let last = place.block + 1 == blocks.len();
@@ -314,11 +314,11 @@ fn put<A: Allocator + Copy>(
 fn place_for<O: SlotOrder, A: Allocator>(blocks: &[Block<A>], order: &O, slot: Slot) -> Place
     requires any { 0 < length blocks.now }
     requires blocks { All (IsBlock LIMIT) blocks.now }
-    requires ranked { IsRanked (O.compare order.now) (joined (lists_of blocks.now)) }
+    requires ranked { IsRanked (O.compare order.now) (flattened (lists_of blocks.now)) }
     ensures block { result.block < length blocks.now }
     ensures within { result.offset ≤ length (slice_index_or (lists_of blocks.now) result.block []) }
-    ensures place { placed (O.compare order.now) (joined (lists_of blocks.now)) slot ≡
-        insert (joined (lists_of blocks.now)) (start_of (lists_of blocks.now) result.block + result.offset) slot }
+    ensures place { placed (O.compare order.now) (flattened (lists_of blocks.now)) slot ≡
+        insert (flattened (lists_of blocks.now)) (start_of (lists_of blocks.now) result.block + result.offset) slot }
 {
     let test = Before { order, slot };
     find_place(blocks, &test)
@@ -335,11 +335,11 @@ fn add_in<O: SlotOrder, A: Allocator + Copy>(
     requires room { vec_len blocks.old < vec_capacity blocks.old }
     requires spare { spare.old.list ≡ [] }
     requires spare_room { LIMIT ≤ spare.old.room }
-    requires ranked { IsRanked (O.compare order.now) (joined (lists_of blocks.old.items)) }
+    requires ranked { IsRanked (O.compare order.now) (flattened (lists_of blocks.old.items)) }
     ensures blocks { All (IsBlock LIMIT) blocks.new.items }
     ensures spare { spare.new.list ≡ [] }
-    ensures list { joined (lists_of blocks.new.items) ≡
-        placed (O.compare order.now) (joined (lists_of blocks.old.items)) slot }
+    ensures list { flattened (lists_of blocks.new.items) ≡
+        placed (O.compare order.now) (flattened (lists_of blocks.old.items)) slot }
 {
     if blocks.is_empty() {
         let alloc = spare.allocator();
@@ -368,7 +368,7 @@ fn keep_all_below<A: Allocator>(blocks: &mut Vec<Block<A>, A>, count: usize)
 /// Drops the blocks that hold nothing.
 fn drop_empty<A: Allocator>(blocks: &mut Vec<Block<A>, A>)
     requires { All (IsWide LIMIT) blocks.old.items }
-    ensures list { joined (lists_of blocks.new.items) ≡ joined (lists_of blocks.old.items) }
+    ensures list { flattened (lists_of blocks.new.items) ≡ flattened (lists_of blocks.old.items) }
     ensures blocks { All (IsBlock LIMIT) blocks.new.items }
 {
     blocks.retain(|b| b.len() > 0);
@@ -384,12 +384,12 @@ pub struct Ranked<A: Allocator = Global> {
 
 impl<A: Allocator> Model for Ranked<A> {
     ghost use Rattle.std.specs.Prelude.{◌≡◌, ◌&&◌, nat_lt, nat_le, [], All, vec_len, vec_capacity};
-    ghost use Rattle.warc_order.specs.Ranking.{joined, Ranking, lists_of, IsBlock};
+    ghost use Rattle.warc_order.specs.Ranking.{flattened, Ranking, lists_of, IsBlock};
 
     ghost Value = { Ranking };
 
     ghost view = { λ s. record {
-      list = joined (lists_of s.blocks.items);
+      list = flattened (lists_of s.blocks.items);
       ready = nat_lt (vec_len s.blocks) (vec_capacity s.blocks) && nat_le 512 s.spare.room;
     } };
 

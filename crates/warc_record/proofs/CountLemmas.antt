@@ -1,15 +1,20 @@
--- How many findings a record has at most.
-use Rattle.std.proofs.Common.{◌≡◌, ℕ, ◌+◌, ◌≤◌, Bool, true, false, List, ◌++◌, length, map, filter, length-append, refl, arith}
+-- How many findings a record has at most, and how much they tell.
+use Rattle.std.proofs.Common.{◌≡◌, ℕ, ◌+◌, ◌<◌, ◌≤◌, Bool, ◌&&◌, not, true, false, List, [], ◌∷◌, ◌++◌, length, map, filter, decimal, length-append, refl, sym, ◌∙◌, ap, arith}
 use Rattle.std.proofs.lemmas.List.{length-map}
-use Rattle.std.proofs.lemmas.List.Sums.{count_by-le-length, length-filter}
-use Rattle.warc_field.specs.Area.{Pair}
+use Rattle.std.proofs.lemmas.List.Sums.{count_by-le-length, length-filter, sum_by-append, sum_by-cons, sum_by-le-sum_by}
+use Rattle.std.proofs.lemmas.List.Filters.{sum_by-filter_both}
+use Rattle.std.proofs.lemmas.Fmt.{length-decimal-le}
+use Rattle.std.specs.List.{sum_by}
+use Rattle.warc_field.specs.Area.{Pair, canonical_fields, canonical_line}
+use Rattle.warc_field.specs.Lines.{crlf}
 use Rattle.warc_record.specs.declared.types.Kind.{Kind}
 use Rattle.warc_record.specs.declared.checks.TableCheck.{TableCheck}
 use Rattle.warc_record.specs.declared.checks.TableCheck.TheVariants.{Lacks, HasForbidden, Repeats}
 use Rattle.warc_record.specs.Readings.{Reading, reading_of}
 use Rattle.warc_record.specs.Table.{Rule, rules}
-use Rattle.warc_record.specs.FindingLaws.{FindingsAreFew}
-use Rattle.warc_record.specs.Findings.{Found, about, by_table, findings_by, findings_of, is_broken, is_not_utf8, not_utf8, check_number, once}
+use Rattle.warc_record.specs.FindingLaws.{FindingsAreFew, FindingsAreShort, told_len}
+use Rattle.warc_record.specs.Findings.{Found, about, by_table, findings_by, findings_of, is_broken, is_not_utf8, not_utf8, check_number, has_bad_segment, has_bare_id, has_unknown_profile, lacks_content_type, lacks_origin, once}
+use Rattle.warc_record.specs.Kinds.{is_known}
 
 few_of : {X : Type 0} (f : X → Found) (p : X → Bool) (xs : List X) → length (map f (filter p xs)) ≤ length xs
 few_of f p xs = omega (arith, length-map (filter p xs) f, length-filter p xs, count_by-le-length p xs)
@@ -37,3 +42,67 @@ few_by reading fields size bad_digest used_id =
 pub findings_are_few : FindingsAreFew
 unfolding findings_of
 findings_are_few fields size bad_digest used_id = few_by (reading_of fields) fields size bad_digest used_id
+
+told_map : {X : Type 0} (f : X → Found) (xs : List X) → sum_by told_len (map f xs) ≡ sum_by (λ x. told_len (f x)) xs
+told_map f [] = refl
+told_map f (x ∷ xs) =
+    sum_by-cons told_len (f x) (map f xs) ∙ ap (λ n. told_len (f x) + n) (told_map f xs) ∙ sym (sum_by-cons (λ y. told_len (f y)) x xs)
+
+told_some : {X : Type 0} (f : X → Found) (p : X → Bool) (xs : List X) → sum_by told_len (map f (filter p xs)) ≤ sum_by (λ x. told_len (f x)) xs
+told_some f p xs =
+    omega (arith, told_map f (filter p xs), sum_by-filter_both p (λ x. not (p x)) (λ x. refl) (λ x. told_len (f x)) xs)
+
+one_digit : (check : TableCheck) → length (decimal (check_number check)) ≤ 1
+one_digit Lacks = length-decimal-le 1 1 (omega arith) (omega arith) (omega arith)
+one_digit HasForbidden = length-decimal-le 1 2 (omega arith) (omega arith) (omega arith)
+one_digit Repeats = length-decimal-le 1 3 (omega arith) (omega arith) (omega arith)
+
+table_names : (check : TableCheck) → sum_by (λ (rule : Rule). told_len (about (check_number check) rule.name)) rules ≤ 320
+unfolding rules
+table_names check =
+    let names : sum_by (λ (rule : Rule). 1 + length rule.name) rules ≡ 320 = refl in
+    let more = sum_by-le-sum_by (λ (rule : Rule). told_len (about (check_number check) rule.name)) (λ (rule : Rule). 1 + length rule.name) rules
+    (λ rule. omega (arith, one_digit check)) in
+    omega (arith, names, more)
+
+table_short : (check : TableCheck) (kind : Kind) (fields : List Pair) → sum_by told_len (by_table check kind fields) ≤ 320
+table_short check kind fields =
+    omega (arith, table_names check, told_some (λ (rule : Rule). about (check_number check) rule.name) (is_broken check kind fields) rules)
+
+once_short : (number : ℕ) (holds : Bool) → number < 100 → sum_by told_len (once number holds) ≤ 2
+once_short number true low = omega (arith, length-decimal-le 2 number (omega arith) (omega (arith, low)) (omega (arith, low)))
+once_short number false low = omega arith
+
+names_short : (fields : List Pair) → sum_by (λ (field : Pair). told_len (about 9 field.0)) fields ≤ length (canonical_fields fields)
+names_short [] = omega arith
+names_short (f ∷ fs) =
+    let line : length (canonical_line f) ≡ length f.0 + length f.1 + 4 = simp length-append (omega arith) in
+    omega (
+      arith, line, names_short fs, length-append (canonical_line f) (canonical_fields fs),
+      sum_by-cons (λ (field : Pair). told_len (about 9 field.0)) f fs, length-decimal-le 1 9 (omega arith) (omega arith) (omega arith),
+    )
+
+utf8_short : (fields : List Pair) → sum_by told_len (not_utf8 fields) ≤ length (canonical_fields fields)
+utf8_short fields = omega (arith, told_some (λ (field : Pair). about 9 field.0) is_not_utf8 fields, names_short fields)
+
+eleven_sums : (w : Found → ℕ) (a b c d e f g h i j k : List Found) (n : ℕ) → sum_by w a ≤ 320 → sum_by w b ≤ 320 → sum_by w c ≤ 320 → sum_by w d ≤ 2 → sum_by w e ≤ 2 → sum_by w f ≤ 2
+    → sum_by w g ≤ 2 → sum_by w h ≤ 2 → sum_by w i ≤ n → sum_by w j ≤ 2 → sum_by w k ≤ 2 → sum_by w (a ++ b ++ c ++ d ++ e ++ f ++ g ++ h ++ i ++ j ++ k) ≤ n + 1000
+eleven_sums w a b c d e f g h i j k n la lb lc ld le lf lg lh li lj lk = simp (sum_by-append w) (omega arith)
+
+short_by : (reading : Reading) (fields : List Pair) (size : ℕ) (bad_digest used_id : Bool)
+    → sum_by told_len (findings_by reading fields size bad_digest used_id) ≤ length (canonical_fields fields) + 1000
+unfolding findings_by
+short_by reading fields size bad_digest used_id =
+    eleven_sums told_len (by_table Lacks reading.kind fields) (by_table HasForbidden reading.kind fields) (by_table Repeats reading.kind fields)
+    (once 4 (is_known reading.kind && bad_digest)) (once 5 (has_bad_segment reading fields)) (once 6 used_id)
+    (once 7 (lacks_content_type reading.kind fields size)) (once 8 (has_unknown_profile reading fields)) (not_utf8 fields)
+    (once 10 (has_bare_id reading)) (once 11 (lacks_origin reading fields)) (length (canonical_fields fields))
+    (table_short Lacks reading.kind fields) (table_short HasForbidden reading.kind fields) (table_short Repeats reading.kind fields)
+    (once_short 4 (is_known reading.kind && bad_digest) (omega arith)) (once_short 5 (has_bad_segment reading fields) (omega arith))
+    (once_short 6 used_id (omega arith)) (once_short 7 (lacks_content_type reading.kind fields size) (omega arith))
+    (once_short 8 (has_unknown_profile reading fields) (omega arith)) (utf8_short fields)
+    (once_short 10 (has_bare_id reading) (omega arith)) (once_short 11 (lacks_origin reading fields) (omega arith))
+
+pub findings_are_short : FindingsAreShort
+unfolding findings_of
+findings_are_short fields size bad_digest used_id = short_by (reading_of fields) fields size bad_digest used_id

@@ -1,9 +1,9 @@
 -- What the findings of a record are, one by one: a finding is listed exactly where the sentence of its number holds, and
 -- the numbers never fall. Findings are this project's own notion.
-use Rattle.std.specs.Prelude.{◌≡◌, ◌⊎◌, ◌↔◌, ℕ, ◌+◌, ◌≤◌, Bool, false, ◌&&◌, List, [], ◌∷◌, length, IsTrue, None}
-use Rattle.std.specs.List.{AllPairs, Contains}
+use Rattle.std.specs.Prelude.{◌≡◌, ◌⊎◌, ◌↔◌, ℕ, ◌+◌, ◌≤◌, Bool, false, ◌&&◌, List, [], ◌∷◌, length, IsTrue, None, decimal, unwrap_or}
+use Rattle.std.specs.List.{AllPairs, Contains, sum_by}
 use Rattle.std.specs.Str.{is_utf8}
-use Rattle.warc_field.specs.Area.{Pair}
+use Rattle.warc_field.specs.Area.{Pair, canonical_fields}
 use Rattle.warc_record.specs.declared.types.Kind.{Kind}
 use Rattle.warc_record.specs.declared.checks.TableCheck.{TableCheck}
 use Rattle.warc_record.specs.Kinds.{is_known}
@@ -63,3 +63,12 @@ NumbersNeverFall =
 abbrev pub FindingsAreFew : Type 0
 FindingsAreFew = (fields : List Pair) (size : ℕ) (bad_digest used_id : Bool)
     → length (findings_of fields size bad_digest used_id) ≤ length fields + 58
+
+-- how many bytes a finding tells: the digits of its number, and its field's name
+abbrev pub told_len : Found → ℕ
+told_len found = length (decimal found.number) + length (unwrap_or found.field [])
+
+-- what the findings of a record tell is at most 1,000 bytes longer than its fields
+abbrev pub FindingsAreShort : Type 0
+FindingsAreShort = (fields : List Pair) (size : ℕ) (bad_digest used_id : Bool)
+    → sum_by told_len (findings_of fields size bad_digest used_id) ≤ length (canonical_fields fields) + 1000

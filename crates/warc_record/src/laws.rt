@@ -2,7 +2,7 @@
 
 ghost use Rattle.warc_record.specs.Ids.{BareTextsAreBare, BareTextsAreNoLonger, BareTextsAreValues, KeysAreEqualForSameIds, KeysAreNoLonger};
 ghost use Rattle.warc_record.specs.Good.{GoodHeadsHaveNoFault, GoodHeadsRead};
-ghost use Rattle.warc_record.specs.FindingLaws.{FindingsAreFew, ListedWhereTheyHold, NumbersNeverFall};
+ghost use Rattle.warc_record.specs.FindingLaws.{FindingsAreFew, FindingsAreShort, ListedWhereTheyHold, NumbersNeverFall};
 
 /// The bare text of a value is a value, its own bare text, and no longer.
 pub fn bare_texts_of_values()
@@ -39,6 +39,11 @@ pub fn listed_where_they_hold()
 /// A record has at most 58 findings and one for each of its fields.
 pub fn findings_are_few()
     ensures { FindingsAreFew }
+{}
+
+/// What the findings of a record tell is at most 1,000 bytes longer than its fields.
+pub fn findings_are_short()
+    ensures { FindingsAreShort }
 {}
 
 /// The numbers of a record's findings never fall.

@@ -3,7 +3,7 @@ use Rattle.std.proofs.Common.{◌≡◌, inl, inr, ℕ, zero, suc, ◌+◌, ◌<
 use Rattle.std.specs.Prelude.{count_by}
 use Rattle.std.proofs.lemmas.Bool.{cases_Bool, eqb-true}
 use Rattle.std.proofs.lemmas.List.Sums.{sum_by-cons}
-use Rattle.warc_segment.specs.Series.{Member, count_of, numbers_of}
+use Rattle.warc_segment.specs.Series.{Member, count_numbered, numbers_of}
 
 abbrev one_of : ℕ → ℕ → ℕ
 one_of k n = cond (n == k) 1 0
@@ -27,7 +27,7 @@ times_le : (k n : ℕ) (ks : List ℕ) → times k ks ≤ times k (n ∷ ks)
 times_le k n ks = let e : times k (n ∷ ks) ≡ one_of k n + times k ks = times-cons k n ks in omega arith
 
 -- of the numbers of members
-pub count_is_times : (k : ℕ) (members : List Member) → count_of k members ≡ times k (numbers_of members)
+pub count_is_times : (k : ℕ) (members : List Member) → count_numbered k members ≡ times k (numbers_of members)
 count_is_times k [] = refl
 count_is_times k (m ∷ members) =
     let first : Member → ℕ = λ (x : Member). cond (x.number == k) 1 0 in

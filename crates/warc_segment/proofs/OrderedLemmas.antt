@@ -7,7 +7,7 @@ use Rattle.std.proofs.lemmas.Bool.Decides.{nat_tests}
 use Rattle.std.proofs.lemmas.List.{length-map}
 use Rattle.std.proofs.lemmas.Option.{slice_get-get_or, slice_get-map, slice_get_within, get_or_from_slice_get}
 use Rattle.warc_segment.specs.declared.gap.Gap.TheVariants.{Repeated, Unfinished, AfterEnd, Absent, Total}
-use Rattle.warc_segment.specs.Series.{Member, count_of, numbers_of, member_numbered, in_order}
+use Rattle.warc_segment.specs.Series.{Member, count_numbered, numbers_of, member_numbered, in_order}
 use Rattle.warc_segment.specs.Gaps.{least, least_repeated, end_of, least_after, is_absent, least_absent, has_total, absent_or_total, gap_to, gap_of, followers}
 use Rattle.warc_segment.specs.Ordered.{AreOrdered, Rises, CountsUp, NoTotal, IsEnd}
 use Rattle.warc_segment.proofs.LeastLemmas.{Stands, stands_filter, stands_map, map_stands, filter_hit, filter_miss, Up, least_front, least_sorted, first_found, none_found}
@@ -53,12 +53,12 @@ apart_from_twice ks k ordered twice =
 -- ---- G1
 
 abbrev stands_twice : List Member → ℕ → Bool
-stands_twice members k = nat_le 2 (count_of k members)
+stands_twice members k = nat_le 2 (count_numbered k members)
 
 twice_of : (members : List Member) (k : ℕ) → stands_twice members k ≡ true → StandsTwice k (numbers_of members)
 twice_of members k hit =
-    let c : count_of k members ≡ times k (numbers_of members) = count_is_times k members in
-    let le : 2 ≤ count_of k members = grind (arith, nat_tests) in
+    let c : count_numbered k members ≡ times k (numbers_of members) = count_is_times k members in
+    let le : 2 ≤ count_numbered k members = grind (arith, nat_tests) in
     twice_at k (numbers_of members) (omega arith)
 
 -- where the numbers before a place rise, none of them stands twice
@@ -94,7 +94,7 @@ first_repeated members i ordered rises within same =
     let here : slice_get ks i ≡ Some k = number_stands ks i (omega arith) in
     let next : slice_get ks (i + 1) ≡ Some k = number_stands ks (i + 1) within ∙ ap Some (sym same) in
     let two : 2 ≤ times k ks = at_twice k ks i (i + 1) (omega arith) here next in
-    let c : count_of k members ≡ times k ks = count_is_times k members in
+    let c : count_numbered k members ≡ times k ks = count_is_times k members in
     let hit : stands_twice members k ≡ true = grind (arith, nat_tests) in
     least_sorted (stands_twice members) ks (up_from ks ordered.up)
     ∙ first_found (stands_twice members) ks i 0 (omega arith)
@@ -265,14 +265,14 @@ present_at : (n : ℕ) (members : List Member) (j k : ℕ) → j < length (numbe
 present_at n members j k within is =
     let one : 1 ≤ times k (numbers_of members) =
     at_once k (numbers_of members) j (number_stands (numbers_of members) j within ∙ ap Some is) in
-    let c : count_of k members ≡ times k (numbers_of members) = count_is_times k members in
-    let some : (count_of k members == 0) ≡ false = grind (arith, nat_tests) in
-    and_right (nat_le 2 k && nat_le k n) (count_of k members == 0) some
+    let c : count_numbered k members ≡ times k (numbers_of members) = count_is_times k members in
+    let some : (count_numbered k members == 0) ≡ false = grind (arith, nat_tests) in
+    and_right (nat_le 2 k && nat_le k n) (count_numbered k members == 0) some
 
 past_end : (n : ℕ) (members : List Member) (k : ℕ) → n < k → is_absent n members k ≡ false
 past_end n members k past =
     let off : nat_le k n ≡ false = grind (arith, nat_tests) in
-    and_left (nat_le 2 k && nat_le k n) (count_of k members == 0) (and_right (nat_le 2 k) (nat_le k n) off)
+    and_left (nat_le 2 k && nat_le k n) (count_numbered k members == 0) (and_right (nat_le 2 k) (nat_le k n) off)
 
 -- the number at a place isn't the next one, and nothing behind the place has that one
 missing_at : (members : List Member) (i : ℕ) → AreOrdered (numbers_of members)
@@ -290,13 +290,13 @@ missing_at members (suc i) ordered rises counts within other =
 
 missing_count : (members : List Member) (i : ℕ) → AreOrdered (numbers_of members)
     → CountsUp (numbers_of members) i → i < length (numbers_of members) → i + 2 < get_or (numbers_of members) i 0
-    → (count_of (i + 2) members == 0) ≡ true
+    → (count_numbered (i + 2) members == 0) ≡ true
 missing_count members i ordered counts within more =
     let ks : List ℕ = numbers_of members in
-    elim (cases_Bool (count_of (i + 2) members == 0)) [
+    elim (cases_Bool (count_numbered (i + 2) members == 0)) [
       | inl none ↦ none
       | inr some ↦
-          let c : count_of (i + 2) members ≡ times (i + 2) ks = count_is_times (i + 2) members in
+          let c : count_numbered (i + 2) members ≡ times (i + 2) ks = count_is_times (i + 2) members in
           let one : 1 ≤ times (i + 2) ks = grind (arith, nat_tests) in
           let at = once_at (i + 2) ks one in
           let p : ℕ = at.0 in
@@ -319,7 +319,7 @@ first_absent members i ordered rises counts within other =
     let long : length (after_each members) ≡ length members = length-map members (λ m. m.number + 1) in
     let more : i + 2 < get_or ks i 0 = missing_at members i ordered rises counts within other in
     let le : get_or ks i 0 ≤ n = ordered.up i (length ks - 1) (omega arith) (omega arith) in
-    let none : (count_of (i + 2) members == 0) ≡ true = missing_count members i ordered counts within more in
+    let none : (count_numbered (i + 2) members == 0) ≡ true = missing_count members i ordered counts within more in
     let low : nat_le 2 (i + 2) ≡ true = grind (arith, nat_tests) in
     let high : nat_le (i + 2) n ≡ true = grind (arith, nat_tests) in
     let gap : is_absent n members (i + 2) ≡ true = and_from _ _ (and_from _ _ low high) none in

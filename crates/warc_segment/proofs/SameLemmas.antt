@@ -10,7 +10,7 @@ use Rattle.std.proofs.lemmas.List.Sums.{sum_by-cons}
 use Rattle.std.proofs.lemmas.Option.{slice_get-get_or, slice_get_within, get_or_from_slice_get}
 use Rattle.warc_segment.specs.declared.gap.Gap.{Gap}
 use Rattle.warc_segment.specs.declared.gap.Gap.TheVariants.{Repeated, AfterEnd, Total}
-use Rattle.warc_segment.specs.Series.{Member, count_of, numbers_of, member_numbered, in_order}
+use Rattle.warc_segment.specs.Series.{Member, count_numbered, numbers_of, member_numbered, in_order}
 use Rattle.warc_segment.specs.Gaps.{least, least_repeated, end_of, least_after, is_absent, least_absent, has_total, absent_or_total, gap_to, gap_of, followers, unless_gap}
 use Rattle.warc_segment.proofs.LeastLemmas.{Stands, stands_cases, stands_nowhere, stands_later, stands_filter, filter_stands, stands_map, map_stands, LeastIn, least_in, least_same}
 use Rattle.warc_segment.proofs.CountLemmas.{times, count_is_times, once_at, at_twice}
@@ -55,7 +55,7 @@ no_more {X} p (x ∷ xs) ys distinct to =
 pub record AreSame (a b : List Member) : Type 0 where
   pub to : (m : Member) → Stands a m → Stands b m
   pub back : (m : Member) → Stands b m → Stands a m
-  pub count : (k : ℕ) → count_of k a ≡ count_of k b
+  pub count : (k : ℕ) → count_numbered k a ≡ count_numbered k b
 
 pub same_from_distinct : (a b : List Member) → Distinct a → Distinct b → ((m : Member) → Stands a m → Stands b m)
     → ((m : Member) → Stands b m → Stands a m) → AreSame a b
@@ -63,8 +63,8 @@ same_from_distinct a b da db to back = record {
   to = to;
   back = back;
   count = λ k.
-      let le : count_of k a ≤ count_of k b = no_more (λ (m : Member). m.number == k) a b da to in
-      let ge : count_of k b ≤ count_of k a = no_more (λ (m : Member). m.number == k) b a db back in
+      let le : count_numbered k a ≤ count_numbered k b = no_more (λ (m : Member). m.number == k) a b da to in
+      let ge : count_numbered k b ≤ count_numbered k a = no_more (λ (m : Member). m.number == k) b a db back in
       omega arith;
 }
 
@@ -92,7 +92,7 @@ least_passing a b p q same agree =
 
 repeated_same : (a b : List Member) → AreSame a b → least_repeated a ≡ least_repeated b
 repeated_same a b same =
-    least_passing a b (λ k. nat_le 2 (count_of k a)) (λ k. nat_le 2 (count_of k b)) same
+    least_passing a b (λ k. nat_le 2 (count_numbered k a)) (λ k. nat_le 2 (count_numbered k b)) same
     (λ k. ap (nat_le 2) (same.count k))
 
 after_same : (n : ℕ) (a b : List Member) → AreSame a b → least_after n a ≡ least_after n b
@@ -144,17 +144,17 @@ absent_same n a b same =
 
 -- ---- the member with a number, where none stands twice
 
-once : (members : List Member) → least_repeated members ≡ None → (k : ℕ) → count_of k members < 2
-once members none k = elim (cases_lt (count_of k members) 2) [
+once : (members : List Member) → least_repeated members ≡ None → (k : ℕ) → count_numbered k members < 2
+once members none k = elim (cases_lt (count_numbered k members) 2) [
   | inl few ↦ few
   | inr many ↦
-      let c : count_of k members ≡ times k (numbers_of members) = count_is_times k members in
+      let c : count_numbered k members ≡ times k (numbers_of members) = count_is_times k members in
       let at = once_at k (numbers_of members) (omega arith) in
-      let hit : nat_le 2 (count_of k members) ≡ true = grind (arith, nat_tests) in
-      let passes : Stands (filter (λ j. nat_le 2 (count_of j members)) (numbers_of members)) k =
-      filter_stands (λ j. nat_le 2 (count_of j members)) (numbers_of members) k at hit in
-      let least_is = least_in (filter (λ j. nat_le 2 (count_of j members)) (numbers_of members)) in
-      absurd (subst (LeastIn (filter (λ j. nat_le 2 (count_of j members))
+      let hit : nat_le 2 (count_numbered k members) ≡ true = grind (arith, nat_tests) in
+      let passes : Stands (filter (λ j. nat_le 2 (count_numbered j members)) (numbers_of members)) k =
+      filter_stands (λ j. nat_le 2 (count_numbered j members)) (numbers_of members) k at hit in
+      let least_is = least_in (filter (λ j. nat_le 2 (count_numbered j members)) (numbers_of members)) in
+      absurd (subst (LeastIn (filter (λ j. nat_le 2 (count_numbered j members))
       (numbers_of members))) none least_is k passes)
 ]
 
@@ -164,11 +164,11 @@ number_at [] m i at = absurd (cc)
 number_at (x ∷ members) m zero at = let is : x ≡ m = cc in ap (λ (y : Member). Some y.number) is
 number_at (x ∷ members) m (suc i) at = number_at members m i at
 
-only_one : (members : List Member) (k : ℕ) (m n : Member) → count_of k members < 2 → Stands members m
+only_one : (members : List Member) (k : ℕ) (m n : Member) → count_numbered k members < 2 → Stands members m
     → Stands members n
     → m.number ≡ k → n.number ≡ k → m ≡ n
 only_one members k m n few at there first second =
-    let c : count_of k members ≡ times k (numbers_of members) = count_is_times k members in
+    let c : count_numbered k members ≡ times k (numbers_of members) = count_is_times k members in
     let e : slice_get (numbers_of members) at.0 ≡ Some k = number_at members m at.0 at.1 ∙ ap Some first in
     let f : slice_get (numbers_of members) there.0 ≡ Some k = number_at members n there.0 there.1 ∙ ap Some second in
     elim (cases_lt at.0 there.0) [

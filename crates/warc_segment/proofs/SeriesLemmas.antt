@@ -5,7 +5,7 @@ use Rattle.std.specs.List.{filter_map, cons_option, range_with_len}
 use Rattle.std.proofs.lemmas.Bool.{cases_Bool, cases_eq, cases_lt, eqb-true}
 use Rattle.std.proofs.lemmas.Bool.Decides.{nat_tests}
 use Rattle.std.proofs.lemmas.List.Sums.{sum_by-cons}
-use Rattle.warc_segment.specs.Series.{Member, count_of, member_numbered, in_order}
+use Rattle.warc_segment.specs.Series.{Member, count_numbered, member_numbered, in_order}
 use Rattle.warc_segment.specs.Gaps.{lesser, least, is_absent, least_absent}
 use Rattle.warc_segment.specs.SeriesLaws.{IsLeastAbsent, LeastAbsentIsFirst, InOrderIsEach}
 
@@ -93,17 +93,17 @@ abbrev candidates : List Member → List ℕ
 candidates members = 2 ∷ after members
 
 -- a number that a member has is followed by a candidate
-counted_stands : (members : List Member) (k : ℕ) → (count_of k members == 0) ≡ false → Stands (after members) (k + 1)
+counted_stands : (members : List Member) (k : ℕ) → (count_numbered k members == 0) ≡ false → Stands (after members) (k + 1)
 counted_stands [] k some = absurd (true≢false some)
 counted_stands (m ∷ members) k some = elim (cases_Bool (m.number == k)) [
   | inl here ↦ let is : m.number ≡ k = eqb-true m.number k here in (0, ap (λ (n : ℕ). Some (n + 1)) is)
   | inr gone ↦
       let one : Member → ℕ = λ (x : Member). cond (x.number == k) 1 0 in
-      let split : count_of k (m ∷ members)
-      ≡ cond (m.number == k) 1 0 + count_of k members = sum_by-cons one m members in
-      let none : 0 + count_of k members ≡ count_of k members = omega arith in
-      let same : count_of k (m ∷ members) ≡ count_of k members = split
-      ∙ (ap (λ (b : Bool). cond b 1 0 + count_of k members) gone ∙ none) in
+      let split : count_numbered k (m ∷ members)
+      ≡ cond (m.number == k) 1 0 + count_numbered k members = sum_by-cons one m members in
+      let none : 0 + count_numbered k members ≡ count_numbered k members = omega arith in
+      let same : count_numbered k (m ∷ members) ≡ count_numbered k members = split
+      ∙ (ap (λ (b : Bool). cond b 1 0 + count_numbered k members) gone ∙ none) in
       let later : Stands (after members) (k + 1) = counted_stands members k (ap (λ (n : ℕ). n == 0) (sym same)
       ∙ some) in
       (suc later.0, later.1)
@@ -133,7 +133,7 @@ none_before n members k first j below = elim (cases_Bool (is_absent n members j)
             omega arith
         | inr more ↦ elim (cases_Bool (is_absent n members i)) [
           | inl before ↦ by_number i (omega arith) before
-          | inr present ↦ elim (cases_Bool (count_of i members == 0)) [
+          | inr present ↦ elim (cases_Bool (count_numbered i members == 0)) [
             | inl none ↦ grind (arith, nat_tests)
             | inr counted ↦
                 let next : i + 1 ≡ suc i = omega arith in
@@ -196,25 +196,25 @@ least_absent_is_first n members = (
 -- ---- the members in their order
 
 -- a number that a member has is found
-counted_found : (members : List Member) (k : ℕ) → (count_of k members == 0) ≡ false
+counted_found : (members : List Member) (k : ℕ) → (count_numbered k members == 0) ≡ false
     → (m : Member) × (member_numbered members k ≡ Some m)
 counted_found [] k some = absurd (true≢false some)
 counted_found (m ∷ members) k some = elim (cases_Bool (m.number == k)) [
   | inl here ↦ (m, ap (λ (b : Bool). cond b (Some m) (member_numbered members k)) here)
   | inr gone ↦
       let one : Member → ℕ = λ (x : Member). cond (x.number == k) 1 0 in
-      let split : count_of k (m ∷ members)
-      ≡ cond (m.number == k) 1 0 + count_of k members = sum_by-cons one m members in
-      let none : 0 + count_of k members ≡ count_of k members = omega arith in
-      let same : count_of k (m ∷ members) ≡ count_of k members = split
-      ∙ (ap (λ (b : Bool). cond b 1 0 + count_of k members) gone ∙ none) in
+      let split : count_numbered k (m ∷ members)
+      ≡ cond (m.number == k) 1 0 + count_numbered k members = sum_by-cons one m members in
+      let none : 0 + count_numbered k members ≡ count_numbered k members = omega arith in
+      let same : count_numbered k (m ∷ members) ≡ count_numbered k members = split
+      ∙ (ap (λ (b : Bool). cond b 1 0 + count_numbered k members) gone ∙ none) in
       let later = counted_found members k (ap (λ (n : ℕ). n == 0) (sym same) ∙ some) in
       (later.0, ap (λ (b : Bool). cond b (Some m) (member_numbered members k)) gone ∙ later.1)
 ]
 
 present_found : (n : ℕ) (members : List Member) (k : ℕ) → is_absent n members k ≡ false → 2 ≤ k → k ≤ n
     → (m : Member) × (member_numbered members k ≡ Some m)
-present_found n members k present low high = counted_found members k (elim (cases_Bool (count_of k members == 0)) [
+present_found n members k present low high = counted_found members k (elim (cases_Bool (count_numbered k members == 0)) [
   | inr some ↦ some
   | inl none ↦ let gap : is_absent n members k ≡ true = grind (arith, nat_tests) in absurd (true≢false (sym gap
       ∙ present))

@@ -10,7 +10,7 @@ use Rattle.std.proofs.lemmas.List.Sums.{sum_by-cons}
 use Rattle.std.proofs.lemmas.Option.{slice_get-get_or, slice_get_within, get_or_from_slice_get}
 use Rattle.warc_order.specs.declared.Found.{Found}
 use Rattle.warc_order.specs.declared.mark.Mark.{Mark}
-use Rattle.warc_order.specs.Entries.{Entry, entry_at, no_entry, mark_lt, is_later, IsFrom, IsAfter, IsFirst, IsNone}
+use Rattle.warc_order.specs.Entries.{Entry, entry_at, no_entry, mark_lt, comes_later, IsFrom, IsAfter, IsFirst, IsNone}
 use Rattle.warc_segment.specs.declared.held.Facts.{Facts}
 use Rattle.warc_segment.specs.declared.series.Continuation.{Continuation}
 use Rattle.warc_segment.specs.Kept.{KeptMember}
@@ -27,7 +27,7 @@ mark_minor a b ea eb =
     ∙ ap (λ (y : ℕ). nat_lt 0 y || (0 == y && nat_lt a.minor b.minor)) eb
 
 later_is : (a b : Entry) → a.mark.major ≡ 0 → b.mark.major ≡ 0
-    → is_later a b ≡ (nat_lt b.mark.minor a.mark.minor || (not
+    → comes_later a b ≡ (nat_lt b.mark.minor a.mark.minor || (not
     (nat_lt a.mark.minor b.mark.minor) && nat_lt b.position a.position))
 later_is a b ea eb =
     ap (λ (t : Bool). t || (not (mark_lt a.mark b.mark) && nat_lt b.position a.position))
@@ -42,11 +42,11 @@ numbers_not_later : (m n p q : ℕ) → (nat_lt n m || (not (nat_lt m n) && nat_
     → p ≤ q)
 numbers_not_later m n p q miss = (grind (arith, nat_tests), λ same. grind (arith, nat_tests))
 
-later : (a b : Entry) → a.mark.major ≡ 0 → b.mark.major ≡ 0 → is_later a b ≡ true
+later : (a b : Entry) → a.mark.major ≡ 0 → b.mark.major ≡ 0 → comes_later a b ≡ true
     → (b.mark.minor ≤ a.mark.minor) × (b.mark.minor ≡ a.mark.minor → b.position < a.position)
 later a b ea eb hit = numbers_later a.mark.minor b.mark.minor a.position b.position (sym (later_is a b ea eb) ∙ hit)
 
-not_later : (a b : Entry) → a.mark.major ≡ 0 → b.mark.major ≡ 0 → is_later a b ≡ false
+not_later : (a b : Entry) → a.mark.major ≡ 0 → b.mark.major ≡ 0 → comes_later a b ≡ false
     → (a.mark.minor ≤ b.mark.minor) × (a.mark.minor ≡ b.mark.minor → a.position ≤ b.position)
 not_later a b ea eb miss = numbers_not_later a.mark.minor b.mark.minor a.position b.position (sym
     (later_is a b ea eb) ∙ miss)
@@ -147,10 +147,10 @@ met_now series c p is =
 left_over : (p : ℕ) (id : List ℕ) (es : List Entry) (fs : List Facts) (series : List Continuation) (i : ℕ)
     (c : Continuation) → AreHeld p es fs → IsNext id es series i → IsEntry es fs i c
     → (e : Entry) → Contains es e → e.text ≡ id
-    → Contains (positions_of (series ++ c ∷ [])) e.position ⊎ (is_later e (entry_at es i) ≡ true)
+    → Contains (positions_of (series ++ c ∷ [])) e.position ⊎ (comes_later e (entry_at es i) ≡ true)
 left_over p id es fs series i c held next entry e at text = elim (next.rest e at text) [
   | inl met ↦ inl (met_before series c e.position met)
-  | inr not_yet ↦ elim (cases_Bool (is_later e (entry_at es i))) [
+  | inr not_yet ↦ elim (cases_Bool (comes_later e (entry_at es i))) [
     | inl after ↦ inr after
     | inr same ↦
         let one : Entry = entry_at es i in

@@ -6,7 +6,7 @@ use Rattle.warc_record.specs.declared.readings.SegmentNumber.{SegmentNumber}
 use Rattle.warc_record.specs.declared.readings.SegmentNumber.TheVariants as numbers
 use Rattle.warc_segment.specs.declared.gap.Gap.{Gap}
 use Rattle.warc_segment.specs.declared.gap.Gap.TheVariants.{Repeated, Unfinished, AfterEnd, Absent, Total, Number}
-use Rattle.warc_segment.specs.Series.{Member, numbers_of, count_of, member_numbered, in_order}
+use Rattle.warc_segment.specs.Series.{Member, numbers_of, count_numbered, member_numbered, in_order}
 
 -- the least of numbers
 abbrev pub lesser : Option ℕ → Option ℕ → Option ℕ
@@ -20,7 +20,7 @@ least (k ∷ ks) = lesser (Some k) (least ks)
 
 -- the least number that stands at least twice
 abbrev pub least_repeated : List Member → Option ℕ
-least_repeated members = least (filter (λ k. nat_le 2 (count_of k members)) (numbers_of members))
+least_repeated members = least (filter (λ k. nat_le 2 (count_numbered k members)) (numbers_of members))
 
 -- the last segment's number n: the least with a total
 abbrev pub end_of : List Member → Option ℕ
@@ -32,7 +32,7 @@ least_after n members = least (filter (nat_lt n) (numbers_of members))
 
 -- a number from 2 to n that no member has
 abbrev pub is_absent : ℕ → List Member → ℕ → Bool
-is_absent n members k = nat_le 2 k && nat_le k n && (count_of k members == 0)
+is_absent n members k = nat_le 2 k && nat_le k n && (count_numbered k members == 0)
 
 -- the least of them, which is 2 or follows on a member's number
 abbrev pub least_absent : ℕ → List Member → Option ℕ

@@ -1,7 +1,7 @@
 -- How parts hold what is kept: entries in an order, and beside each the rest. A state of the code.
 use Rattle.std.specs.Prelude.{◌≡◌, ◌⊎◌, ℕ, ◌<◌, ◌≤◌, false, List, [], ◌∷◌, length, map, All, AllPairs, Contains, Some, None, Result, Ok, Err, ⊤}
 use Rattle.std.specs.declared.vec.Vec.{Vec}
-use Rattle.warc_order.specs.Entries.{Entry, entry_at, is_later}
+use Rattle.warc_order.specs.Entries.{Entry, entry_at, comes_later}
 use Rattle.warc_segment.specs.declared.fault.JoinFault.{JoinFault}
 use Rattle.warc_segment.specs.declared.fault.JoinFault.TheVariants.{Gap as IsGap, Memory}
 use Rattle.warc_segment.specs.declared.held.Facts.{Facts}
@@ -70,7 +70,7 @@ pub record IsNext (id : List ℕ) (es : List Entry) (series : List Continuation)
   pub text : (entry_at es i).text ≡ id
   pub behind : All (IsBehind (entry_at es i)) series
   pub rest : (e : Entry) → Contains es e → e.text ≡ id
-      → Contains (positions_of series) e.position ⊎ (is_later (entry_at es i) e ≡ false)
+      → Contains (positions_of series) e.position ⊎ (comes_later (entry_at es i) e ≡ false)
 
 -- no entry with the text is left
 abbrev pub IsDone : List ℕ → List Entry → List Continuation → Type 0

@@ -49,8 +49,8 @@ abbrev pub numbers_of : List Member → List ℕ
 numbers_of members = map (λ m. m.number) members
 
 -- how many members have a number
-abbrev pub count_of : ℕ → List Member → ℕ
-count_of k members = count_by (λ m. m.number == k) members
+abbrev pub count_numbered : ℕ → List Member → ℕ
+count_numbered k members = count_by (λ m. m.number == k) members
 
 -- the member with a number, and the members numbered 2 to n in the order of their numbers
 abbrev pub member_numbered : List Member → ℕ → Option Member

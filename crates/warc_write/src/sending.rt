@@ -1,12 +1,12 @@
 //! Sends the canonical texts of records to a sink.
-ghost use Rattle.std.specs.Prelude.{◌≡◌, ℕ, ◌++◌, List, Option, OnOk, IfErr, is_err, if◌then◌else◌};
+ghost use Rattle.std.specs.Prelude.{◌≡◌, OnOk, IfErr, is_err, if◌then◌else◌};
 ghost use Rattle.std.specs.Io.KnownBytes.{append_known};
-ghost use Rattle.warc_field.specs.Area.{Pair, canonical_line, canonical_fields};
+ghost use Rattle.warc_field.specs.Area.{canonical_line, canonical_fields};
 ghost use Rattle.warc_frame.specs.Count.{raised};
 ghost use Rattle.warc_frame.specs.Putting.{Puts};
 ghost use Rattle.warc_frame.specs.Record.{head_text};
 ghost use Rattle.warc_frame.specs.Seen.{seen};
-ghost use Rattle.warc_frame.specs.Send.{IsStaged, WentOut, sent_of};
+ghost use Rattle.warc_frame.specs.Send.{WentOut, sent_of};
 ghost use Rattle.warc_frame.specs.Spelling.{canonical};
 ghost use Rattle.warc_frame.specs.declared.fault.OutFault.TheVariants.{Write};
 ghost use Rattle.warc_write.specs.Rendering.{canonical_texts};
@@ -22,11 +22,8 @@ fn put_fields<A: Allocator, W: Sink>(
     buffer: &mut OutBuffer,
     out: &mut W,
 ) -> Result<(), SendFault>
-    ensures out { (start : Option (List ℕ)) (output : List ℕ) → IsStaged start output (W.tells out.old) buffer.old →
-        OnOk result (IsStaged start (output ++ canonical_fields fields.now) (W.tells out.new) buffer.new) }
-    ensures cut { (start : Option (List ℕ)) (output : List ℕ) → IsStaged start output (W.tells out.old) buffer.old →
-        IfErr result (λ e. WentOut start (output ++ canonical_fields fields.now) (W.tells out.new) e.sent) }
-    ensures cause { W.faults out.new ≡ (if is_err result then raised (W.faults out.old) else W.faults out.old) }
+    ensures { Puts (seen (W.tells out.old) (W.faults out.old)) (seen (W.tells out.new) (W.faults out.new))
+        buffer.old buffer.new result (canonical_fields fields.now) }
 {
     went_out_of_longer();
     'putting: for field in fields {
@@ -42,11 +39,8 @@ fn put_line<W: Sink>(
     buffer: &mut OutBuffer,
     out: &mut W,
 ) -> Result<(), SendFault>
-    ensures out { (start : Option (List ℕ)) (output : List ℕ) → IsStaged start output (W.tells out.old) buffer.old →
-        OnOk result (IsStaged start (output ++ canonical_line (name.now, value.now)) (W.tells out.new) buffer.new) }
-    ensures cut { (start : Option (List ℕ)) (output : List ℕ) → IsStaged start output (W.tells out.old) buffer.old →
-        IfErr result (λ e. WentOut start (output ++ canonical_line (name.now, value.now)) (W.tells out.new) e.sent) }
-    ensures cause { W.faults out.new ≡ (if is_err result then raised (W.faults out.old) else W.faults out.old) }
+    ensures { Puts (seen (W.tells out.old) (W.faults out.old)) (seen (W.tells out.new) (W.faults out.new))
+        buffer.old buffer.new result (canonical_line (name.now, value.now)) }
 {
     put_all(&[name, b": ", value, b"\r\n"], buffer, out)
 }
@@ -73,11 +67,8 @@ fn put_record<A: Allocator, W: Sink>(
     buffer: &mut OutBuffer,
     out: &mut W,
 ) -> Result<(), SendFault>
-    ensures out { (start : Option (List ℕ)) (output : List ℕ) → IsStaged start output (W.tells out.old) buffer.old →
-        OnOk result (IsStaged start (output ++ canonical framed.now) (W.tells out.new) buffer.new) }
-    ensures cut { (start : Option (List ℕ)) (output : List ℕ) → IsStaged start output (W.tells out.old) buffer.old →
-        IfErr result (λ e. WentOut start (output ++ canonical framed.now) (W.tells out.new) e.sent) }
-    ensures cause { W.faults out.new ≡ (if is_err result then raised (W.faults out.old) else W.faults out.old) }
+    ensures { Puts (seen (W.tells out.old) (W.faults out.old)) (seen (W.tells out.new) (W.faults out.new))
+        buffer.old buffer.new result (canonical framed.now) }
 {
     went_out_of_longer();
     put_head(framed.version(), framed.fields(), buffer, out)?;
@@ -90,11 +81,8 @@ fn put_records<A: Allocator, W: Sink>(
     buffer: &mut OutBuffer,
     out: &mut W,
 ) -> Result<(), SendFault>
-    ensures out { (start : Option (List ℕ)) (output : List ℕ) → IsStaged start output (W.tells out.old) buffer.old →
-        OnOk result (IsStaged start (output ++ canonical_texts records.now) (W.tells out.new) buffer.new) }
-    ensures cut { (start : Option (List ℕ)) (output : List ℕ) → IsStaged start output (W.tells out.old) buffer.old →
-        IfErr result (λ e. WentOut start (output ++ canonical_texts records.now) (W.tells out.new) e.sent) }
-    ensures cause { W.faults out.new ≡ (if is_err result then raised (W.faults out.old) else W.faults out.old) }
+    ensures { Puts (seen (W.tells out.old) (W.faults out.old)) (seen (W.tells out.new) (W.faults out.new))
+        buffer.old buffer.new result (canonical_texts records.now) }
 {
     went_out_of_longer();
     'putting: for framed in records {

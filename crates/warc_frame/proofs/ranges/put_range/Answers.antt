@@ -36,7 +36,7 @@ returns-in-Err-clause-copied g c = record {
       let text = drop c.args.at bytes in
       let done = c.copying.done in
       let gives = c.in-Ok.ensures.bytes bytes (c.copying.invariant.kept ∙ held) in
-      let cut = c.in-Err.ensures.cut start (output ++ take done text) (c.copying.invariant.staged bytes start output held is) in
+      let cut = c.in-Err.ensures.puts.cut start (output ++ take done text) (c.copying.invariant.staged bytes start output held is) in
       let same = piece_more bytes output c.read_at.new.buf c.args.at done c.in-Ok.n gives.same in
       range_out output text (done + c.in-Ok.n) c.args.len (omega (arith, c.in-Ok.ensures.bound, c.read_at.auto.buf, length-take c.next_len-want.result c.copying.scratch)) (same_out same cut);
   device = search rules;
@@ -54,7 +54,7 @@ copying-preserved g c = record {
       let done = c.copying.done in
       let gives = c.in-Ok.ensures.bytes bytes (c.copying.invariant.kept ∙ held) in
       let same = piece_more bytes output c.read_at.new.buf c.args.at done c.in-Ok.n gives.same in
-      same_staged same (c.in_default-put.ensures.out start (output ++ take done text) (c.copying.invariant.staged bytes start output held is));
+      same_staged same (c.in_default-put.ensures.puts.out start (output ++ take done text) (c.copying.invariant.staged bytes start output held is));
   read = filled_by c.args.at c.copying.done c.in-Ok.n _ _ _ false c.copying.invariant.read (record {
     kept = c.in-Ok.ensures.kept;
     cause = c.in-Ok.ensures.cause;

@@ -4,8 +4,8 @@ use Rattle.std.proofs.lemmas.Fn.{filter_same}
 use Rattle.std.proofs.lemmas.List.{nil_from_length}
 use Rattle.std.proofs.lemmas.List.Elements.{All-same}
 use Rattle.std.proofs.lemmas.Bool.Decides.{nat_tests}
-use Rattle.warc_order.specs.Ranking.{Held, joined, lists_of, IsBlock}
-use Rattle.warc_order.proofs.BlockLemmas.{joined-kept, blocks_kept}
+use Rattle.warc_order.specs.Ranking.{Held, flattened, lists_of, IsBlock}
+use Rattle.warc_order.proofs.BlockLemmas.{flattened-kept, blocks_kept}
 use Rattle.warc_order.proofs.ranked.drop_empty.Goals as goal
 
 empty_items : (b : Held) → nat_lt 0 (length b.list) ≡ false → b.list ≡ []
@@ -16,9 +16,9 @@ some_items b e = grind (arith, nat_tests)
 
 pub returns-clause-list : goal.returns-clause-list
 returns-clause-list g c =
-    ap (λ bs. joined (lists_of bs)) (filter_same _ (λ b. nat_lt 0 (length b.list)) _ (λ x b f' k. search rules) _ _
+    ap (λ bs. flattened (lists_of bs)) (filter_same _ (λ b. nat_lt 0 (length b.list)) _ (λ x b f' k. search rules) _ _
     c.retain.ensures.filtered)
-    ∙ joined-kept c.args.blocks.now.items (λ b. nat_lt 0 (length b.list)) empty_items
+    ∙ flattened-kept c.args.blocks.now.items (λ b. nat_lt 0 (length b.list)) empty_items
 
 pub returns-clause-blocks : goal.returns-clause-blocks
 returns-clause-blocks g c =

@@ -1,7 +1,7 @@
 use Rattle.std.proofs.Common.{◌≡◌, ◌<◌, arith, length, ◌∙◌, []}
 use Rattle.std.proofs.lemmas.List.{length-map}
 use Rattle.std.specs.List.{slice_index_or}
-use Rattle.warc_order.specs.Ranking.{joined, lists_of}
+use Rattle.warc_order.specs.Ranking.{flattened, lists_of}
 use Rattle.warc_order.proofs.RankLemmas.{upto_ends}
 use Rattle.warc_order.proofs.StepLemmas.{next_found, fews, ranked_of_strict}
 use Rattle.warc_order.proofs.ranked.next_in.Goals as goal
@@ -15,9 +15,9 @@ overflow_add-behind g c =
 
 pub first_in-requires-clause-order : goal.first_in-requires-clause-order
 first_in-requires-clause-order g c =
-    upto_ends (g.O.SlotOrder.compare c.args.order.now) (joined (lists_of c.args.blocks.now)) c.args.slot
+    upto_ends (g.O.SlotOrder.compare c.args.order.now) (flattened (lists_of c.args.blocks.now)) c.args.slot
     (g.met.O.SlotOrder.total c.args.order.now)
-    (ranked_of_strict (g.O.SlotOrder.compare c.args.order.now) (joined (lists_of c.args.blocks.now)) c.requires.strict)
+    (ranked_of_strict (g.O.SlotOrder.compare c.args.order.now) (flattened (lists_of c.args.blocks.now)) c.requires.strict)
 
 pub returns-then-stands_at : goal.returns-then-stands_at
 returns-then-stands_at g c =

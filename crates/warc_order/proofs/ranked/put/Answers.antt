@@ -1,6 +1,6 @@
 use Rattle.std.proofs.Common.{arith, ap, ◌∙◌, subst, sym, ◌≡◌, length, take, drop}
 use Rattle.std.proofs.lemmas.List.Elements.{All-set, All-same}
-use Rattle.warc_order.specs.Ranking.{joined, lists_of, IsBlock}
+use Rattle.warc_order.specs.Ranking.{flattened, lists_of, IsBlock}
 use Rattle.warc_order.proofs.BlockLemmas.{put_list, put_list-halved, All-insert, halves_are_blocks}
 use Rattle.warc_order.proofs.ranked.put.Goals as goal
 
@@ -20,7 +20,7 @@ returns-in-Ok-clause-blocks g c =
 
 pub returns-in-Ok-clause-list : goal.returns-in-Ok-clause-list
 returns-in-Ok-clause-list g c =
-    ap (λ bs. joined (lists_of bs)) c.in-Ok.ensures.items
+    ap (λ bs. flattened (lists_of bs)) c.in-Ok.ensures.items
     ∙ put_list-halved c.args.blocks.now.items c.args.place.block c.args.place.offset c.args.slot
     c.middle_of-middle.result _ c.move_tail.new.self c.replace-tail.result c.requires.block
     c.index_mut-block.ensures.value c.requires.within

@@ -1,7 +1,7 @@
 use Rattle.std.proofs.Common.{◌≡◌, ℕ, ◌+◌, ◌-◌, ◌<◌, arith, length, sym, ap, ◌∙◌, Some, suc, []}
 use Rattle.std.proofs.lemmas.List.{length-map}
 use Rattle.std.specs.List.{slice_index_or}
-use Rattle.warc_order.specs.Ranking.{joined, lists_of, start_of, before_in, blank}
+use Rattle.warc_order.specs.Ranking.{flattened, lists_of, start_of, before_in, blank}
 use Rattle.warc_order.proofs.BlockLemmas.{somes, some_at}
 use Rattle.warc_order.proofs.StepLemmas.{end_before}
 use Rattle.warc_order.proofs.ranked.slot_before.Goals as goal
@@ -26,7 +26,7 @@ returns-then-place-gt0 g c =
     let at : start_of (lists_of c.args.blocks.now) b + o ≡ suc (start_of (lists_of c.args.blocks.now) b + (o - 1)) =
     omega arith in
     ap Some c.standing_at.ensures
-    ∙ sym (ap (before_in (joined (lists_of c.args.blocks.now))) at
+    ∙ sym (ap (before_in (flattened (lists_of c.args.blocks.now))) at
     ∙ some_at (lists_of c.args.blocks.now) b (o - 1) (omega (arith, n)) (omega arith))
 
 pub returns-then-place-gt0-2 : goal.returns-then-place-gt0-2
@@ -41,5 +41,5 @@ returns-then-place-gt0-2 g c =
     end_before (lists_of c.args.blocks.now) b o (omega arith) (omega (arith, n)) (omega arith) some in
     ap Some (c.standing_at-then-place-gt0-2.ensures ∙ ap (λ m. slice_index_or (slice_index_or (lists_of
     c.args.blocks.now) (b - 1) []) (m - 1) blank) c.length_of-offset.ensures)
-    ∙ sym (ap (before_in (joined (lists_of c.args.blocks.now))) at
+    ∙ sym (ap (before_in (flattened (lists_of c.args.blocks.now))) at
     ∙ some_at (lists_of c.args.blocks.now) (b - 1) last (omega (arith, n)) (omega arith))

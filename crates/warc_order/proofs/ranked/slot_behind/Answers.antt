@@ -1,7 +1,7 @@
 use Rattle.std.proofs.Common.{◌≡◌, ◌+◌, arith, length, sym, ap, ◌∙◌, Some}
 use Rattle.std.proofs.lemmas.List.{length-map}
 use Rattle.std.specs.List.{slice_get}
-use Rattle.warc_order.specs.Ranking.{joined, lists_of}
+use Rattle.warc_order.specs.Ranking.{flattened, lists_of}
 use Rattle.warc_order.proofs.BlockLemmas.{somes, some_at, next_at, none_at}
 use Rattle.warc_order.proofs.ranked.slot_behind.Goals as goal
 
@@ -19,7 +19,7 @@ pub returns-then-place-blocks : goal.returns-then-place-blocks
 returns-then-place-blocks g c =
     let n : length (lists_of c.args.blocks.now) ≡ length c.args.blocks.now = length-map _ _ in
     ap Some c.standing_at-then-place-blocks.ensures
-    ∙ sym (ap (slice_get (joined (lists_of c.args.blocks.now))) (next_at (lists_of c.args.blocks.now)
+    ∙ sym (ap (slice_get (flattened (lists_of c.args.blocks.now))) (next_at (lists_of c.args.blocks.now)
     c.args.place.block c.args.place.offset (omega (arith, n)) (omega arith))
     ∙ some_at (lists_of c.args.blocks.now) (c.args.place.block + 1) 0 (omega (arith, n)) (somes 512 c.args.blocks.now
     c.requires.blocks (c.args.place.block + 1) c.if-place-blocks.true))
