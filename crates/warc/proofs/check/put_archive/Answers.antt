@@ -8,7 +8,7 @@ use Rattle.warc.proofs.check.put_archive.Goals as goal
 pub returns-in-Ok-clause-out : goal.returns-in-Ok-clause-out
 returns-in-Ok-clause-out g c = λ bytes records start output held can is.
     let none : length c.args.rows.now ≡ 0 = search rules in
-    same_staged (ap (λ l. output ++ l) (sym (none_text bytes records c.args.rows.now can none))) (c.in-Ok.ensures.out start output is)
+    same_staged (ap (λ l. output ++ l) (sym (none_text bytes records c.args.rows.now can none))) (c.in-Ok.ensures.puts.out start output is)
 
 pub returns-in-Ok-clause-number : goal.returns-in-Ok-clause-number
 returns-in-Ok-clause-number g c = λ bytes records held can.
@@ -18,7 +18,7 @@ returns-in-Ok-clause-number g c = λ bytes records held can.
 pub returns-in-Err-clause-cut : goal.returns-in-Err-clause-cut
 returns-in-Err-clause-cut g c = λ bytes records start output held can is.
     let none : length c.args.rows.now ≡ 0 = search rules in
-    same_out (ap (λ l. output ++ l) (sym (none_text bytes records c.args.rows.now can none))) (c.in-Err.ensures.cut start output is)
+    same_out (ap (λ l. output ++ l) (sym (none_text bytes records c.args.rows.now can none))) (c.in-Err.ensures.puts.cut start output is)
 
 pub returns-clause-out : goal.returns-clause-out
 returns-clause-out g c = λ bytes records start output held can is.
