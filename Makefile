@@ -1,8 +1,8 @@
 # make           builds the program to bin/warc; what it stands on is proved first
 # make test      everything that must pass, from nothing; the last line is 'N passed, M failed'
 # make check     the quick check while editing: the whole tree, over what earlier checks kept
-# make bench     times the program beside cat and sha1sum, and the decoder, the order of texts and the joining of
-#                segments alone, on what is made under out/
+# make bench     times the program beside cat and sha1sum, and the decoder, the order of texts, the joining of
+#                segments and the index alone, on what is made under out/
 # make install   copies the program to PREFIX/bin
 # make clean     drops what was built and kept
 
@@ -25,6 +25,7 @@ bench: all
 	@python3 bench/decoder.py . out/bench
 	@python3 bench/order.py .
 	@python3 bench/segment.py .
+	@python3 bench/index.py .
 
 install: all
 	install -D bin/warc $(DESTDIR)$(PREFIX)/bin/warc

@@ -27,3 +27,4 @@ pub mod StreamLemmas
 pub mod WholeLemmas
 pub mod TakeLemmas
 mod WorkedValues
+pub mod MigrationLemmas

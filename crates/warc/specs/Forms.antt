@@ -14,6 +14,11 @@ use Rattle.warc.specs.Row.{Row}
 use Rattle.warc.specs.declared.copying.Form.{Form}
 use Rattle.warc.specs.declared.copying.Form.TheVariants.{Canonical, Converted}
 
+-- a record in a form: as it is, or as one of WARC 1.1
+abbrev pub record_as : Form → Record → Record
+record_as Canonical r = r
+record_as Converted r = converted r
+
 -- what is written of a record: its canonical text, or that of the record as one of WARC 1.1
 abbrev pub text_as : Form → Record → List ℕ
 text_as Canonical r = canonical r

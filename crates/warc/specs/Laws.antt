@@ -1,15 +1,22 @@
 -- The laws of archives.
-use Rattle.std.specs.Prelude.{◌≡◌, ◌≢◌, ◌⊎◌, ℕ, ◌^◌, ◌<◌, ◌≤◌, List, ◌++◌, length, map}
+use Rattle.std.specs.Prelude.{◌≡◌, ◌≢◌, ◌⊎◌, ◌↔◌, ℕ, ◌^◌, ◌<◌, ◌≤◌, List, ◌++◌, length, map, Option, Result}
+use Rattle.warc_value.specs.Dates.{Instant}
 use Rattle.warc_frame.specs.Record.{Record, max_archive}
 use Rattle.warc_frame.specs.Spelling.{SpellsAll}
 use Rattle.warc_frame.specs.declared.fault.Fault.{Fault}
 use Rattle.warc_frame.specs.declared.fault.FaultKind.TheVariants.{Truncated}
+use Rattle.warc_answer.specs.Answers.{Given, IsAnswer}
+use Rattle.warc_answer.specs.Replays.{IsReplay}
+use Rattle.warc_answer.specs.declared.answer.Answer.{Answer}
+use Rattle.warc_answer.specs.declared.answer.Reason.{Reason}
+use Rattle.warc_answer.specs.declared.answer.ReplayFault.{ReplayFault}
 use Rattle.warc.specs.Archive.{AreGood, IsArchiveOf, IsFaultOf, contents}
 use Rattle.warc.specs.Checking.{check_text, findings_of_archive}
-use Rattle.warc.specs.Forms.{texts_as}
+use Rattle.warc.specs.Forms.{record_as, texts_as}
 use Rattle.warc.specs.Listing.{listing}
-use Rattle.warc.specs.declared.copying.Form.TheVariants.{Canonical, Converted}
 use Rattle.warc.specs.Row.{Placed, Row, row_of}
+use Rattle.warc.specs.declared.copying.Form.{Form}
+use Rattle.warc.specs.declared.copying.Form.TheVariants.{Canonical, Converted}
 
 -- these good records are spelled by the bytes
 pub record AreSpelledBy (bytes : List ℕ) (records : List Record) : Type 0 where
@@ -50,3 +57,30 @@ OutputsAreCounted = (bytes : List ℕ) (rows : List Row) (is : IsArchiveOf bytes
     → (length (listing rows) < 2 ^ 64) × (length (check_text (contents is.are.records)) < 2 ^ 64)
     × (length (texts_as Canonical (contents is.are.records)) < 2 ^ 64)
     × (length (texts_as Converted (contents is.are.records)) < 2 ^ 64)
+
+-- what is written of good records in a form spells the records in that form
+abbrev pub WrittenSpells : Type 0
+WrittenSpells = (form : Form) (records : List Record) → AreGood records
+    → AreSpelledBy (texts_as form records) (map (record_as form) records)
+
+-- so an archive that is written in a form, and opened, has its records in that form, and no others
+abbrev pub WrittenOpensAsSame : Type 0
+WrittenOpensAsSame = (form : Form) (records : List Record) → AreGood records
+    → (rows : List Row) (is : IsArchiveOf (texts_as form records) rows)
+    → contents is.are.records ≡ map (record_as form) records
+
+-- an archive of what is written of good records as records of WARC 1.1
+abbrev pub IsMigrated : List Record → List Row → Type 0
+IsMigrated records rows = IsArchiveOf (texts_as Converted records) rows
+
+-- it answers as the records do, for each URI and moment
+abbrev pub MigrationKeepsAnswers : Type 0
+MigrationKeepsAnswers = (records : List Record) → AreGood records → (rows : List Row) (is : IsMigrated records rows)
+    → (uri : List ℕ) (moment : Instant) (outcome : Result Given Reason)
+    → IsAnswer (contents is.are.records) uri moment outcome ↔ IsAnswer records uri moment outcome
+
+-- and what a replay of it tells, and what goes out, one of the records may
+abbrev pub MigrationKeepsReplays : Type 0
+MigrationKeepsReplays = (records : List Record) → AreGood records → (rows : List Row) (is : IsMigrated records rows)
+    → (uri : List ℕ) (moment : Instant) (answer : Result Answer ReplayFault) (old new : Option (List ℕ))
+    → IsReplay (contents is.are.records) uri moment answer old new ↔ IsReplay records uri moment answer old new

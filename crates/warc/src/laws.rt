@@ -1,8 +1,11 @@
 //! Laws over the definitions: each function does nothing, and its contract is the law.
-ghost use Rattle.warc.specs.Laws.{ArchivesSpell, FaultsAreStable, FindingsAreCounted, NoFaultWhereSpelled, OneFault, OutputsAreCounted, SomeFaultElse};
+ghost use Rattle.warc.specs.Laws.{ArchivesSpell, FaultsAreStable, FindingsAreCounted, NoFaultWhereSpelled, OneFault};
+ghost use Rattle.warc.specs.Laws.{MigrationKeepsAnswers, MigrationKeepsReplays, OutputsAreCounted, SomeFaultElse};
+ghost use Rattle.warc.specs.Laws.{WrittenOpensAsSame, WrittenSpells};
 
+use warc_answer::laws::conversion_keeps_answers;
 use warc_record::laws::{bare_texts_of_values, findings_are_few, findings_are_short};
-use warc_write::laws::converted_stays_good;
+use warc_write::laws::{converted_stays_good, rendered_opens_as_same};
 
 /// An archive spells good records, in their order, and has a row for each.
 pub fn an_archive_spells_its_records()
@@ -38,4 +41,23 @@ pub fn outputs_are_counted()
     findings_are_few();
     findings_are_short();
     converted_stays_good();
+}
+
+/// What is written of good records in a form spells the records in that form, and an archive of it has no others.
+pub fn written_opens_as_same()
+    ensures spells { WrittenSpells }
+    ensures same { WrittenOpensAsSame }
+{
+    rendered_opens_as_same();
+    converted_stays_good();
+}
+
+/// An archive of what is written of good records as records of WARC 1.1 answers as they do: for each URI and moment it
+/// gives the same body, positions, status, mark and length, or the same reason.
+pub fn migration_keeps_answers()
+    ensures answers { MigrationKeepsAnswers }
+    ensures replays { MigrationKeepsReplays }
+{
+    written_opens_as_same();
+    conversion_keeps_answers();
 }
