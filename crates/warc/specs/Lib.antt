@@ -11,6 +11,7 @@ pub mod Devices
 pub mod Extracting
 pub mod Heads
 pub mod Indexed
+pub mod Keeping
 pub mod Laws
 pub mod Listing
 pub mod Opening

@@ -1,5 +1,5 @@
 -- What the flat lists of an archive hold. States of the code: no public clause cites them.
-use Rattle.std.specs.Prelude.{ℕ, ◌≤◌, List, slice_range}
+use Rattle.std.specs.Prelude.{◌≡◌, ℕ, ◌≤◌, List, [], ◌∷◌, slice_range}
 use Rattle.std.specs.List.{AllByRecursion}
 use Rattle.warc.specs.Row.{Row}
 use Rattle.warc.specs.declared.rows.Entry.{Entry}
@@ -28,3 +28,13 @@ pub record IsWithin (count : ℕ) (e : Entry) : Type 0 where
 
 abbrev pub AreWithin : ℕ → List Entry → Type 0
 AreWithin count entries = AllByRecursion (IsWithin count) entries
+
+-- the texts of the entries lie one behind another from a place on, without a gap, and end at another
+abbrev pub ArePacked : ℕ → List Entry → ℕ → Type 0
+ArePacked start [] end = start ≡ end
+ArePacked start (e ∷ es) end = (e.kind_start ≡ start) × IsWithin e.target_end e × ArePacked e.target_end es end
+
+-- so many bytes are the texts of the entries, and nothing else
+pub record AreFlat (count : ℕ) (entries : List Entry) : Type 0 where
+  pub within : AreWithin count entries
+  pub packed : ArePacked 0 entries count

@@ -1,11 +1,12 @@
 //! An archive: a listing, and beside it what finds its records and joins those in segments.
-ghost use Rattle.std.specs.Prelude.{◌≡◌, List, length, IfErr, IfOk, OnOk, is_err, slice_get, if◌then◌else◌};
+ghost use Rattle.std.specs.Prelude.{◌≡◌, List, length, IfErr, IfOk, OnOk, is_err, min, slice_get, if◌then◌else◌};
 ghost use Rattle.std.specs.Io.KnownBytes.{append_known};
 ghost use Rattle.warc_frame.specs.Count.{raised};
 ghost use Rattle.warc_frame.specs.Seen.{seen, tapped};
 ghost use Rattle.warc_frame.specs.Send.{WentOut, sent_of};
 ghost use Rattle.warc.specs.Checks.{Checks};
 ghost use Rattle.warc.specs.Extracting.{Extracts, position_with};
+ghost use Rattle.warc.specs.Keeping.{kept_bytes};
 ghost use Rattle.warc.specs.Indexed.{AreOf, IsIndexed, archive_of, source_left};
 ghost use Rattle.warc.specs.Listing.{listing};
 ghost use Rattle.warc.specs.Opening.{Opens};
@@ -94,6 +95,15 @@ impl<S: Source, A: Allocator + Copy> Archive<S, A> {
             }
             Err(fault) => Err((fault, source)),
         }
+    }
+
+    /// How many bytes of texts are kept of the records: those that `list` writes, those by which records are found, and
+    /// the keys of the records that segments are of.
+    pub fn kept(&self) -> u64
+        ensures { result ≡ min (kept_bytes self.now) 18446744073709551615 }
+    {
+        let found = self.lookup.index.kept().saturating_add(self.lookup.parts.kept());
+        self.listing.rows.kept().saturating_add(found)
     }
 
     /// The record at a position, as a listing gives it.

@@ -1,10 +1,16 @@
 //! What an archive keeps of its records, in flat lists: where each stands, and its texts one behind another.
-ghost use Rattle.std.specs.Prelude.{◌≡◌, ◌+◌, ◌≤◌, [], ◌∷◌, ◌++◌, length, slice_range, vec_capacity, vec_len, IfSome, OnErr, OnOk};
-ghost use Rattle.std.specs.List.{slice_get};
+ghost use Rattle.std.specs.Prelude.{◌≡◌, ℕ, ◌+◌, ◌≤◌, ◌^◌, List, [], ◌∷◌, ◌++◌, length, take, slice_range, vec_capacity, vec_len, IfSome, OnErr, OnOk};
+ghost use Rattle.std.specs.List.{slice_get, sum_by};
+ghost use Rattle.warc.specs.Archive.{IsArchiveOf};
+ghost use Rattle.warc.specs.Keeping.{texts_len};
 
 use std::alloc::{AllocError, Allocator};
 use std::marker::Model;
+use warc_frame::MAX_ARCHIVE;
 use warc_value::Verdict;
+
+/// How many bytes close a record: CRLF CRLF.
+const CLOSING: u64 = 4;
 
 /// What is kept of a record: where it stands, and the texts of its type, date, id and target.
 #[derive(Drop)]
@@ -72,13 +78,13 @@ pub(crate) struct Rows<A: Allocator> {
 impl<A: Allocator> Model for Rows<A> {
     ghost use Rattle.std.specs.Prelude.{List, length, map};
     ghost use Rattle.warc.specs.Row.{Row as Seen};
-    ghost use Rattle.warc.specs.Rows.{row_at, AreWithin};
+    ghost use Rattle.warc.specs.Rows.{row_at, AreFlat};
 
     ghost Value = { List Seen };
 
     ghost view = { λ r. map (row_at r.texts.items) r.entries.items };
 
-    ghost invariant = { λ r. AreWithin (length r.texts.items) r.entries.items };
+    ghost invariant = { λ r. AreFlat (length r.texts.items) r.entries.items };
 }
 
 /// A part of the bytes.
@@ -92,8 +98,7 @@ fn part(bytes: &[u8], start: usize, end: usize) -> &[u8]
 
 /// How many bytes a row's texts have, if they are fewer than 2^64.
 fn texts_len(row: &Row<'_>) -> Option<usize>
-    ensures { IfSome result (λ n.
-        n ≡ length row.now.kind + length row.now.date + length row.now.id + length row.now.target) }
+    ensures { IfSome result (λ n. n ≡ texts_len row.now) }
 {
     row.kind
         .len()
@@ -156,6 +161,41 @@ impl<A: Allocator + Copy> Rows<A> {
             target_end,
         });
         Ok(())
+    }
+}
+
+impl<A: Allocator> Rows<A> {
+    /// Keeps the first so many rows. It takes no memory.
+    pub(crate) fn truncate(&mut self, count: usize)
+        ensures { self.new ≡ take count self.old }
+    {
+        if let Some(entry) = self.entries.get(count) {
+            let end = entry.kind_start;
+            self.texts.truncate(end);
+            self.entries.truncate(count);
+        }
+    }
+
+    /// The offset behind the last record, at most 2^48.
+    pub(crate) fn end(&self) -> u64
+        ensures limit { result ≤ 2 ^ 48 }
+        ensures end { (bytes : List ℕ) → IsArchiveOf bytes self.now → result ≡ length bytes }
+    {
+        let Some(last) = self.entries.len().checked_sub(1) else {
+            return 0;
+        };
+        let Some(entry) = self.entries.get(last) else {
+            return 0;
+        };
+        let block_end = entry.block_start.saturating_add(entry.block_len);
+        block_end.saturating_add(CLOSING).min(MAX_ARCHIVE)
+    }
+
+    /// How many bytes the texts have.
+    pub(crate) fn kept(&self) -> u64
+        ensures { result ≡ sum_by texts_len self.now }
+    {
+        self.texts.len() as u64
     }
 }
 

@@ -1,8 +1,8 @@
 use Rattle.std.proofs.Common.{rules, ◌≡◌, List, [], ◌∷◌, ◌++◌, length, map, sym, ap, subst, ◌∙◌}
 use Rattle.warc.specs.Row.{Row}
-use Rattle.warc.specs.Rows.{AreWithin, row_at}
+use Rattle.warc.specs.Rows.{AreFlat, row_at}
 use Rattle.warc.specs.declared.rows.Entry.{Entry}
-use Rattle.warc.proofs.RowLemmas.{all_within, rows_added}
+use Rattle.warc.proofs.RowLemmas.{added_within, all_within, flat_more, rows_added}
 use Rattle.warc.proofs.rows.Rows.push.Goals as goal
 
 pub invariant_of-self-2 : goal.invariant_of-self-2
@@ -35,8 +35,10 @@ invariant_of-self-2 g c =
     let f : c.put-id_end.result ≡ length t3 = search rules in
     let j : c.put-target_end.result ≡ length t4 = search rules in
     let pushed : c.push_reserved.new.self.items ≡ c.self.inside.entries.items ++ e ∷ [] = search rules in
-    let P : List Entry → Type 0 = λ es. AreWithin (length t4) es in
-    subst P (sym pushed) (all_within t row.kind.now row.date.now row.id.now row.target.now t1 t2 t3 t4 e h1 h2 h3 h4 a b d f j c.self.inside.entries.items c.self.invariant)
+    let P : List Entry → Type 0 = λ es. AreFlat (length t4) es in
+    let within = all_within t row.kind.now row.date.now row.id.now row.target.now t1 t2 t3 t4 e h1 h2 h3 h4 a b d f j c.self.inside.entries.items c.self.invariant.within in
+    let last = added_within t row.kind.now row.date.now row.id.now row.target.now t1 t2 t3 t4 e h1 h2 h3 h4 a b d f j in
+    subst P (sym pushed) (flat_more (length t) (length t4) c.self.inside.entries.items e c.self.invariant a j last within)
 
 pub returns-clause-ok : goal.returns-clause-ok
 returns-clause-ok g c =
@@ -69,6 +71,6 @@ returns-clause-ok g c =
     let j : c.put-target_end.result ≡ length t4 = search rules in
     let pushed : c.push_reserved.new.self.items ≡ c.self.inside.entries.items ++ e ∷ [] = search rules in
     ap (map (row_at t4)) pushed
-    ∙ rows_added t row.kind.now row.date.now row.id.now row.target.now t1 t2 t3 t4 e h1 h2 h3 h4 a b d f j c.self.inside.entries.items c.self.invariant
+    ∙ rows_added t row.kind.now row.date.now row.id.now row.target.now t1 t2 t3 t4 e h1 h2 h3 h4 a b d f j c.self.inside.entries.items c.self.invariant.within
     ∙ ap (λ rows. rows ++ record { offset = row.offset; block_start = row.block_start; block_len = row.block_len; verdict = row.verdict; is_truncated = row.is_truncated; kind = row.kind.now; date = row.date.now; id = row.id.now; target = row.target.now } ∷ []) c.self.view_is
     ∙ ap (λ (r : Row). c.args.self.now ++ r ∷ []) c.row.view_is
