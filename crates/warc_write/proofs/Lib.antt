@@ -11,3 +11,4 @@ mod PieceLemmas
 mod SeriesLemmas
 mod ReadingLemmas
 mod JoinLemmas
+mod CutLemmas

@@ -1,10 +1,9 @@
 -- Texts put together from pieces.
 use Rattle.std.proofs.Common.{◌≡◌, ℕ, ◌+◌, ◌<◌, List, [], ◌∷◌, ◌++◌, length, take, drop, get_or, append_assoc}
-use Rattle.std.proofs.Common.{map, Bor, refl, sym, ap, subst, ◌∙◌, Option}
+use Rattle.std.proofs.Common.{refl, sym, ap, subst, ◌∙◌}
 use Rattle.std.proofs.lemmas.Grind.{flat_map-append}
-use Rattle.std.proofs.lemmas.List.{append-nil, map-append, take_more, take-append-drop}
-use Rattle.std.proofs.lemmas.List.Folds.{concat-append}
-use Rattle.std.specs.List.{concat, flat_map}
+use Rattle.std.proofs.lemmas.List.{append-nil, take_more, take-append-drop}
+use Rattle.std.specs.List.{flat_map}
 use Rattle.warc_field.specs.Area.{Pair, canonical_line, canonical_fields}
 use Rattle.warc_field.specs.Lines.{crlf}
 use Rattle.warc_frame.specs.VersionLine.{version_line}

@@ -4,4 +4,5 @@ pub mod Rendering
 pub mod Conversion
 pub mod Making
 pub mod Splitting
+pub mod Cutting
 pub mod Joining

@@ -2,6 +2,7 @@
 #![tactic(auto)]
 
 mod conversion;
+mod cutting;
 pub mod laws;
 mod making;
 mod parts;
@@ -10,6 +11,7 @@ mod splitting;
 mod written;
 
 pub use conversion::{convert, convert_fields};
+pub use cutting::cut;
 pub use making::{MakeFault, make};
 pub use sending::{put_head, render};
-pub use splitting::{Part, SplitFault, segment_head, split, splittable};
+pub use splitting::{Part, SplitFault, part_at, segment_count, segment_head, split, splittable};

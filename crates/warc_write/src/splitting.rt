@@ -1,5 +1,5 @@
 //! Records split into segments.
-ghost use Rattle.std.specs.Prelude.{◌≡◌, [], ◌∷◌, ◌++◌, true, IfOk, ◌+◌, ◌-◌, ◌*◌, ◌<◌, length, IfErr, OnOk};
+ghost use Rattle.std.specs.Prelude.{◌≡◌, ℕ, List, [], ◌∷◌, ◌++◌, true, IfOk, ◌+◌, ◌-◌, ◌*◌, ◌<◌, length, IfErr, OnOk};
 ghost use Rattle.std.specs.Prelude.{Ok, Err, Some, is_none, is_some, decimal};
 ghost use Rattle.std.specs.List.{list_all};
 ghost use Rattle.warc_field.specs.Text.{is_value};
@@ -10,7 +10,8 @@ ghost use Rattle.warc_write.specs.Joining.{Join};
 ghost use Rattle.warc_write.specs.Rendering.{AllGood};
 ghost use Rattle.warc_write.specs.Splitting.{AllFramed, OrMemory, RefusesSegment, count_of};
 ghost use Rattle.warc_record.specs.Blocks.{has_bad_digest};
-ghost use Rattle.warc_write.specs.Splitting.{has_room, split_of, part_of, piece_at, segment_of, segments_of};
+ghost use Rattle.warc_write.specs.Splitting.{has_room, split_of, piece_at, segment_of, segments_of};
+ghost use Rattle.warc_write.specs.Cutting.{part_with};
 ghost use Rattle.warc_write.specs.Splitting.{RefusesHead, Splits, first_fields, is_segmented, kept};
 ghost use Rattle.warc_write.specs.Splitting.{may_be_split, next_fields, origin_fields};
 ghost use Rattle.warc_write.specs.Splitting.{segment_fields, split_fault_text, splittable, total_fields};
@@ -320,8 +321,8 @@ pub fn segment_head<A: Allocator + Copy>(
     }
 }
 
-/// How many pieces of so many bytes a block is cut into.
-fn count_of(size: u64, len: u64) -> u64
+/// How many segments of so many bytes each a block of `len` bytes is cut into, the last one shorter or equal.
+pub fn segment_count(size: u64, len: u64) -> u64
     requires some { 0 < size }
     requires more { 0 < len }
     ensures count { result ≡ count_of size len }
@@ -343,18 +344,19 @@ fn piece_at(block: &[u8], size: u64, at: u64) -> &[u8]
     }
 }
 
-/// What the head of the segment at a place is to say of it.
-fn part_of(piece: &[u8], size: u64, len: u64, at: u64) -> Part
+/// What the head of the segment at a place, counted from 0, is to say of it, where a block of `len` bytes is cut into
+/// segments of `size` bytes and this is the SHA-1 of the segment's bytes.
+pub fn part_at(size: u64, len: u64, at: u64, digest: [u8; 20]) -> Part
     requires some { 0 < size }
     requires inside { at * size < len }
-    ensures { result ≡ part_of size len piece.now at }
+    ensures { (block : List ℕ) → length block ≡ len → result ≡ part_with size len (piece_at size block at) at digest }
 {
-    let is_last = at + 1 == count_of(size, len);
+    let is_last = at + 1 == segment_count(size, len);
     Part {
         number: at + 1,
         total: if is_last { Some(len) } else { None },
-        len: piece.len() as u64,
-        digest: digest(piece),
+        len: size.min(len - at * size),
+        digest,
     }
 }
 
@@ -374,7 +376,7 @@ fn segment<A: Allocator + Copy>(
 {
     let block = framed.block();
     let piece = piece_at(block, size, at);
-    let part = part_of(piece, size, block.len() as u64, at);
+    let part = part_at(size, block.len() as u64, at, digest(piece));
     let fields = segment_head(alloc, framed.fields(), uuid, &part)?;
     match Framed::new(framed.version(), fields, Vec::from_slice(alloc, piece)?) {
         Ok(segment) => Ok(segment),
@@ -394,7 +396,7 @@ fn segments<A: Allocator + Copy>(
     ensures made { IfOk result (λ all. (all.items ≡ segments_of framed.now uuid.now size) × AllFramed all.items) }
     ensures long { IfErr result (RefusesSegment (list_all has_room (segments_of framed.now uuid.now size))) }
 {
-    let count = count_of(size, framed.block().len() as u64);
+    let count = segment_count(size, framed.block().len() as u64);
     let mut all = Vec::with_capacity(alloc, count as usize)?;
     for at in 0..count {
         let next = match segment(alloc, framed, uuid, size, at) {

@@ -1,4 +1,4 @@
-use Rattle.std.proofs.Common.{rules, ◌++◌, ◌∙◌, ap, refl}
+use Rattle.std.proofs.Common.{rules, ◌++◌}
 use Rattle.std.proofs.lemmas.Result.{IfErr-weaker, on_ok_weaker}
 use Rattle.warc_field.specs.Area.{canonical_fields}
 use Rattle.warc_field.specs.Lines.{crlf}

@@ -18,8 +18,8 @@ loop-at-preserved g c =
 pub returns-in-Err-clause-long : goal.returns-in-Err-clause-long
 returns-in-Err-clause-long g c =
     let block = c.args.framed.now.block in
-    let count : c.count_of-count.result ≡ count_of c.args.size (length block) =
-    c.count_of-count.ensures.count ∙ ap (λ b. count_of c.args.size (length b)) c.block.ensures.block in
+    let count : c.segment_count-count.result ≡ count_of c.args.size (length block) =
+    c.segment_count-count.ensures.count ∙ ap (λ b. count_of c.args.size (length b)) c.block.ensures.block in
     let test = c.loop-at-test.true in
     let below : c.loop-at.at < count_of c.args.size (length block) = omega (arith, test, count) in
     refuses_all c.in-Err.fault _ (list_all has_room (segments_of c.args.framed.now c.args.uuid.now c.args.size))
