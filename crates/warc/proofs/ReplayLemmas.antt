@@ -1,10 +1,11 @@
 -- What a replay gives over the bytes of an archive.
-use Rattle.std.proofs.Common.{◌≡◌, ℕ, zero, suc, ◌+◌, ◌-◌, ◌*◌, ◌<◌, ◌≤◌, List, [], ◌∷◌, length, map, take, drop, Some, None, Ok, Err, refl, sym, ap, subst, ◌∙◌, arith}
+use Rattle.std.proofs.Common.{◌≡◌, inl, inr, Bool, false, ℕ, zero, suc, ◌+◌, ◌-◌, ◌*◌, ◌<◌, ◌≤◌, List, [], ◌∷◌, length, map, take, drop, Some, None, Ok, Err, refl, sym, ap, subst, ◌∙◌, arith}
 use Rattle.std.specs.Prelude.{Option, Result, option_map}
 use Rattle.std.specs.List.{slice_get}
 use Rattle.std.proofs.lemmas.List.Sums.{sum_by-cons}
 use Rattle.warc_value.specs.Dates.{Instant}
 use Rattle.warc_frame.specs.Failing.{HasFailedBy, MayHaveFailedBy}
+use Rattle.warc_frame.specs.Seen.{AsksOnly, Tapped}
 use Rattle.warc_frame.specs.Send.{sent_of}
 use Rattle.warc_record.specs.Readings.{reading_of}
 use Rattle.std.proofs.lemmas.List.{length-map}
@@ -21,17 +22,18 @@ use Rattle.warc_segment.specs.declared.place.Place.{Place}
 use Rattle.warc_answer.specs.Answers.{index_of, path_of}
 use Rattle.warc_answer.specs.Laws.{IsFound, PlacesAreAsLong}
 use Rattle.warc_answer.specs.Payloads.{read_record}
-use Rattle.warc_answer.specs.Places.{len_of}
+use Rattle.warc_answer.specs.Places.{IsAt, len_of}
 use Rattle.warc_answer.specs.declared.answer.Path.{Path}
 use Rattle.warc.specs.Archive.{contents}
-use Rattle.warc.specs.Heads.{heads_len}
+use Rattle.warc.specs.Heads.{IsInHead, ReadsHeads, heads_len}
 use Rattle.warc.specs.Indexed.{indexed_record, place_of, placed_record}
-use Rattle.warc.specs.Replaying.{joined_len, most_reads, origin_reads, path_reads}
+use Rattle.warc.specs.Replaying.{IsJoined, IsOfOrigin, IsOnPath, IsWanted, joined_len, most_reads, origin_reads, path_reads}
 use Rattle.warc.specs.Examining.{HasFailed, MayHaveFailed, halted}
 use Rattle.warc.specs.Row.{Placed, Row, row_of}
 use Rattle.warc.specs.Standing.{IsOrigin, IsWritten}
 use Rattle.warc.specs.declared.heads.Halt.{Halt}
 use Rattle.warc.specs.declared.heads.Halt.TheVariants.{Read, Memory}
+use Rattle.warc.proofs.ReadLemmas.{one_row}
 use Rattle.warc.proofs.StandLemmas.{written}
 
 -- the records, read
@@ -169,3 +171,38 @@ join_gap {A} r gap joined is join = let P : Result (Vec Place A) JoinFault → T
 pub most_is : (records : List Placed) (uri : List ℕ) (moment : Instant) (path : Path) (p : Placed) → path_of (map indexed_record records) uri moment ≡ Ok path → slice_get records path.given ≡ Some p
     → most_reads records uri moment ≡ origin_reads records (Some p)
 most_is records uri moment path p is there = ap (path_reads records) is ∙ ap (origin_reads records) there
+
+-- a source that watches none of these offsets has been asked for none that it watches
+abbrev Asks : (ℕ → Type 0) → (ℕ → Bool) → ℕ → ℕ → Type 0
+Asks These watches old new = ((at : ℕ) → These at → watches at ≡ false) → new ≡ old
+
+-- the bytes at the joined places are those of the blocks that are joined to the origin
+pub near_joined : (records : List Placed) (p : Placed) (q : PlacedRecord) (places items : List Place) (watches : ℕ → Bool) (old new : ℕ) → q.head ≡ reading_of p.content.fields → q.place ≡ place_of p
+    → joined_places (map placed_record records) q ≡ Ok items → places ≡ items → Asks (IsAt places) watches old new
+    → Asks (IsJoined (joined_places (map placed_record records) (placed_record p))) watches old new
+near_joined records p q places items watches old new head place is same near =
+    let by_head : ◌≡◌ {A = PlacedRecord} q (record { head = reading_of p.content.fields; place = q.place }) = ap (λ h. let x : PlacedRecord = record { head = h; place = q.place } in x) head in
+    let by_place : ◌≡◌ {A = PlacedRecord} (record { head = reading_of p.content.fields; place = q.place }) (placed_record p) = ap (λ y. let x : PlacedRecord = record { head = reading_of p.content.fields; place = y } in x) place in
+    let whole : joined_places (map placed_record records) (placed_record p) ≡ Ok items = ap (joined_places (map placed_record records)) (sym (by_head ∙ by_place)) ∙ is in
+    λ off. near (λ at in_. off at (subst (λ r. IsJoined r at) (sym whole) (subst (λ (l : List Place). IsAt l at) same in_)))
+
+in_own_head : (p : Placed) (row : Row) (at : ℕ) → row ≡ row_of p → IsInHead (row ∷ []) at → (p.offset ≤ at) × (at < p.block_start)
+in_own_head p row at same in_ =
+    let other = one_row row in_.row in_.place in_.is in
+    (omega (arith, in_.from, ap (λ (r : Row). r.offset) (sym other ∙ same)), omega (arith, in_.to, ap (λ (r : Row). r.block_start) (sym other ∙ same)))
+
+-- a head that isn't read again: no other byte was asked for
+pub near_head : (records : List Placed) (p : Placed) (row : Row) (old new : Tapped) → row ≡ row_of p → ReadsHeads (row ∷ []) old new → AsksOnly (IsOfOrigin records (Some p)) old new
+near_head records p row old new same head = λ off. head.near (λ at in_. off at (inl (in_own_head p row at same in_)))
+
+-- the head, and then the joined blocks
+pub near_origin : (records : List Placed) (p : Placed) (row : Row) (old mid : Tapped) (new : ℕ) → row ≡ row_of p → ReadsHeads (row ∷ []) old mid
+    → Asks (IsJoined (joined_places (map placed_record records) (placed_record p))) mid.watches mid.strays new → Asks (IsOfOrigin records (Some p)) old.watches old.strays new
+near_origin records p row old mid new same head joined =
+    λ off. joined (λ at in_. ap (λ (w : ℕ → Bool). w at) head.watched ∙ off at (inr in_)) ∙ near_head records p row old mid same head off
+
+-- what is read for the origin is wanted
+pub near_path : (records : List Placed) (uri : List ℕ) (moment : Instant) (path : Path) (p : Placed) (watches : ℕ → Bool) (old new : ℕ) → path_of (map indexed_record records) uri moment ≡ Ok path
+    → slice_get records path.given ≡ Some p → Asks (IsOfOrigin records (Some p)) watches old new → Asks (IsWanted records uri moment) watches old new
+near_path records uri moment path p watches old new is there near =
+    λ off. near (λ at in_. off at (subst (λ r. IsOnPath records r at) (sym is) (subst (λ o. IsOfOrigin records o at) (sym there) in_)))

@@ -8,6 +8,8 @@ use Rattle.warc.specs.declared.words.Command.TheVariants as command
 abbrev pub view_of : Command → Text × List Text
 view_of (command.List archive) = (codes "list", archive.now ∷ [])
 view_of (command.Check archive) = (codes "check", archive.now ∷ [])
+view_of (command.Extract archive id) = (codes "extract", archive.now ∷ id.now ∷ [])
+view_of (command.Replay archive uri date) = (codes "replay", archive.now ∷ uri.now ∷ date.now ∷ [])
 view_of (command.Rewrite archive) = (codes "rewrite", archive.now ∷ [])
 view_of (command.Convert archive) = (codes "convert", archive.now ∷ [])
 
@@ -15,5 +17,7 @@ view_of (command.Convert archive) = (codes "convert", archive.now ∷ [])
 abbrev pub path_of : Command → Text
 path_of (command.List archive) = archive.now
 path_of (command.Check archive) = archive.now
+path_of (command.Extract archive id) = archive.now
+path_of (command.Replay archive uri date) = archive.now
 path_of (command.Rewrite archive) = archive.now
 path_of (command.Convert archive) = archive.now

@@ -27,6 +27,8 @@ abbrev pub layouts : List Layout
 layouts =
     list_layout
     ∷ layout (codes "check") (codes "archive" ∷ [])
+    ∷ layout (codes "extract") (codes "archive" ∷ codes "id" ∷ [])
+    ∷ layout (codes "replay") (codes "archive" ∷ codes "uri" ∷ codes "date" ∷ [])
     ∷ layout (codes "rewrite") (codes "archive" ∷ [])
     ∷ layout (codes "convert") (codes "archive" ∷ [])
     ∷ []

@@ -1,6 +1,11 @@
 -- How a run of the program ends: what went to its two sinks, and its exit status.
-use Rattle.std.specs.Prelude.{◌≡◌, ℕ, ◌+◌, ◌^◌, ◌<◌, ◌≤◌, List, [], ◌∷◌, ◌++◌, length, take, codes, Err, ◌⊎◌, true, false, string_bytes}
+use Rattle.std.specs.Prelude.{◌≡◌, ℕ, ◌+◌, ◌^◌, ◌<◌, ◌≤◌, Bool, List, [], ◌∷◌, ◌++◌, length, take, codes, decimal, Option, Some, None, Result, Ok, Err, ◌⊎◌, true, false, string_bytes}
 use Rattle.std.specs.Io.KnownBytes.{append_known}
+use Rattle.warc_answer.specs.ReasonText.{replay_fault_text}
+use Rattle.warc_answer.specs.Replays.{IsReplay, IsSilent, out_result}
+use Rattle.warc_answer.specs.declared.answer.Answer.{Answer}
+use Rattle.warc_answer.specs.declared.answer.ReplayFault.{ReplayFault}
+use Rattle.warc_answer.specs.declared.answer.ReplayFault.TheVariants.{Reason, Out as ReplayOut}
 use Rattle.warc_frame.specs.Count.{raised}
 use Rattle.warc_frame.specs.FaultText.{fault_text, out_fault_text}
 use Rattle.warc_frame.specs.Record.{Record, max_archive}
@@ -11,9 +16,14 @@ use Rattle.warc_frame.specs.declared.fault.FaultKind.{FaultKind}
 use Rattle.warc_frame.specs.declared.fault.FaultKind.TheVariants.{Read, Memory}
 use Rattle.warc_frame.specs.declared.fault.OutFault.{OutFault}
 use Rattle.warc_frame.specs.declared.fault.OutFault.TheVariants.{Write, Memory as NoMemory}
+use Rattle.warc_value.specs.Dates.{Instant, instant_of}
+use Rattle.warc.specs.Extracting.{IsExtract, extract_result, extracted}
 use Rattle.warc.specs.Forms.{texts_as}
+use Rattle.warc.specs.TakeText.{extract_fault_text}
 use Rattle.warc.specs.declared.copying.Form.{Form}
 use Rattle.warc.specs.declared.copying.Form.TheVariants.{Canonical, Converted}
+use Rattle.warc.specs.declared.fault.ExtractFault.{ExtractFault}
+use Rattle.warc.specs.declared.fault.ExtractFault.TheVariants.{NoRecord, Out as ExtractOut}
 use Rattle.warc.specs.declared.words.Command.{Command}
 use Rattle.warc.specs.declared.words.Command.TheVariants as command
 use Rattle.warc.specs.declared.words.CommandFault.{CommandFault}
@@ -21,7 +31,7 @@ use Rattle.warc.specs.declared.words.CommandFault.TheVariants.{Usage, Memory as 
 use Rattle.warc.specs.Opening.{IsRefusalOf, faults_after}
 use Rattle.warc.specs.Archive.{AreGood, IsArchiveOf}
 use Rattle.warc.specs.Checking.{Line, check_text, findings_of_archive}
-use Rattle.warc_frame.specs.Failing.{HasFailedBy, MayHaveFailedBy, failed_with}
+use Rattle.warc_frame.specs.Failing.{HasFailedBy, MayHaveFailedBy, failed_by, failed_with}
 use Rattle.warc.specs.Listing.{listing}
 use Rattle.warc.specs.Row.{Row}
 use Rattle.warc.specs.Devices.{Devices}
@@ -130,6 +140,98 @@ abbrev pub CheckEnds : Devices → Devices → ℕ → Type 0
 CheckEnds old new status =
     IsChecked old new status ⊎ (IsNotOpened old new status ⊎ IsCutOff check_text old new status)
 
+-- a line was told, or none
+abbrev pub TellsIf : Option (List ℕ) → Seen → Seen → Type 0
+TellsIf None old new = new ≡ old
+TellsIf (Some line) old new = Tells line old new
+
+-- the line that `extract` tells by what was answered, none where the whole block was written; and its status
+abbrev pub extract_line : Result ℕ ExtractFault → Option (List ℕ)
+extract_line (Ok n) = None
+extract_line (Err fault) = Some (told_line (extract_fault_text fault))
+
+abbrev pub extract_status : Result ℕ ExtractFault → ℕ
+extract_status (Ok n) = 0
+extract_status (Err NoRecord) = 1
+extract_status (Err (ExtractOut e)) = 3
+
+-- the block of the first record with the id, of those that the bytes spell, went out as was answered
+pub record IsExtractOf (id : List ℕ) (answer : Result ℕ ExtractFault) (bytes : List ℕ) (old new : Devices) : Type 0 where
+  pub rows : List Row
+  pub is : IsArchiveOf bytes rows
+  pub told : IsExtract (extracted is.are.records id) answer old.out.tells new.out.tells
+  pub source : HasFailedBy (extract_result answer) old.source.faults new.source.faults
+
+-- the archive was opened, and a block was asked for
+pub record IsExtracted (id : List ℕ) (old new : Devices) (status : ℕ) : Type 0 where
+  pub answer : Result ℕ ExtractFault
+  pub is : IfHeld old.source.holds (λ bytes. IsExtractOf id answer bytes old new)
+  pub silent : answer ≡ Err NoRecord → new.out.tells ≡ old.out.tells
+  pub source : MayHaveFailedBy (extract_result answer) old.source.faults new.source.faults
+  pub failed : new.out.faults ≡ failed_by (extract_result answer) old.out.faults
+  pub told : TellsIf (extract_line answer) old.err new.err
+  pub status_is : status ≡ extract_status answer
+
+-- how `extract` ends
+abbrev pub ExtractEnds : List ℕ → Devices → Devices → ℕ → Type 0
+ExtractEnds id old new status = IsExtracted id old new status ⊎ IsNotOpened old new status
+
+-- a number in decimal digits, or a dash where there is none
+abbrev pub number_or_dash : Option ℕ → List ℕ
+number_or_dash None = codes "-"
+number_or_dash (Some number) = decimal number
+
+abbrev pub yes_or_no : Bool → List ℕ
+yes_or_no true = codes "yes"
+yes_or_no false = codes "no"
+
+-- what is said of a body that was given
+abbrev pub answer_text : Answer → List ℕ
+answer_text answer =
+    codes "chosen " ++ decimal answer.chosen ++ codes " given " ++ decimal answer.given
+    ++ codes " status " ++ number_or_dash answer.status
+    ++ codes " truncated " ++ yes_or_no answer.truncated ++ codes " length " ++ decimal answer.length
+
+-- the line that `replay` tells by what was answered, and its status
+abbrev pub replay_line : Result Answer ReplayFault → List ℕ
+replay_line (Ok answer) = answer_text answer ++ codes "\n"
+replay_line (Err fault) = told_line (replay_fault_text fault)
+
+abbrev pub replay_status : Result Answer ReplayFault → ℕ
+replay_status (Ok answer) = 0
+replay_status (Err (Reason why)) = 1
+replay_status (Err (ReplayOut e)) = 3
+
+-- the body that the records give which the bytes spell went out as was answered
+pub record IsReplayOf (uri : List ℕ) (moment : Instant) (answer : Result Answer ReplayFault) (bytes : List ℕ)
+    (old new : Devices) : Type 0 where
+  pub records : List Record
+  pub are : AreGoodRecordsOf bytes records
+  pub told : IsReplay records uri moment answer old.out.tells new.out.tells
+  pub source : HasFailedBy (out_result answer) old.source.faults new.source.faults
+
+-- the archive was opened, and a body was asked for
+pub record IsReplayed (uri : List ℕ) (moment : Instant) (old new : Devices) (status : ℕ) : Type 0 where
+  pub answer : Result Answer ReplayFault
+  pub is : IfHeld old.source.holds (λ bytes. IsReplayOf uri moment answer bytes old new)
+  pub silent : IsSilent answer old.out.tells new.out.tells
+  pub source : MayHaveFailedBy (out_result answer) old.source.faults new.source.faults
+  pub failed : new.out.faults ≡ failed_by (out_result answer) old.out.faults
+  pub told : Tells (replay_line answer) old.err new.err
+  pub status_is : status ≡ replay_status answer
+
+-- the text isn't a date: nothing was read or written
+pub record IsBadDate (old new : Devices) (status : ℕ) : Type 0 where
+  pub unread : new.source ≡ old.source
+  pub untouched : new.out ≡ old.out
+  pub told : Tells (told_line (codes "bad date")) old.err new.err
+  pub status_is : status ≡ 3
+
+-- how `replay` ends, as of the first instant of a date
+abbrev pub ReplayEnds : List ℕ → Option Instant → Devices → Devices → ℕ → Type 0
+ReplayEnds uri None old new status = IsBadDate old new status
+ReplayEnds uri (Some moment) old new status = IsReplayed uri moment old new status ⊎ IsNotOpened old new status
+
 -- the good records that the bytes spell were written in a form
 pub record IsWrittenOf (form : Form) (bytes : List ℕ) (old new : Seen) : Type 0 where
   pub records : List Record
@@ -152,6 +254,8 @@ WriteEnds form old new status =
 abbrev pub Ends : Command → Devices → Devices → ℕ → Type 0
 Ends (command.List archive) old new status = ListEnds old new status
 Ends (command.Check archive) old new status = CheckEnds old new status
+Ends (command.Extract archive id) old new status = ExtractEnds id.now old new status
+Ends (command.Replay archive uri date) old new status = ReplayEnds uri.now (instant_of date.now) old new status
 Ends (command.Rewrite archive) old new status = WriteEnds Canonical old new status
 Ends (command.Convert archive) old new status = WriteEnds Converted old new status
 
@@ -159,6 +263,8 @@ Ends (command.Convert archive) old new status = WriteEnds Converted old new stat
 abbrev pub IsStatusOf : Command → ℕ → Type 0
 IsStatusOf (command.List archive) status = (status ≡ 0) ⊎ ((status ≡ 2) ⊎ (status ≡ 3))
 IsStatusOf (command.Check archive) status = (status ≡ 0) ⊎ ((status ≡ 1) ⊎ ((status ≡ 2) ⊎ (status ≡ 3)))
+IsStatusOf (command.Extract archive id) status = (status ≡ 0) ⊎ ((status ≡ 1) ⊎ ((status ≡ 2) ⊎ (status ≡ 3)))
+IsStatusOf (command.Replay archive uri date) status = (status ≡ 0) ⊎ ((status ≡ 1) ⊎ ((status ≡ 2) ⊎ (status ≡ 3)))
 IsStatusOf (command.Rewrite archive) status = (status ≡ 0) ⊎ ((status ≡ 2) ⊎ (status ≡ 3))
 IsStatusOf (command.Convert archive) status = (status ≡ 0) ⊎ ((status ≡ 2) ⊎ (status ≡ 3))
 

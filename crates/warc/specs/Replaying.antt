@@ -1,13 +1,15 @@
 -- What a replay from an archive answers, what goes out, and how often the source is read.
-use Rattle.std.specs.Prelude.{◌≡◌, ℕ, ◌+◌, ◌-◌, ◌*◌, ◌≤◌, List, length, map, slice_get, Option, Some, None, Result, Ok, Err}
+use Rattle.std.specs.Prelude.{◌≡◌, ℕ, ◌+◌, ◌-◌, ◌*◌, ◌<◌, ◌≤◌, ◌⊎◌, List, length, map, slice_get, Option, Some, None, Result, Ok, Err}
 use Rattle.warc_value.specs.Dates.{Instant}
 use Rattle.warc_frame.specs.Failing.{HasFailedBy, MayHaveFailedBy, failed_by}
-use Rattle.warc_frame.specs.Seen.{IfHeld, Seen, Tapped}
+use Rattle.warc_frame.specs.Seen.{AsksOnly, IfHeld, Seen, Tapped}
 use Rattle.warc_index.specs.declared.unfound.Unfound.{Unfound}
-use Rattle.warc_segment.specs.Joined.{ReadRecord, joined_records}
+use Rattle.warc_segment.specs.Joined.{ReadRecord, joined_places, joined_records}
 use Rattle.warc_segment.specs.declared.gap.Gap.{Gap}
+use Rattle.warc_segment.specs.declared.place.Place.{Place}
 use Rattle.warc_answer.specs.Answers.{path_of}
 use Rattle.warc_answer.specs.Payloads.{read_record, whole_block}
+use Rattle.warc_answer.specs.Places.{IsAt}
 use Rattle.warc_answer.specs.Replays.{IsReplay, IsSilent, out_result}
 use Rattle.warc_answer.specs.declared.answer.Answer.{Answer}
 use Rattle.warc_answer.specs.declared.answer.Path.{Path}
@@ -15,7 +17,7 @@ use Rattle.warc_answer.specs.declared.answer.ReplayFault.{ReplayFault}
 use Rattle.warc_index.specs.Orders.{Kept as Indexes}
 use Rattle.warc_segment.specs.Kept.{Kept as Parts}
 use Rattle.warc.specs.Archive.{IsArchiveOf, contents}
-use Rattle.warc.specs.Indexed.{AreOf, indexed_record}
+use Rattle.warc.specs.Indexed.{AreOf, indexed_record, placed_record}
 use Rattle.warc.specs.Row.{Placed, Row}
 
 -- how many bytes the blocks have that are joined, none where they don't join
@@ -38,9 +40,28 @@ path_reads all (Err unfound) = 0
 abbrev pub most_reads : List Placed → List ℕ → Instant → ℕ
 most_reads all uri moment = path_reads all (path_of (map indexed_record all) uri moment)
 
+-- the offset of a byte of a block that is joined, of none where they don't join
+abbrev pub IsJoined : Result (List Place) Gap → ℕ → Type 0
+IsJoined (Ok places) at = IsAt places at
+IsJoined (Err gap) at = ⊥
+
+-- the offset of a byte of an origin's head, or of a block that is joined to its own
+abbrev pub IsOfOrigin : List Placed → Option Placed → ℕ → Type 0
+IsOfOrigin all None at = ⊥
+IsOfOrigin all (Some p) at =
+    ((p.offset ≤ at) × (at < p.block_start)) ⊎ IsJoined (joined_places (map placed_record all) (placed_record p)) at
+
+-- of none where there is no origin
+abbrev pub IsOnPath : List Placed → Result Path Unfound → ℕ → Type 0
+IsOnPath all (Ok path) at = IsOfOrigin all (slice_get all path.given) at
+IsOnPath all (Err unfound) at = ⊥
+
+abbrev pub IsWanted : List Placed → List ℕ → Instant → ℕ → Type 0
+IsWanted all uri moment at = IsOnPath all (path_of (map indexed_record all) uri moment) at
+
 -- A replay for a URI as of a moment, by rows, an index and parts. Where the archive's source holds its bytes, what goes out and what is answered are
--- as the definition of the answer says of its records, in so many reads at most, and the source has failed once more
--- exactly where a read is told. Any source still holds what it held; before a reason nothing goes out
+-- as the definition of the answer says of its records, in so many reads at most, of the origin's head and the joined
+-- blocks alone, and the source has failed once more exactly where a read is told. Any source still holds what it held; before a reason nothing goes out
 pub record Replays (rows : List Row) (index : Indexes) (parts : Parts) (uri : List ℕ) (moment : Instant)
     (old new : Tapped) (before after : Seen) (answer : Result Answer ReplayFault) : Type 0 where
   pub told : IfHeld old.holds (λ bytes. (is : IsArchiveOf bytes rows) → AreOf is.are.records index parts
@@ -49,6 +70,8 @@ pub record Replays (rows : List Row) (index : Indexes) (parts : Parts) (uri : Li
       → HasFailedBy (out_result answer) old.faults new.faults)
   pub cost : IfHeld old.holds (λ bytes. (is : IsArchiveOf bytes rows) → AreOf is.are.records index parts
       → new.reads ≤ old.reads + most_reads is.are.records uri moment)
+  pub near : IfHeld old.holds (λ bytes. (is : IsArchiveOf bytes rows) → AreOf is.are.records index parts
+      → AsksOnly (IsWanted is.are.records uri moment) old new)
   pub silent : IsSilent answer before.tells after.tells
   pub kept : new.holds ≡ old.holds
   pub may : MayHaveFailedBy (out_result answer) old.faults new.faults

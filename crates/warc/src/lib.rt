@@ -7,6 +7,7 @@ mod blocks;
 mod check;
 mod copying;
 mod fault;
+mod giving;
 mod heads;
 pub mod laws;
 mod program;

@@ -3,10 +3,10 @@ ghost use Rattle.std.specs.Prelude.{◌≡◌, ℕ, ◌+◌, ◌-◌, ◌*◌, �
 ghost use Rattle.warc_value.specs.Dates.{Instant};
 ghost use Rattle.warc_frame.specs.Failing.{HasFailedBy, MayHaveFailedBy, failed_by};
 ghost use Rattle.warc_frame.specs.Record.{max_head};
-ghost use Rattle.warc_frame.specs.Seen.{seen, tapped};
+ghost use Rattle.warc_frame.specs.Seen.{AsksOnly, seen, tapped};
 ghost use Rattle.warc_record.specs.Readings.{reading_of};
 ghost use Rattle.warc_record.specs.Seen.{said};
-ghost use Rattle.warc_segment.specs.Joined.{joined_records};
+ghost use Rattle.warc_segment.specs.Joined.{joined_places, joined_records};
 ghost use Rattle.warc_segment.specs.Kept.{kept_in};
 ghost use Rattle.warc_answer.specs.Answers.{path_of};
 ghost use Rattle.warc_answer.specs.Payloads.{read_record};
@@ -14,7 +14,7 @@ ghost use Rattle.warc_answer.specs.Replays.{IsReplay, IsSilent, out_result};
 ghost use Rattle.warc.specs.Archive.{contents};
 ghost use Rattle.warc.specs.Indexed.{AreOf, indexed_record, place_of, placed_record};
 ghost use Rattle.warc.specs.Examining.{HasHead};
-ghost use Rattle.warc.specs.Replaying.{Replays, joined_len};
+ghost use Rattle.warc.specs.Replaying.{IsJoined, IsOfOrigin, Replays, joined_len};
 ghost use Rattle.warc.specs.Row.{Placed, row_of};
 ghost use Rattle.warc.specs.Standing.{IsOrigin};
 
@@ -72,6 +72,15 @@ fn replay_origin<S: Source, W: Sink, A: Allocator + Copy>(
         parts.now ≡ kept_in (map placed_record records) → said origin.now ≡ reading_of p.content.fields →
         place ≡ place_of p → S.reads source.new ≤ S.reads source.old
         + 2 * joined_len (joined_records (map read_record (contents records)) (read_record p.content)) }
+    ensures near { (bytes : List ℕ) (records : List Placed) (uri : List ℕ) (moment : Instant) (p : Placed) →
+        S.holds source.old ≡ Some bytes → IsOrigin bytes records uri moment path p →
+        parts.now ≡ kept_in (map placed_record records) → said origin.now ≡ reading_of p.content.fields →
+        place ≡ place_of p →
+        AsksOnly (IsJoined (joined_places (map placed_record records) (placed_record p)))
+        (tapped (S.holds source.old) (S.faults source.old) (S.reads source.old) (S.asked source.old)
+        (S.watches source.old) (S.strays source.old))
+        (tapped (S.holds source.new) (S.faults source.new) (S.reads source.new) (S.asked source.new)
+        (S.watches source.new) (S.strays source.new)) }
     ensures silent { IsSilent result (W.tells out.old) (W.tells out.new) }
     ensures kept { S.holds source.new ≡ S.holds source.old }
     ensures may { MayHaveFailedBy (out_result result) (S.faults source.old) (S.faults source.new) }
@@ -114,6 +123,14 @@ fn replay_row<S: Source, W: Sink, A: Allocator + Copy>(
         row.now ≡ row_of p → parts.now ≡ kept_in (map placed_record records) →
         S.reads source.new ≤ S.reads source.old + (p.block_start - p.offset
         + 2 * joined_len (joined_records (map read_record (contents records)) (read_record p.content))) }
+    ensures near { (bytes : List ℕ) (records : List Placed) (uri : List ℕ) (moment : Instant) (p : Placed) →
+        S.holds source.old ≡ Some bytes → IsOrigin bytes records uri moment path p → HasHead bytes p →
+        row.now ≡ row_of p → parts.now ≡ kept_in (map placed_record records) →
+        AsksOnly (IsOfOrigin records (Some p))
+        (tapped (S.holds source.old) (S.faults source.old) (S.reads source.old) (S.asked source.old)
+        (S.watches source.old) (S.strays source.old))
+        (tapped (S.holds source.new) (S.faults source.new) (S.reads source.new) (S.asked source.new)
+        (S.watches source.new) (S.strays source.new)) }
     ensures silent { IsSilent result (W.tells out.old) (W.tells out.new) }
     ensures kept { S.holds source.new ≡ S.holds source.old }
     ensures may { MayHaveFailedBy (out_result result) (S.faults source.old) (S.faults source.new) }

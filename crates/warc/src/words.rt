@@ -22,13 +22,32 @@ use thiserror::Error;
 #[derive(Clone, Copy, Debug, PartialEq, Eq)]
 pub enum Command<'a> {
     /// A line for each record.
-    List { archive: &'a str },
+    List {
+        archive: &'a str,
+    },
     /// A line for each finding.
-    Check { archive: &'a str },
+    Check {
+        archive: &'a str,
+    },
+    /// The block of the first record with an id.
+    Extract {
+        archive: &'a str,
+        id: &'a str,
+    },
+    /// The body for a URI as of the first instant of a date.
+    Replay {
+        archive: &'a str,
+        uri: &'a str,
+        date: &'a str,
+    },
     /// The records in canonical form.
-    Rewrite { archive: &'a str },
+    Rewrite {
+        archive: &'a str,
+    },
     /// The records as records of WARC 1.1.
-    Convert { archive: &'a str },
+    Convert {
+        archive: &'a str,
+    },
 }
 
 impl<'a> Command<'a> {
@@ -39,6 +58,12 @@ impl<'a> Command<'a> {
         match self {
             Command::List { archive } => archive,
             Command::Check { archive } => archive,
+            Command::Extract { archive, id: _ } => archive,
+            Command::Replay {
+                archive,
+                uri: _,
+                date: _,
+            } => archive,
             Command::Rewrite { archive } => archive,
             Command::Convert { archive } => archive,
         }
@@ -110,6 +135,27 @@ Exit status: 0 nothing was found; 1 something was; 2 the archive is refused, and
 
 Example: warc check examples/findings.warc";
 
+const EXTRACT_NOTES: &str =
+    "The block is written as it stands: it isn't joined to its segments, and nothing in it is decoded. The id
+is written in brackets or without, as <urn:uuid:..> or urn:uuid:...
+
+Exit status: 0 written; 1 no record has the id, and nothing was written; 2 the archive is refused, and nothing
+was written; 3 see 'warc --help'.
+
+Example: warc extract examples/abc.warc urn:uuid:00000000-0000-4000-8000-000000000001";
+
+const REPLAY_NOTES: &str =
+    "The body is that of the latest capture of the URI that isn't later than the date: its segments joined, and
+of an HTTP response what stands behind its head. A date is YYYY, YYYY-MM, YYYY-MM-DD, YYYY-MM-DDThh:mmZ or
+YYYY-MM-DDThh:mm:ssZ, also with a fraction of a second, and names its first instant. A line on standard error
+tells the positions of the chosen record and of the one whose body is given, the status of the HTTP response
+or '-', whether a record is marked as truncated, and the length of the body in bytes.
+
+Exit status: 0 written; 1 there is no body, for the reason P1 to P10 that is told, and nothing was written;
+2 the archive is refused, and nothing was written; 3 the date isn't one, or see 'warc --help'.
+
+Example: warc replay examples/abc.warc http://a.example/x 2021";
+
 const REWRITE_NOTES: &str =
     "Each record is written in canonical form: folded values in one line, one space behind each colon. Names,
 the order of fields, versions and blocks stay.
@@ -131,8 +177,23 @@ const ARCHIVE: Word = Word {
     help: "The path of the archive; /dev/stdin is standard input, also a pipe",
 };
 
+const ID: Word = Word {
+    name: "id",
+    help: "The id of the record, in brackets or without",
+};
+
+const URI: Word = Word {
+    name: "uri",
+    help: "The URI, byte for byte as the archive's records have it, without brackets",
+};
+
+const DATE: Word = Word {
+    name: "date",
+    help: "The date as of which the URI is asked for; 9999 is the latest",
+};
+
 /// The commands, in the order in which help lists them.
-const COMMANDS: [Entry; 4] = [
+const COMMANDS: [Entry; 6] = [
     Entry {
         name: "list",
         about: "Prints a line for each record",
@@ -144,6 +205,18 @@ const COMMANDS: [Entry; 4] = [
         about: "Prints a line for each finding: what is wrong with records that can be read",
         notes: CHECK_NOTES,
         words: &[ARCHIVE],
+    },
+    Entry {
+        name: "extract",
+        about: "Writes the block of the first record with an id",
+        notes: EXTRACT_NOTES,
+        words: &[ARCHIVE, ID],
+    },
+    Entry {
+        name: "replay",
+        about: "Writes the body that was captured of a URI, as of a date",
+        notes: REPLAY_NOTES,
+        words: &[ARCHIVE, URI, DATE],
     },
     Entry {
         name: "rewrite",
@@ -244,6 +317,15 @@ fn read_command<'a>(name: &str, texts: &ArgMatches<'a>) -> Command<'a>
     let archive = text_at(texts, "archive");
     match name {
         "check" => Command::Check { archive },
+        "extract" => Command::Extract {
+            archive,
+            id: text_at(texts, "id"),
+        },
+        "replay" => Command::Replay {
+            archive,
+            uri: text_at(texts, "uri"),
+            date: text_at(texts, "date"),
+        },
         "rewrite" => Command::Rewrite { archive },
         "convert" => Command::Convert { archive },
         _ => Command::List { archive },

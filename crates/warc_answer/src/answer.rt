@@ -1,5 +1,6 @@
 //! What a replay gives, or why it gives nothing.
-ghost use Rattle.std.specs.Prelude.{Some};
+ghost use Rattle.std.specs.Prelude.{◌≡◌, ◌≤◌, ◌++◌, length, Some};
+ghost use Rattle.warc_segment.specs.GapText.{digits_of};
 ghost use Rattle.warc_answer.specs.ReasonText.{reason_text, replay_fault_text};
 
 use std::fmt;
@@ -56,16 +57,33 @@ pub enum Reason {
     Coded,
 }
 
+impl Reason {
+    /// Its number and name, in at most 17 bytes; of a gap its number and name, in at most 13 bytes, and the number of the
+    /// segment that it is about: one behind the other its text.
+    pub fn parts(self) -> (&'static str, &'static str, Option<u64>)
+        ensures text { result.0.now ++ result.1.now ++ digits_of result.2 ≡ reason_text self }
+        ensures short { (length result.0.now ≤ 17) × (length result.1.now ≤ 13) }
+    {
+        match self {
+            Reason::NotFound(unfound) => (unfound.name(), "", None),
+            Reason::Segments(gap) => {
+                let (name, number) = gap.parts();
+                ("P7 Segment ", name, number)
+            }
+            Reason::BadDigest => ("P8 BadDigest", "", None),
+            Reason::BadHead => ("P9 BadHead", "", None),
+            Reason::Coded => ("P10 Coded", "", None),
+        }
+    }
+}
+
 impl fmt::Display for Reason {
     ghost output = { λ reason. Some (reason_text reason) };
 
     fn fmt<W: fmt::Write>(&self, f: &mut fmt::Formatter<W>) -> fmt::Result {
-        match self {
-            Reason::NotFound(unfound) => write!(f, "{unfound}"),
-            Reason::Segments(gap) => write!(f, "P7 Segment {gap}"),
-            Reason::BadDigest => write!(f, "P8 BadDigest"),
-            Reason::BadHead => write!(f, "P9 BadHead"),
-            Reason::Coded => write!(f, "P10 Coded"),
+        match self.parts() {
+            (name, gap, Some(number)) => write!(f, "{name}{gap}{number}"),
+            (name, gap, None) => write!(f, "{name}{gap}"),
         }
     }
 }

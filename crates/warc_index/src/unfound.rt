@@ -1,5 +1,5 @@
 //! Why no origin is found.
-ghost use Rattle.std.specs.Prelude.{Some};
+ghost use Rattle.std.specs.Prelude.{◌≡◌, ◌≤◌, length, Some};
 ghost use Rattle.warc_index.specs.UnfoundText.{unfound_text};
 
 use std::fmt;
@@ -28,17 +28,27 @@ pub enum Unfound {
     Loop,
 }
 
+impl Unfound {
+    /// Its number and name, which are its text, in at most 17 bytes.
+    pub fn name(self) -> &'static str
+        ensures text { result.now ≡ unfound_text self }
+        ensures short { length result.now ≤ 17 }
+    {
+        match self {
+            Unfound::NoCapture => "P1 NoCapture",
+            Unfound::NotYet => "P2 NotYet",
+            Unfound::UnknownProfile => "P3 UnknownProfile",
+            Unfound::NoReference => "P4 NoReference",
+            Unfound::Unresolved => "P5 Unresolved",
+            Unfound::Loop => "P6 Loop",
+        }
+    }
+}
+
 impl fmt::Display for Unfound {
     ghost output = { λ unfound. Some (unfound_text unfound) };
 
     fn fmt<W: fmt::Write>(&self, f: &mut fmt::Formatter<W>) -> fmt::Result {
-        match self {
-            Unfound::NoCapture => write!(f, "P1 NoCapture"),
-            Unfound::NotYet => write!(f, "P2 NotYet"),
-            Unfound::UnknownProfile => write!(f, "P3 UnknownProfile"),
-            Unfound::NoReference => write!(f, "P4 NoReference"),
-            Unfound::Unresolved => write!(f, "P5 Unresolved"),
-            Unfound::Loop => write!(f, "P6 Loop"),
-        }
+        write!(f, "{}", self.name())
     }
 }

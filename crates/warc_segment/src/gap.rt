@@ -1,6 +1,6 @@
 //! Why the segments of a record don't join.
-ghost use Rattle.std.specs.Prelude.{Some};
-ghost use Rattle.warc_segment.specs.GapText.{gap_text};
+ghost use Rattle.std.specs.Prelude.{◌≡◌, ◌≤◌, ◌++◌, length, Some};
+ghost use Rattle.warc_segment.specs.GapText.{digits_of, gap_text};
 
 use std::fmt;
 use thiserror::Error;
@@ -28,17 +28,31 @@ pub enum Gap {
     Number,
 }
 
+impl Gap {
+    /// Its number and name, in at most 13 bytes, and the number of the segment that it is about, if it is about one: one
+    /// behind the other its text.
+    pub fn parts(self) -> (&'static str, Option<u64>)
+        ensures text { result.0.now ++ digits_of result.1 ≡ gap_text self }
+        ensures short { length result.0.now ≤ 13 }
+    {
+        match self {
+            Gap::Repeated(number) => ("G1 Repeated ", Some(number)),
+            Gap::Unfinished => ("G2 Unfinished", None),
+            Gap::AfterEnd(number) => ("G3 AfterEnd ", Some(number)),
+            Gap::Absent(number) => ("G4 Absent ", Some(number)),
+            Gap::Total => ("G5 Total", None),
+            Gap::Number => ("G6 Number", None),
+        }
+    }
+}
+
 impl fmt::Display for Gap {
     ghost output = { λ gap. Some (gap_text gap) };
 
     fn fmt<W: fmt::Write>(&self, f: &mut fmt::Formatter<W>) -> fmt::Result {
-        match self {
-            Gap::Repeated(number) => write!(f, "G1 Repeated {number}"),
-            Gap::Unfinished => write!(f, "G2 Unfinished"),
-            Gap::AfterEnd(number) => write!(f, "G3 AfterEnd {number}"),
-            Gap::Absent(number) => write!(f, "G4 Absent {number}"),
-            Gap::Total => write!(f, "G5 Total"),
-            Gap::Number => write!(f, "G6 Number"),
+        match self.parts() {
+            (name, Some(number)) => write!(f, "{name}{number}"),
+            (name, None) => write!(f, "{name}"),
         }
     }
 }

@@ -5,7 +5,7 @@ use Rattle.warc_answer.specs.Payloads.{read_record}
 use Rattle.warc_frame.specs.declared.fault.OutFault.TheVariants as outs
 use Rattle.warc.specs.Archive.{contents}
 use Rattle.warc.specs.Indexed.{placed_record}
-use Rattle.warc.proofs.ReplayLemmas.{found_as, gap_is, join_gap, places_are, reads_are}
+use Rattle.warc.proofs.ReplayLemmas.{found_as, gap_is, join_gap, near_joined, places_are, reads_are}
 use Rattle.warc.proofs.replay.replay_origin.Goals as goal
 
 pub returns-in-Err-Gap-clause-told : goal.returns-in-Err-Gap-clause-told
@@ -37,3 +37,8 @@ returns-clause-cost g c = λ bytes records uri moment p held is kept says at.
     let (joined, same, are) = places_are bytes records uri moment c.args.path p is q c.in-Ok.places.items says at c.places_are_of_records.ensures (c.in-Ok.ensures (map placed_record records) kept) in
     reads_are bytes records uri moment c.args.path p is c.deref.result.now joined _ _ c.places_are_as_long.ensures same (subst (λ l. ArePlacesOf bytes l joined) (sym c.deref.ensures.value) are)
     c.replay_joined.ensures.read.bound
+
+pub returns-clause-near : goal.returns-clause-near
+returns-clause-near g c = λ bytes records uri moment p held is kept says at.
+    let q : PlacedRecord = record { head = said c.args.origin.now; place = c.args.place } in
+    near_joined records p q c.deref.result.now c.in-Ok.places.items _ _ _ says at (c.in-Ok.ensures (map placed_record records) kept) c.deref.ensures.value c.replay_joined.ensures.read.near

@@ -1,6 +1,6 @@
 use Rattle.std.proofs.Common.{◌≡◌, ap, ◌∙◌}
 use Rattle.warc_record.specs.Readings.{reading_of}
-use Rattle.warc.proofs.ReplayLemmas.{halted_failed, place_by_row, row_reads}
+use Rattle.warc.proofs.ReplayLemmas.{halted_failed, near_head, near_origin, place_by_row, row_reads}
 use Rattle.warc.proofs.replay.replay_row.Goals as goal
 
 pub returns-in-Err-clause-failed : goal.returns-in-Err-clause-failed
@@ -21,3 +21,12 @@ pub returns-clause-cost : goal.returns-clause-cost
 returns-clause-cost g c = λ bytes records uri moment p held is has same parts.
     let says = c.in-Ok.ensures.said ∙ ap reading_of (c.in-Ok.ensures.read bytes p held has same) in
     row_reads p c.args.row.now _ _ _ _ same c.in-Ok.ensures.heads.bound (c.replay_origin.ensures.cost bytes records uri moment p (c.in-Ok.ensures.kept ∙ held) is parts says (place_by_row p _ (c.row.view_is ∙ same)))
+
+pub returns-in-Err-clause-near : goal.returns-in-Err-clause-near
+returns-in-Err-clause-near g c = λ bytes records uri moment p held is has same parts.
+    near_head records p c.args.row.now _ _ same c.in-Err.ensures.heads
+
+pub returns-clause-near : goal.returns-clause-near
+returns-clause-near g c = λ bytes records uri moment p held is has same parts.
+    let says = c.in-Ok.ensures.said ∙ ap reading_of (c.in-Ok.ensures.read bytes p held has same) in
+    near_origin records p c.args.row.now _ _ _ same c.in-Ok.ensures.heads (c.replay_origin.ensures.near bytes records uri moment p (c.in-Ok.ensures.kept ∙ held) is parts says (place_by_row p _ (c.row.view_is ∙ same)))

@@ -6,7 +6,7 @@ use Rattle.warc.specs.Archive.{contents}
 use Rattle.warc.specs.Standing.{IsOrigin}
 use Rattle.warc.proofs.PlaceLemmas.{checkable_archive}
 use Rattle.warc.proofs.RecordsLemmas.{placed}
-use Rattle.warc.proofs.ReplayLemmas.{most_is, row_missing, same_index}
+use Rattle.warc.proofs.ReplayLemmas.{most_is, near_path, row_missing, same_index}
 use Rattle.warc.proofs.replay.replay_rows.Goals as goal
 
 pub returns-in-Err : goal.returns-in-Err
@@ -18,6 +18,7 @@ returns-in-Err g c = record {
   );
   failed = λ bytes held is are. refl;
   cost = λ bytes held is are. omega arith;
+  near = λ bytes held is are off. refl;
   silent = refl;
   kept = refl;
   may = refl;
@@ -29,6 +30,7 @@ returns-in_default g c = record {
   told = λ bytes held is are. c.fails_before_all.ensures (contents is.are.records) c.args.uri.now c.args.moment.now (g.W.Sink.tells c.args.out.now) (outs.Memory 0) refl;
   failed = λ bytes held is are. refl;
   cost = λ bytes held is are. omega arith;
+  near = λ bytes held is are off. refl;
   silent = (refl, refl);
   kept = refl;
   may = refl;
@@ -42,6 +44,7 @@ returns-in_default-get g c = record {
       absurd (row_missing is.are.records c.args.uri.now c.args.moment.now _ c.chosen_is_latest.ensures c.origins_stand.ensures (sym (c.in-Ok.ensures is.are.records are))
       (ap (λ l. slice_get l c.in-Ok.path.given) (sym is.are.rows_are) ∙ sym c.get.ensures ∙ c.in_default-get.is));
   cost = λ bytes held is are. omega arith;
+  near = λ bytes held is are off. refl;
   silent = tt;
   kept = refl;
   may = inl refl;
@@ -69,6 +72,12 @@ returns g c = record {
         c.replay_row.ensures.cost bytes is.are.records c.args.uri.now c.args.moment.now p held origin (can.heads c.in-Ok.path.given p there) same are.parts_are,
         most_is is.are.records c.args.uri.now c.args.moment.now c.in-Ok.path p origin.path_is there,
       );
+  near = λ bytes held is are.
+      let (p, there, same) = placed is.are.records c.in-Ok.path.given c.in-Some.row (ap (λ l. slice_get l c.in-Ok.path.given) (sym is.are.rows_are) ∙ sym c.get.ensures ∙ c.in-Some.is) in
+      let can = checkable_archive c.head_of_spelled.ensures bytes c.args.rows.now is c.args.rows.now refl in
+      let origin : IsOrigin bytes is.are.records c.args.uri.now c.args.moment.now c.in-Ok.path p = record { short = is.short; spelled = is.are.spelled; path_is = sym (c.in-Ok.ensures is.are.records are); stands = there } in
+      near_path is.are.records c.args.uri.now c.args.moment.now c.in-Ok.path p _ _ _ origin.path_is there
+      (c.replay_row.ensures.near bytes is.are.records c.args.uri.now c.args.moment.now p held origin (can.heads c.in-Ok.path.given p there) same are.parts_are);
   silent = c.replay_row.ensures.silent;
   kept = c.replay_row.ensures.kept;
   may = c.replay_row.ensures.may;
