@@ -8,11 +8,11 @@ use Rattle.warc_record.specs.Good.{SaysAll}
 use Rattle.warc_record.specs.Ids.{id_key}
 use Rattle.warc_record.specs.Readings.{reading_of}
 use Rattle.warc.specs.Row.{Placed, Row, row_of}
-use Rattle.warc.specs.Checking.{about_record, key_of, line_text, numbered_line}
+use Rattle.warc.specs.Checking.{about_record, record_key, line_text, numbered_line}
 use Rattle.warc.specs.Examining.{record_text}
 
 -- the id in a good record's row has its key
-pub key_by_row : (p : Placed) (row : Row) → row ≡ row_of p → SaysAll (reading_of p.content.fields) → key_of p.content ≡ id_key row.id
+pub key_by_row : (p : Placed) (row : Row) → row ≡ row_of p → SaysAll (reading_of p.content.fields) → record_key p.content ≡ id_key row.id
 key_by_row p row same says =
     says.id_is ∙ sym says.id_reads ∙ ap id_key (sym (ap (λ o. unwrap_or o []) says.id_text_is)) ∙ sym (ap (λ (r : Row). id_key r.id) same)
 

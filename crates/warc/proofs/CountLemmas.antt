@@ -12,7 +12,7 @@ use Rattle.warc_record.specs.Good.{IsGood}
 use Rattle.warc_record.proofs.CountLemmas.{findings_are_few}
 use Rattle.warc.specs.Archive.{AreGood, IsArchiveOf, contents}
 use Rattle.warc_record.specs.Blocks.{has_bad_digest}
-use Rattle.warc.specs.Checking.{about_record, findings_at, findings_behind, findings_of_archive, findings_of_records, is_used, key_of}
+use Rattle.warc.specs.Checking.{about_record, findings_at, findings_behind, findings_of_archive, findings_of_records, is_used, record_key}
 use Rattle.warc.specs.Laws.{FindingsAreCounted}
 use Rattle.warc.specs.Row.{Row}
 use Rattle.warc.proofs.OutputLemmas.{area_short, fields_few, records_len}
@@ -26,7 +26,7 @@ record_few before i r good =
       length-map (findings_behind (take i before) r) (about_record i),
       area_short r good.framed,
       fields_few r.fields,
-      findings_are_few r.fields (length r.block) (has_bad_digest r) (is_used (take i before) (key_of r)),
+      findings_are_few r.fields (length r.block) (has_bad_digest r) (is_used (take i before) (record_key r)),
     )
 
 some_few : (all : List Record) (n : ℕ) (rs : List Record) → AreGood rs → length (flat_map (λ p. findings_at all p.0 p.1) (enumerate_from n rs)) ≤ 65594 * length rs

@@ -9,7 +9,7 @@ use Rattle.std.proofs.lemmas.List.Folds.{list_any-append}
 use Rattle.std.proofs.lemmas.Map.Text.{is_eq-slice_cmp}
 use Rattle.warc_frame.specs.Record.{Record}
 use Rattle.warc_record.specs.Texts.{is_same_text}
-use Rattle.warc.specs.Checking.{is_used, key_of}
+use Rattle.warc.specs.Checking.{is_used, record_key}
 use Rattle.warc.specs.Examining.{HasMet}
 
 same_none : (a : Option (List ℕ)) → is_same_text a None ≡ false
@@ -19,10 +19,10 @@ same_none (Some a) = refl
 -- no record has an id without a key
 pub none_used : (records : List Record) → is_used records None ≡ false
 none_used [] = refl
-none_used (r ∷ rs) = ap (λ b. b || is_used rs None) (same_none (key_of r)) ∙ none_used rs
+none_used (r ∷ rs) = ap (λ b. b || is_used rs None) (same_none (record_key r)) ∙ none_used rs
 
-used_more : (before : List Record) (r : Record) (key : Option (List ℕ)) → is_used (before ++ r ∷ []) key ≡ (is_used before key || (is_same_text (key_of r) key || false))
-used_more before r key = list_any-append (λ s. is_same_text (key_of s) key) before (r ∷ [])
+used_more : (before : List Record) (r : Record) (key : Option (List ℕ)) → is_used (before ++ r ∷ []) key ≡ (is_used before key || (is_same_text (record_key r) key || false))
+used_more before r key = list_any-append (λ s. is_same_text (record_key s) key) before (r ∷ [])
 
 or_false : (a b : Bool) → cond b true a ≡ (a || (b || false))
 or_false true true = refl
@@ -31,7 +31,7 @@ or_false false true = refl
 or_false false false = refl
 
 -- one more key
-pub met_more : (before : List Record) (r : Record) (key : List ℕ) (old new : BTreeSet (List ℕ)) → HasMet before old → key_of r ≡ Some key
+pub met_more : (before : List Record) (r : Record) (key : List ℕ) (old new : BTreeSet (List ℕ)) → HasMet before old → record_key r ≡ Some key
     → ((q : List ℕ) → contains (slice_cmp nat_cmp) new q ≡ cond (is_at (slice_cmp nat_cmp key) q) true (contains (slice_cmp nat_cmp) old q))
     → HasMet (before ++ r ∷ []) new
 met_more before r key old new met is updates = λ q.
@@ -44,7 +44,7 @@ or_nothing true = refl
 or_nothing false = refl
 
 -- a record without an id adds no key
-pub met_none : (before : List Record) (r : Record) (old : BTreeSet (List ℕ)) → HasMet before old → key_of r ≡ None → HasMet (before ++ r ∷ []) old
+pub met_none : (before : List Record) (r : Record) (old : BTreeSet (List ℕ)) → HasMet before old → record_key r ≡ None → HasMet (before ++ r ∷ []) old
 met_none before r old met is = λ q.
     met q ∙ or_nothing (is_used before (Some q))
     ∙ ap (λ k. is_used before (Some q) || (is_same_text k (Some q) || false)) (sym is) ∙ sym (used_more before r (Some q))

@@ -22,7 +22,7 @@ use Rattle.warc_record.specs.Ids.{BareTextsAreNoLonger, bare_text}
 use Rattle.warc_record.specs.Readings.{present_bare, present_value, unless_empty}
 use Rattle.warc_write.specs.Conversion.{ConvertedStaysGood, converted}
 use Rattle.warc.specs.Archive.{AreGood, IsArchiveOf, SpellsFrom, contents}
-use Rattle.warc.specs.Checking.{about_record, field_text, findings_at, findings_behind, findings_of_archive, findings_of_records, check_text, is_used, key_of, line_text, no_records}
+use Rattle.warc.specs.Checking.{about_record, field_text, findings_at, findings_behind, findings_of_archive, findings_of_records, check_text, is_used, record_key, line_text, no_records}
 use Rattle.warc.specs.Forms.{text_as, texts_as}
 use Rattle.warc.specs.declared.copying.Form.TheVariants.{Canonical, Converted}
 use Rattle.warc.specs.Laws.{OutputsAreCounted}
@@ -150,7 +150,7 @@ lines_short position (f ∷ fs) low =
 checked_short : FindingsAreFew → FindingsAreShort → (before : List Record) (position : ℕ) (r : Record) → IsFramed r → position < 2 ^ 64
     → length (flat_map line_text (map (about_record position) (findings_behind before r))) ≤ 461200
 checked_short few short before position r framed low =
-    let used = is_used before (key_of r) in
+    let used = is_used before (record_key r) in
     omega (
       arith, area_short r framed, fields_few r.fields,
       lines_short position (findings_behind before r) low,

@@ -14,16 +14,16 @@ pub record Line : Type 0 where
   pub found : Found
 
 -- the key of a record's id
-abbrev pub key_of : Record → Option (List ℕ)
-key_of r = (reading_of r.fields).id
+abbrev pub record_key : Record → Option (List ℕ)
+record_key r = (reading_of r.fields).id
 
 -- one of the records has an id of this key
 abbrev pub is_used : List Record → Option (List ℕ) → Bool
-is_used records key = list_any (λ r. is_same_text (key_of r) key) records
+is_used records key = list_any (λ r. is_same_text (record_key r) key) records
 
 -- the findings of a record, by those before it
 abbrev pub findings_behind : List Record → Record → List Found
-findings_behind before r = findings_of r.fields (length r.block) (has_bad_digest r) (is_used before (key_of r))
+findings_behind before r = findings_of r.fields (length r.block) (has_bad_digest r) (is_used before (record_key r))
 
 abbrev pub about_record : ℕ → Found → Line
 about_record position found = record { position = Some position; found = found }

@@ -19,7 +19,7 @@ use Rattle.warc_record.specs.Findings.{Found, findings_of}
 use Rattle.warc_record.specs.declared.checks.ArchiveFacts.{ArchiveFacts}
 use Rattle.warc_field.specs.Area.{Pair}
 use Rattle.warc.specs.Row.{Placed, Row, row_of}
-use Rattle.warc.specs.Checking.{Line, about_record, findings_at, findings_of_records, is_used, key_of, line_text}
+use Rattle.warc.specs.Checking.{Line, about_record, findings_at, findings_of_records, is_used, record_key, line_text}
 use Rattle.warc.specs.declared.heads.Halt.{Halt}
 use Rattle.warc.specs.declared.heads.Halt.TheVariants.{Read, Memory}
 
@@ -66,7 +66,7 @@ HaveHeads bytes records = (i : ℕ) (p : Placed) → slice_get records i ≡ Som
 pub record IsExamined (before : List Record) (r : Record) (fields : List Pair) (facts : ArchiveFacts) : Type 0 where
   pub fields_are : fields ≡ r.fields
   pub bad_digest : facts.bad_digest ≡ has_bad_digest r
-  pub used_id : facts.used_id ≡ is_used before (key_of r)
+  pub used_id : facts.used_id ≡ is_used before (record_key r)
 
 -- the findings of a record of these fields, by the length of its block and what the archive tells of it
 abbrev pub found_by : List Pair → ℕ → ArchiveFacts → List Found

@@ -2,7 +2,7 @@
 ghost use Rattle.std.specs.Prelude.{◌≡◌, ℕ, List, [], ◌∷◌, ◌++◌, IfOk, OnOk, Option};
 ghost use Rattle.warc_frame.specs.Record.{Record};
 ghost use Rattle.warc_record.specs.Ids.{id_key};
-ghost use Rattle.warc.specs.Checking.{is_used, key_of};
+ghost use Rattle.warc.specs.Checking.{is_used, record_key};
 ghost use Rattle.warc.specs.Examining.{HasMet};
 
 use std::alloc::{AllocError, Allocator};
@@ -40,7 +40,7 @@ impl<A: Allocator + Copy> Met<A> {
     pub(crate) fn meet(&mut self, alloc: A, text: &[u8]) -> Result<bool, AllocError>
         ensures used { (before : List Record) → HasMet before self.old →
             IfOk result (λ used. used ≡ is_used before (id_key text.now)) }
-        ensures met { (before : List Record) (r : Record) → HasMet before self.old → key_of r ≡ id_key text.now →
+        ensures met { (before : List Record) (r : Record) → HasMet before self.old → record_key r ≡ id_key text.now →
             OnOk result (HasMet (before ++ r ∷ []) self.new) }
     {
         let Some(key) = id_key(alloc, text)? else {

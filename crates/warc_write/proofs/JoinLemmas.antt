@@ -34,7 +34,7 @@ use Rattle.warc_write.specs.declared.splitting.SplitFault.TheVariants.{Kind as B
 use Rattle.warc_write.specs.Joining.{JoinsTo, NoBadDigest, SplitJoins, read_of}
 use Rattle.warc_value.specs.Digests.{is_bad}
 use Rattle.warc_record.specs.Blocks.{has_bad_digest}
-use Rattle.warc_write.specs.Splitting.{count_of, first_fields, has_field, has_room}
+use Rattle.warc_write.specs.Splitting.{segment_count, first_fields, has_field, has_room}
 use Rattle.warc_write.specs.Splitting.{is_segmented}
 use Rattle.warc_write.specs.Splitting.{may_be_split, next_fields, part_of, piece_at, segment_fields, segment_of}
 use Rattle.warc_write.specs.Splitting.{segments_of, split_of, splittable, total_at}
@@ -150,7 +150,7 @@ is_member r uuid n k text id stands reads further small short =
     (ap (key_in (codes "WARC-Segment-Origin-ID")) fields ∙ next_origin r.fields uuid part text id stands reads)
     (ap (number_in (codes "WARC-Segment-Total-Length")) fields
     ∙ next_total r.fields uuid part (total_at n (length r.block) k) refl
-    (λ m is. total_small (k + 1 == count_of n (length r.block)) (length r.block) m is short))
+    (λ m is. total_small (k + 1 == segment_count n (length r.block)) (length r.block) m is short))
     refl
     (omega (arith, further))
 
@@ -164,8 +164,8 @@ not_last k count below = grind (arith, nat_tests)
 
 cut_in : (r : Record) (uuid : List ℕ) (n c : ℕ) (text id : List ℕ) → MaySplit r.fields
     → first_value (codes "WARC-Record-ID") r.fields ≡ Some text
-    → id_key text ≡ Some id → count_of n (length r.block) ≡ suc (suc c) → suc (suc c) ≤ 2 ^ 48 → length r.block ≤ 2 ^ 48
-    → length r.block ≤ count_of n (length r.block) * n
+    → id_key text ≡ Some id → segment_count n (length r.block) ≡ suc (suc c) → suc (suc c) ≤ 2 ^ 48 → length r.block ≤ 2 ^ 48
+    → length r.block ≤ segment_count n (length r.block) * n
     → JoinsTo r.block (map (segment_of r uuid n) (range_with_len 0 (suc (suc c))))
 cut_in r uuid n c text id may stands reads count few short enough =
     let f = segment_of r uuid n in
@@ -173,24 +173,24 @@ cut_in r uuid n c text id may stands reads count few short enough =
     let len = length r.block in
     let part = part_of n len (piece_at n r.block 0) 0 in
     let size : ℕ → ℕ = λ k. length (piece_at n r.block k) in
-    let end : count_of n len ≡ 0 + suc (suc c) = omega (arith, count) in
+    let end : segment_count n len ≡ 0 + suc (suc c) = omega (arith, count) in
     let none : 0 * n ≡ 0 = omega arith in
     let all : drop (0 * n) r.block ≡ r.block = ap (λ k. drop k r.block) none in
-    let last : c + 1 + 1 ≡ count_of n len = omega (arith, count) in
+    let last : c + 1 + 1 ≡ segment_count n len = omega (arith, count) in
     let sum_is : len ≡ size 0 + sum_by size (range_with_len 1 (suc c)) =
     sym (sym (sum_by-cons size 0 (range_with_len 1 (suc c)))
-    ∙ (sizes_joined n r.block 0 (suc (suc c)) (count_of n len) end enough ∙ ap length all)) in
+    ∙ (sizes_joined n r.block 0 (suc (suc c)) (segment_count n len) end enough ∙ ap length all)) in
     ap (λ l. joined_block l (q 0)) (mapped_twice f 0 (suc (suc c)))
     ∙ (joined_is q id (total_at n len) c len
     (first_number r.fields part may.number)
     (ap (option_and_then id_key) (first_id r.fields part ∙ stands) ∙ reads)
     (ap is_continuation (first_kind r.fields part) ∙ may.kind)
     (λ k from below. is_member r uuid n k text id stands reads from (omega (arith, below, few)) short)
-    (ap (λ (b : Bool). if b then Some len else None) (eq-eqb (c + 1 + 1) (count_of n len) last))
+    (ap (λ (b : Bool). if b then Some len else None) (eq-eqb (c + 1 + 1) (segment_count n len) last))
     (λ k below. ap (λ (b : Bool). if b then Some len else None)
-    (not_last k (count_of n len) (omega (arith, below, count))))
+    (not_last k (segment_count n len) (omega (arith, below, count))))
     sum_is
-    ∙ ap Ok (pieces_joined n r.block 0 (suc (suc c)) (count_of n len) end enough ∙ all))
+    ∙ ap Ok (pieces_joined n r.block 0 (suc (suc c)) (segment_count n len) end enough ∙ all))
 
 cut_joins : (r : Record) (n : ℕ) (uuid : List ℕ) → IsGood r → splittable r.fields n ≡ Ok uuid
     → nat_le (length r.block) n ≡ false
@@ -205,8 +205,8 @@ cut_joins r n uuid good head long =
     let small : len ≤ max_block = framed_block r good.framed in
     let two = count_two n len some past in
     let few = count_small n len some (omega (arith, past)) in
-    let c = count_of n len - 2 in
-    let count : count_of n len ≡ suc (suc c) = omega (arith, two) in
+    let c = segment_count n len - 2 in
+    let count : segment_count n len ≡ suc (suc c) = omega (arith, two) in
     subst (λ m. JoinsTo r.block (map (segment_of r uuid n) (range_with_len 0 m))) (sym count)
     (cut_in r uuid n c id_is.value key (may_split r.fields n uuid head) id_is.stands reads count
     (omega (arith, few, small, two)) (omega (arith, small)) (count_enough n len some))
@@ -241,7 +241,7 @@ split_joins r n records good is = by_head (splittable r.fields n) refl
               (same (segments_of r uuid n) (all_split r n uuid head digest long room)) (
                 cut_joins r n uuid good head long,
                 no_bad_digest r uuid n
-                    (range_with_len 0 (count_of n (length r.block))),
+                    (range_with_len 0 (segment_count n (length r.block))),
               )
         ]
       ]

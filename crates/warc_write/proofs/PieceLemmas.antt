@@ -5,7 +5,7 @@ use Rattle.std.specs.List.{flat_map, range_with_len}
 use Rattle.std.proofs.lemmas.Nat.{le-div, mod_below}
 use Rattle.std.proofs.lemmas.List.{drop_all}
 use Rattle.std.proofs.lemmas.List.Concat.{length-flat_map}
-use Rattle.warc_write.specs.Splitting.{count_of, piece_at}
+use Rattle.warc_write.specs.Splitting.{segment_count, piece_at}
 
 pub pieces_joined : (n : ℕ) (block : List ℕ) (a c end : ℕ) → end ≡ a + c → length block ≤ end * n
     → flat_map (piece_at n block) (range_with_len a c) ≡ drop (a * n) block
@@ -26,17 +26,17 @@ sizes_joined n block a c end is enough =
 
 -- ---- how many
 
-pub count_enough : (n len : ℕ) → 0 < n → len ≤ count_of n len * n
+pub count_enough : (n len : ℕ) → 0 < n → len ≤ segment_count n len * n
 count_enough n len some =
     let whole = div-add-mod' (len - 1) n in
     let rest = mod_below (len - 1) n some in
     let next : ((len - 1) / n + 1) * n ≡ (len - 1) / n * n + n = omega arith in
     omega (arith, whole, rest, next)
 
-pub count_two : (n len : ℕ) → 0 < n → n < len → 2 ≤ count_of n len
+pub count_two : (n len : ℕ) → 0 < n → n < len → 2 ≤ segment_count n len
 count_two n len some long =
     let one : 1 ≤ (len - 1) / n = le-div 1 (len - 1) n some (omega (arith, long)) in
     omega (arith, one)
 
-pub count_small : (n len : ℕ) → 0 < n → 0 < len → count_of n len ≤ len
+pub count_small : (n len : ℕ) → 0 < n → 0 < len → segment_count n len ≤ len
 count_small n len some long = let below = div-le_self (len - 1) n in omega (arith, below, long)

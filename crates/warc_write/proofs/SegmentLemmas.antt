@@ -13,7 +13,8 @@ use Rattle.warc_write.specs.declared.splitting.SplitFault.{SplitFault}
 use Rattle.warc_write.specs.declared.splitting.SplitFault.TheVariants.{NotUuid, AlreadySegmented}
 use Rattle.warc_write.specs.declared.splitting.SplitFault.TheVariants.{Kind as BadKind, Size}
 use Rattle.warc_write.specs.declared.splitting.SplitFault.TheVariants.{Memory, TooLong, BadDigest}
-use Rattle.warc_write.specs.Splitting.{AllFramed, OrMemory, RefusesSegment, Splits, has_room}
+use Rattle.warc_write.specs.Refusing.{RefusesSegment}
+use Rattle.warc_write.specs.Splitting.{AllFramed, OrMemory, Splits, has_room}
 use Rattle.warc_record.specs.Blocks.{has_bad_digest}
 use Rattle.warc_write.specs.Splitting.{segments_of, split_of, splittable}
 use Rattle.warc_write.proofs.SplitLemmas.{no_head, no_size}

@@ -23,7 +23,8 @@ use Rattle.warc_write.specs.declared.splitting.SplitFault.TheVariants.{NotUuid, 
 use Rattle.warc_write.specs.declared.splitting.SplitFault.TheVariants.{Kind as BadKind, Size}
 use Rattle.warc_write.specs.declared.splitting.SplitFault.TheVariants.{Memory, TooLong, BadDigest}
 use Rattle.warc_write.specs.Refusals.{needs}
-use Rattle.warc_write.specs.Splitting.{RefusesHead, Splits, is_kept, is_segmented, kept, may_be_split}
+use Rattle.warc_write.specs.Refusing.{RefusesHead}
+use Rattle.warc_write.specs.Splitting.{Splits, is_kept, is_segmented, kept, may_be_split}
 use Rattle.warc_write.specs.Splitting.{next_fields, origin_fields, splittable}
 use Rattle.warc_write.specs.Splitting.{total_fields, value_in, with_len}
 use Rattle.warc_write.specs.Written.{digest_text}

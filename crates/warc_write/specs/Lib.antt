@@ -4,5 +4,6 @@ pub mod Rendering
 pub mod Conversion
 pub mod Making
 pub mod Splitting
+pub mod Refusing
 pub mod Cutting
 pub mod Joining

@@ -114,15 +114,15 @@ segment_fields given uuid part = if part.number == 1 then first_fields given par
 
 -- how many pieces of n bytes, the last one shorter or equal, a block that isn't empty is cut into, and the
 -- piece at a place, counted from 0
-abbrev pub count_of : ℕ → ℕ → ℕ
-count_of n len = (len - 1) / n + 1
+abbrev pub segment_count : ℕ → ℕ → ℕ
+segment_count n len = (len - 1) / n + 1
 
 abbrev pub piece_at : ℕ → List ℕ → ℕ → List ℕ
 piece_at n block at = take n (drop (at * n) block)
 
 -- the segment at a place: the last one alone states the length of the block
 abbrev pub total_at : ℕ → ℕ → ℕ → Option ℕ
-total_at n len at = if at + 1 == count_of n len then Some len else None
+total_at n len at = if at + 1 == segment_count n len then Some len else None
 
 abbrev pub part_of : ℕ → ℕ → List ℕ → ℕ → Part
 part_of n len piece at =
@@ -138,7 +138,7 @@ segment_of r uuid n at =
     }
 
 abbrev pub segments_of : Record → List ℕ → ℕ → List Record
-segments_of r uuid n = map (segment_of r uuid n) (range_with_len 0 (count_of n (length r.block)))
+segments_of r uuid n = map (segment_of r uuid n) (range_with_len 0 (segment_count n (length r.block)))
 
 abbrev pub has_room : Record → Bool
 has_room r = nat_le (canonical_len r.version r.fields) max_head
@@ -170,26 +170,6 @@ Splits (Err fault) split = split ≡ Err fault
 abbrev pub OrMemory : SplitFault → Type 0 → Type 0
 OrMemory Memory P = ⊤
 OrMemory fault P = P
-
--- a head is refused as such, or for want of memory
-abbrev pub RefusesHead : Bool → SplitFault → Type 0
-RefusesHead good BadKind = good ≡ false
-RefusesHead good Memory = ⊤
-RefusesHead good NotUuid = ⊥
-RefusesHead good AlreadySegmented = ⊥
-RefusesHead good Size = ⊥
-RefusesHead good TooLong = ⊥
-RefusesHead good BadDigest = ⊥
-
--- a segment is refused since its head has no room, or for want of memory
-abbrev pub RefusesSegment : Bool → SplitFault → Type 0
-RefusesSegment room TooLong = room ≡ false
-RefusesSegment room Memory = ⊤
-RefusesSegment room BadKind = ⊥
-RefusesSegment room NotUuid = ⊥
-RefusesSegment room AlreadySegmented = ⊥
-RefusesSegment room Size = ⊥
-RefusesSegment room BadDigest = ⊥
 
 -- the texts of refusals
 abbrev pub split_fault_text : SplitFault → List ℕ

@@ -8,11 +8,12 @@ ghost use Rattle.warc_record.specs.Heads.{head_fault};
 ghost use Rattle.warc_record.specs.Readings.{kind_of, target_of};
 ghost use Rattle.warc_write.specs.Joining.{Join};
 ghost use Rattle.warc_write.specs.Rendering.{AllGood};
-ghost use Rattle.warc_write.specs.Splitting.{AllFramed, OrMemory, RefusesSegment, count_of};
+ghost use Rattle.warc_write.specs.Refusing.{RefusesHead, RefusesSegment};
+ghost use Rattle.warc_write.specs.Splitting.{AllFramed, OrMemory, segment_count};
 ghost use Rattle.warc_record.specs.Blocks.{has_bad_digest};
 ghost use Rattle.warc_write.specs.Splitting.{has_room, split_of, piece_at, segment_of, segments_of};
 ghost use Rattle.warc_write.specs.Cutting.{part_with};
-ghost use Rattle.warc_write.specs.Splitting.{RefusesHead, Splits, first_fields, is_segmented, kept};
+ghost use Rattle.warc_write.specs.Splitting.{Splits, first_fields, is_segmented, kept};
 ghost use Rattle.warc_write.specs.Splitting.{may_be_split, next_fields, origin_fields};
 ghost use Rattle.warc_write.specs.Splitting.{segment_fields, split_fault_text, splittable, total_fields};
 ghost use Rattle.warc_write.specs.Splitting.{value_in, version_5};
@@ -325,7 +326,7 @@ pub fn segment_head<A: Allocator + Copy>(
 pub fn segment_count(size: u64, len: u64) -> u64
     requires some { 0 < size }
     requires more { 0 < len }
-    ensures count { result ≡ count_of size len }
+    ensures count { result ≡ segment_count size len }
     ensures last { (result - 1) * size < len }
 {
     (len - 1) / size + 1

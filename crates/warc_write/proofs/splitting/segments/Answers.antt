@@ -1,6 +1,6 @@
 use Rattle.std.proofs.Common.{◌≡◌, ◌<◌, [], ◌∷◌, ◌++◌, length, map, sym, ap, subst, ◌∙◌, arith}
 use Rattle.std.specs.List.{list_all, range_with_len}
-use Rattle.warc_write.specs.Splitting.{AllFramed, count_of, has_room, segment_of, segments_of}
+use Rattle.warc_write.specs.Splitting.{AllFramed, segment_count, has_room, segment_of, segments_of}
 use Rattle.warc_write.proofs.SegmentLemmas.{framed_push, one_more, one_without_room, refuses_all}
 use Rattle.warc_write.proofs.splitting.segments.Goals as goal
 
@@ -18,9 +18,9 @@ loop-at-preserved g c =
 pub returns-in-Err-clause-long : goal.returns-in-Err-clause-long
 returns-in-Err-clause-long g c =
     let block = c.args.framed.now.block in
-    let count : c.segment_count-count.result ≡ count_of c.args.size (length block) =
-    c.segment_count-count.ensures.count ∙ ap (λ b. count_of c.args.size (length b)) c.block.ensures.block in
+    let count : c.segment_count-count.result ≡ segment_count c.args.size (length block) =
+    c.segment_count-count.ensures.count ∙ ap (λ b. segment_count c.args.size (length b)) c.block.ensures.block in
     let test = c.loop-at-test.true in
-    let below : c.loop-at.at < count_of c.args.size (length block) = omega (arith, test, count) in
+    let below : c.loop-at.at < segment_count c.args.size (length block) = omega (arith, test, count) in
     refuses_all c.in-Err.fault _ (list_all has_room (segments_of c.args.framed.now c.args.uuid.now c.args.size))
     (one_without_room (segment_of c.args.framed.now c.args.uuid.now c.args.size) _ c.loop-at.at below) c.in-Err.ensures.long

@@ -1,0 +1,26 @@
+-- Why a part of a split is refused. States of the code: no public clause cites them.
+use Rattle.std.specs.Prelude.{◌≡◌, ⊤, Bool, false}
+use Rattle.warc_write.specs.declared.splitting.SplitFault.{SplitFault}
+use Rattle.warc_write.specs.declared.splitting.SplitFault.TheVariants.{NotUuid, AlreadySegmented}
+use Rattle.warc_write.specs.declared.splitting.SplitFault.TheVariants.{Kind as BadKind, Size}
+use Rattle.warc_write.specs.declared.splitting.SplitFault.TheVariants.{Memory, TooLong, BadDigest}
+
+-- a head is refused as such, or for want of memory
+abbrev pub RefusesHead : Bool → SplitFault → Type 0
+RefusesHead good BadKind = good ≡ false
+RefusesHead good Memory = ⊤
+RefusesHead good NotUuid = ⊥
+RefusesHead good AlreadySegmented = ⊥
+RefusesHead good Size = ⊥
+RefusesHead good TooLong = ⊥
+RefusesHead good BadDigest = ⊥
+
+-- a segment is refused since its head has no room, or for want of memory
+abbrev pub RefusesSegment : Bool → SplitFault → Type 0
+RefusesSegment room TooLong = room ≡ false
+RefusesSegment room Memory = ⊤
+RefusesSegment room BadKind = ⊥
+RefusesSegment room NotUuid = ⊥
+RefusesSegment room AlreadySegmented = ⊥
+RefusesSegment room Size = ⊥
+RefusesSegment room BadDigest = ⊥
