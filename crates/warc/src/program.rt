@@ -7,6 +7,7 @@ ghost use Rattle.warc.specs.Devices.{devices};
 ghost use Rattle.warc_frame.specs.Seen.{seen, tapped};
 
 use crate::copying::Form;
+use crate::making::write;
 use crate::reader::Listing;
 use crate::words::{Command, CommandFault};
 use arrayvec::ArrayString;
@@ -15,23 +16,24 @@ use std::alloc::Allocator;
 use warc_frame::{Fault, FaultKind, OutFault, Sink, Source, send_all};
 
 /// The exit status where all was done.
-const DONE: u8 = 0;
+pub(crate) const DONE: u8 = 0;
 
 /// The exit status where the archive was checked and something was found.
-const FOUND: u8 = 1;
+pub(crate) const FOUND: u8 = 1;
 
 /// The exit status where the archive was refused.
 const REFUSED: u8 = 2;
 
 /// The exit status where a read, a write or a growth of the memory failed.
-const FAILED: u8 = 3;
+pub(crate) const FAILED: u8 = 3;
 
-/// The most bytes of a line that tells a fault.
-const LINE: usize = 96;
+/// The most bytes of a line that is told.
+pub(crate) const LINE: usize = 128;
 
 /// Does what a command says. The output goes to `out` and a line on what went wrong to `err`, where
 /// failures to write are ignored. The answer is the exit status, 0 done, 1 checked and something was
-/// found, 2 the archive is refused, 3 a read, a write or a growth of the memory failed; and the source.
+/// found, 2 the archive is refused, 3 a record isn't made, or a read, a write or a growth of the memory
+/// failed; and the source.
 pub fn perform<A, S, W, E>(
     alloc: A,
     command: &Command<'_>,
@@ -64,6 +66,7 @@ where
         Command::Check { archive: _ } => check(alloc, source, out, err),
         Command::Rewrite { archive: _ } => write_anew(alloc, Form::Canonical, source, out, err),
         Command::Convert { archive: _ } => write_anew(alloc, Form::Converted, source, out, err),
+        Command::Write { draft, file: _ } => write(alloc, draft, source, out, err),
     }
 }
 
@@ -164,7 +167,7 @@ fn status_of_count(count: usize) -> u8
 }
 
 /// Tells why an archive isn't opened, and answers the exit status.
-fn tell_refusal<E: Sink>(fault: Fault, err: &mut E) -> u8
+pub(crate) fn tell_refusal<E: Sink>(fault: Fault, err: &mut E) -> u8
     ensures told { Tells (fault_line fault) (seen (E.tells err.old) (E.faults err.old))
         (seen (E.tells err.new) (E.faults err.new)) }
     ensures status { result ≡ status_of_kind fault.kind }
@@ -174,7 +177,7 @@ fn tell_refusal<E: Sink>(fault: Fault, err: &mut E) -> u8
 }
 
 /// Tells why an output ends early, and answers the exit status.
-fn tell_cut<E: Sink>(fault: OutFault, err: &mut E) -> u8
+pub(crate) fn tell_cut<E: Sink>(fault: OutFault, err: &mut E) -> u8
     ensures told { Tells (told_line (out_fault_text fault)) (seen (E.tells err.old) (E.faults err.old))
         (seen (E.tells err.new) (E.faults err.new)) }
     ensures status { result ≡ 3 }
@@ -194,7 +197,7 @@ fn status_of(kind: FaultKind) -> u8
 }
 
 /// Writes a line, as far as the sink takes it.
-fn tell<E: Sink>(line: &str, err: &mut E)
+pub(crate) fn tell<E: Sink>(line: &str, err: &mut E)
     ensures { Tells line.now (seen (E.tells err.old) (E.faults err.old))
         (seen (E.tells err.new) (E.faults err.new)) }
 {
