@@ -1,9 +1,11 @@
-//! Tests of the commands that write an archive anew. What is expected comes from the rules of docs/FORMAT.md.
+//! Tests of the commands that write. What is expected comes from the rules of docs/FORMAT.md.
 #![tactic(auto)]
 
 #[cfg(test)]
 mod faults;
 #[cfg(test)]
 mod forms;
+#[cfg(test)]
+mod records;
 #[cfg(test)]
 mod runs;

@@ -11,6 +11,7 @@ pub mod IndexedLemmas
 pub mod KindLemmas
 pub mod LawLemmas
 pub mod LineLemmas
+pub mod MakingLemmas
 pub mod MetLemmas
 pub mod OpeningLemmas
 pub mod PlaceLemmas

@@ -1,5 +1,5 @@
 -- The command line, in the terms of `clap`: what it defines, and what words name by it.
-use Rattle.std.specs.Prelude.{◌≡◌, ℕ, Bool, true, false, List, [], ◌∷◌, fold, map, find, Option, option_map, unwrap_or, codes, string_bytes}
+use Rattle.std.specs.Prelude.{◌≡◌, ℕ, Bool, true, false, List, [], ◌∷◌, ◌++◌, fold, map, find, Option, option_map, unwrap_or, codes, string_bytes}
 use Rattle.std.specs.Str.{bytes_eq}
 use Rattle.clap.specs.Kinds.{Kinds, IsAmong}
 use Rattle.clap.specs.Simple.{App, new_app, new_rule, on_top, with_rule, with_subcommand, subcommand_of}
@@ -22,6 +22,10 @@ layout name words = record { name = name; words = words }
 abbrev pub list_layout : Layout
 list_layout = layout (codes "list") (codes "archive" ∷ [])
 
+-- the words of `write` before the path of its file
+abbrev pub draft_words : List Text
+draft_words = codes "kind" ∷ codes "uri" ∷ codes "date" ∷ codes "uuid" ∷ codes "type" ∷ []
+
 -- the commands, in the order in which help lists them
 abbrev pub layouts : List Layout
 layouts =
@@ -31,6 +35,7 @@ layouts =
     ∷ layout (codes "replay") (codes "archive" ∷ codes "uri" ∷ codes "date" ∷ [])
     ∷ layout (codes "rewrite") (codes "archive" ∷ [])
     ∷ layout (codes "convert") (codes "archive" ∷ [])
+    ∷ layout (codes "write") (draft_words ++ codes "file" ∷ [])
     ∷ []
 
 -- what the program's table says of a command

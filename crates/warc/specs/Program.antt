@@ -8,9 +8,9 @@ use Rattle.warc_answer.specs.declared.answer.ReplayFault.{ReplayFault}
 use Rattle.warc_answer.specs.declared.answer.ReplayFault.TheVariants.{Reason, Out as ReplayOut}
 use Rattle.warc_frame.specs.Count.{raised}
 use Rattle.warc_frame.specs.FaultText.{fault_text, out_fault_text}
-use Rattle.warc_frame.specs.Record.{Record, max_archive}
+use Rattle.warc_frame.specs.Record.{Record, max_archive, max_block}
 use Rattle.warc_frame.specs.Send.{WentOut, sent_of}
-use Rattle.warc_frame.specs.Spelling.{SpellsAll}
+use Rattle.warc_frame.specs.Spelling.{SpellsAll, canonical}
 use Rattle.warc_frame.specs.declared.fault.Fault.{Fault}
 use Rattle.warc_frame.specs.declared.fault.FaultKind.{FaultKind}
 use Rattle.warc_frame.specs.declared.fault.FaultKind.TheVariants.{Read, Memory}
@@ -18,6 +18,9 @@ use Rattle.warc_frame.specs.declared.fault.OutFault.{OutFault}
 use Rattle.warc_frame.specs.declared.fault.OutFault.TheVariants.{Write, Memory as NoMemory}
 use Rattle.warc_value.specs.Dates.{Instant, instant_of}
 use Rattle.warc.specs.Extracting.{IsExtract, extract_result, extracted}
+use Rattle.warc_record.specs.Kinds.{kind_named}
+use Rattle.warc_write.specs.Making.{Makes, Plan, made, make_fault_text}
+use Rattle.warc_write.specs.declared.making.MakeFault.{MakeFault}
 use Rattle.warc.specs.Forms.{texts_as}
 use Rattle.warc.specs.TakeText.{extract_fault_text}
 use Rattle.warc.specs.declared.copying.Form.{Form}
@@ -26,6 +29,7 @@ use Rattle.warc.specs.declared.fault.ExtractFault.{ExtractFault}
 use Rattle.warc.specs.declared.fault.ExtractFault.TheVariants.{NoRecord, Out as ExtractOut}
 use Rattle.warc.specs.declared.words.Command.{Command}
 use Rattle.warc.specs.declared.words.Command.TheVariants as command
+use Rattle.warc.specs.declared.words.Draft.{Draft}
 use Rattle.warc.specs.declared.words.CommandFault.{CommandFault}
 use Rattle.warc.specs.declared.words.CommandFault.TheVariants.{Usage, Memory as OutOfMemory}
 use Rattle.warc.specs.Opening.{IsRefusalOf, faults_after}
@@ -250,6 +254,68 @@ abbrev pub WriteEnds : Form → Devices → Devices → ℕ → Type 0
 WriteEnds form old new status =
     IsWritten form old new status ⊎ (IsNotOpened old new status ⊎ IsCutOff (texts_as form) old new status)
 
+-- what `write` makes a record of, by its words and the bytes of its file: all of them, or one more than a block may
+-- have
+abbrev pub plan_of : Draft → List ℕ → Plan
+plan_of d bytes = record {
+  kind = kind_named d.kind.now;
+  uri = d.uri.now;
+  date = d.date.now;
+  uuid = d.uuid.now;
+  content_type = d.content_type.now;
+  block = take (max_block + 1) bytes;
+}
+
+-- the record that is made was written
+pub record IsMadeOf (d : Draft) (bytes : List ℕ) (old new : Seen) : Type 0 where
+  pub content : Record
+  pub is : made (plan_of d bytes) ≡ Ok content
+  pub told : new.tells ≡ append_known old.tells (canonical content)
+
+pub record IsMade (d : Draft) (old new : Devices) (status : ℕ) : Type 0 where
+  pub is : IfHeld old.source.holds (λ bytes. IsMadeOf d bytes old.out new.out)
+  pub sound : new.source.faults ≡ old.source.faults
+  pub silent : new.err ≡ old.err
+  pub status_is : status ≡ 0
+
+-- no record is made, for the first reason
+pub record IsNotMade (d : Draft) (old new : Devices) (status : ℕ) : Type 0 where
+  pub fault : MakeFault
+  pub is : IfHeld old.source.holds (λ bytes. Makes (Err fault) (made (plan_of d bytes)))
+  pub sound : new.source.faults ≡ old.source.faults
+  pub untouched : new.out ≡ old.out
+  pub told : Tells (told_line (make_fault_text fault)) old.err new.err
+  pub status_is : status ≡ 3
+
+-- the file wasn't read: a read or a growth of the memory failed
+pub record IsNotRead (old new : Devices) (status : ℕ) : Type 0 where
+  pub fault : OutFault
+  pub source : HasFailedBy {X = ℕ} (Err fault) old.source.faults new.source.faults
+  pub none : sent_of fault ≡ 0
+  pub untouched : new.out ≡ old.out
+  pub told : Tells (told_line (out_fault_text fault)) old.err new.err
+  pub status_is : status ≡ 3
+
+-- a write failed: a front of the record went out
+pub record IsMadeFront (d : Draft) (bytes : List ℕ) (sent : ℕ) (old new : Seen) : Type 0 where
+  pub content : Record
+  pub is : made (plan_of d bytes) ≡ Ok content
+  pub front : WentOut old.tells (canonical content) new.tells sent
+
+pub record IsMadeCutOff (d : Draft) (old new : Devices) (status : ℕ) : Type 0 where
+  pub sent : ℕ
+  pub is : IfHeld old.source.holds (λ bytes. IsMadeFront d bytes sent old.out new.out)
+  pub failed : new.out.faults ≡ raised old.out.faults
+  pub sound : new.source.faults ≡ old.source.faults
+  pub told : Tells (told_line (out_fault_text (Write sent))) old.err new.err
+  pub status_is : status ≡ 3
+
+-- how `write` ends
+abbrev pub MakeEnds : Draft → Devices → Devices → ℕ → Type 0
+MakeEnds d old new status =
+    IsMade d old new status
+    ⊎ (IsNotMade d old new status ⊎ (IsNotRead old new status ⊎ IsMadeCutOff d old new status))
+
 -- how a command ends
 abbrev pub Ends : Command → Devices → Devices → ℕ → Type 0
 Ends (command.List archive) old new status = ListEnds old new status
@@ -258,6 +324,7 @@ Ends (command.Extract archive id) old new status = ExtractEnds id.now old new st
 Ends (command.Replay archive uri date) old new status = ReplayEnds uri.now (instant_of date.now) old new status
 Ends (command.Rewrite archive) old new status = WriteEnds Canonical old new status
 Ends (command.Convert archive) old new status = WriteEnds Converted old new status
+Ends (command.Write draft file) old new status = MakeEnds draft old new status
 
 -- the exit statuses of a command
 abbrev pub IsStatusOf : Command → ℕ → Type 0
@@ -267,6 +334,7 @@ IsStatusOf (command.Extract archive id) status = (status ≡ 0) ⊎ ((status ≡
 IsStatusOf (command.Replay archive uri date) status = (status ≡ 0) ⊎ ((status ≡ 1) ⊎ ((status ≡ 2) ⊎ (status ≡ 3)))
 IsStatusOf (command.Rewrite archive) status = (status ≡ 0) ⊎ ((status ≡ 2) ⊎ (status ≡ 3))
 IsStatusOf (command.Convert archive) status = (status ≡ 0) ⊎ ((status ≡ 2) ⊎ (status ≡ 3))
+IsStatusOf (command.Write draft file) status = (status ≡ 0) ⊎ (status ≡ 3)
 
 -- a text that was asked for went out, or a write failed and a front of it did
 abbrev pub IsShown : List ℕ → Seen → Seen → Seen → Seen → ℕ → Type 0

@@ -8,6 +8,7 @@ ghost use Rattle.warc_frame.specs.Seen.{seen, tapped};
 
 use crate::copying::Form;
 use crate::giving::{extract, replay};
+use crate::making::write;
 use crate::reader::Listing;
 use crate::words::{Command, CommandFault};
 use arrayvec::ArrayString;
@@ -32,8 +33,9 @@ pub(crate) const LINE: usize = 128;
 
 /// Does what a command says. The output goes to `out` and a line on what went wrong to `err`, where
 /// failures to write are ignored. The answer is the exit status, 0 done, 1 checked and something was
-/// found, or what was asked for isn't there, 2 the archive is refused, 3 a date that is none, or a read, a
-/// write or a growth of the memory failed; and the source. A date is judged before the source is read.
+/// found, or what was asked for isn't there, 2 the archive is refused, 3 a date that is none, a record that
+/// isn't made, or a read, a write or a growth of the memory failed; and the source. A date is judged before
+/// the source is read.
 pub fn perform<A, S, W, E>(
     alloc: A,
     command: &Command<'_>,
@@ -72,6 +74,7 @@ where
         } => replay(alloc, uri, date, source, out, err),
         Command::Rewrite { archive: _ } => write_anew(alloc, Form::Canonical, source, out, err),
         Command::Convert { archive: _ } => write_anew(alloc, Form::Converted, source, out, err),
+        Command::Write { draft, file: _ } => write(alloc, draft, source, out, err),
     }
 }
 

@@ -7,8 +7,8 @@ ghost use Rattle.clap.specs.Takes.{takes};
 ghost use Rattle.clap.specs.Values.{kind_of};
 ghost use Rattle.clap.specs.Walk.{rows_of, rule_of};
 ghost use Rattle.clap.specs.declared.builder.command.Command.TheViews.{out-Command};
-ghost use Rattle.warc.specs.Command.{path_of, view_of};
-ghost use Rattle.warc.specs.CommandLine.{IsToldBy, command_fault_text, command_of, layout_seen, named, required_word};
+ghost use Rattle.warc.specs.Command.{draft_texts, path_of, view_of};
+ghost use Rattle.warc.specs.CommandLine.{IsToldBy, command_fault_text, command_of, draft_words, layout_seen, named, required_word};
 ghost use Rattle.warc.specs.CommandLine.{text_of, warc_app, with_layout};
 
 use clap::error::ErrorKind;
@@ -48,6 +48,26 @@ pub enum Command<'a> {
     Convert {
         archive: &'a str,
     },
+    /// One record, whose block are the bytes of a file.
+    Write {
+        draft: Draft<'a>,
+        file: &'a str,
+    },
+}
+
+/// What `write` makes a record of, beside its block.
+#[derive(Clone, Copy, Debug, PartialEq, Eq)]
+pub struct Draft<'a> {
+    /// `resource`, `metadata` or `conversion`, in any case.
+    pub kind: &'a str,
+    /// The target, without brackets.
+    pub uri: &'a str,
+    /// The date, as the record is to state it.
+    pub date: &'a str,
+    /// The UUID, in any form that `uuid` reads.
+    pub uuid: &'a str,
+    /// The content type.
+    pub content_type: &'a str,
 }
 
 impl<'a> Command<'a> {
@@ -66,6 +86,7 @@ impl<'a> Command<'a> {
             } => archive,
             Command::Rewrite { archive } => archive,
             Command::Convert { archive } => archive,
+            Command::Write { draft: _, file } => file,
         }
     }
 }
@@ -172,6 +193,15 @@ Exit status: 0 written; 2 the archive is refused, and nothing was written; 3 see
 
 Example: warc convert examples/abc.warc";
 
+const WRITE_NOTES: &str =
+    "The record is one of WARC/1.1 with the digest of its block, which is all of the file. A record that can't be
+made is told by M1 to M5 (docs/FORMAT.md), and nothing is written.
+
+Exit status: 0 written; 3 the record isn't made, or see 'warc --help'.
+
+Example: warc write resource http://a.example/x 2020-01-01T00:00:00Z 00000000-0000-4000-8000-000000000001 \
+  text/plain page.txt > page.warc";
+
 const ARCHIVE: Word = Word {
     name: "archive",
     help: "The path of the archive; /dev/stdin is standard input, also a pipe",
@@ -192,8 +222,36 @@ const DATE: Word = Word {
     help: "The date as of which the URI is asked for; 9999 is the latest",
 };
 
+/// What `write` wants, in its order.
+const DRAFT: [Word; 6] = [
+    Word {
+        name: "kind",
+        help: "The kind of the record: resource, metadata or conversion",
+    },
+    Word {
+        name: "uri",
+        help: "The target, without brackets",
+    },
+    Word {
+        name: "date",
+        help: "The date, as 2020-01-01T00:00:00Z",
+    },
+    Word {
+        name: "uuid",
+        help: "The UUID of the record's id",
+    },
+    Word {
+        name: "type",
+        help: "The content type of the block, as text/plain",
+    },
+    Word {
+        name: "file",
+        help: "The path of the file whose bytes are the block",
+    },
+];
+
 /// The commands, in the order in which help lists them.
-const COMMANDS: [Entry; 6] = [
+const COMMANDS: [Entry; 7] = [
     Entry {
         name: "list",
         about: "Prints a line for each record",
@@ -229,6 +287,12 @@ const COMMANDS: [Entry; 6] = [
         about: "Writes the archive as one of WARC/1.1",
         notes: CONVERT_NOTES,
         words: &[ARCHIVE],
+    },
+    Entry {
+        name: "write",
+        about: "Writes one record, made of a file",
+        notes: WRITE_NOTES,
+        words: &DRAFT,
     },
 ];
 
@@ -309,6 +373,19 @@ fn text_at<'a>(matches: &ArgMatches<'a>, name: &str) -> &'a str
     }
 }
 
+/// What `write` makes a record of.
+fn read_draft<'a>(texts: &ArgMatches<'a>) -> Draft<'a>
+    ensures { draft_texts result ≡ map (text_of (rows_of (found_of texts.now))) draft_words }
+{
+    Draft {
+        kind: text_at(texts, "kind"),
+        uri: text_at(texts, "uri"),
+        date: text_at(texts, "date"),
+        uuid: text_at(texts, "uuid"),
+        content_type: text_at(texts, "type"),
+    }
+}
+
 /// What the command of a name is asked to do. `clap` meets no command but the program's own, so one of them,
 /// `list`, needs no test.
 fn read_command<'a>(name: &str, texts: &ArgMatches<'a>) -> Command<'a>
@@ -328,6 +405,10 @@ fn read_command<'a>(name: &str, texts: &ArgMatches<'a>) -> Command<'a>
         },
         "rewrite" => Command::Rewrite { archive },
         "convert" => Command::Convert { archive },
+        "write" => Command::Write {
+            draft: read_draft(texts),
+            file: text_at(texts, "file"),
+        },
         _ => Command::List { archive },
     }
 }

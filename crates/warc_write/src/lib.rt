@@ -13,5 +13,5 @@ mod written;
 pub use conversion::{convert, convert_fields};
 pub use cutting::cut;
 pub use making::{MakeFault, make};
-pub use sending::{put_head, render};
+pub use sending::{put_head, render, render_one};
 pub use splitting::{Part, SplitFault, part_at, segment_count, segment_head, split, splittable};

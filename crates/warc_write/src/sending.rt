@@ -108,3 +108,16 @@ pub fn render<A: Allocator, W: Sink>(records: &[Framed<A>], out: &mut W) -> Resu
     buffer.flush(out)?;
     Ok(())
 }
+
+/// Writes the canonical text of one record, as `render` does.
+pub fn render_one<A: Allocator, W: Sink>(framed: &Framed<A>, out: &mut W) -> Result<(), OutFault>
+    ensures told { OnOk result (W.tells out.new ≡ append_known (W.tells out.old) (canonical framed.now)) }
+    ensures cut { IfErr result (λ e.
+        WentOut (W.tells out.old) (canonical framed.now) (W.tells out.new) (sent_of e)) }
+    ensures write { IfErr result (λ e. e ≡ Write (sent_of e)) }
+    ensures cause { W.faults out.new ≡ (if is_err result then raised (W.faults out.old) else W.faults out.old) }
+{
+    let mut buffer = OutBuffer::new();
+    put_record(framed, &mut buffer, out)?;
+    Ok(buffer.flush(out)?)
+}
