@@ -1,10 +1,11 @@
 -- What is kept beside the rows, and what opening gives of it.
-use Rattle.std.proofs.Common.{◌≡◌, ℕ, List, [], ◌∷◌, ◌++◌, map, Ok, Err, IfErr, sym, ap, subst, ◌∙◌}
-use Rattle.std.proofs.lemmas.List.{map-append}
+use Rattle.std.proofs.Common.{◌≡◌, ℕ, List, [], ◌∷◌, ◌++◌, length, map, take, Ok, Err, IfErr, sym, ap, subst, ◌∙◌}
+use Rattle.std.proofs.Math.Seq.{take-append_seam}
+use Rattle.std.proofs.lemmas.List.{length-map, map-append, take-map}
 use Rattle.warc_frame.specs.declared.fault.Fault.{Fault}
 use Rattle.warc_frame.specs.Seen.{Tapped}
 use Rattle.warc_record.specs.Readings.{Reading, reading_of}
-use Rattle.warc_index.specs.Captures.{indexed_of}
+use Rattle.warc_index.specs.Captures.{Indexed, indexed_of}
 use Rattle.warc_index.specs.Orders.{IsKeptOf, Kept as Indexes}
 use Rattle.warc_segment.specs.Kept.{Kept as Parts, kept_in}
 use Rattle.warc_segment.specs.declared.place.Place.{Place}
@@ -58,3 +59,22 @@ refuses_with f opens = record {
   bound = opens.bound;
   cost = opens.cost;
 }
+
+-- the last record is forgotten
+pub index_back : (records : List Placed) (index : Indexes) (x : Indexed) (n : ℕ) → n ≡ length records → IsKeptOf (take n (map indexed_record records ++ x ∷ [])) index → IsKeptOf (map indexed_record records) index
+index_back records index x n size kept =
+    let front : take n (map indexed_record records ++ x ∷ []) ≡ map indexed_record records =
+    ap (λ k. take k (map indexed_record records ++ x ∷ [])) (size ∙ sym (length-map records indexed_record)) ∙ take-append_seam (map indexed_record records) (x ∷ []) in
+    subst (λ l. IsKeptOf l index) front kept
+
+-- all but the first records are forgotten
+pub forgotten : (records : List Placed) (n : ℕ) (index : Indexes) (parts : Parts) → IsKeptOf (take n (map indexed_record records)) index → parts ≡ kept_in (take n (map placed_record records))
+    → AreOf (take n records) index parts
+forgotten records n index parts kept joined =
+    record { index_is = subst (λ l. IsKeptOf l index) (take-map indexed_record n records) kept; parts_are = joined ∙ ap kept_in (take-map placed_record n records) }
+
+pub are_of_same : (records : List Placed) (index now : Indexes) (parts here : Parts) → now ≡ index → here ≡ parts → AreOf records index parts → AreOf records now here
+are_of_same records index now parts here same also are =
+    let P : Indexes → Type 0 = λ i. AreOf records i parts in
+    let Q : Parts → Type 0 = λ p. AreOf records now p in
+    subst Q (sym also) (subst P (sym same) are)

@@ -6,6 +6,7 @@ pub mod CountLemmas
 pub mod EmitLemmas
 pub mod ExtractLemmas
 pub mod GoodLemmas
+pub mod GrowLemmas
 pub mod HeadLemmas
 pub mod IndexedLemmas
 pub mod KindLemmas

@@ -93,7 +93,7 @@ if_raised : (watched : Bool) (n m : ℕ) → watched ≡ false → m ≡ (if wat
 if_raised watched n m off is = is ∙ ap (λ b. if b then raised n else n) off
 
 -- one more read
-near_more : (old mid new : Tapped) (at : ℕ) (failed : Bool) → at ≤ max_archive → mid.watches ≡ old.watches → IsReadAt at failed mid new → AsksOnly (λ q. q ≤ max_archive) old mid
+pub near_more : (old mid new : Tapped) (at : ℕ) (failed : Bool) → at ≤ max_archive → mid.watches ≡ old.watches → IsReadAt at failed mid new → AsksOnly (λ q. q ≤ max_archive) old mid
     → AsksOnly (λ q. q ≤ max_archive) old new
 near_more old mid new at failed low watched read asks = λ these.
     let off : mid.watches at ≡ false = ap (λ (w : ℕ → Bool). w at) watched ∙ these at low in

@@ -1,6 +1,7 @@
 -- Why bytes are refused while they are read.
 use Rattle.std.proofs.Common.{◌≡◌, ◌≢◌, ℕ, ◌+◌, ◌-◌, ◌≤◌, true, true≢false, List, ◌++◌, length, drop, Some, None, Err, refl, sym, ap, subst, ◌∙◌, arith}
 use Rattle.std.proofs.lemmas.List.{append_assoc, take-append-drop}
+use Rattle.warc_field.specs.Area.{Pair}
 use Rattle.warc_frame.specs.Faults.{AllAccepted, within_limit}
 use Rattle.warc_frame.specs.Record.{Record, max_archive}
 use Rattle.warc_frame.specs.Reading.{fault}
@@ -107,3 +108,19 @@ head_refused text more rs u r kind has exact is short =
     let begin : 0 + length front ≡ r.begin = omega (arith, size) in
     let P : ℕ → Type 0 = λ q. IsFaultOf (text ++ more) (fault kind q) in
     head_by kind (text ++ more) (fault kind r.begin) r.begin (head_kind u.fields kind is) (subst P begin first)
+
+refuses_by : (kind : FaultKind) (offset at : ℕ) (text : List ℕ) (told : Told) → RefusesAs kind at text told (fault kind offset) → kind ≢ Read
+refuses_by Memory offset at text told is e = cc e
+refuses_by Read offset at text told is e = limited_kind _ is.found is.reads.rest _ (fault Read offset) is.reads.fault_is is.limit refl
+refuses_by Truncated offset at text told is e = cc e
+refuses_by kind offset at text told is e = cc e
+
+-- neither the decoder nor a judge of heads tells a failed read
+pub refuses_not_read : (at : ℕ) (text : List ℕ) (told : Told) (f : Fault) → Refuses at text told f → f.kind ≢ Read
+refuses_not_read at text told f is = refuses_by f.kind f.offset at text told is
+
+pub head_not_read : (fields : List Pair) (kind : FaultKind) → head_fault fields ≡ Some kind → kind ≢ Read
+head_not_read fields kind is read =
+    let of : is_of_head kind ≡ true = head_kind fields kind is in
+    let off : is_of_head Read ≡ true = ap is_of_head (sym read) ∙ of in
+    true≢false (sym off)

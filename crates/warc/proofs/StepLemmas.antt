@@ -37,7 +37,7 @@ AddsRow {A} old rows = (c : Current A) (bytes : List ℕ) → old.current ≡ So
 
 -- what is wanted of that record is kept beside its row
 abbrev pub AddsBeside : {A L : Type 0} → (L → List Placed → Type 0) → Reading A L → L → Type 0
-AddsBeside {A} K old beside = (c : Current A) (bytes : List ℕ) (records : List Placed) (p : Placed) → old.current ≡ Some c → HasSeen c.digest bytes → K old.beside records
+AddsBeside {A} K old beside = (c : Current A) (bytes : List ℕ) (records : List Placed) (p : Placed) → old.current ≡ Some c → HasSeen c.digest bytes → K old.beside records → length old.rows ≡ length records
     → c.fields ≡ p.content.fields → head_fault p.content.fields ≡ None → place_by c bytes ≡ place_of p → K beside (records ++ p ∷ [])
 
 end_kept : {A L : Type 0} {K : L → List Placed → Type 0} (text more : List ℕ) (rs : List Record) (o : Option Unclosed) (rows : List Row) (beside : L) (begin : ℕ) (cur : Option (Current A)) (new : Reading A L)
@@ -49,7 +49,7 @@ end_kept text more rs None rows beside begin cur new has whole exact at none add
 end_kept text more rs (Some u) rows beside begin None new has whole exact at none adds keeps = absurd has.current
 end_kept text more rs (Some u) rows beside begin (Some c) new has whole exact at none adds keeps =
     end_kept_by text more rs u (record { rows = rows; beside = beside; begin = begin; current = Some c }) new c has has.current whole exact at none (adds c u.bytes refl has.current.seen)
-    (λ records p kept same good placed. keeps c u.bytes records p refl has.current.seen kept same good placed)
+    (λ records p kept size same good placed. keeps c u.bytes records p refl has.current.seen kept size same good placed)
 
 module _ {A B L : Type 0} {K : L → List Placed → Type 0} (text piece : List ℕ) (told : Told) (d : State) (took : ℕ) (event : Event B) (takes : Takes 0 text told d piece took event) (old new : Reading A L)
     (has : HasRead K text told old) where

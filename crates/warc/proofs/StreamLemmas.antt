@@ -1,6 +1,6 @@
 -- What is kept of a stream stands for the bytes that were taken.
 use Rattle.std.proofs.Common.{◌≡◌, ℕ, ◌+◌, ◌≤◌, List, [], ◌∷◌, ◌++◌, length, map, Option, Some, None, Result, Ok, Err, IsSome, refl, sym, ap, subst, ◌∙◌, arith, length-append}
-use Rattle.std.proofs.lemmas.List.{append_assoc, append-nil, append_cancel_left, map-append}
+use Rattle.std.proofs.lemmas.List.{append_assoc, append-nil, append_cancel_left, length-map, map-append}
 use Rattle.warc_frame.specs.Faults.{AllAccepted}
 use Rattle.warc_frame.specs.Reading.{◌>>=◌, Head, any_fields, block_at, head_of, record_of}
 use Rattle.warc_frame.specs.Record.{Record, max_archive}
@@ -227,7 +227,7 @@ place_is p c start len of =
 pub end_kept_by : {A L : Type 0} {K : L → List Placed → Type 0} (text more : List ℕ) (rs : List Record) (u : Unclosed) (old new : Reading A L) (c : Current A) (has : HasRead K text (record { records = rs; unclosed = Some u }) old)
     → IsCurrent (length has.front) has.rest u c → length u.bytes ≡ u.block_len → IsExact (text ++ more) (record { records = rs ++ record { version = u.version; fields = u.fields; block = u.bytes } ∷ []; unclosed = None })
     → new.begin ≡ length (text ++ more) → new.current ≡ None → new.rows ≡ old.rows ++ row_by old.begin c u.bytes ∷ []
-    → ((records : List Placed) (p : Placed) → K old.beside records → c.fields ≡ p.content.fields → head_fault p.content.fields ≡ None → place_by c u.bytes ≡ place_of p → K new.beside (records ++ p ∷ []))
+    → ((records : List Placed) (p : Placed) → K old.beside records → length old.rows ≡ length records → c.fields ≡ p.content.fields → head_fault p.content.fields ≡ None → place_by c u.bytes ≡ place_of p → K new.beside (records ++ p ∷ []))
     → HasRead K (text ++ more) (record { records = rs ++ record { version = u.version; fields = u.fields; block = u.bytes } ∷ []; unclosed = None }) new
 end_kept_by {A} {L} {K} text more rs u old new c has is whole exact begin current rows keeps =
     let r : Record = record { version = u.version; fields = u.fields; block = u.bytes } in
@@ -253,7 +253,7 @@ end_kept_by {A} {L} {K} text more rs u old new c has is whole exact begin curren
       told_is = ap (λ l. l ++ r ∷ []) has.told_is ∙ sym (map-append (λ (x : Placed). x.content) has.records (p ∷ []));
       good = accepted_more rs r has.good is.of.good;
       rows_are = rows ∙ ap (λ l. l ++ row_by old.begin c u.bytes ∷ []) has.rows_are ∙ ap (λ x. map row_of has.records ++ x ∷ []) row ∙ sym (map-append row_of has.records (p ∷ []));
-      beside = keeps has.records p has.beside is.of.fields_are is.of.good (place_is p c refl (is.len ∙ sym whole) is.of);
+      beside = keeps has.records p has.beside (ap length has.rows_are ∙ length-map has.records row_of) is.of.fields_are is.of.good (place_is p c refl (is.len ∙ sym whole) is.of);
       begin_is = begin ∙ count ∙ sym (length-append has.front last);
       current = subst M (sym current) tt;
     }

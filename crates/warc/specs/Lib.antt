@@ -9,6 +9,7 @@ pub mod Forms
 pub mod Copied
 pub mod Devices
 pub mod Extracting
+pub mod Growing
 pub mod Heads
 pub mod Indexed
 pub mod Keeping

@@ -1,5 +1,5 @@
 -- What is kept of an archive while it is read as a stream. States of the code: no public clause cites them.
-use Rattle.std.specs.Prelude.{◌≡◌, ℕ, ◌+◌, ◌<◌, ◌≤◌, ◌⊎◌, Bool, List, [], ◌++◌, length, map, take, Option, Some, None, unwrap_or, if◌then◌else◌}
+use Rattle.std.specs.Prelude.{◌≡◌, ℕ, ◌+◌, ◌<◌, ◌≤◌, ◌⊎◌, Bool, List, [], ◌++◌, length, map, take, drop, Option, Some, None, unwrap_or, if◌then◌else◌}
 use Rattle.warc_field.specs.Area.{Pair}
 use Rattle.warc_value.specs.Digests.{verdict_of}
 use Rattle.warc_value.specs.Running.{HasTaken}
@@ -70,6 +70,18 @@ pub record HasRead {A L : Type 0} (Keeps : L → List Placed → Type 0) (text :
   pub begin_is : r.begin ≡ length front
   pub current : Matches (length front) rest told.unclosed r.current
 
+-- a list goes on with more
+abbrev pub Extends : {X : Type 0} → List X → List X → Type 0
+Extends {X} old new = (more : List X) × (new ≡ old ++ more)
+
+-- it is kept of these records, the first of which are those
+abbrev pub Since : {L : Type 0} → (L → List Placed → Type 0) → List Placed → L → List Placed → Type 0
+Since Keeps was l records = Keeps l records × Extends was records
+
+-- it is kept of records the first of which are these
+abbrev pub IsLeft : {L : Type 0} → (L → List Placed → Type 0) → List Placed → L → Type 0
+IsLeft Keeps was l = (more : List Placed) × Keeps l (was ++ more)
+
 -- the decoder took this text, and what it told was kept
 pub record Stands {A L : Type 0} (Keeps : L → List Placed → Type 0) (text : List ℕ) (d : State) (r : Reading A L)
     : Type 0 where
@@ -130,5 +142,14 @@ pub record HasGiven (old new : Tapped) (text : List ℕ) : Type 0 where
   pub kept : new.holds ≡ old.holds
   pub sound : new.faults ≡ old.faults
   pub cost : new.reads ≤ old.reads + length text
+  pub watched : new.watches ≡ old.watches
+  pub near : AsksOnly (λ at. at ≤ max_archive) old new
+
+-- these bytes were read of a source, from an offset on, with at most one read for each
+pub record HasGivenFrom (start : ℕ) (old new : Tapped) (taken : List ℕ) : Type 0 where
+  pub part : IfHeld old.holds (λ bytes. taken ≡ take (length taken) (drop start bytes))
+  pub kept : new.holds ≡ old.holds
+  pub sound : new.faults ≡ old.faults
+  pub cost : new.reads ≤ old.reads + length taken
   pub watched : new.watches ≡ old.watches
   pub near : AsksOnly (λ at. at ≤ max_archive) old new

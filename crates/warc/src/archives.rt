@@ -1,5 +1,5 @@
 //! An archive: a listing, and beside it what finds its records and joins those in segments.
-ghost use Rattle.std.specs.Prelude.{◌≡◌, List, length, IfErr, IfOk, OnOk, is_err, min, slice_get, if◌then◌else◌};
+ghost use Rattle.std.specs.Prelude.{◌≡◌, ℕ, List, length, IfErr, IfOk, OnErr, OnOk, is_err, min, slice_get, if◌then◌else◌};
 ghost use Rattle.std.specs.Io.KnownBytes.{append_known};
 ghost use Rattle.warc_frame.specs.Count.{raised};
 ghost use Rattle.warc_frame.specs.Seen.{seen, tapped};
@@ -9,6 +9,7 @@ ghost use Rattle.warc.specs.Extracting.{Extracts, position_with};
 ghost use Rattle.warc.specs.Keeping.{kept_bytes};
 ghost use Rattle.warc.specs.Indexed.{AreOf, IsIndexed, archive_of, source_left};
 ghost use Rattle.warc.specs.Listing.{listing};
+ghost use Rattle.warc.specs.Growing.{Grows, grown, source_grown, without_source};
 ghost use Rattle.warc.specs.Opening.{Opens};
 ghost use Rattle.warc.specs.Replaying.{Replays};
 ghost use Rattle.warc.specs.Row.{Placed};
@@ -17,10 +18,11 @@ ghost use Rattle.warc.specs.Taking.{Takes};
 use crate::beside::Lookup;
 use crate::fault::{ExtractFault, TakeFault};
 use crate::reader::Listing;
-use crate::reading::read_records;
-use crate::rows::Row;
+use crate::reading::read_on;
+use crate::rows::{Row, Rows};
 use std::alloc::{AllocError, Allocator, Global};
 use std::marker::Model;
+use std::mem;
 use warc_answer::{Answer, ReplayFault};
 use warc_frame::{Fault, Framed, OutFault, Sink, Source};
 use warc_record::id_key;
@@ -88,13 +90,39 @@ impl<S: Source, A: Allocator + Copy> Archive<S, A> {
             (archive_of result) }
     {
         let mut source = source;
-        match read_records(alloc, &mut source, Lookup::new(alloc)) {
-            Ok((rows, lookup)) => {
+        let lookup = Lookup::new(alloc);
+        let (answer, rows, lookup) = read_on(alloc, &mut source, Rows::new(alloc), lookup);
+        match answer {
+            Ok(()) => {
                 let listing = Listing { source, rows };
                 Ok(Archive { listing, lookup })
             }
             Err(fault) => Err((fault, source)),
         }
+    }
+
+    /// Goes on in a source that begins with the bytes of the old one, as a listing does: then every answer is that of
+    /// the whole opened afresh, and after a refusal every answer is that from before.
+    pub fn grow(&mut self, source: S) -> Result<(), (Fault, S)>
+    where
+        S: Drop,
+        ensures grows { Grows IsIndexed self.old
+            (tapped (S.holds source) (S.faults source) (S.reads source) (S.asked source) (S.watches source)
+            (S.strays source))
+            (tapped (S.holds (source_grown result self.new.listing.source))
+            (S.faults (source_grown result self.new.listing.source))
+            (S.reads (source_grown result self.new.listing.source))
+            (S.asked (source_grown result self.new.listing.source))
+            (S.watches (source_grown result self.new.listing.source))
+            (S.strays (source_grown result self.new.listing.source))) (grown (without_source result) self.new) }
+        ensures refused { OnErr result (self.new.listing ≡ self.old.listing) }
+        ensures stays { (bytes : List ℕ) → IsIndexed bytes self.old → OnErr result (IsIndexed bytes self.new) }
+    {
+        let alloc = self.listing.allocator();
+        let found = mem::replace(&mut self.lookup, Lookup::new(alloc));
+        let (answer, lookup) = self.listing.grow_with(source, found);
+        self.lookup = lookup;
+        answer
     }
 
     /// How many bytes of texts are kept of the records: those that `list` writes, those by which records are found, and

@@ -1,5 +1,5 @@
 //! What is kept of records beside their rows: nothing in a listing; in an archive, what finds them and what joins them.
-ghost use Rattle.std.specs.Prelude.{◌≡◌, None, List, [], ◌∷◌, ◌++◌, OnOk};
+ghost use Rattle.std.specs.Prelude.{◌≡◌, None, List, [], ◌∷◌, ◌++◌, length, take, OnErr, OnOk};
 ghost use Rattle.warc_record.specs.Heads.{head_fault};
 ghost use Rattle.warc_record.specs.Readings.{reading_of};
 ghost use Rattle.warc_record.specs.Seen.{said};
@@ -17,11 +17,24 @@ pub(crate) trait Keep<A: Allocator> {
     /// It is kept of these records.
     ghost keeps: { Self → List Placed → Type 0 };
 
-    /// Keeps what is wanted of the next record, by the fields of its good head and where its block stands.
-    fn keep(&mut self, alloc: A, fields: &Fields<A>, place: Place) -> Result<(), AllocError>
-        ensures { (records : List Placed) (p : Placed) → keeps self.old records →
+    /// Keeps what is wanted of the next record, by its position, the fields of its good head and where its block stands.
+    /// Where memory is refused, what is kept is of the records before.
+    fn keep(
+        &mut self,
+        alloc: A,
+        position: usize,
+        fields: &Fields<A>,
+        place: Place,
+    ) -> Result<(), AllocError>
+        ensures ok { (records : List Placed) (p : Placed) → keeps self.old records → position ≡ length records →
             fields.now ≡ p.content.fields → head_fault p.content.fields ≡ None → place ≡ place_of p →
-            OnOk result (keeps self.new (records ++ p ∷ [])) };
+            OnOk result (keeps self.new (records ++ p ∷ [])) }
+        ensures err { (records : List Placed) → keeps self.old records → position ≡ length records →
+            OnErr result (keeps self.new records) };
+
+    /// Forgets all but the first so many records. It takes no memory.
+    fn forget_after(&mut self, count: usize)
+        ensures { (records : List Placed) → keeps self.old records → keeps self.new (take count records) };
 }
 
 /// Rows alone are kept.
@@ -31,9 +44,17 @@ pub(crate) struct Nothing;
 impl<A: Allocator> Keep<A> for Nothing {
     ghost keeps = { λ _ _. Unit {0} };
 
-    fn keep(&mut self, _alloc: A, _fields: &Fields<A>, _place: Place) -> Result<(), AllocError> {
+    fn keep(
+        &mut self,
+        _alloc: A,
+        _position: usize,
+        _fields: &Fields<A>,
+        _place: Place,
+    ) -> Result<(), AllocError> {
         Ok(())
     }
+
+    fn forget_after(&mut self, _count: usize) {}
 }
 
 /// What finds the records of an archive, and what joins those that are in segments.
@@ -54,29 +75,54 @@ impl<A: Allocator + Copy> Lookup<A> {
         }
     }
 
-    /// Keeps the next record, by what its head says and where its block stands.
-    fn add(&mut self, typed: &Typed<A>, place: Place) -> Result<(), AllocError>
-        ensures { (records : List Placed) (p : Placed) → AreOf records self.old.index self.old.parts →
+    /// Keeps the next record, by its position, what its head says and where its block stands.
+    fn add(&mut self, position: usize, typed: &Typed<A>, place: Place) -> Result<(), AllocError>
+        ensures ok { (records : List Placed) (p : Placed) → AreOf records self.old.index self.old.parts →
             said typed.now ≡ reading_of p.content.fields → place ≡ place_of p →
             OnOk result (AreOf (records ++ p ∷ []) self.new.index self.new.parts) }
+        ensures err { (records : List Placed) → AreOf records self.old.index self.old.parts →
+            position ≡ length records → OnErr result (AreOf records self.new.index self.new.parts) }
     {
         self.index.add(typed)?;
-        self.parts.add(typed, place)
+        match self.parts.add(typed, place) {
+            Ok(()) => Ok(()),
+            Err(refused) => {
+                // What was added is taken back, which takes no memory.
+                self.index.forget_after(position);
+                Err(refused)
+            }
+        }
     }
 }
 
 impl<A: Allocator + Copy> Keep<A> for Lookup<A> {
     ghost keeps = { λ l records. AreOf records l.index l.parts };
 
-    fn keep(&mut self, alloc: A, fields: &Fields<A>, place: Place) -> Result<(), AllocError>
-        ensures { (records : List Placed) (p : Placed) → AreOf records self.old.index self.old.parts →
-            fields.now ≡ p.content.fields → head_fault p.content.fields ≡ None → place ≡ place_of p →
-            OnOk result (AreOf (records ++ p ∷ []) self.new.index self.new.parts) }
+    fn keep(
+        &mut self,
+        alloc: A,
+        position: usize,
+        fields: &Fields<A>,
+        place: Place,
+    ) -> Result<(), AllocError>
+        ensures ok { (records : List Placed) (p : Placed) → AreOf records self.old.index self.old.parts →
+            position ≡ length records → fields.now ≡ p.content.fields → head_fault p.content.fields ≡ None →
+            place ≡ place_of p → OnOk result (AreOf (records ++ p ∷ []) self.new.index self.new.parts) }
+        ensures err { (records : List Placed) → AreOf records self.old.index self.old.parts →
+            position ≡ length records → OnErr result (AreOf records self.new.index self.new.parts) }
     {
         // The head is good, so that nothing but memory fails.
         let Ok(typed) = type_head(alloc, fields) else {
             return Err(AllocError);
         };
-        self.add(&typed, place)
+        self.add(position, &typed, place)
+    }
+
+    fn forget_after(&mut self, count: usize)
+        ensures { (records : List Placed) → AreOf records self.old.index self.old.parts →
+            AreOf (take count records) self.new.index self.new.parts }
+    {
+        self.index.forget_after(count);
+        self.parts.forget_after(count);
     }
 }

@@ -1,5 +1,5 @@
 //! A listing: the rows of an archive over the source that holds its bytes.
-ghost use Rattle.std.specs.Prelude.{◌≡◌, length, IfErr, OnOk, is_err, slice_get, if◌then◌else◌};
+ghost use Rattle.std.specs.Prelude.{◌≡◌, ℕ, List, length, IfErr, OnErr, OnOk, is_err, slice_get, if◌then◌else◌};
 ghost use Rattle.std.specs.Io.KnownBytes.{append_known};
 ghost use Rattle.warc_frame.specs.Count.{raised};
 ghost use Rattle.warc_frame.specs.Send.{WentOut, sent_of};
@@ -8,23 +8,26 @@ ghost use Rattle.warc.specs.Checks.{Checks};
 ghost use Rattle.warc.specs.Forms.{Writes};
 ghost use Rattle.warc.specs.Extracting.{ExtractsAt};
 ghost use Rattle.warc.specs.Listing.{listing};
+ghost use Rattle.warc.specs.Growing.{Grows, grown, source_grown, without_source};
 ghost use Rattle.warc.specs.Opening.{Opens};
+ghost use Rattle.warc.specs.Stream.{IsKeptOf};
 ghost use Rattle.warc.specs.Replaying.{Replays};
 ghost use Rattle.warc.specs.Taking.{Takes};
 ghost use Rattle.warc_frame.specs.Seen.{seen, tapped};
 
-use crate::beside::{Lookup, Nothing};
+use crate::beside::{Keep, Lookup, Nothing};
 use crate::blocks::send_range;
 use crate::check::check_rows;
 use crate::copying::{Form, write_rows};
 use crate::fault::{ExtractFault, TakeFault};
-use crate::reading::read_records;
+use crate::reading::read_on;
 use crate::replay::replay_rows;
 use crate::row::put_line;
 use crate::rows::{Row, Rows};
 use crate::taking::take_record;
 use std::alloc::{Allocator, Global};
 use std::marker::Model;
+use std::mem;
 use warc_answer::{Answer, ReplayFault};
 use warc_frame::laws::head_of_spelled;
 use warc_frame::{Fault, Framed, OutBuffer, OutFault, Sink, Source};
@@ -101,9 +104,68 @@ impl<S: Source, A: Allocator + Copy> Listing<S, A> {
             (rows_of result) }
     {
         let mut source = source;
-        match read_records(alloc, &mut source, Nothing) {
-            Ok((rows, Nothing)) => Ok(Listing { source, rows }),
+        let (answer, rows, Nothing) = read_on(alloc, &mut source, Rows::new(alloc), Nothing);
+        match answer {
+            Ok(()) => Ok(Listing { source, rows }),
             Err(fault) => Err((fault, source)),
+        }
+    }
+
+    /// Goes on in a source that begins with the bytes of the old one: reads it from their end to its own, and adds the
+    /// records there. Then it is the listing of the whole, and has the new source. A source that isn't longer adds
+    /// nothing. A refusal is that of the whole, as by `open`; it leaves the listing as it was and hands the new source
+    /// back.
+    pub fn grow(&mut self, source: S) -> Result<(), (Fault, S)>
+    where
+        S: Drop,
+        ensures grows { Grows IsArchiveOf self.old.rows
+            (tapped (S.holds source) (S.faults source) (S.reads source) (S.asked source) (S.watches source)
+            (S.strays source))
+            (tapped (S.holds (source_grown result self.new.source)) (S.faults (source_grown result self.new.source))
+            (S.reads (source_grown result self.new.source)) (S.asked (source_grown result self.new.source))
+            (S.watches (source_grown result self.new.source)) (S.strays (source_grown result self.new.source)))
+            (grown (without_source result) self.new.rows) }
+        ensures refused { OnErr result (self.new ≡ self.old) }
+    {
+        let (answer, Nothing) = self.grow_with(source, Nothing);
+        answer
+    }
+
+    /// Where its memory comes from.
+    pub(crate) fn allocator(&self) -> A {
+        self.rows.allocator()
+    }
+
+    /// The same, with what is kept beside the rows.
+    pub(crate) fn grow_with<L: Keep<A> + Drop>(
+        &mut self,
+        source: S,
+        beside: L,
+    ) -> (Result<(), (Fault, S)>, L)
+    where
+        S: Drop,
+        ensures grows { Grows (IsKeptOf L.keeps) (self.old.rows, beside)
+            (tapped (S.holds source) (S.faults source) (S.reads source) (S.asked source) (S.watches source)
+            (S.strays source))
+            (tapped (S.holds (source_grown result.0 self.new.source)) (S.faults (source_grown result.0 self.new.source))
+            (S.reads (source_grown result.0 self.new.source)) (S.asked (source_grown result.0 self.new.source))
+            (S.watches (source_grown result.0 self.new.source)) (S.strays (source_grown result.0 self.new.source)))
+            (grown (without_source result.0) (self.new.rows, result.1)) }
+        ensures refused { OnErr result.0 (self.new ≡ self.old) }
+        ensures beside { (bytes : List ℕ) → IsKeptOf L.keeps bytes (self.old.rows, beside)
+            → OnErr result.0 (IsKeptOf L.keeps bytes (self.new.rows, result.1)) }
+    {
+        let mut source = source;
+        let alloc = self.rows.allocator();
+        let kept = mem::replace(&mut self.rows, Rows::new(alloc));
+        let (answer, rows, beside) = read_on(alloc, &mut source, kept, beside);
+        self.rows = rows;
+        match answer {
+            Ok(()) => {
+                self.source = source;
+                (Ok(()), beside)
+            }
+            Err(fault) => (Err((fault, source)), beside),
         }
     }
 

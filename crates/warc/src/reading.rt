@@ -1,13 +1,15 @@
 //! Reads the good records of a source as a stream, and keeps a row of each, and what is wanted beside it.
-ghost use Rattle.std.specs.Prelude.{◌≡◌, ℕ, ◌<◌, ◌≤◌, List, [], ◌∷◌, ◌++◌, length, take, Some, None, IfOk, IfErr, OnOk, MatchResult};
+ghost use Rattle.std.specs.Prelude.{◌≡◌, ◌≢◌, ℕ, ◌<◌, ◌≤◌, ◌^◌, List, [], ◌∷◌, ◌++◌, length, take, Some, None, IfOk, IfErr, OnErr, OnOk, MatchResult};
 ghost use Rattle.warc_value.specs.Digests.{verdict_of};
 ghost use Rattle.warc_record.specs.Heads.{head_fault};
-ghost use Rattle.warc.specs.Archive.{IsFaultOf};
+ghost use Rattle.warc.specs.Archive.{IsArchiveOf};
 ghost use Rattle.warc.specs.Indexed.{place_of};
-ghost use Rattle.warc.specs.Opening.{Opens};
+ghost use Rattle.warc.specs.Growing.{Grows, grown};
 ghost use Rattle.warc.specs.Row.{Placed};
+ghost use Rattle.warc_frame.specs.Decoding.{IsAt};
 ghost use Rattle.warc_frame.specs.Seen.{tapped};
-ghost use Rattle.warc.specs.Stream.{BeginsSince, HasSeen, WantsSince, IsHead, IsKeptOf, Stands, StaysRefused, place_by, row_by};
+ghost use Rattle.warc_frame.specs.Told.{Told};
+ghost use Rattle.warc.specs.Stream.{BeginsSince, Extends, HasSeen, WantsSince, IsHead, IsKeptOf, IsLeft, Since, Stands, StaysRefused, place_by, row_by};
 ghost use Rattle.warc.specs.declared.reading.Current.{Current as Kept};
 
 use crate::beside::Keep;
@@ -80,19 +82,31 @@ struct Reading<A: Allocator, L> {
 }
 
 impl<A: Allocator + Copy, L: Keep<A> + Drop> Reading<A, L> {
-    /// Nothing was read.
-    fn new(alloc: A, beside: L) -> Reading<A, L>
-        ensures rows { result.rows ≡ [] }
+    /// The records of these rows were read.
+    fn behind(rows: Rows<A>, beside: L) -> Reading<A, L>
+        ensures rows { result.rows ≡ rows }
         ensures beside { result.beside ≡ beside }
-        ensures begin { result.begin ≡ 0 }
+        ensures limit { result.begin ≤ 2 ^ 48 }
+        ensures begin { (bytes : List ℕ) → IsArchiveOf bytes rows → result.begin ≡ length bytes }
         ensures current { result.current ≡ None }
     {
+        let begin = rows.end();
         Reading {
-            rows: Rows::new(alloc),
+            rows,
             beside,
-            begin: 0,
+            begin,
             current: None,
         }
+    }
+
+    /// Forgets all but the first so many records.
+    fn forget_after(&mut self, count: usize)
+        ensures rows { self.new.rows ≡ take count self.old.rows }
+        ensures beside { (records : List Placed) → L.keeps self.old.beside records → L.keeps self.new.beside
+            (take count records) }
+    {
+        self.rows.truncate(count);
+        self.beside.forget_after(count);
     }
 
     /// Reads a head, behind which a block of so many bytes begins at an offset.
@@ -141,10 +155,14 @@ impl<A: Allocator + Copy, L: Keep<A> + Drop> Reading<A, L> {
         ensures current { self.new.current ≡ None }
         ensures row { (c : Kept A) (bytes : List ℕ) → self.old.current ≡ Some c → HasSeen c.digest bytes →
             OnOk result (self.new.rows ≡ self.old.rows ++ row_by self.old.begin c bytes ∷ []) }
+        ensures extends { Extends self.old.rows self.new.rows }
         ensures beside { (c : Kept A) (bytes : List ℕ) (records : List Placed) (p : Placed) →
             self.old.current ≡ Some c → HasSeen c.digest bytes → L.keeps self.old.beside records →
-            c.fields ≡ p.content.fields → head_fault p.content.fields ≡ None → place_by c bytes ≡ place_of p →
+            length self.old.rows ≡ length records → c.fields ≡ p.content.fields →
+            head_fault p.content.fields ≡ None → place_by c bytes ≡ place_of p →
             OnOk result (L.keeps self.new.beside (records ++ p ∷ [])) }
+        ensures left { (records : List Placed) → L.keeps self.old.beside records →
+            length self.old.rows ≡ length records → OnErr result (L.keeps self.new.beside records) }
     {
         if let Some(current) = self.current.take() {
             let Current {
@@ -155,6 +173,7 @@ impl<A: Allocator + Copy, L: Keep<A> + Drop> Reading<A, L> {
             } = current;
             let verdict = digest.verdict();
             let texts = head_texts(&fields);
+            let position = self.rows.len();
             self.rows.push(&Row {
                 offset: self.begin,
                 block_start,
@@ -172,7 +191,7 @@ impl<A: Allocator + Copy, L: Keep<A> + Drop> Reading<A, L> {
                 verdict,
                 truncated: texts.is_truncated,
             };
-            self.beside.keep(alloc, &fields, place)?;
+            self.beside.keep(alloc, position, &fields, place)?;
         }
         self.begin = end;
         Ok(())
@@ -187,10 +206,17 @@ fn take_front<A: Allocator + Copy, L: Keep<A> + Drop>(
     piece: &[u8],
 ) -> Result<usize, Fault>
     requires { 0 < length piece.now }
-    ensures history { (text : List ℕ) → Stands L.keeps text decoder.old reading.old → MatchResult result
-        (λ took. Stands L.keeps (text ++ take took piece.now) decoder.new reading.new) (StaysRefused (text ++ piece.now)) }
-    ensures begins { (text : List ℕ) → Stands L.keeps text decoder.old reading.old → MatchResult result
-        (λ _. BeginsSince text reading.old.begin reading.new.begin) (WantsSince text piece.now reading.old.begin) }
+    ensures history { (was : List Placed) (text : List ℕ) → Stands (Since L.keeps was) text decoder.old reading.old
+        → MatchResult result (λ took. Stands (Since L.keeps was) (text ++ take took piece.now) decoder.new reading.new)
+        (StaysRefused (text ++ piece.now)) }
+    ensures begins { (was : List Placed) (text : List ℕ) → Stands (Since L.keeps was) text decoder.old reading.old
+        → MatchResult result (λ _. BeginsSince text reading.old.begin reading.new.begin)
+        (WantsSince text piece.now reading.old.begin) }
+    ensures left { (was : List Placed) (text : List ℕ) → Stands (Since L.keeps was) text decoder.old reading.old
+        → OnErr result (IsLeft L.keeps was reading.new.beside) }
+    ensures rows { Extends reading.old.rows reading.new.rows }
+    ensures taken { (at : ℕ) (taken : List ℕ) (told : Told) → IsAt at taken told decoder.old → MatchResult result
+        (λ took. (now : Told) × IsAt at (taken ++ take took piece.now) now decoder.new) (λ f. f.kind ≢ FaultKind.Read) }
     ensures within { IfOk result (λ took. (0 < took) × (took ≤ length piece.now)) }
 {
     let (took, event) = decoder.step(piece)?;
@@ -224,10 +250,16 @@ fn take_piece<A: Allocator + Copy, L: Keep<A> + Drop>(
     reading: &mut Reading<A, L>,
     piece: &[u8],
 ) -> Result<(), Fault>
-    ensures history { (text : List ℕ) → Stands L.keeps text decoder.old reading.old → MatchResult result
-        (λ _. Stands L.keeps (text ++ piece.now) decoder.new reading.new) (StaysRefused (text ++ piece.now)) }
-    ensures memory { (text : List ℕ) → Stands L.keeps text decoder.old reading.old →
-        IfErr result (WantsSince text piece.now reading.old.begin) }
+    ensures history { (was : List Placed) (text : List ℕ) → Stands (Since L.keeps was) text decoder.old reading.old
+        → MatchResult result (λ _. Stands (Since L.keeps was) (text ++ piece.now) decoder.new reading.new)
+        (StaysRefused (text ++ piece.now)) }
+    ensures memory { (was : List Placed) (text : List ℕ) → Stands (Since L.keeps was) text decoder.old reading.old
+        → IfErr result (WantsSince text piece.now reading.old.begin) }
+    ensures left { (was : List Placed) (text : List ℕ) → Stands (Since L.keeps was) text decoder.old reading.old
+        → OnErr result (IsLeft L.keeps was reading.new.beside) }
+    ensures rows { Extends reading.old.rows reading.new.rows }
+    ensures taken { (at : ℕ) (taken : List ℕ) (told : Told) → IsAt at taken told decoder.old → MatchResult result
+        (λ _. (now : Told) × IsAt at (taken ++ piece.now) now decoder.new) (λ f. f.kind ≢ FaultKind.Read) }
 {
     let mut from = 0;
     'taking: while from < piece.len() {
@@ -236,41 +268,27 @@ fn take_piece<A: Allocator + Copy, L: Keep<A> + Drop>(
     Ok(())
 }
 
-/// What is kept, where the stream ended behind a record. Else it is truncated.
-fn kept_of<A: Allocator + Copy, L: Keep<A> + Drop>(
-    decoder: &Decoder<A>,
-    reading: Reading<A, L>,
-) -> Result<(Rows<A>, L), Fault>
-    ensures { (text : List ℕ) → Stands L.keeps text decoder.now reading → MatchResult result
-        (IsKeptOf L.keeps text) (λ fault. (fault.kind ≡ FaultKind.Truncated) × IsFaultOf text fault) }
-{
-    let end = decoder.position();
-    match decoder.finish() {
-        Ok(()) => Ok((reading.rows, reading.beside)),
-        Err(_) => Err(Fault {
-            kind: FaultKind::Truncated,
-            offset: end,
-        }),
-    }
-}
-
-/// Reads a source through the buffer, from its front to its end.
+/// Reads a source through the buffer, from where the next record begins to its end.
 fn read_through<S: Source, A: Allocator + Copy, L: Keep<A> + Drop>(
     alloc: A,
     source: &mut S,
     buf: &mut [u8],
-    beside: L,
-) -> Result<(Rows<A>, L), Fault>
+    reading: &mut Reading<A, L>,
+) -> Result<(), Fault>
     requires room { 0 < length buf.old }
-    requires empty { L.keeps beside [] }
-    ensures { Opens (IsKeptOf L.keeps)
+    requires limit { reading.old.begin ≤ 2 ^ 48 }
+    requires begin { (bytes : List ℕ) → IsArchiveOf bytes reading.old.rows → reading.old.begin ≡ length bytes }
+    requires current { reading.old.current ≡ None }
+    ensures grows { Grows (IsKeptOf L.keeps) (reading.old.rows, reading.old.beside)
         (tapped (S.holds source.old) (S.faults source.old) (S.reads source.old) (S.asked source.old)
         (S.watches source.old) (S.strays source.old))
         (tapped (S.holds source.new) (S.faults source.new) (S.reads source.new) (S.asked source.new)
-        (S.watches source.new) (S.strays source.new)) result }
+        (S.watches source.new) (S.strays source.new)) (grown result (reading.new.rows, reading.new.beside)) }
+    ensures rows { Extends reading.old.rows reading.new.rows }
+    ensures left { (bytes : List ℕ) (is : IsKeptOf L.keeps bytes (reading.old.rows, reading.old.beside))
+        → OnErr result (IsLeft L.keeps is.listed.are.records reading.new.beside) }
 {
-    let mut decoder = Decoder::new(alloc, 0);
-    let mut reading = Reading::new(alloc, beside);
+    let mut decoder = Decoder::new(alloc, reading.begin);
     'reading: loop {
         let at = decoder.position();
         let n = match source.read_at(at, buf) {
@@ -283,30 +301,42 @@ fn read_through<S: Source, A: Allocator + Copy, L: Keep<A> + Drop>(
         if n == 0 {
             break;
         }
-        take_piece(alloc, &mut decoder, &mut reading, &buf[..n])?;
+        take_piece(alloc, &mut decoder, reading, &buf[..n])?;
     }
-    kept_of(&decoder, reading)
+    decoder.finish()
 }
 
-/// The rows of the good records that a source holds, and what is kept beside them, which is of no records at first.
-/// Each read is at the offset where the bytes so far end.
-pub(crate) fn read_records<S: Source, A: Allocator + Copy, L: Keep<A> + Drop>(
+/// Reads on in a source behind the records that are kept, to its end: keeps a row of each good record there, and what
+/// is wanted beside it. Each read is at the offset where the bytes so far end. A refusal leaves what was kept.
+pub(crate) fn read_on<S: Source, A: Allocator + Copy, L: Keep<A> + Drop>(
     alloc: A,
     source: &mut S,
+    rows: Rows<A>,
     beside: L,
-) -> Result<(Rows<A>, L), Fault>
-    requires { L.keeps beside [] }
-    ensures { Opens (IsKeptOf L.keeps)
+) -> (Result<(), Fault>, Rows<A>, L)
+    ensures grows { Grows (IsKeptOf L.keeps) (rows, beside)
         (tapped (S.holds source.old) (S.faults source.old) (S.reads source.old) (S.asked source.old)
         (S.watches source.old) (S.strays source.old))
         (tapped (S.holds source.new) (S.faults source.new) (S.reads source.new) (S.asked source.new)
-        (S.watches source.new) (S.strays source.new)) result }
+        (S.watches source.new) (S.strays source.new)) (grown result.0 (result.1, result.2)) }
+    ensures rows { OnErr result.0 (result.1 ≡ rows) }
+    ensures beside { (bytes : List ℕ) → IsKeptOf L.keeps bytes (rows, beside)
+        → OnErr result.0 (IsKeptOf L.keeps bytes (result.1, result.2)) }
 {
     let Ok(mut buf) = vec![in alloc; 0u8; PIECE] else {
-        return Err(Fault {
+        let fault = Fault {
             kind: FaultKind::Memory,
             offset: 0,
-        });
+        };
+        return (Err(fault), rows, beside);
     };
-    read_through(alloc, source, &mut buf, beside)
+    let count = rows.len();
+    let mut reading = Reading::behind(rows, beside);
+    match read_through(alloc, source, &mut buf, &mut reading) {
+        Ok(()) => (Ok(()), reading.rows, reading.beside),
+        Err(fault) => {
+            reading.forget_after(count);
+            (Err(fault), reading.rows, reading.beside)
+        }
+    }
 }

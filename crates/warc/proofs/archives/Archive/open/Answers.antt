@@ -1,8 +1,9 @@
-use Rattle.warc.proofs.IndexedLemmas.{opens_with, refuses_with}
+use Rattle.std.proofs.Common.{refl}
+use Rattle.warc.proofs.GrowLemmas.{opens_failed, opens_made}
 use Rattle.warc.proofs.archives.Archive.open.Goals as goal
 
 pub returns-in-Ok : goal.returns-in-Ok
-returns-in-Ok g c = opens_with _ _ (λ bytes kept. record { listed = kept.listed; kept = kept.beside }) c.in-Ok.ensures
+returns-in-Ok g c = opens_made _ _ _ _ _ _ _ c.in-Ok.is c.new.ensures c.new-lookup.ensures (λ bytes kept. record { listed = kept.listed; kept = kept.beside }) c.read_on-answer.ensures.grows
 
 pub returns-in-Err : goal.returns-in-Err
-returns-in-Err g c = refuses_with _ c.in-Err.ensures
+returns-in-Err g c = opens_failed _ _ _ _ _ _ c.in-Err.is c.new.ensures c.new-lookup.ensures c.read_on-answer.ensures.grows
