@@ -160,7 +160,8 @@ extract_status (Err NoRecord) = 1
 extract_status (Err (ExtractOut e)) = 3
 
 -- the block of the first record with the id, of those that the bytes spell, went out as was answered
-pub record IsExtractOf (id : List ℕ) (answer : Result ℕ ExtractFault) (bytes : List ℕ) (old new : Devices) : Type 0 where
+pub record IsExtractOf (id : List ℕ) (answer : Result ℕ ExtractFault) (bytes : List ℕ) (old new : Devices)
+    : Type 0 where
   pub rows : List Row
   pub is : IsArchiveOf bytes rows
   pub told : IsExtract (extracted is.are.records id) answer old.out.tells new.out.tells

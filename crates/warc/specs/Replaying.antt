@@ -59,9 +59,10 @@ IsOnPath all (Err unfound) at = ⊥
 abbrev pub IsWanted : List Placed → List ℕ → Instant → ℕ → Type 0
 IsWanted all uri moment at = IsOnPath all (path_of (map indexed_record all) uri moment) at
 
--- A replay for a URI as of a moment, by rows, an index and parts. Where the archive's source holds its bytes, what goes out and what is answered are
--- as the definition of the answer says of its records, in so many reads at most, of the origin's head and the joined
--- blocks alone, and the source has failed once more exactly where a read is told. Any source still holds what it held; before a reason nothing goes out
+-- A replay for a URI as of a moment, by rows, an index and parts. Where the archive's source holds its bytes, what goes
+-- out and what is answered are as the definition of the answer says of its records, in so many reads at most, of the
+-- origin's head and the joined blocks alone, and the source has failed once more exactly where a read is told. Any
+-- source still holds what it held; before a reason nothing goes out
 pub record Replays (rows : List Row) (index : Indexes) (parts : Parts) (uri : List ℕ) (moment : Instant)
     (old new : Tapped) (before after : Seen) (answer : Result Answer ReplayFault) : Type 0 where
   pub told : IfHeld old.holds (λ bytes. (is : IsArchiveOf bytes rows) → AreOf is.are.records index parts

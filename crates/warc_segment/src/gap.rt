@@ -29,8 +29,8 @@ pub enum Gap {
 }
 
 impl Gap {
-    /// Its number and name, in at most 13 bytes, and the number of the segment that it is about, if it is about one: one
-    /// behind the other its text.
+    /// Its number and name, in at most 13 bytes, and the number of the segment that it is about, if it is about one:
+    /// one behind the other its text.
     pub fn parts(self) -> (&'static str, Option<u64>)
         ensures text { result.0.now ++ digits_of result.1 ≡ gap_text self }
         ensures short { length result.0.now ≤ 13 }
