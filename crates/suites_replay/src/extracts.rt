@@ -55,3 +55,14 @@ fn texts_that_no_record_has(rt: HostRuntime) -> Result<(), Fail> {
     assert!(rt; finds_none(rt.alloc(), &[], "urn:a")?);
     Ok(())
 }
+
+#[test]
+fn a_refused_archive_gives_nothing(rt: HostRuntime) -> Result<(), Fail> {
+    let alloc = rt.alloc();
+    let text = ONE_RESOURCE.text(alloc)?;
+    let cut = &text[..text.len().saturating_sub(1)];
+    let (archive, id) = ("a.warc", "urn:uuid:00000000-0000-4000-8000-000000000001");
+    let line = "warc: F11 Truncated at 277\n";
+    assert!(rt; ends(alloc, &Command::Extract { archive, id }, cut, b"", line, 2)?);
+    Ok(())
+}

@@ -14,3 +14,5 @@ mod revisits;
 mod runs;
 #[cfg(test)]
 mod segments;
+#[cfg(test)]
+mod words;
