@@ -1,0 +1,3 @@
+pub mod Migration
+pub mod Opened
+pub mod RoundTrip

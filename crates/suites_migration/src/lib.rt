@@ -1,0 +1,6 @@
+//! Archives that are written anew in memory and opened again: conversion changes no answer, and records come back.
+#![tactic(auto)]
+
+pub mod migration;
+mod opening;
+pub mod round_trip;
