@@ -11,7 +11,8 @@ use warc_vectors::{Break, BrokenSource, BrokenWriter, RefusingAllocator};
 
 const TEXT: &[u8] = b"a text of thirty-one letters ..";
 
-/// What reads of one source after another give, each at the offset where the bytes so far end, and how many reads gave any.
+/// What reads of one source after another give, each at the offset where the bytes so far end, and how many reads
+/// gave any.
 fn read_in_turns<S: Source>(alloc: Global, source: &mut S) -> Result<(Vec<u8>, usize), Fail> {
     let mut bytes = Vec::new(alloc);
     let mut buffer = [0; 16];

@@ -365,7 +365,8 @@ fn filled<A: Allocator + Copy>(
     filling.into_index()
 }
 
-/// The name of the first case whose last record has another origin, in an index that is added to or in one that is filled.
+/// The name of the first case whose last record has another origin, in an index that is added to or in one that is
+/// filled.
 fn first_wrong(cases: &[Case], heap: Global) -> Result<Option<&'static str>, AllocError> {
     for (name, records, expected) in cases {
         let mut added = Index::new(heap);

@@ -96,9 +96,16 @@ row_short shorter position p framed a b c =
     let target = bare_of shorter (first_value (codes "WARC-Target-URI") fields) _ (value_short (codes "WARC-Target-URI") fields) in
     let row = row_of p in
     omega (
-      arith, area_short p.content framed, digits position a, digits p.offset b, digits (length p.content.block) c,
-      value_short (codes "WARC-Type") fields, value_short (codes "WARC-Date") fields, value_short (codes "WARC-Record-ID") fields,
-      target, shown_len row.target,
+      arith,
+      area_short p.content framed,
+      digits position a,
+      digits p.offset b,
+      digits (length p.content.block) c,
+      value_short (codes "WARC-Type") fields,
+      value_short (codes "WARC-Date") fields,
+      value_short (codes "WARC-Record-ID") fields,
+      target,
+      shown_len row.target,
       seven_len (decimal position) (decimal row.offset) (decimal row.block_len) row.kind row.date row.id (shown row.target),
     )
 
@@ -142,7 +149,10 @@ lines_short : (position : ℕ) (founds : List Found) → position < 2 ^ 64
 lines_short position [] low = omega arith
 lines_short position (f ∷ fs) low =
     omega (
-      arith, line_short position f low, lines_short position fs low, sum_by-cons told_len f fs,
+      arith,
+      line_short position f low,
+      lines_short position fs low,
+      sum_by-cons told_len f fs,
       length-append (line_text (about_record position f)) (flat_map line_text (map (about_record position) fs)),
     )
 
@@ -152,7 +162,9 @@ checked_short : FindingsAreFew → FindingsAreShort → (before : List Record) (
 checked_short few short before position r framed low =
     let used = is_used before (record_key r) in
     omega (
-      arith, area_short r framed, fields_few r.fields,
+      arith,
+      area_short r framed,
+      fields_few r.fields,
       lines_short position (findings_behind before r) low,
       few r.fields (length r.block) (has_bad_digest r) used,
       short r.fields (length r.block) (has_bad_digest r) used,
@@ -194,8 +206,13 @@ written_short : (text_of : Record → List ℕ) → ((r : Record) → IsGood r �
 written_short text_of each [] text is good = omega arith
 written_short text_of each (r ∷ rs) text (front, rest, one, whole, more) (first, good) =
     omega (
-      arith, each r first, record_len r front one, written_short text_of each rs rest more good,
-      ap length whole, length-append front rest, length-append (text_of r) (flat_map text_of rs),
+      arith,
+      each r first,
+      record_len r front one,
+      written_short text_of each rs rest more good,
+      ap length whole,
+      length-append front rest,
+      length-append (text_of r) (flat_map text_of rs),
     )
 
 converted_short : ConvertedStaysGood → (r : Record) → IsGood r → length (canonical (converted r)) ≤ 65540 + length r.block
@@ -212,8 +229,7 @@ outputs_are_counted shorter few short stays bytes rows is =
     let same : length rs ≡ length ps = length-map ps (λ p. p.content) in
     let low : length rs ≤ 2 ^ 44 = omega (arith, count, is.short) in
     let lines = rows_short shorter 0 0 ps bytes is.are.spelled (omega (arith, low, same)) (omega (arith, is.short)) in
-    let is_listing = ap (λ l. length (flat_map (λ p. line_of p.0 p.1) (enumerate_from 0 l))) is.are.rows_are in
-    (
+    let is_listing = ap (λ l. length (flat_map (λ p. line_of p.0 p.1) (enumerate_from 0 l))) is.are.rows_are in (
       omega (arith, is_listing, lines, low, same),
       check_short few short rs is.are.good low,
       omega (arith, is.short, low, written_short canonical (λ r good. canonical_short r good.framed) rs bytes spelled is.are.good),

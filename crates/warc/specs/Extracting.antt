@@ -70,9 +70,9 @@ pub record ExtractsAt (rows : List Row) (position : ℕ) (old new : Tapped) (bef
   pub may : MayHaveFailedBy (extract_result answer) old.faults new.faults
   pub cause : after.faults ≡ failed_by (extract_result answer) before.faults
 
--- extracting from an archive. Where its source holds the archive's bytes, the block of the first record with the id goes
--- out, that block alone is read, and the source has failed once more exactly where a read is told. Any source still
--- holds what it held, and of it at most one block is read; where there is no record nothing goes out
+-- extracting from an archive. Where its source holds the archive's bytes, the block of the first record with the id
+-- goes out, that block alone is read, and the source has failed once more exactly where a read is told. Any source
+-- still holds what it held, and of it at most one block is read; where there is no record nothing goes out
 pub record Extracts {S : Type 0} (archive : Archived S) (id : List ℕ) (old new : Tapped) (before after : Seen)
     (answer : Result ℕ ExtractFault) : Type 0 where
   pub told : IfHeld old.holds (λ bytes. (is : IsIndexed bytes archive)

@@ -12,4 +12,5 @@ texts_len row = length row.kind + length row.date + length row.id + length row.t
 -- the texts of the rows, those by which records are found, and the keys of the records that segments are of
 abbrev pub kept_bytes : {S : Type 0} → Archived S → ℕ
 kept_bytes archive =
-    sum_by texts_len archive.listing.rows + text_bytes archive.index + sum_by (λ m. length m.origin) archive.parts.members
+    sum_by texts_len archive.listing.rows + text_bytes archive.index
+    + sum_by (λ m. length m.origin) archive.parts.members

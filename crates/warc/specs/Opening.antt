@@ -44,10 +44,10 @@ abbrev pub faults_after : FaultKind → ℕ → ℕ
 faults_after Read n = raised n
 faults_after kind n = n
 
--- opening a source: it gives what is right for the bytes, or a refusal, by the bytes that the source holds, where they are known. The
--- source still holds them, and has failed once more exactly where the refusal is a read fault, at the offset
--- asked last. No offset above 2^48 is asked for, at most 2^48 reads and one are made, and at most one for each
--- byte and one
+-- opening a source: it gives what is right for the bytes, or a refusal, by the bytes that the source holds, where
+-- they are known. The source still holds them, and has failed once more exactly where the refusal is a read fault, at
+-- the offset asked last. No offset above 2^48 is asked for, at most 2^48 reads and one are made, and at most one for
+-- each byte and one
 pub record Opens {X : Type 0} (Is : List ℕ → X → Type 0) (old new : Tapped) (answer : Result X Fault) : Type 0 where
   pub accepted : IfHeld old.holds (λ bytes. IfOk answer (Is bytes))
   pub refused : IfHeld old.holds (λ bytes. IfErr answer (IsRefusalOf bytes old new))

@@ -28,8 +28,8 @@ IsEnd Read = ⊤
 IsEnd Memory = ⊤
 
 -- the records that bytes spell, and the one at the end of the path for a URI as of a moment
-pub record IsOrigin (bytes : List ℕ) (records : List Placed) (uri : List ℕ) (moment : Instant) (path : Path) (p : Placed)
-    : Type 0 where
+pub record IsOrigin (bytes : List ℕ) (records : List Placed) (uri : List ℕ) (moment : Instant) (path : Path)
+    (p : Placed) : Type 0 where
   pub short : length bytes ≤ max_archive
   pub spelled : SpellsFrom 0 records bytes
   pub path_is : path_of (map indexed_record records) uri moment ≡ Ok path

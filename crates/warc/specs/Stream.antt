@@ -113,7 +113,8 @@ place_by c bytes = record {
 }
 
 -- these are the rows of the records that bytes spell, and beside the rows is kept what is wanted of them
-pub record IsKeptOf {L : Type 0} (Keeps : L → List Placed → Type 0) (bytes : List ℕ) (kept : List Row × L) : Type 0 where
+pub record IsKeptOf {L : Type 0} (Keeps : L → List Placed → Type 0) (bytes : List ℕ) (kept : List Row × L)
+    : Type 0 where
   pub listed : IsArchiveOf bytes kept.0
   pub beside : Keeps kept.1 listed.are.records
 

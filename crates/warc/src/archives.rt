@@ -28,8 +28,8 @@ use warc_frame::{Fault, Framed, OutFault, Sink, Source};
 use warc_record::id_key;
 use warc_value::Moment;
 
-/// An archive, whose records are listed, found by target, moment and id, and joined. Contracts see its listing, and what
-/// its index and its parts keep.
+/// An archive, whose records are listed, found by target, moment and id, and joined. Contracts see its listing, and
+/// what its index and its parts keep.
 #[derive(Drop)]
 pub struct Archive<S: Source, A: Allocator = Global> {
     listing: Listing<S, A>,
@@ -130,7 +130,11 @@ impl<S: Source, A: Allocator + Copy> Archive<S, A> {
     pub fn kept(&self) -> u64
         ensures { result ≡ min (kept_bytes self.now) 18446744073709551615 }
     {
-        let found = self.lookup.index.kept().saturating_add(self.lookup.parts.kept());
+        let found = self
+            .lookup
+            .index
+            .kept()
+            .saturating_add(self.lookup.parts.kept());
         self.listing.rows.kept().saturating_add(found)
     }
 

@@ -17,8 +17,8 @@ pub(crate) trait Keep<A: Allocator> {
     /// It is kept of these records.
     ghost keeps: { Self → List Placed → Type 0 };
 
-    /// Keeps what is wanted of the next record, by its position, the fields of its good head and where its block stands.
-    /// Where memory is refused, what is kept is of the records before.
+    /// Keeps what is wanted of the next record, by its position, the fields of its good head and where its block
+    /// stands. Where memory is refused, what is kept is of the records before.
     fn keep(
         &mut self,
         alloc: A,

@@ -253,8 +253,8 @@ impl<S: Source, A: Allocator + Copy> Listing<S, A> {
         check_rows(alloc, &mut self.source, &self.rows, out)
     }
 
-    /// Writes the records anew in a form, in their order, and keeps no block: each head is read again, and each block is
-    /// copied from the source.
+    /// Writes the records anew in a form, in their order, and keeps no block: each head is read again, and each block
+    /// is copied from the source.
     ///
     /// A read that fails, or a source that no longer gives what it gave at opening, is `Read`; a write that fails is
     /// `Write`, and a refused growth of the memory `Memory`. Each tells how many bytes went out, which are the first of

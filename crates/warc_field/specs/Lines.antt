@@ -1,4 +1,5 @@
--- A text cut at each CRLF, and cut into lines, which a space or tab behind a CRLF continues (WARC 1.1, 4; RFC 2616, 2.2).
+-- A text cut at each CRLF, and cut into lines, which a space or tab behind a CRLF continues (WARC 1.1, 4; RFC 2616,
+-- 2.2).
 use Rattle.std.specs.Prelude.{ℕ, suc, slice_index_or, Bool, true, false, not, ◌&&◌, ◌==◌, List, [], ◌∷◌, ◌++◌, drop, if◌then◌else◌}
 use Rattle.std.specs.List.{prefix_len, flat_map}
 use Rattle.warc_field.specs.Text.{is_blank}

@@ -29,7 +29,8 @@ impl<A: Allocator> Model for Name<A> {
     ghost invariant = { λ n. is_name (held_bytes n.token) ≡ true };
 }
 
-/// A field's value. Contracts see its bytes. A value of at most 48 bytes takes no memory, unless it was read from folded lines.
+/// A field's value. Contracts see its bytes. A value of at most 48 bytes takes no memory, unless it was read from
+/// folded lines.
 #[derive(Debug, Drop)]
 pub struct Value<A: Allocator = Global> {
     text: Bytes<A>,
@@ -202,7 +203,8 @@ impl<A: Allocator> Name<A> {
 }
 
 impl<A: Allocator> Value<A> {
-    /// The value that this text is, or `BadText` where it is none. Up to 48 bytes it takes no memory. An empty text is a value.
+    /// The value that this text is, or `BadText` where it is none. Up to 48 bytes it takes no memory. An empty text
+    /// is a value.
     pub fn new(alloc: A, text: &[u8]) -> Result<Value<A>, TextFault>
         ensures ok { IfOk result (λ value. (value ≡ text.now) × (is_value text.now ≡ true)) }
         ensures bad { IsErrOf result TextFault.BadText ↔ (is_value text.now ≡ false) }
@@ -214,8 +216,8 @@ impl<A: Allocator> Value<A> {
         Ok(Value::from_checked(alloc, text)?)
     }
 
-    /// The value that this text is, known to be one, as that of another value. It isn't judged anew. Up to 48 bytes it takes no
-    /// memory.
+    /// The value that this text is, known to be one, as that of another value. It isn't judged anew. Up to 48 bytes
+    /// it takes no memory.
     pub fn from_checked(alloc: A, text: &[u8]) -> Result<Value<A>, AllocError>
         requires { is_value text.now ≡ true }
         ensures value { IfOk result (λ value. value ≡ text.now) }

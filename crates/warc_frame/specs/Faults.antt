@@ -1,5 +1,5 @@
--- The first fault of a text: that of what follows the longest list of records that the text begins with. This project's own
--- notion.
+-- The first fault of a text: that of what follows the longest list of records that the text begins with. This
+-- project's own notion.
 use Rattle.std.specs.Prelude.{◌≡◌, ◌≢◌, ℕ, ◌+◌, ◌-◌, Bool, true, false, nat_lt, List, [], ◌++◌, length, take, Option, Some, None, Err}
 use Rattle.std.specs.List.{AllByRecursion}
 use Rattle.warc_frame.specs.declared.fault.FaultKind.{FaultKind}

@@ -1,5 +1,6 @@
--- The record at the front of a text, or the first row of the table of refusals that fits the text. What a record is: ISO
--- 28500:2017, which is WARC 1.1, section 4, file and record model. The table of refusals is this project's own notion.
+-- The record at the front of a text, or the first row of the table of refusals that fits the text. What a record is:
+-- ISO 28500:2017, which is WARC 1.1, section 4, file and record model. The table of refusals is this project's own
+-- notion.
 use Rattle.std.specs.Prelude.{◌≡◌, ℕ, suc, ◌+◌, ◌-◌, ◌&&◌, Bool, not, nat_le, nat_lt, nat_eq, List, [], ◌∷◌, ◌++◌, length, take, drop, slice_range, Option, Some, None, option_map, is_none, Result, Ok, Err, if◌then◌else◌}
 use Rattle.std.specs.List.{starts_with}
 use Rattle.warc_field.specs.Area.{Pair, area_of}
@@ -82,9 +83,9 @@ pub record Head : Type 0 where
   pub len : ℕ
   pub block_len : ℕ
 
--- the head at the front of a text. Its rows are the table's, in the table's order: Version; HeadTooLong or Truncated of a
--- head without an end; Field; HeadTooLong of the canonical head; Missing, Repeated or Length of the only Content-Length;
--- what the judgement finds of type, id and date
+-- the head at the front of a text. Its rows are the table's, in the table's order: Version; HeadTooLong or Truncated
+-- of a head without an end; Field; HeadTooLong of the canonical head; Missing, Repeated or Length of the only
+-- Content-Length; what the judgement finds of type, id and date
 unfoldable pub head_of : Judgement → List ℕ → Result Head Fault
 head_of judge t = do
   version ← needs (version_of t) (fault NoVersion 0)

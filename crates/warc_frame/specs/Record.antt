@@ -1,5 +1,5 @@
--- A record: a version, named fields and a block (ISO 28500:2017, which is WARC 1.1: section 4, file and record model; its
--- Content-Length: section 5, named fields). The bounds and the canonical head are this project's own notions.
+-- A record: a version, named fields and a block (ISO 28500:2017, which is WARC 1.1: section 4, file and record model;
+-- its Content-Length: section 5, named fields). The bounds and the canonical head are this project's own notions.
 use Rattle.std.specs.Prelude.{◌≡◌, ℕ, ◌^◌, ◌≤◌, ◌==◌, nat_le, nat_lt, List, ◌++◌, length, codes, Option, Some, None, Result, Ok, Err, option_and_then, if◌then◌else◌}
 use Rattle.warc_field.specs.Text.{AreFields}
 use Rattle.warc_field.specs.Lines.{crlf}

@@ -1,5 +1,5 @@
--- The texts that spell a record, and those that spell a list of records (ISO 28500:2017, which is WARC 1.1: section 4, file
--- and record model). Which of them is canonical is this project's own notion.
+-- The texts that spell a record, and those that spell a list of records (ISO 28500:2017, which is WARC 1.1: section
+-- 4, file and record model). Which of them is canonical is this project's own notion.
 use Rattle.std.specs.Prelude.{◌≡◌, ℕ, ◌≤◌, List, [], ◌∷◌, ◌++◌, length}
 use Rattle.warc_field.specs.Lines.{crlf}
 use Rattle.warc_field.specs.Area.{SpellsFields, canonical_fields}

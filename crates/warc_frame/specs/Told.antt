@@ -65,7 +65,8 @@ opened (Ok head) t =
     Some (record { version = head.version; fields = head.fields; block_len = head.block_len; bytes = bytes })
 opened (Err f) t = None
 
--- what a text that is less than a record tells: its head, where it is whole and can be framed, and the bytes of its block
+-- what a text that is less than a record tells: its head, where it is whole and can be framed, and the bytes of its
+-- block
 abbrev pub unclosed_of : List ℕ → Option Unclosed
 unclosed_of t = opened (head_of any_fields t) t
 
@@ -116,7 +117,8 @@ IfTold (events.Part from to) P = P
 IfTold events.End P = P
 
 -- the frame fault of a text that begins at offset `at`, which stays whatever follows; what was told is all that lies
--- before it: the records, and of what the fault is in, a head that is whole and can be framed and the bytes of its block
+-- before it: the records, and of what the fault is in, a head that is whole and can be framed and the bytes of its
+-- block
 pub record Refutes (at : ℕ) (text : List ℕ) (told : Told) (f : Fault) : Type 0 where
   pub found : Option Fault
   pub reads : ReadsAs any_fields at (within_limit at text) told.records found

@@ -41,8 +41,8 @@ fn ends_at(kept: &[u8], piece: &[u8], place: usize) -> bool
     byte_at(kept, piece, end - 3) == b'\r'
 }
 
-/// How many bytes of the piece end the first CRLF CRLF, where the kept bytes hold none. Only those that begin in the kept
-/// bytes are looked for byte by byte.
+/// How many bytes of the piece end the first CRLF CRLF, where the kept bytes hold none. Only those that begin in the
+/// kept bytes are looked for byte by byte.
 pub(crate) fn find_end(kept: &[u8], piece: &[u8]) -> Option<usize>
     requires short { length kept.now + length piece.now ≤ 65536 }
     requires none { empty_line kept.now ≡ None }

@@ -86,8 +86,8 @@ pub enum FaultKind {
 }
 
 impl FaultKind {
-    /// The fault's number and name, and the name of the field that it is about, or nothing: each of at most 16 bytes, and one
-    /// behind the other the fault's text.
+    /// The fault's number and name, and the name of the field that it is about, or nothing: each of at most 16 bytes,
+    /// and one behind the other the fault's text.
     pub fn parts(self) -> (&'static str, &'static str)
         ensures text { result.0.now ++ result.1.now ≡ kind_text self }
         ensures short { (length result.0.now ≤ 16) × (length result.1.now ≤ 16) }

@@ -53,8 +53,8 @@ pub fn head_of_spelled()
         ≡ Ok (record { version = r.version; fields = r.fields; len = n; block_len = length r.block }) }
 {}
 
-/// A text that begins at offset q and ends by offset 2^48 has no first fault exactly if it spells a list of records, all
-/// of them accepted.
+/// A text that begins at offset q and ends by offset 2^48 has no first fault exactly if it spells a list of records,
+/// all of them accepted.
 pub fn no_fault_where_spelled()
     ensures not_both { (judge : Judgement) (q : ℕ) (text : List ℕ) (records : List Record) (fault : Fault)
         → q + length text ≤ max_archive → SpellsAll records text → AllAccepted judge records
@@ -92,8 +92,9 @@ pub fn refusals_refute()
         → Refutes at text told f }
 {}
 
-/// The first fault for a reader that is told a text by framing alone, and judges the fields of each head that it is told.
-/// While it accepts them, the fault is framing's; the first that it refuses is the fault, at its record's first byte.
+/// The first fault for a reader that is told a text by framing alone, and judges the fields of each head that it is
+/// told. While it accepts them, the fault is framing's; the first that it refuses is the fault, at its record's first
+/// byte.
 pub fn first_fault_of_judged_heads()
     ensures refuted { (judge : Judgement) (at : ℕ) (text : List ℕ) (told : Told) (f : Fault) → Refutes at text told f
         → AcceptsTold judge told → IsFirstFault judge at text f }

@@ -27,7 +27,12 @@ impl<A: Allocator> Model for Begun<A> {
 
     ghost Value = { Unclosed };
 
-    ghost view = { λ b. record { version = b.version; fields = b.fields; block_len = b.length; bytes = b.bytes.items } };
+    ghost view = { λ b. record {
+      version = b.version;
+      fields = b.fields;
+      block_len = b.length;
+      bytes = b.bytes.items;
+    } };
 }
 
 /// The records told so far, and the one that is open.
@@ -108,9 +113,9 @@ fn feed<A: Allocator + Copy>(
     Ok(())
 }
 
-/// The records that the pieces, one behind the other, spell, however the bytes are cut into them; the first byte stands at
-/// offset `at`, at most 2^48. The fault is the frame fault of all bytes, or want of memory at the first byte of the record that
-/// memory was wanted for.
+/// The records that the pieces, one behind the other, spell, however the bytes are cut into them; the first byte
+/// stands at offset `at`, at most 2^48. The fault is the frame fault of all bytes, or want of memory at the first
+/// byte of the record that memory was wanted for.
 pub fn decode<A: Allocator + Copy>(
     alloc: A,
     at: u64,

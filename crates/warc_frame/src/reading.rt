@@ -130,9 +130,9 @@ pub(crate) fn read_fields<A: Allocator + Copy>(
     })
 }
 
-/// The head at the front of a text, whatever follows it. A fault's offset counts from the front: it is the first row of the
-/// table of refusals that fits, as far as framing goes, and the block isn't looked at. Nothing given is Truncated at 0; want
-/// of memory is told at 0.
+/// The head at the front of a text, whatever follows it. A fault's offset counts from the front: it is the first row
+/// of the table of refusals that fits, as far as framing goes, and the block isn't looked at. Nothing given is
+/// Truncated at 0; want of memory is told at 0.
 #[tactic(auto, unfolding(crate::specs::Reading::head_of))]
 pub fn read_head<A: Allocator + Copy>(alloc: A, text: &[u8]) -> Result<Head<A>, Fault>
     ensures exact { AnswersAs
@@ -189,8 +189,8 @@ fn read_front<A: Allocator + Copy>(alloc: A, text: &[u8]) -> Result<(Framed<A>, 
     Ok((Framed::from_checked(head.version, head.fields, block), len))
 }
 
-/// The record at the front of a text, and its length. A fault's offset counts from the front. Nothing given is Truncated
-/// at 0; want of memory is told at 0.
+/// The record at the front of a text, and its length. A fault's offset counts from the front. Nothing given is
+/// Truncated at 0; want of memory is told at 0.
 pub fn read_one<A: Allocator + Copy>(alloc: A, text: &[u8]) -> Result<(Framed<A>, usize), Fault>
     // What is read is spelled so.
     ensures found { IfOk result (λ x. (x.1 ≤ length text.now) × Spells x.0 (take x.1 text.now)) }

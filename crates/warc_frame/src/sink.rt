@@ -65,7 +65,11 @@ impl<A: Allocator> Model for MemSink<A> {
 
     ghost Value = { Grown };
 
-    ghost view = { λ s. record { bytes = s.bytes.items; room = vec_capacity s.bytes - vec_len s.bytes; faults = s.faults } };
+    ghost view = { λ s. record {
+      bytes = s.bytes.items;
+      room = vec_capacity s.bytes - vec_len s.bytes;
+      faults = s.faults;
+    } };
 }
 
 impl<A: Allocator> MemSink<A> {

@@ -54,7 +54,8 @@ pub trait Source {
         ensures counted { reads self.new ≡ raised (reads self.old) }
         ensures asked { asked self.new ≡ at }
         ensures watched { watches self.new ≡ watches self.old }
-        ensures strayed { strays self.new ≡ (if watches self.old at then raised (strays self.old) else strays self.old) };
+        ensures strayed { strays self.new ≡
+            (if watches self.old at then raised (strays self.old) else strays self.old) };
 }
 
 /// Bytes in memory, of which each read gives at most `most`.

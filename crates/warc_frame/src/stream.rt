@@ -120,8 +120,8 @@ impl<A: Allocator + Copy> Decoder<A> {
     /// Takes bytes of the piece's front, and tells what they end or are.
     ///
     /// It takes at least one byte of a piece that isn't empty, or fails; `More` takes the whole piece. An event is told
-    /// with the last byte that it stands for. A fault is the frame fault of the bytes taken followed by the piece, or want
-    /// of memory; it takes nothing, and each later call answers it again.
+    /// with the last byte that it stands for. A fault is the frame fault of the bytes taken followed by the piece, or
+    /// want of memory; it takes nothing, and each later call answers it again.
     pub fn step(&mut self, piece: &[u8]) -> Result<(usize, Event<A>), Fault>
         ensures history { (at : ℕ) (taken : List ℕ) (told : Told) → IsAt at taken told self.old →
             MatchResult result (λ r. Takes at taken told self.new piece.now r.0 r.1)

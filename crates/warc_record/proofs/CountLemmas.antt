@@ -78,8 +78,12 @@ names_short [] = omega arith
 names_short (f ∷ fs) =
     let line : length (canonical_line f) ≡ length f.0 + length f.1 + 4 = simp length-append (omega arith) in
     omega (
-      arith, line, names_short fs, length-append (canonical_line f) (canonical_fields fs),
-      sum_by-cons (λ (field : Pair). told_len (about 9 field.0)) f fs, length-decimal-le 1 9 (omega arith) (omega arith) (omega arith),
+      arith,
+      line,
+      names_short fs,
+      length-append (canonical_line f) (canonical_fields fs),
+      sum_by-cons (λ (field : Pair). told_len (about 9 field.0)) f fs,
+      length-decimal-le 1 9 (omega arith) (omega arith) (omega arith),
     )
 
 utf8_short : (fields : List Pair) → sum_by told_len (not_utf8 fields) ≤ length (canonical_fields fields)

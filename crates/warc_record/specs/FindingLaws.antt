@@ -1,5 +1,5 @@
--- What the findings of a record are, one by one: a finding is listed exactly where the sentence of its number holds, and
--- the numbers never fall. Findings are this project's own notion.
+-- What the findings of a record are, one by one: a finding is listed exactly where the sentence of its number holds,
+-- and the numbers never fall. Findings are this project's own notion.
 use Rattle.std.specs.Prelude.{◌≡◌, ◌⊎◌, ◌↔◌, ℕ, ◌+◌, ◌≤◌, Bool, false, ◌&&◌, List, [], ◌∷◌, length, IsTrue, None, decimal, unwrap_or}
 use Rattle.std.specs.List.{AllPairs, Contains, sum_by}
 use Rattle.std.specs.Str.{is_utf8}

@@ -1,5 +1,5 @@
--- Good records: framed ones whose heads have no fault (ISO 28500:2017, 4: the mandatory fields; 5.2, 5.4 and 5.5: id, date
--- and type), and what those heads say. The word is this project's own.
+-- Good records: framed ones whose heads have no fault (ISO 28500:2017, 4: the mandatory fields; 5.2, 5.4 and 5.5: id,
+-- date and type), and what those heads say. The word is this project's own.
 use Rattle.std.specs.Prelude.{◌≡◌, ◌↔◌, ℕ, ◌≤◌, Bool, true, List, codes, Some, None}
 use Rattle.warc_field.specs.Text.{is_name}
 use Rattle.warc_field.specs.Area.{Pair, count_of, first_value}

@@ -1,5 +1,5 @@
--- The ids of records (ISO 28500:2017, 5.2; UUIDs by RFC 9562, section 4). Bare texts, and when two ids are the same, are
--- this project's own notions: the standard writes ids between < and >, and targets (5.14) with them or without.
+-- The ids of records (ISO 28500:2017, 5.2; UUIDs by RFC 9562, section 4). Bare texts, and when two ids are the same,
+-- are this project's own notions: the standard writes ids between < and >, and targets (5.14) with them or without.
 use Rattle.std.specs.Prelude.{IsTrue, ◌↔◌, ◌≡◌, ◌≤◌, ◌⊎◌, ℕ, ◌-◌, Bool, true, not, ◌&&◌, ◌||◌, ◌==◌, nat_lt, List, ◌∷◌, length, take, drop, slice_index, Option, Some, None, if◌then◌else◌}
 use Rattle.std.specs.List.{list_any}
 use Rattle.uuid.specs.Text.{parsed_urn}

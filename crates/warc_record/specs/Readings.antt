@@ -1,5 +1,5 @@
--- What the fields of a head say (ISO 28500:2017, 5.2 to 5.22). That the first field of a name counts, and an empty one as
--- absent, is this project's own reading.
+-- What the fields of a head say (ISO 28500:2017, 5.2 to 5.22). That the first field of a name counts, and an empty
+-- one as absent, is this project's own reading.
 use Rattle.std.specs.Prelude.{ℕ, Bool, false, ◌==◌, List, [], ◌∷◌, length, codes, Option, Some, None, is_some, option_and_then, if◌then◌else◌}
 use Rattle.std.specs.List.{list_any}
 use Rattle.std.specs.Option.{option_map_or}

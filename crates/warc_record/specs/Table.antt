@@ -1,5 +1,5 @@
--- The field table: in which kinds of record a field must stand, in which it must not, and whether it may stand more than
--- once. It is this project's own profile of ISO 28500:2017, 5 and 6: a finding refuses no record.
+-- The field table: in which kinds of record a field must stand, in which it must not, and whether it may stand more
+-- than once. It is this project's own profile of ISO 28500:2017, 5 and 6: a finding refuses no record.
 use Rattle.std.specs.Prelude.{ℕ, Bool, true, false, ◌==◌, List, [], ◌∷◌, codes}
 use Rattle.std.specs.List.{list_any}
 use Rattle.warc_record.specs.declared.types.Kind.{Kind}
@@ -44,7 +44,12 @@ unfoldable pub rules : List Rule
 rules =
     rule (codes "WARC-Target-URI") (Response ∷ Resource ∷ Request ∷ Revisit ∷ Conversion ∷ Continuation ∷ [])
     (Warcinfo ∷ [])
-    ∷ record { name = codes "WARC-Concurrent-To"; required = []; forbidden = Warcinfo ∷ Conversion ∷ Continuation ∷ []; repeats = true }
+    ∷ record {
+      name = codes "WARC-Concurrent-To";
+      required = [];
+      forbidden = Warcinfo ∷ Conversion ∷ Continuation ∷ [];
+      repeats = true;
+    }
     ∷ rule (codes "WARC-IP-Address") [] (Warcinfo ∷ Conversion ∷ Continuation ∷ [])
     ∷ rule (codes "WARC-Refers-To") [] (Warcinfo ∷ Response ∷ Resource ∷ Request ∷ Continuation ∷ [])
     ∷ rule (codes "WARC-Refers-To-Target-URI") [] all_but_revisit

@@ -20,8 +20,8 @@ struct Date {
     nanosecond: u32,
 }
 
-/// The longest form without its `Z`; a letter stands for a digit. Every other form is a front of it, with a `Z` behind a
-/// time.
+/// The longest form without its `Z`; a letter stands for a digit. Every other form is a front of it, with a `Z`
+/// behind a time.
 const PLACES: [u8; 29] = *b"YYYY-MM-DDThh:mm:ss.fffffffff";
 
 /// Whether this byte may stand where a form has that character.
@@ -156,9 +156,10 @@ fn time_of(date: &Date) -> Option<u64>
     Some(second * 1_000_000_000 + date.nanosecond as u64)
 }
 
-/// The first instant of a date: `YYYY`, `YYYY-MM`, `YYYY-MM-DD`, `YYYY-MM-DDThh:mmZ`, `YYYY-MM-DDThh:mm:ssZ` or the last
-/// with a fraction of one to nine digits behind its seconds (ISO 28500:2017, 5.4; the W3C note on date and time formats).
-/// None for any other text, for a day that the Gregorian calendar doesn't have, for an hour 24 and for a second 60.
+/// The first instant of a date: `YYYY`, `YYYY-MM`, `YYYY-MM-DD`, `YYYY-MM-DDThh:mmZ`, `YYYY-MM-DDThh:mm:ssZ` or the
+/// last with a fraction of one to nine digits behind its seconds (ISO 28500:2017, 5.4; the W3C note on date and time
+/// formats). None for any other text, for a day that the Gregorian calendar doesn't have, for an hour 24 and for a
+/// second 60.
 #[tactic(auto, unfolding(crate::specs::Dates::instant_of))]
 pub fn read_date(text: &[u8]) -> Option<Moment>
     ensures { result ≡ instant_of text.now }

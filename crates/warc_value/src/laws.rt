@@ -29,7 +29,8 @@ pub fn written_digest_is_wanted()
 
 /// That text is a value.
 pub fn written_digest_is_value()
-    ensures { (digest : List ℕ) → length digest ≡ 20 → All (λ b. b < 256) digest → is_value (codes "sha1:" ++ base32_of digest) ≡ true }
+    ensures { (digest : List ℕ) → length digest ≡ 20 → All (λ b. b < 256) digest →
+        is_value (codes "sha1:" ++ base32_of digest) ≡ true }
 {}
 
 /// A date is a value.

@@ -1,7 +1,8 @@
 -- Sources and a sink that break, each as one value: this project's own notions, for its tests.
 use Rattle.std.specs.Prelude.{ℕ, List}
 
--- the bytes held, how often and where they were read, how many reads come up to the failing one, and how often one failed
+-- the bytes held, how often and where they were read, how many reads come up to the failing one, and how often one
+-- failed
 pub record Read : Type 0 where
   pub bytes : List ℕ
   pub reads : ℕ

@@ -21,7 +21,13 @@ impl<A: Allocator> Model for BrokenSource<A> {
 
     ghost Value = { Read };
 
-    ghost view = { λ s. record { bytes = s.inner.bytes; reads = s.inner.reads; asked = s.inner.asked; left = s.left; faults = s.faults } };
+    ghost view = { λ s. record {
+      bytes = s.inner.bytes;
+      reads = s.inner.reads;
+      asked = s.inner.asked;
+      left = s.left;
+      faults = s.faults;
+    } };
 }
 
 impl<A: Allocator> BrokenSource<A> {
@@ -92,7 +98,13 @@ impl<A: Allocator> Model for ChangingSource<A> {
 
     ghost Value = { Changing };
 
-    ghost view = { λ s. record { before = s.before.bytes; after = s.after.bytes; reads = s.reads; asked = s.asked; left = s.left } };
+    ghost view = { λ s. record {
+      before = s.before.bytes;
+      after = s.after.bytes;
+      reads = s.reads;
+      asked = s.asked;
+      left = s.left;
+    } };
 }
 
 impl<A: Allocator> ChangingSource<A> {

@@ -28,7 +28,8 @@ fn fits<A: Allocator + Copy>(
     uuid: &[u8; 16],
     part: &Part,
 ) -> Result<bool, AllocError>
-    ensures { IfOk result (λ fit. fit ≡ nat_le (canonical_len version (segment_fields fields.now uuid.now part.now)) max_head) }
+    ensures { IfOk result (λ fit.
+        fit ≡ nat_le (canonical_len version (segment_fields fields.now uuid.now part.now)) max_head) }
 {
     Ok(has_room(version, &segment_head(alloc, fields, uuid, part)?))
 }

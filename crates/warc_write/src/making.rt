@@ -104,7 +104,14 @@ fn made_fields<A: Allocator + Copy>(
     requires uri { is_value uri.now ≡ true }
     requires content_type { is_value content_type.now ≡ true }
     ensures { IfOk result (λ fields. fields ≡ made_fields kind.now uuid.now
-        (record { kind = Kind.Resource; uri = uri.now; date = date.now; uuid = []; content_type = content_type.now; block = block.now })) }
+        (record {
+          kind = Kind.Resource;
+          uri = uri.now;
+          date = date.now;
+          uuid = [];
+          content_type = content_type.now;
+          block = block.now;
+        })) }
 {
     let mut fields = Fields::new(alloc);
     add_field(alloc, &mut fields, Label::Type, kind)?;
