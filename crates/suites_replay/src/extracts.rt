@@ -3,7 +3,7 @@
 use crate::runs::ends;
 use std::alloc::Global;
 use std::test::Fail;
-use warc::Command;
+use warc_commands::Command;
 use warc_vectors::{ONE_RESOURCE, Row, archive_text};
 
 /// Whether extracting by a text from these records writes this block.

@@ -2,7 +2,7 @@
 
 use std::alloc::{Allocator, Global};
 use std::test::Fail;
-use warc::{Command, perform};
+use warc_commands::{Command, perform};
 use warc_frame::{MemSink, MemSource, Sink, Source};
 use warc_vectors::{ONE_RESOURCE, Row, archive_text};
 

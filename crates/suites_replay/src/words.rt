@@ -1,6 +1,6 @@
 //! The words of `extract` and `replay`.
 
-use warc::{Command, CommandFault, parse};
+use warc_commands::{Command, CommandFault, parse};
 
 #[test]
 fn extract_names_its_id(rt: HostRuntime) {

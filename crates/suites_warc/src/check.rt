@@ -3,7 +3,8 @@
 use crate::runs::{CHECK, LIST, ends, run};
 use std::alloc::Global;
 use std::test::Fail;
-use warc::{Archive, Listing, perform};
+use warc::{Archive, Listing};
+use warc_commands::perform;
 use warc_frame::{MemSink, MemSource};
 use warc_vectors::{
     Break, BrokenSource, BrokenWriter, ChangingSource, ONE_RESOURCE, RefusingAllocator, Row,

@@ -2,7 +2,7 @@
 
 use crate::runs::{LIST, ends, run};
 use std::test::Fail;
-use warc::perform;
+use warc_commands::perform;
 use warc_frame::{MemSink, MemSource};
 use warc_vectors::{
     Break, BrokenSource, BrokenWriter, ONE_RESOURCE, ONE_RESOURCE_LINE, RefusingAllocator, Row,

@@ -3,7 +3,8 @@
 use crate::plain::read_plainly;
 use std::alloc::{Allocator, Global};
 use std::test::Fail;
-use warc::{Archive, Command, perform};
+use warc::Archive;
+use warc_commands::{Command, perform};
 use warc_frame::{Fault, MemSink, MemSource, Source};
 
 pub(crate) const LIST: Command<'static> = Command::List { archive: "a.warc" };

@@ -1,7 +1,7 @@
 //! The words of a command line.
 
 use std::test::Fail;
-use warc::{Command, CommandFault, parse};
+use warc_commands::{Command, CommandFault, parse};
 
 /// The text that the words are answered with, where they name no command, and whether it was asked
 /// for.

@@ -2,7 +2,7 @@
 
 use crate::runs::{ends, told};
 use std::test::Fail;
-use warc::{Command, Draft, parse};
+use warc_commands::{Command, Draft, parse};
 use warc_frame::{MemSink, MemSource};
 use warc_vectors::{Break, BrokenSource, BrokenWriter, RefusingAllocator};
 

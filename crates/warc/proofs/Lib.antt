@@ -1,6 +1,5 @@
 pub mod ArchiveTextLemmas
 pub mod CheckLemmas
-pub mod ClapLaws
 pub mod OutputLemmas
 pub mod CountLemmas
 pub mod EmitLemmas
@@ -12,11 +11,9 @@ pub mod IndexedLemmas
 pub mod KindLemmas
 pub mod LawLemmas
 pub mod LineLemmas
-pub mod MakingLemmas
 pub mod MetLemmas
 pub mod OpeningLemmas
 pub mod PlaceLemmas
-pub mod ProgramLemmas
 pub mod ReadLemmas
 pub mod RecordsLemmas
 pub mod RefusalLemmas

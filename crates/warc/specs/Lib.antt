@@ -1,13 +1,10 @@
 pub mod Archive
 pub mod Checking
 pub mod Checks
-pub mod Command
-pub mod CommandLine
 pub mod Emitting
 pub mod Examining
 pub mod Forms
 pub mod Copied
-pub mod Devices
 pub mod Extracting
 pub mod Growing
 pub mod Heads
@@ -16,7 +13,6 @@ pub mod Keeping
 pub mod Laws
 pub mod Listing
 pub mod Opening
-pub mod Program
 pub mod Replaying
 pub mod Row
 pub mod Rows

@@ -5,7 +5,7 @@ use std::env;
 use std::fs::File;
 use std::io::{self, ErrorKind, Read};
 use std::process::ExitCode;
-use warc::{Command, CommandFault, parse, perform, refuse};
+use warc_commands::{Command, CommandFault, parse, perform, refuse};
 use warc_frame::{FileSource, MemSource, OutSink, Sink, send_all};
 
 /// The path that stands for standard input.

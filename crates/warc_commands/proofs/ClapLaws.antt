@@ -1,0 +1,70 @@
+use Rattle.std.proofs.Common.{◌≡◌, ◌∷◌, ◌⊎◌, inl, inr, true, false, true≢false, List, [], Result, Ok, Option, Some, None, option_map, unwrap_or, is_some, refl, sym, ap, subst, ◌∙◌}
+use Rattle.clap.specs.Faults.{fault_of, is_simple_and_free}
+use Rattle.clap.specs.Kinds.{FailsBy, IsAmong, Kinds}
+use Rattle.clap.specs.Matches.{first_value, has_subcommand}
+use Rattle.clap.specs.Simple.{App, HasMatchesOf, app_of, subcommand_rows_of}
+use Rattle.clap.specs.Takes.{takes}
+use Rattle.clap.specs.Walk.{Text, rows_of}
+use Rattle.clap.specs.declared.builder.command.Command.{Command}
+use Rattle.clap.specs.declared.builder.command.Command.TheViews.{out-Command}
+use Rattle.clap.specs.declared.error.Error.{Error}
+use Rattle.clap.specs.declared.error.kind.ErrorKind.{ErrorKind}
+use Rattle.clap.specs.declared.error.kind.ErrorKind.TheVariants.{OutOfMemory}
+use Rattle.clap.specs.declared.parser.matches.ArgMatches.{ArgMatches}
+use Rattle.clap.specs.declared.parser.matches.ArgMatches.TheViews.{out-ArgMatches}
+use Rattle.clap.specs.declared.parser.matches.Found.{Found}
+use Rattle.clap.proofs.SimpleLemmas.{plain_fields}
+use Rattle.clap.proofs.WalkLemmas.{first_value-rows}
+use Rattle.warc_commands.specs.declared.words.CommandFault.{CommandFault}
+use Rattle.warc_commands.specs.declared.words.CommandFault.TheVariants.{Usage, Memory}
+use Rattle.warc_commands.specs.CommandLine.{IsToldBy, is_request, command_of, named, text_of, warc_app}
+
+-- what a reading of the matches names, the words name
+pub words_name : (a : App) (words : List Text) (m : ArgMatches) (view : Option (Text × List Text)) → a ≡ warc_app → HasMatchesOf a words m
+    → view ≡ option_map (λ p. named p.0 p.1) (subcommand_rows_of m) → view ≡ command_of words
+words_name a words m view same has read =
+    let rows = (let P : App → Type 0 = λ x. HasMatchesOf x words m in subst P same has refl).1 in
+    read ∙ ap (option_map (λ p. named p.0 p.1)) rows
+
+-- a parse that met a subcommand names a command
+through : {X Y Z : Type 0} (f : Y → Z) (g : X → Y) (o : Option X) → is_some o ≡ true → None ≡ option_map f (option_map g o) → ⊥
+through f g None has none = true≢false (sym has)
+through f g (Some x) has none = cc none
+
+pub names_some : (m : ArgMatches) → has_subcommand m ≡ true → None ≡ option_map (λ p. named p.0 p.1) (subcommand_rows_of m) → ⊥
+names_some m has none = through _ _ (out-ArgMatches m).subcommand has none
+
+-- words that the program's parser takes
+pub taken_by : (a : App) (words : List Text) → a ≡ warc_app → takes warc_app words ≡ true → takes a words ≡ true
+taken_by a words same taken = ap (λ x. takes x words) same ∙ taken
+
+-- words that a parse accepted have no fault
+pub no_fault : (a : App) (words : List Text) (m : ArgMatches) → a ≡ warc_app
+    → (is_simple_and_free a ≡ true → (let r : Result ArgMatches Error = Ok m in FailsBy (fault_of a words) r))
+    → fault_of warc_app words ≡ []
+no_fault a words m same fails =
+    let P : App → Type 0 = λ x. is_simple_and_free x ≡ true → fault_of x words ≡ [] in
+    subst P same fails refl
+
+-- what a parse answers, by the program's parser
+pub fails_by : (a : App) (words : List Text) (r : Result ArgMatches Error) → a ≡ warc_app
+    → (is_simple_and_free a ≡ true → FailsBy (fault_of a words) r) → FailsBy (fault_of warc_app words) r
+fails_by a words r same fails =
+    let P : App → Type 0 = λ x. is_simple_and_free x ≡ true → FailsBy (fault_of x words) r in
+    subst P same fails refl
+
+-- the text that `get_str` gives, or the empty text
+pub text_is : (f : Found) (name : Text) (o : Option Text) → o ≡ first_value f name → unwrap_or o [] ≡ text_of (rows_of f) name
+text_is f name o got = ap (λ x. unwrap_or x []) (got ∙ first_value-rows f name)
+
+-- a command with a plain shape has no global argument
+pub no_globals : (c : Command) (b : App) → app_of c ≡ b → b.top.is_plain ≡ true → (out-Command c).has_globals ≡ false
+no_globals c b same plain = (plain_fields c (ap (λ (x : App). x.top.is_plain) same ∙ plain)).globals
+
+-- a refusal of one kind is one of the kinds that the words have
+pub told_by : (kinds : Kinds) (k : ErrorKind) (f : CommandFault) → IsToldBy (k ∷ []) f → (k ≡ OutOfMemory → f ≡ Memory)
+    → (k ≡ OutOfMemory) ⊎ IsAmong k kinds → IsToldBy kinds f
+told_by kinds k Memory said memory has = tt
+told_by kinds k (Usage text asked) said memory (inl full) = cc (memory full)
+told_by kinds k (Usage text asked) said memory (inr among) =
+    (k, among, elim said.1 [ inl same ↦ said.2 ∙ ap is_request same | inr none ↦ absurd none ])

@@ -1,0 +1,4 @@
+pub mod ClapLaws
+pub mod MakingLemmas
+pub mod ProgramLemmas
+mod WorkedValues

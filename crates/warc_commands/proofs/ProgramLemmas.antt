@@ -1,0 +1,75 @@
+-- How a run ends, from what its calls answered.
+use Rattle.std.proofs.Common.{◌≡◌, ◌⊎◌, inl, inr, ℕ, List, [], ◌∷◌, length, min, Err, refl, subst, arith}
+use Rattle.std.specs.Prelude.{Result}
+use Rattle.warc_frame.specs.declared.fault.Fault.{Fault}
+use Rattle.warc_frame.specs.declared.fault.OutFault.{OutFault}
+use Rattle.warc.specs.Archive.{IsArchiveOf, contents}
+use Rattle.warc.specs.Checking.{Line}
+use Rattle.warc_frame.specs.Failing.{HasFailedBy, MayHaveFailedBy}
+use Rattle.warc_commands.specs.Devices.{devices}
+use Rattle.warc.specs.Opening.{Opens}
+use Rattle.warc_commands.specs.Program.{AreGoodRecordsOf, IsNotOpened, fault_line, status_of_findings, status_of_kind, Tells}
+use Rattle.warc.specs.Row.{Row}
+use Rattle.warc_frame.specs.Seen.{Seen, Tapped}
+use Rattle.warc.proofs.StreamLemmas.{spells_all}
+
+-- the records of an archive
+pub good_records_of : {bytes : List ℕ} {rows : List Row} (is : IsArchiveOf bytes rows) → AreGoodRecordsOf bytes (contents is.are.records)
+good_records_of {bytes} is = record { short = is.short; spelled = spells_all 0 is.are.records bytes is.are.spelled; good = is.are.good }
+
+-- an archive that isn't opened
+pub not_opened : {X : Type 0} (Is : List ℕ → X → Type 0) (old new : Tapped) (out err told : Seen) (fault : Fault) (status : ℕ) → Opens Is old new (Err fault) → Tells (fault_line fault) err told
+    → status ≡ status_of_kind fault.kind → IsNotOpened (devices old out err) (devices new out told) status
+not_opened Is old new out err told fault status opens tells is = record {
+  fault = fault;
+  is = opens.refused;
+  failed = opens.cause;
+  asked = opens.asked;
+  untouched = refl;
+  told = tells;
+  status_is = is;
+}
+
+-- how often a source has failed by an answer, by equal counts
+pub failed_as : {X : Type 0} (r : Result X OutFault) (old new other now : ℕ) → old ≡ other → new ≡ now → HasFailedBy r old new → HasFailedBy r other now
+failed_as r old new other now a b is =
+    let P : ℕ → Type 0 = λ n. HasFailedBy r n now in
+    let Q : ℕ → Type 0 = λ n. HasFailedBy r old n in
+    subst P a (subst Q b is)
+
+pub may_have_failed_as : {X : Type 0} (r : Result X OutFault) (old new other now : ℕ) → old ≡ other → new ≡ now → MayHaveFailedBy r old new → MayHaveFailedBy r other now
+may_have_failed_as r old new other now a b is =
+    let P : ℕ → Type 0 = λ n. MayHaveFailedBy r n now in
+    let Q : ℕ → Type 0 = λ n. MayHaveFailedBy r old n in
+    subst P a (subst Q b is)
+
+-- how often a source has failed, by equal counts
+pub has_failed : (f : OutFault) (old new other now : ℕ) → old ≡ other → new ≡ now → HasFailedBy {X = ℕ} (Err f) old new → HasFailedBy {X = ℕ} (Err f) other now
+has_failed f old new other now a b is =
+    let P : ℕ → Type 0 = λ n. HasFailedBy {X = ℕ} (Err f) n now in
+    let Q : ℕ → Type 0 = λ n. HasFailedBy {X = ℕ} (Err f) old n in
+    subst P a (subst Q b is)
+
+pub may_have_failed : (f : OutFault) (old new other now : ℕ) → old ≡ other → new ≡ now → MayHaveFailedBy {X = ℕ} (Err f) old new → MayHaveFailedBy {X = ℕ} (Err f) other now
+may_have_failed f old new other now a b is =
+    let P : ℕ → Type 0 = λ n. MayHaveFailedBy {X = ℕ} (Err f) n now in
+    let Q : ℕ → Type 0 = λ n. MayHaveFailedBy {X = ℕ} (Err f) old n in
+    subst P a (subst Q b is)
+
+-- the same line
+pub told_as : {line other : List ℕ} {old new : Seen} → line ≡ other → Tells line old new → Tells other old new
+told_as {line} {other} {old} {new} same told = let P : List ℕ → Type 0 = λ l. Tells l old new in subst P same told
+
+-- the status by the number of findings
+pub status_by : (ls : List Line) → min (length ls) 1 ≡ status_of_findings ls
+status_by [] = refl
+status_by (l ∷ ls) = omega arith
+
+-- a status that is told behind opening, among those of the command
+told_late : (n : ℕ) → (n ≡ 1) ⊎ (n ≡ 3) → (n ≡ 1) ⊎ ((n ≡ 2) ⊎ (n ≡ 3))
+told_late n (inl is) = inl is
+told_late n (inr is) = inr (inr is)
+
+pub told_among : (n : ℕ) → (n ≡ 0) ⊎ ((n ≡ 1) ⊎ (n ≡ 3)) → (n ≡ 0) ⊎ ((n ≡ 1) ⊎ ((n ≡ 2) ⊎ (n ≡ 3)))
+told_among n (inl is) = inl is
+told_among n (inr is) = inr (told_late n is)

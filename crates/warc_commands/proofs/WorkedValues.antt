@@ -1,0 +1,56 @@
+-- What words name, computed.
+use Rattle.std.proofs.Common.{◌≡◌, true, [], ◌∷◌, Some, codes, refl}
+use Rattle.clap.specs.Faults.{fault_of}
+use Rattle.clap.specs.Takes.{takes}
+use Rattle.clap.specs.declared.error.kind.ErrorKind.TheVariants.{DisplayHelp, DisplayVersion, MissingRequiredArgument, MissingSubcommand, UnknownArgument}
+use Rattle.clap.proofs.OnLiterals.{clap_on_literals}
+use Rattle.warc_commands.specs.CommandLine.{command_of, warc_app}
+
+-- warc list a.warc
+list_names : command_of (codes "warc" ∷ codes "list" ∷ codes "a.warc" ∷ []) ≡ Some (codes "list", codes "a.warc" ∷ [])
+unfolding clap_on_literals
+list_names = refl
+
+list_takes : takes warc_app (codes "warc" ∷ codes "list" ∷ codes "a.warc" ∷ []) ≡ true
+unfolding clap_on_literals
+list_takes = refl
+
+-- an empty word is a word, and a word with a minus stands behind `--`
+empty_names : command_of (codes "warc" ∷ codes "list" ∷ [] ∷ []) ≡ Some (codes "list", [] ∷ [])
+unfolding clap_on_literals
+empty_names = refl
+
+minus_names : command_of (codes "warc" ∷ codes "list" ∷ codes "--" ∷ codes "-a" ∷ []) ≡ Some (codes "list", codes "-a" ∷ [])
+unfolding clap_on_literals
+minus_names = refl
+
+minus_faults : fault_of warc_app (codes "warc" ∷ codes "list" ∷ codes "-a" ∷ []) ≡ UnknownArgument ∷ []
+unfolding clap_on_literals
+minus_faults = refl
+
+-- requests
+help_faults : fault_of warc_app (codes "warc" ∷ codes "--help" ∷ []) ≡ DisplayHelp ∷ []
+unfolding clap_on_literals
+help_faults = refl
+
+version_faults : fault_of warc_app (codes "warc" ∷ codes "--version" ∷ []) ≡ DisplayVersion ∷ []
+unfolding clap_on_literals
+version_faults = refl
+
+-- mistakes
+bare_faults : fault_of warc_app (codes "warc" ∷ []) ≡ MissingSubcommand ∷ []
+unfolding clap_on_literals
+bare_faults = refl
+
+list_faults : fault_of warc_app (codes "warc" ∷ codes "list" ∷ []) ≡ MissingRequiredArgument ∷ []
+unfolding clap_on_literals
+list_faults = refl
+
+-- warc check a.warc
+check_names : command_of (codes "warc" ∷ codes "check" ∷ codes "a.warc" ∷ []) ≡ Some (codes "check", codes "a.warc" ∷ [])
+unfolding clap_on_literals
+check_names = refl
+
+check_faults : fault_of warc_app (codes "warc" ∷ codes "check" ∷ []) ≡ MissingRequiredArgument ∷ []
+unfolding clap_on_literals
+check_faults = refl

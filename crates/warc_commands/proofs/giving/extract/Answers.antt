@@ -1,0 +1,28 @@
+use Rattle.std.proofs.Common.{inl, inr, refl, sym, ap, ◌∙◌}
+use Rattle.warc.specs.Extracting.{extract_result}
+use Rattle.warc_commands.proofs.ProgramLemmas.{failed_as, may_have_failed_as, not_opened, told_among}
+use Rattle.warc_commands.proofs.giving.extract.Goals as goal
+
+pub returns-in-Err-clause-ends : goal.returns-in-Err-clause-ends
+returns-in-Err-clause-ends g c = inr (not_opened _ _ _ _ _ _ c.in-Err.fault _ c.in-Err.ensures c.tell_refusal.ensures.told c.tell_refusal.ensures.status)
+
+pub returns-clause-ends : goal.returns-clause-ends
+returns-clause-ends g c = inl (record {
+  answer = c.extract-answer.result;
+  is = λ bytes held.
+      let archive = c.in-Ok.ensures.accepted bytes held in
+      record {
+        rows = c.in-Ok.archive.listing.rows;
+        is = archive.listed;
+        told = rw (← c.as_bytes.ensures.value) (c.extract-answer.ensures.extracts.told bytes (c.in-Ok.ensures.kept ∙ held) archive);
+        source = failed_as (extract_result c.extract-answer.result) _ _ _ _ c.in-Ok.ensures.cause (ap g.S.Source.faults (sym c.into_source.ensures)) (c.extract-answer.ensures.extracts.failed bytes (c.in-Ok.ensures.kept ∙ held) archive);
+      };
+  silent = c.extract-answer.ensures.extracts.silent;
+  source = may_have_failed_as (extract_result c.extract-answer.result) _ _ _ _ c.in-Ok.ensures.cause (ap g.S.Source.faults (sym c.into_source.ensures)) c.extract-answer.ensures.extracts.may;
+  failed = c.extract-answer.ensures.extracts.cause;
+  told = c.tell_extract.ensures.told;
+  status_is = c.tell_extract.ensures.status;
+})
+
+pub returns-clause-answers : goal.returns-clause-answers
+returns-clause-answers g c = told_among c.tell_extract.result c.tell_extract.ensures.cases

@@ -1,0 +1,29 @@
+use Rattle.std.proofs.Common.{inl, inr, refl, sym, ap, ◌∙◌}
+use Rattle.warc_answer.specs.Replays.{out_result}
+use Rattle.warc.specs.Archive.{contents}
+use Rattle.warc_commands.proofs.ProgramLemmas.{failed_as, good_records_of, may_have_failed_as, not_opened, told_among}
+use Rattle.warc_commands.proofs.giving.replay_as_of.Goals as goal
+
+pub returns-in-Err-clause-ends : goal.returns-in-Err-clause-ends
+returns-in-Err-clause-ends g c = inr (not_opened _ _ _ _ _ _ c.in-Err.fault _ c.in-Err.ensures c.tell_refusal.ensures.told c.tell_refusal.ensures.status)
+
+pub returns-clause-ends : goal.returns-clause-ends
+returns-clause-ends g c = inl (record {
+  answer = c.replay-answer.result;
+  is = λ bytes held.
+      let archive = c.in-Ok.ensures.accepted bytes held in
+      record {
+        records = contents archive.listed.are.records;
+        are = good_records_of archive.listed;
+        told = rw (← c.as_bytes.ensures.value) (c.replay-answer.ensures.replays.told bytes (c.in-Ok.ensures.kept ∙ held) archive.listed archive.kept);
+        source = failed_as (out_result c.replay-answer.result) _ _ _ _ c.in-Ok.ensures.cause (ap g.S.Source.faults (sym c.into_source.ensures)) (c.replay-answer.ensures.replays.failed bytes (c.in-Ok.ensures.kept ∙ held) archive.listed archive.kept);
+      };
+  silent = c.replay-answer.ensures.replays.silent;
+  source = may_have_failed_as (out_result c.replay-answer.result) _ _ _ _ c.in-Ok.ensures.cause (ap g.S.Source.faults (sym c.into_source.ensures)) c.replay-answer.ensures.replays.may;
+  failed = c.replay-answer.ensures.replays.cause;
+  told = c.tell_replay.ensures.told;
+  status_is = c.tell_replay.ensures.status;
+})
+
+pub returns-clause-answers : goal.returns-clause-answers
+returns-clause-answers g c = told_among c.tell_replay.result c.tell_replay.ensures.cases

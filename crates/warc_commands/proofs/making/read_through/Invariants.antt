@@ -1,0 +1,14 @@
+use Rattle.std.proofs.Common.{◌≡◌, ℕ, ◌≤◌, ◌-◌, List, length, take, Some}
+use Rattle.warc_commands.proofs.making.read_through.Given as goal
+
+-- the bytes so far were read, and no read has failed
+abbrev pub invariant-reading : goal.invariant-reading
+invariant-reading g l = record {
+  within : length l.read.items ≤ l.most;
+  bytes : (bytes : List ℕ) → g.S.Source.holds l.fn.source ≡ Some bytes → l.read.items ≡ take (length l.read.items) bytes;
+  kept : g.S.Source.holds l.source ≡ g.S.Source.holds l.fn.source;
+  sound : g.S.Source.faults l.source ≡ g.S.Source.faults l.fn.source;
+}
+
+abbrev pub decreases-reading : goal.decreases-reading
+decreases-reading g l = l.most - length l.read.items

@@ -1,0 +1,30 @@
+-- A command of the program.
+use Rattle.std.specs.Prelude.{List, [], ◌∷◌, ◌++◌, codes}
+use Rattle.clap.specs.Walk.{Text}
+use Rattle.warc_commands.specs.declared.words.Command.{Command}
+use Rattle.warc_commands.specs.declared.words.Command.TheVariants as command
+use Rattle.warc_commands.specs.declared.words.Draft.{Draft}
+
+-- the words of `write` before the path of its file
+abbrev pub draft_texts : Draft → List Text
+draft_texts d = d.kind.now ∷ d.uri.now ∷ d.date.now ∷ d.uuid.now ∷ d.content_type.now ∷ []
+
+-- its name and its texts in order
+abbrev pub view_of : Command → Text × List Text
+view_of (command.List archive) = (codes "list", archive.now ∷ [])
+view_of (command.Check archive) = (codes "check", archive.now ∷ [])
+view_of (command.Extract archive id) = (codes "extract", archive.now ∷ id.now ∷ [])
+view_of (command.Replay archive uri date) = (codes "replay", archive.now ∷ uri.now ∷ date.now ∷ [])
+view_of (command.Rewrite archive) = (codes "rewrite", archive.now ∷ [])
+view_of (command.Convert archive) = (codes "convert", archive.now ∷ [])
+view_of (command.Write draft file) = (codes "write", draft_texts draft ++ file.now ∷ [])
+
+-- the path of the file that it reads
+abbrev pub path_of : Command → Text
+path_of (command.List archive) = archive.now
+path_of (command.Check archive) = archive.now
+path_of (command.Extract archive id) = archive.now
+path_of (command.Replay archive uri date) = archive.now
+path_of (command.Rewrite archive) = archive.now
+path_of (command.Convert archive) = archive.now
+path_of (command.Write draft file) = file.now

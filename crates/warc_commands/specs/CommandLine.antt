@@ -1,0 +1,92 @@
+-- The command line, in the terms of `clap`: what it defines, and what words name by it.
+use Rattle.std.specs.Prelude.{◌≡◌, ℕ, Bool, true, false, List, [], ◌∷◌, ◌++◌, fold, map, find, Option, option_map, unwrap_or, codes, string_bytes}
+use Rattle.std.specs.Str.{bytes_eq}
+use Rattle.clap.specs.Kinds.{Kinds, IsAmong}
+use Rattle.clap.specs.Simple.{App, new_app, new_rule, on_top, with_rule, with_subcommand, subcommand_of}
+use Rattle.clap.specs.Walk.{Row, Rule, Text, first_of}
+use Rattle.clap.specs.declared.error.kind.ErrorKind.{ErrorKind}
+use Rattle.clap.specs.declared.error.kind.ErrorKind.TheVariants.{DisplayHelp, DisplayVersion}
+use Rattle.warc_commands.specs.declared.words.CommandFault.{CommandFault}
+use Rattle.warc_commands.specs.declared.words.Entry.{Entry}
+use Rattle.warc_commands.specs.declared.words.CommandFault.TheVariants.{Usage, Memory}
+
+-- a command's name, and the names of the words that it requires, in order
+pub record Layout : Type 0 where
+  pub name : Text
+  pub words : List Text
+
+-- a command that requires these words
+abbrev pub layout : Text → List Text → Layout
+layout name words = record { name = name; words = words }
+
+abbrev pub list_layout : Layout
+list_layout = layout (codes "list") (codes "archive" ∷ [])
+
+-- the words of `write` before the path of its file
+abbrev pub draft_words : List Text
+draft_words = codes "kind" ∷ codes "uri" ∷ codes "date" ∷ codes "uuid" ∷ codes "type" ∷ []
+
+-- the commands, in the order in which help lists them
+abbrev pub layouts : List Layout
+layouts =
+    list_layout
+    ∷ layout (codes "check") (codes "archive" ∷ [])
+    ∷ layout (codes "extract") (codes "archive" ∷ codes "id" ∷ [])
+    ∷ layout (codes "replay") (codes "archive" ∷ codes "uri" ∷ codes "date" ∷ [])
+    ∷ layout (codes "rewrite") (codes "archive" ∷ [])
+    ∷ layout (codes "convert") (codes "archive" ∷ [])
+    ∷ layout (codes "write") (draft_words ++ codes "file" ∷ [])
+    ∷ []
+
+-- what the program's table says of a command
+abbrev pub layout_seen : Entry → Layout
+layout_seen e = layout e.name.now (map (λ w. w.name.now) e.words.now)
+
+abbrev pub required_word : Text → Rule
+required_word name = record (new_rule name) { required = true }
+
+-- a command by itself
+abbrev pub layout_app : Layout → App
+layout_app l = fold (λ app word. with_rule app (required_word word)) (new_app l.name) l.words
+
+-- the program with one more command
+abbrev pub with_layout : App → Layout → App
+with_layout app l = with_subcommand app (layout_app l).top
+
+-- the program, which has a version and of which a command is required
+abbrev pub warc_app : App
+warc_app = fold with_layout
+    (on_top (λ s. record s { has_version = true; subcommand_required = true }) (new_app (codes "warc")))
+    layouts
+
+-- the command of a name; clap gives no other name than theirs, so one of them needs no test
+abbrev pub layout_of : Text → Layout
+layout_of name = unwrap_or (find (λ l. bytes_eq name l.name) layouts) list_layout
+
+-- the text of a word, which is there where clap takes the words
+abbrev pub text_of : List Row → Text → Text
+text_of rows word = unwrap_or (first_of word rows) []
+
+-- the name of a command and its texts in order, from what clap read
+abbrev pub named : Text → List Row → Text × List Text
+named name rows = let l = layout_of name in (l.name, map (text_of rows) l.words)
+
+-- the command's name and its texts that the words name, the program's name being the first word
+abbrev pub command_of : List Text → Option (Text × List Text)
+command_of words = option_map (λ p. named p.0 p.1) (subcommand_of warc_app words)
+
+-- a kind that answers a request
+abbrev pub is_request : ErrorKind → Bool
+is_request DisplayHelp = true
+is_request DisplayVersion = true
+is_request _ = false
+
+-- a refusal for want of memory, or for one of these kinds, that says whether it was a request
+abbrev pub IsToldBy : Kinds → CommandFault → Type 0
+IsToldBy kinds (Usage text asked) = (kind : ErrorKind) × IsAmong kind kinds × (asked ≡ is_request kind)
+IsToldBy kinds Memory = Unit {0}
+
+-- what such a refusal says: clap's text as it stands
+abbrev pub command_fault_text : CommandFault → List ℕ
+command_fault_text (Usage text asked) = string_bytes text
+command_fault_text Memory = codes "out of memory"

@@ -1,0 +1,4 @@
+pub mod Command
+pub mod CommandLine
+pub mod Devices
+pub mod Program

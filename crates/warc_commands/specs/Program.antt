@@ -1,0 +1,353 @@
+-- How a run of the program ends: what went to its two sinks, and its exit status.
+use Rattle.std.specs.Prelude.{◌≡◌, ℕ, ◌+◌, ◌^◌, ◌<◌, ◌≤◌, Bool, List, [], ◌∷◌, ◌++◌, length, take, codes, decimal, Option, Some, None, Result, Ok, Err, ◌⊎◌, true, false, string_bytes}
+use Rattle.std.specs.Io.KnownBytes.{append_known}
+use Rattle.warc_answer.specs.ReasonText.{replay_fault_text}
+use Rattle.warc_answer.specs.Replays.{IsReplay, IsSilent, out_result}
+use Rattle.warc_answer.specs.declared.answer.Answer.{Answer}
+use Rattle.warc_answer.specs.declared.answer.ReplayFault.{ReplayFault}
+use Rattle.warc_answer.specs.declared.answer.ReplayFault.TheVariants.{Reason, Out as ReplayOut}
+use Rattle.warc_frame.specs.Count.{raised}
+use Rattle.warc_frame.specs.FaultText.{fault_text, out_fault_text}
+use Rattle.warc_frame.specs.Record.{Record, max_archive, max_block}
+use Rattle.warc_frame.specs.Send.{WentOut, sent_of}
+use Rattle.warc_frame.specs.Spelling.{SpellsAll, canonical}
+use Rattle.warc_frame.specs.declared.fault.Fault.{Fault}
+use Rattle.warc_frame.specs.declared.fault.FaultKind.{FaultKind}
+use Rattle.warc_frame.specs.declared.fault.FaultKind.TheVariants.{Read, Memory}
+use Rattle.warc_frame.specs.declared.fault.OutFault.{OutFault}
+use Rattle.warc_frame.specs.declared.fault.OutFault.TheVariants.{Write, Memory as NoMemory}
+use Rattle.warc_value.specs.Dates.{Instant, instant_of}
+use Rattle.warc.specs.Extracting.{IsExtract, extract_result, extracted}
+use Rattle.warc_record.specs.Kinds.{kind_named}
+use Rattle.warc_write.specs.Making.{Makes, Plan, made, make_fault_text}
+use Rattle.warc_write.specs.declared.making.MakeFault.{MakeFault}
+use Rattle.warc.specs.Forms.{texts_as}
+use Rattle.warc.specs.TakeText.{extract_fault_text}
+use Rattle.warc.specs.declared.copying.Form.{Form}
+use Rattle.warc.specs.declared.copying.Form.TheVariants.{Canonical, Converted}
+use Rattle.warc.specs.declared.fault.ExtractFault.{ExtractFault}
+use Rattle.warc.specs.declared.fault.ExtractFault.TheVariants.{NoRecord, Out as ExtractOut}
+use Rattle.warc_commands.specs.declared.words.Command.{Command}
+use Rattle.warc_commands.specs.declared.words.Command.TheVariants as command
+use Rattle.warc_commands.specs.declared.words.Draft.{Draft}
+use Rattle.warc_commands.specs.declared.words.CommandFault.{CommandFault}
+use Rattle.warc_commands.specs.declared.words.CommandFault.TheVariants.{Usage, Memory as OutOfMemory}
+use Rattle.warc.specs.Opening.{IsRefusalOf, faults_after}
+use Rattle.warc.specs.Archive.{AreGood, IsArchiveOf}
+use Rattle.warc.specs.Checking.{Line, check_text, findings_of_archive}
+use Rattle.warc_frame.specs.Failing.{HasFailedBy, MayHaveFailedBy, failed_by, failed_with}
+use Rattle.warc.specs.Listing.{listing}
+use Rattle.warc.specs.Row.{Row}
+use Rattle.warc_commands.specs.Devices.{Devices}
+use Rattle.warc_frame.specs.Seen.{IfHeld, Seen}
+
+-- a text as a line by which the program tells it
+abbrev pub told_line : List ℕ → List ℕ
+told_line text = codes "warc: " ++ text ++ codes "\n"
+
+abbrev pub fault_line : Fault → List ℕ
+fault_line f = told_line (fault_text f)
+
+-- the status where an archive isn't opened: 3 where a read or a growth of the memory failed, else 2
+abbrev pub status_of_kind : FaultKind → ℕ
+status_of_kind Read = 3
+status_of_kind Memory = 3
+status_of_kind kind = 2
+
+-- a line was told: all of it, unless a write failed, and then a front of it
+pub record Tells (line : List ℕ) (old new : Seen) : Type 0 where
+  pub count : ℕ
+  pub front : new.tells ≡ append_known old.tells (take count line)
+  pub whole : new.faults ≡ old.faults → old.faults + 1 < 2 ^ 64 → count ≡ length line
+
+-- a command ends early, before it writes: the bytes were refused for their first fault (status 2), or a read or
+-- a growth of the memory failed (status 3). A read fault is told only where the source has failed once more, at
+-- the offset asked last
+pub record IsNotOpened (old new : Devices) (status : ℕ) : Type 0 where
+  pub fault : Fault
+  pub is : IfHeld old.source.holds (λ bytes. IsRefusalOf bytes old.source new.source fault)
+  pub failed : new.source.faults ≡ faults_after fault.kind old.source.faults
+  pub asked : fault.kind ≡ Read → fault.offset ≡ new.source.asked
+  pub untouched : new.out ≡ old.out
+  pub told : Tells (fault_line fault) old.err new.err
+  pub status_is : status ≡ status_of_kind fault.kind
+
+-- all lines of `list` went out
+pub record IsListed (old new : Devices) (status : ℕ) : Type 0 where
+  pub rows : List Row
+  pub are : IfHeld old.source.holds (λ bytes. IsArchiveOf bytes rows)
+  pub told : new.out.tells ≡ append_known old.out.tells (listing rows)
+  pub sound : new.source.faults ≡ old.source.faults
+  pub silent : new.err ≡ old.err
+  pub status_is : status ≡ 0
+
+-- a write failed: a front of the lines of `list` went out
+pub record IsListCutOff (old new : Devices) (status : ℕ) : Type 0 where
+  pub rows : List Row
+  pub are : IfHeld old.source.holds (λ bytes. IsArchiveOf bytes rows)
+  pub sent : ℕ
+  pub front : WentOut old.out.tells (listing rows) new.out.tells sent
+  pub failed : new.out.faults ≡ raised old.out.faults
+  pub sound : new.source.faults ≡ old.source.faults
+  pub told : Tells (told_line (out_fault_text (Write sent))) old.err new.err
+  pub status_is : status ≡ 3
+
+-- how `list` ends
+abbrev pub ListEnds : Devices → Devices → ℕ → Type 0
+ListEnds old new status = IsListed old new status ⊎ (IsNotOpened old new status ⊎ IsListCutOff old new status)
+
+-- the status where an archive was checked: 1 where something was found, else 0
+abbrev pub status_of_findings : List Line → ℕ
+status_of_findings [] = 0
+status_of_findings (l ∷ ls) = 1
+
+-- the good records that bytes spell
+pub record AreGoodRecordsOf (bytes : List ℕ) (records : List Record) : Type 0 where
+  pub short : length bytes ≤ max_archive
+  pub spelled : SpellsAll records bytes
+  pub good : AreGood records
+
+-- a line went out for each finding of the good records that the bytes spell
+pub record IsCheckOf (bytes : List ℕ) (old new : Seen) (status : ℕ) : Type 0 where
+  pub records : List Record
+  pub are : AreGoodRecordsOf bytes records
+  pub told : new.tells ≡ append_known old.tells (check_text records)
+  pub status_is : status ≡ status_of_findings (findings_of_archive records)
+
+-- all lines of `check` went out
+pub record IsChecked (old new : Devices) (status : ℕ) : Type 0 where
+  pub is : IfHeld old.source.holds (λ bytes. IsCheckOf bytes old.out new.out status)
+  pub sound : new.source.faults ≡ old.source.faults
+  pub silent : new.err ≡ old.err
+  pub status_in : (status ≡ 0) ⊎ (status ≡ 1)
+
+-- a front of the text of the good records that the bytes spell went out, and the source has failed once more exactly
+-- where a read is told
+pub record IsFrontOf (text : List Record → List ℕ) (bytes : List ℕ) (fault : OutFault) (old new : Devices)
+    : Type 0 where
+  pub records : List Record
+  pub are : AreGoodRecordsOf bytes records
+  pub front : WentOut old.out.tells (text records) new.out.tells (sent_of fault)
+  pub source : HasFailedBy {X = ℕ} (Err fault) old.source.faults new.source.faults
+
+-- a read, a write or a growth of the memory failed while a text of the records was written
+pub record IsCutOff (text : List Record → List ℕ) (old new : Devices) (status : ℕ) : Type 0 where
+  pub fault : OutFault
+  pub is : IfHeld old.source.holds (λ bytes. IsFrontOf text bytes fault old new)
+  pub source : MayHaveFailedBy {X = ℕ} (Err fault) old.source.faults new.source.faults
+  pub failed : new.out.faults ≡ failed_with fault old.out.faults
+  pub told : Tells (told_line (out_fault_text fault)) old.err new.err
+  pub status_is : status ≡ 3
+
+-- how `check` ends
+abbrev pub CheckEnds : Devices → Devices → ℕ → Type 0
+CheckEnds old new status =
+    IsChecked old new status ⊎ (IsNotOpened old new status ⊎ IsCutOff check_text old new status)
+
+-- a line was told, or none
+abbrev pub TellsIf : Option (List ℕ) → Seen → Seen → Type 0
+TellsIf None old new = new ≡ old
+TellsIf (Some line) old new = Tells line old new
+
+-- the line that `extract` tells by what was answered, none where the whole block was written; and its status
+abbrev pub extract_line : Result ℕ ExtractFault → Option (List ℕ)
+extract_line (Ok n) = None
+extract_line (Err fault) = Some (told_line (extract_fault_text fault))
+
+abbrev pub extract_status : Result ℕ ExtractFault → ℕ
+extract_status (Ok n) = 0
+extract_status (Err NoRecord) = 1
+extract_status (Err (ExtractOut e)) = 3
+
+-- the block of the first record with the id, of those that the bytes spell, went out as was answered
+pub record IsExtractOf (id : List ℕ) (answer : Result ℕ ExtractFault) (bytes : List ℕ) (old new : Devices)
+    : Type 0 where
+  pub rows : List Row
+  pub is : IsArchiveOf bytes rows
+  pub told : IsExtract (extracted is.are.records id) answer old.out.tells new.out.tells
+  pub source : HasFailedBy (extract_result answer) old.source.faults new.source.faults
+
+-- the archive was opened, and a block was asked for
+pub record IsExtracted (id : List ℕ) (old new : Devices) (status : ℕ) : Type 0 where
+  pub answer : Result ℕ ExtractFault
+  pub is : IfHeld old.source.holds (λ bytes. IsExtractOf id answer bytes old new)
+  pub silent : answer ≡ Err NoRecord → new.out.tells ≡ old.out.tells
+  pub source : MayHaveFailedBy (extract_result answer) old.source.faults new.source.faults
+  pub failed : new.out.faults ≡ failed_by (extract_result answer) old.out.faults
+  pub told : TellsIf (extract_line answer) old.err new.err
+  pub status_is : status ≡ extract_status answer
+
+-- how `extract` ends
+abbrev pub ExtractEnds : List ℕ → Devices → Devices → ℕ → Type 0
+ExtractEnds id old new status = IsExtracted id old new status ⊎ IsNotOpened old new status
+
+-- a number in decimal digits, or a dash where there is none
+abbrev pub number_or_dash : Option ℕ → List ℕ
+number_or_dash None = codes "-"
+number_or_dash (Some number) = decimal number
+
+abbrev pub yes_or_no : Bool → List ℕ
+yes_or_no true = codes "yes"
+yes_or_no false = codes "no"
+
+-- what is said of a body that was given
+abbrev pub answer_text : Answer → List ℕ
+answer_text answer =
+    codes "chosen " ++ decimal answer.chosen ++ codes " given " ++ decimal answer.given
+    ++ codes " status " ++ number_or_dash answer.status
+    ++ codes " truncated " ++ yes_or_no answer.truncated ++ codes " length " ++ decimal answer.length
+
+-- the line that `replay` tells by what was answered, and its status
+abbrev pub replay_line : Result Answer ReplayFault → List ℕ
+replay_line (Ok answer) = answer_text answer ++ codes "\n"
+replay_line (Err fault) = told_line (replay_fault_text fault)
+
+abbrev pub replay_status : Result Answer ReplayFault → ℕ
+replay_status (Ok answer) = 0
+replay_status (Err (Reason why)) = 1
+replay_status (Err (ReplayOut e)) = 3
+
+-- the body that the records give which the bytes spell went out as was answered
+pub record IsReplayOf (uri : List ℕ) (moment : Instant) (answer : Result Answer ReplayFault) (bytes : List ℕ)
+    (old new : Devices) : Type 0 where
+  pub records : List Record
+  pub are : AreGoodRecordsOf bytes records
+  pub told : IsReplay records uri moment answer old.out.tells new.out.tells
+  pub source : HasFailedBy (out_result answer) old.source.faults new.source.faults
+
+-- the archive was opened, and a body was asked for
+pub record IsReplayed (uri : List ℕ) (moment : Instant) (old new : Devices) (status : ℕ) : Type 0 where
+  pub answer : Result Answer ReplayFault
+  pub is : IfHeld old.source.holds (λ bytes. IsReplayOf uri moment answer bytes old new)
+  pub silent : IsSilent answer old.out.tells new.out.tells
+  pub source : MayHaveFailedBy (out_result answer) old.source.faults new.source.faults
+  pub failed : new.out.faults ≡ failed_by (out_result answer) old.out.faults
+  pub told : Tells (replay_line answer) old.err new.err
+  pub status_is : status ≡ replay_status answer
+
+-- the text isn't a date: nothing was read or written
+pub record IsBadDate (old new : Devices) (status : ℕ) : Type 0 where
+  pub unread : new.source ≡ old.source
+  pub untouched : new.out ≡ old.out
+  pub told : Tells (told_line (codes "bad date")) old.err new.err
+  pub status_is : status ≡ 3
+
+-- how `replay` ends, as of the first instant of a date
+abbrev pub ReplayEnds : List ℕ → Option Instant → Devices → Devices → ℕ → Type 0
+ReplayEnds uri None old new status = IsBadDate old new status
+ReplayEnds uri (Some moment) old new status = IsReplayed uri moment old new status ⊎ IsNotOpened old new status
+
+-- the good records that the bytes spell were written in a form
+pub record IsWrittenOf (form : Form) (bytes : List ℕ) (old new : Seen) : Type 0 where
+  pub records : List Record
+  pub are : AreGoodRecordsOf bytes records
+  pub told : new.tells ≡ append_known old.tells (texts_as form records)
+
+-- all records were written
+pub record IsWritten (form : Form) (old new : Devices) (status : ℕ) : Type 0 where
+  pub is : IfHeld old.source.holds (λ bytes. IsWrittenOf form bytes old.out new.out)
+  pub sound : new.source.faults ≡ old.source.faults
+  pub silent : new.err ≡ old.err
+  pub status_is : status ≡ 0
+
+-- how writing an archive anew in a form ends
+abbrev pub WriteEnds : Form → Devices → Devices → ℕ → Type 0
+WriteEnds form old new status =
+    IsWritten form old new status ⊎ (IsNotOpened old new status ⊎ IsCutOff (texts_as form) old new status)
+
+-- what `write` makes a record of, by its words and the bytes of its file: all of them, or one more than a block may
+-- have
+abbrev pub plan_of : Draft → List ℕ → Plan
+plan_of d bytes = record {
+  kind = kind_named d.kind.now;
+  uri = d.uri.now;
+  date = d.date.now;
+  uuid = d.uuid.now;
+  content_type = d.content_type.now;
+  block = take (max_block + 1) bytes;
+}
+
+-- the record that is made was written
+pub record IsMadeOf (d : Draft) (bytes : List ℕ) (old new : Seen) : Type 0 where
+  pub content : Record
+  pub is : made (plan_of d bytes) ≡ Ok content
+  pub told : new.tells ≡ append_known old.tells (canonical content)
+
+pub record IsMade (d : Draft) (old new : Devices) (status : ℕ) : Type 0 where
+  pub is : IfHeld old.source.holds (λ bytes. IsMadeOf d bytes old.out new.out)
+  pub sound : new.source.faults ≡ old.source.faults
+  pub silent : new.err ≡ old.err
+  pub status_is : status ≡ 0
+
+-- no record is made, for the first reason
+pub record IsNotMade (d : Draft) (old new : Devices) (status : ℕ) : Type 0 where
+  pub fault : MakeFault
+  pub is : IfHeld old.source.holds (λ bytes. Makes (Err fault) (made (plan_of d bytes)))
+  pub sound : new.source.faults ≡ old.source.faults
+  pub untouched : new.out ≡ old.out
+  pub told : Tells (told_line (make_fault_text fault)) old.err new.err
+  pub status_is : status ≡ 3
+
+-- the file wasn't read: a read or a growth of the memory failed
+pub record IsNotRead (old new : Devices) (status : ℕ) : Type 0 where
+  pub fault : OutFault
+  pub source : HasFailedBy {X = ℕ} (Err fault) old.source.faults new.source.faults
+  pub none : sent_of fault ≡ 0
+  pub untouched : new.out ≡ old.out
+  pub told : Tells (told_line (out_fault_text fault)) old.err new.err
+  pub status_is : status ≡ 3
+
+-- a write failed: a front of the record went out
+pub record IsMadeFront (d : Draft) (bytes : List ℕ) (sent : ℕ) (old new : Seen) : Type 0 where
+  pub content : Record
+  pub is : made (plan_of d bytes) ≡ Ok content
+  pub front : WentOut old.tells (canonical content) new.tells sent
+
+pub record IsMadeCutOff (d : Draft) (old new : Devices) (status : ℕ) : Type 0 where
+  pub sent : ℕ
+  pub is : IfHeld old.source.holds (λ bytes. IsMadeFront d bytes sent old.out new.out)
+  pub failed : new.out.faults ≡ raised old.out.faults
+  pub sound : new.source.faults ≡ old.source.faults
+  pub told : Tells (told_line (out_fault_text (Write sent))) old.err new.err
+  pub status_is : status ≡ 3
+
+-- how `write` ends
+abbrev pub MakeEnds : Draft → Devices → Devices → ℕ → Type 0
+MakeEnds d old new status =
+    IsMade d old new status
+    ⊎ (IsNotMade d old new status ⊎ (IsNotRead old new status ⊎ IsMadeCutOff d old new status))
+
+-- how a command ends
+abbrev pub Ends : Command → Devices → Devices → ℕ → Type 0
+Ends (command.List archive) old new status = ListEnds old new status
+Ends (command.Check archive) old new status = CheckEnds old new status
+Ends (command.Extract archive id) old new status = ExtractEnds id.now old new status
+Ends (command.Replay archive uri date) old new status = ReplayEnds uri.now (instant_of date.now) old new status
+Ends (command.Rewrite archive) old new status = WriteEnds Canonical old new status
+Ends (command.Convert archive) old new status = WriteEnds Converted old new status
+Ends (command.Write draft file) old new status = MakeEnds draft old new status
+
+-- the exit statuses of a command
+abbrev pub IsStatusOf : Command → ℕ → Type 0
+IsStatusOf (command.List archive) status = (status ≡ 0) ⊎ ((status ≡ 2) ⊎ (status ≡ 3))
+IsStatusOf (command.Check archive) status = (status ≡ 0) ⊎ ((status ≡ 1) ⊎ ((status ≡ 2) ⊎ (status ≡ 3)))
+IsStatusOf (command.Extract archive id) status = (status ≡ 0) ⊎ ((status ≡ 1) ⊎ ((status ≡ 2) ⊎ (status ≡ 3)))
+IsStatusOf (command.Replay archive uri date) status = (status ≡ 0) ⊎ ((status ≡ 1) ⊎ ((status ≡ 2) ⊎ (status ≡ 3)))
+IsStatusOf (command.Rewrite archive) status = (status ≡ 0) ⊎ ((status ≡ 2) ⊎ (status ≡ 3))
+IsStatusOf (command.Convert archive) status = (status ≡ 0) ⊎ ((status ≡ 2) ⊎ (status ≡ 3))
+IsStatusOf (command.Write draft file) status = (status ≡ 0) ⊎ (status ≡ 3)
+
+-- a text that was asked for went out, or a write failed and a front of it did
+abbrev pub IsShown : List ℕ → Seen → Seen → Seen → Seen → ℕ → Type 0
+IsShown text out out' err err' status =
+    ((status ≡ 0) × (out'.tells ≡ append_known out.tells text) × (err' ≡ err))
+    ⊎ ((status ≡ 3) × (sent : ℕ) × (out'.tells ≡ append_known out.tells (take sent text))
+    × (out'.faults ≡ raised out.faults)
+    × Tells (told_line (out_fault_text (Write sent))) err err')
+
+-- how a run ends where the words name no command
+abbrev pub FaultEnds : CommandFault → Seen → Seen → Seen → Seen → ℕ → Type 0
+FaultEnds (Usage text true) out out' err err' status = IsShown (string_bytes text) out out' err err' status
+FaultEnds (Usage text false) out out' err err' status = (out' ≡ out) × Tells (string_bytes text) err err' × (status ≡ 3)
+FaultEnds OutOfMemory out out' err err' status =
+    (out' ≡ out) × Tells (told_line (out_fault_text (NoMemory 0))) err err' × (status ≡ 3)

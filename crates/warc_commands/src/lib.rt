@@ -1,0 +1,10 @@
+//! The commands of the program `warc`: the words that name them, and what each does with a source and two sinks.
+#![tactic(auto)]
+
+mod giving;
+mod making;
+mod program;
+mod words;
+
+pub use program::{perform, refuse};
+pub use words::{Command, CommandFault, Draft, parse};

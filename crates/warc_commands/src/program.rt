@@ -1,0 +1,284 @@
+//! What the program does with a command, a source and two sinks.
+ghost use Rattle.std.specs.Prelude.{◌≡◌, ◌≤◌, ◌⊎◌, ◌++◌, decimal, length, min};
+ghost use Rattle.warc_frame.specs.FaultText.{out_fault_text};
+ghost use Rattle.warc_frame.specs.Send.{sent_of};
+ghost use Rattle.warc_commands.specs.Program.{CheckEnds, Ends, FaultEnds, IsShown, IsStatusOf, ListEnds, Tells, WriteEnds, fault_line, status_of_kind, told_line};
+ghost use Rattle.warc_commands.specs.Devices.{devices};
+ghost use Rattle.warc_frame.specs.Seen.{seen, tapped};
+
+use crate::giving::{extract, replay};
+use crate::making::write;
+use crate::words::{Command, CommandFault};
+use arrayvec::ArrayString;
+use itoa::Buffer;
+use std::alloc::Allocator;
+use warc::{Form, Listing};
+use warc_frame::{Fault, FaultKind, OutFault, Sink, Source, send_all};
+
+/// The exit status where all was done.
+pub(crate) const DONE: u8 = 0;
+
+/// The exit status where the archive was checked and something was found, or what was asked for isn't there.
+pub(crate) const FOUND: u8 = 1;
+
+/// The exit status where the archive was refused.
+const REFUSED: u8 = 2;
+
+/// The exit status where a read, a write or a growth of the memory failed.
+pub(crate) const FAILED: u8 = 3;
+
+/// The most bytes of a line that is told.
+pub(crate) const LINE: usize = 128;
+
+/// Does what a command says. The output goes to `out` and a line on what went wrong to `err`, where
+/// failures to write are ignored. The answer is the exit status, 0 done, 1 checked and something was
+/// found, or what was asked for isn't there, 2 the archive is refused, 3 a date that is none, a record that
+/// isn't made, or a read, a write or a growth of the memory failed; and the source. A date is judged before
+/// the source is read.
+pub fn perform<A, S, W, E>(
+    alloc: A,
+    command: &Command<'_>,
+    source: S,
+    out: &mut W,
+    err: &mut E,
+) -> (u8, S)
+where
+    A: Allocator + Copy,
+    S: Source + Drop,
+    W: Sink,
+    E: Sink,
+    ensures ends { Ends command.now
+        (devices (tapped (S.holds source) (S.faults source) (S.reads source) (S.asked source) (S.watches source)
+        (S.strays source)) (seen (W.tells out.old) (W.faults out.old)) (seen (E.tells err.old) (E.faults err.old)))
+        (devices (tapped (S.holds result.1) (S.faults result.1) (S.reads result.1) (S.asked result.1)
+        (S.watches result.1) (S.strays result.1))
+        (seen (W.tells out.new) (W.faults out.new)) (seen (E.tells err.new) (E.faults err.new)))
+        result.0 }
+
+    // The source still holds what it held.
+    ensures kept { S.holds result.1 ≡ S.holds source }
+
+    // Nothing is written where the archive is refused, whatever the source holds.
+    ensures refused { result.0 ≡ 2 → (W.tells out.new ≡ W.tells out.old) × (W.faults out.new ≡ W.faults out.old) }
+    ensures answers { IsStatusOf command.now result.0 }
+{
+    match command {
+        Command::List { archive: _ } => list(alloc, source, out, err),
+        Command::Check { archive: _ } => check(alloc, source, out, err),
+        Command::Extract { archive: _, id } => extract(alloc, id, source, out, err),
+        Command::Replay {
+            archive: _,
+            uri,
+            date,
+        } => replay(alloc, uri, date, source, out, err),
+        Command::Rewrite { archive: _ } => write_anew(alloc, Form::Canonical, source, out, err),
+        Command::Convert { archive: _ } => write_anew(alloc, Form::Converted, source, out, err),
+        Command::Write { draft, file: _ } => write(alloc, draft, source, out, err),
+    }
+}
+
+fn list<A, S, W, E>(alloc: A, source: S, out: &mut W, err: &mut E) -> (u8, S)
+where
+    A: Allocator + Copy,
+    S: Source + Drop,
+    W: Sink,
+    E: Sink,
+    ensures ends { ListEnds
+        (devices (tapped (S.holds source) (S.faults source) (S.reads source) (S.asked source) (S.watches source)
+        (S.strays source)) (seen (W.tells out.old) (W.faults out.old)) (seen (E.tells err.old) (E.faults err.old)))
+        (devices (tapped (S.holds result.1) (S.faults result.1) (S.reads result.1) (S.asked result.1)
+        (S.watches result.1) (S.strays result.1))
+        (seen (W.tells out.new) (W.faults out.new)) (seen (E.tells err.new) (E.faults err.new)))
+        result.0 }
+
+    // The source still holds what it held.
+    ensures kept { S.holds result.1 ≡ S.holds source }
+    ensures refused { result.0 ≡ 2 → (W.tells out.new ≡ W.tells out.old) × (W.faults out.new ≡ W.faults out.old) }
+    ensures answers { (result.0 ≡ 0) ⊎ ((result.0 ≡ 2) ⊎ (result.0 ≡ 3)) }
+{
+    let listing = match Listing::open(alloc, source) {
+        Ok(listing) => listing,
+        Err((fault, source)) => return (tell_refusal(fault, err), source),
+    };
+    match listing.list(out) {
+        Ok(()) => (DONE, listing.into_source()),
+        Err(fault) => (tell_cut(fault, err), listing.into_source()),
+    }
+}
+
+fn check<A, S, W, E>(alloc: A, source: S, out: &mut W, err: &mut E) -> (u8, S)
+where
+    A: Allocator + Copy,
+    S: Source + Drop,
+    W: Sink,
+    E: Sink,
+    ensures ends { CheckEnds
+        (devices (tapped (S.holds source) (S.faults source) (S.reads source) (S.asked source) (S.watches source)
+        (S.strays source)) (seen (W.tells out.old) (W.faults out.old)) (seen (E.tells err.old) (E.faults err.old)))
+        (devices (tapped (S.holds result.1) (S.faults result.1) (S.reads result.1) (S.asked result.1)
+        (S.watches result.1) (S.strays result.1))
+        (seen (W.tells out.new) (W.faults out.new)) (seen (E.tells err.new) (E.faults err.new)))
+        result.0 }
+
+    // The source still holds what it held.
+    ensures kept { S.holds result.1 ≡ S.holds source }
+    ensures refused { result.0 ≡ 2 → (W.tells out.new ≡ W.tells out.old) × (W.faults out.new ≡ W.faults out.old) }
+    ensures answers { (result.0 ≡ 0) ⊎ ((result.0 ≡ 1) ⊎ ((result.0 ≡ 2) ⊎ (result.0 ≡ 3))) }
+{
+    let mut listing = match Listing::open(alloc, source) {
+        Ok(listing) => listing,
+        Err((fault, source)) => return (tell_refusal(fault, err), source),
+    };
+    match listing.check(out) {
+        Ok(count) => (status_of_count(count), listing.into_source()),
+        Err(fault) => (tell_cut(fault, err), listing.into_source()),
+    }
+}
+
+/// Writes an archive anew in a form.
+fn write_anew<A, S, W, E>(alloc: A, form: Form, source: S, out: &mut W, err: &mut E) -> (u8, S)
+where
+    A: Allocator + Copy,
+    S: Source + Drop,
+    W: Sink,
+    E: Sink,
+    ensures ends { WriteEnds form
+        (devices (tapped (S.holds source) (S.faults source) (S.reads source) (S.asked source) (S.watches source)
+        (S.strays source)) (seen (W.tells out.old) (W.faults out.old)) (seen (E.tells err.old) (E.faults err.old)))
+        (devices (tapped (S.holds result.1) (S.faults result.1) (S.reads result.1) (S.asked result.1)
+        (S.watches result.1) (S.strays result.1))
+        (seen (W.tells out.new) (W.faults out.new)) (seen (E.tells err.new) (E.faults err.new)))
+        result.0 }
+
+    // The source still holds what it held.
+    ensures kept { S.holds result.1 ≡ S.holds source }
+    ensures refused { result.0 ≡ 2 → (W.tells out.new ≡ W.tells out.old) × (W.faults out.new ≡ W.faults out.old) }
+    ensures answers { (result.0 ≡ 0) ⊎ ((result.0 ≡ 2) ⊎ (result.0 ≡ 3)) }
+{
+    let mut archive = match Listing::open(alloc, source) {
+        Ok(archive) => archive,
+        Err((fault, source)) => return (tell_refusal(fault, err), source),
+    };
+    match archive.write_as(form, out) {
+        Ok(()) => (DONE, archive.into_source()),
+        Err(fault) => (tell_cut(fault, err), archive.into_source()),
+    }
+}
+
+/// The status where an archive was checked and so many things were found.
+fn status_of_count(count: usize) -> u8
+    ensures value { result ≡ min count 1 }
+    ensures cases { (result ≡ 0) ⊎ (result ≡ 1) }
+{
+    if count == 0 { DONE } else { FOUND }
+}
+
+/// Tells why an archive isn't opened, and answers the exit status.
+pub(crate) fn tell_refusal<E: Sink>(fault: Fault, err: &mut E) -> u8
+    ensures told { Tells (fault_line fault) (seen (E.tells err.old) (E.faults err.old))
+        (seen (E.tells err.new) (E.faults err.new)) }
+    ensures status { result ≡ status_of_kind fault.kind }
+{
+    tell(line_of_fault(fault).as_str(), err);
+    status_of(fault.kind)
+}
+
+/// Tells why an output ends early, and answers the exit status.
+pub(crate) fn tell_cut<E: Sink>(fault: OutFault, err: &mut E) -> u8
+    ensures told { Tells (told_line (out_fault_text fault)) (seen (E.tells err.old) (E.faults err.old))
+        (seen (E.tells err.new) (E.faults err.new)) }
+    ensures status { result ≡ 3 }
+{
+    tell(line_of_cut(fault).as_str(), err);
+    FAILED
+}
+
+/// The status where an archive isn't opened.
+fn status_of(kind: FaultKind) -> u8
+    ensures { result ≡ status_of_kind kind }
+{
+    match kind {
+        FaultKind::Read | FaultKind::Memory => FAILED,
+        _ => REFUSED,
+    }
+}
+
+/// Writes a line, as far as the sink takes it.
+pub(crate) fn tell<E: Sink>(line: &str, err: &mut E)
+    ensures { Tells line.now (seen (E.tells err.old) (E.faults err.old))
+        (seen (E.tells err.new) (E.faults err.new)) }
+{
+    let _ = send_all(err, line.as_bytes());
+}
+
+/// The line that tells why an archive isn't opened.
+fn line_of_fault(fault: Fault) -> ArrayString<LINE>
+    ensures { result.bytes ≡ fault_line fault }
+{
+    let (name, field) = fault.kind.parts();
+    let mut digits = Buffer::new();
+    let mut line = ArrayString::new();
+    line.push_str("warc: ");
+    line.push_str(name);
+    line.push_str(field);
+    line.push_str(" at ");
+    line.push_str(digits.format(fault.offset));
+    line.push_str("\n");
+    line
+}
+
+/// How an output ended, but for the number of bytes that went out.
+fn cause_of(fault: OutFault) -> &'static str
+    ensures text { result.now ++ decimal (sent_of fault) ≡ out_fault_text fault }
+    ensures short { length result.now ≤ 20 }
+{
+    match fault {
+        OutFault::Read(_) => "read failed after ",
+        OutFault::Write(_) => "write failed after ",
+        OutFault::Memory(_) => "out of memory after ",
+    }
+}
+
+/// The line that tells why an output ends early.
+fn line_of_cut(fault: OutFault) -> ArrayString<LINE>
+    ensures { result.bytes ≡ told_line (out_fault_text fault) }
+{
+    let mut digits = Buffer::new();
+    let mut line = ArrayString::new();
+    line.push_str("warc: ");
+    line.push_str(cause_of(fault));
+    line.push_str(digits.format(fault.sent()));
+    line.push_str("\n");
+    line
+}
+
+/// Tells why words name no command: where `clap`'s text was asked for it goes to `out`, and else to
+/// `err`. The answer is the exit status: 0 where it was asked for and written, else 3.
+pub fn refuse<W: Sink, E: Sink>(fault: &CommandFault, out: &mut W, err: &mut E) -> u8
+    ensures { FaultEnds fault.now (seen (W.tells out.old) (W.faults out.old))
+        (seen (W.tells out.new) (W.faults out.new))
+        (seen (E.tells err.old) (E.faults err.old))
+        (seen (E.tells err.new) (E.faults err.new)) result }
+{
+    match fault {
+        CommandFault::Usage { text, asked: true } => show(text.as_str(), out, err),
+        CommandFault::Usage { text, asked: false } => {
+            tell(text.as_str(), err);
+            FAILED
+        }
+        CommandFault::Memory => tell_cut(OutFault::Memory(0), err),
+    }
+}
+
+/// Writes a text that was asked for.
+fn show<W: Sink, E: Sink>(text: &str, out: &mut W, err: &mut E) -> u8
+    ensures { IsShown text.now (seen (W.tells out.old) (W.faults out.old))
+        (seen (W.tells out.new) (W.faults out.new))
+        (seen (E.tells err.old) (E.faults err.old))
+        (seen (E.tells err.new) (E.faults err.new)) result }
+{
+    match send_all(out, text.as_bytes()) {
+        Ok(()) => DONE,
+        Err(fault) => tell_cut(OutFault::Write(fault.sent), err),
+    }
+}

@@ -1,0 +1,462 @@
+//! The words of a command line.
+ghost use Rattle.std.specs.Prelude.{◌≡◌, ◌∷◌, [], true, false, fold, map, Some, IfOk, IfErr, option_map, codes};
+ghost use Rattle.clap.specs.Faults.{fault_of};
+ghost use Rattle.clap.specs.Matches.{found_of};
+ghost use Rattle.clap.specs.Simple.{App, app_of, subcommand_rows_of, with_rule};
+ghost use Rattle.clap.specs.Takes.{takes};
+ghost use Rattle.clap.specs.Values.{kind_of};
+ghost use Rattle.clap.specs.Walk.{rows_of, rule_of};
+ghost use Rattle.clap.specs.declared.builder.command.Command.TheViews.{out-Command};
+ghost use Rattle.warc_commands.specs.Command.{draft_texts, path_of, view_of};
+ghost use Rattle.warc_commands.specs.CommandLine.{IsToldBy, command_fault_text, command_of, draft_words, layout_seen, named, required_word};
+ghost use Rattle.warc_commands.specs.CommandLine.{text_of, warc_app, with_layout};
+
+use clap::error::ErrorKind;
+use clap::{Arg, ArgMatches};
+use std::alloc::{AllocError, Global};
+use std::convert::AsStr;
+use std::fmt;
+use thiserror::Error;
+
+/// What the program is asked to do. The texts are borrowed from the words.
+#[derive(Clone, Copy, Debug, PartialEq, Eq)]
+pub enum Command<'a> {
+    /// A line for each record.
+    List {
+        archive: &'a str,
+    },
+    /// A line for each finding.
+    Check {
+        archive: &'a str,
+    },
+    /// The block of the first record with an id.
+    Extract {
+        archive: &'a str,
+        id: &'a str,
+    },
+    /// The body for a URI as of the first instant of a date.
+    Replay {
+        archive: &'a str,
+        uri: &'a str,
+        date: &'a str,
+    },
+    /// The records in canonical form.
+    Rewrite {
+        archive: &'a str,
+    },
+    /// The records as records of WARC 1.1.
+    Convert {
+        archive: &'a str,
+    },
+    /// One record, whose block are the bytes of a file.
+    Write {
+        draft: Draft<'a>,
+        file: &'a str,
+    },
+}
+
+/// What `write` makes a record of, beside its block.
+#[derive(Clone, Copy, Debug, PartialEq, Eq)]
+pub struct Draft<'a> {
+    /// `resource`, `metadata` or `conversion`, in any case.
+    pub kind: &'a str,
+    /// The target, without brackets.
+    pub uri: &'a str,
+    /// The date, as the record is to state it.
+    pub date: &'a str,
+    /// The UUID, in any form that `uuid` reads.
+    pub uuid: &'a str,
+    /// The content type.
+    pub content_type: &'a str,
+}
+
+impl<'a> Command<'a> {
+    /// The path of the file that the command reads.
+    pub fn path(&self) -> &'a str
+        ensures { result.now ≡ path_of self.now }
+    {
+        match self {
+            Command::List { archive } => archive,
+            Command::Check { archive } => archive,
+            Command::Extract { archive, id: _ } => archive,
+            Command::Replay {
+                archive,
+                uri: _,
+                date: _,
+            } => archive,
+            Command::Rewrite { archive } => archive,
+            Command::Convert { archive } => archive,
+            Command::Write { draft: _, file } => file,
+        }
+    }
+}
+
+/// Why words name no command.
+#[derive(Debug, Drop, Error)]
+pub enum CommandFault {
+    /// The text that `clap` writes, and whether it was asked for, as by `--help`.
+    Usage { text: String, asked: bool },
+    /// A growth of the memory was refused.
+    Memory,
+}
+
+impl fmt::Display for CommandFault {
+    ghost output = { λ fault. Some (command_fault_text fault) };
+
+    fn fmt<W: fmt::Write>(&self, f: &mut fmt::Formatter<W>) -> fmt::Result {
+        match self {
+            CommandFault::Usage { text, asked: _ } => write!(f, "{text}"),
+            CommandFault::Memory => write!(f, "out of memory"),
+        }
+    }
+}
+
+/// A word that a command requires: its name in the usage, and what it is.
+#[derive(Clone, Copy)]
+struct Word {
+    name: &'static str,
+    help: &'static str,
+}
+
+/// A command as help shows it: its name, what it does, what it writes and how it ends, and its words in order.
+#[derive(Clone, Copy)]
+struct Entry {
+    name: &'static str,
+    about: &'static str,
+    notes: &'static str,
+    words: &'static [Word],
+}
+
+const VERSION: &str = "0.1.0";
+
+const NOTES: &str =
+    "An archive is one file of uncompressed records, WARC/1.0 or WARC/1.1. A compressed one is read so:
+  gunzip -c a.warc.gz | warc list /dev/stdin      (at most 1 GiB)
+
+Exit status: 0 done; 1 something was found; 2 the archive is refused, with the
+first fault and its offset, and nothing was written; 3 the words are wrong, the file doesn't open, or a read,
+a write or memory failed.
+
+Example: warc list examples/abc.warc";
+
+const LIST_NOTES: &str =
+    "A line has seven columns, with a tab between two: the record's position from 0, its offset in bytes,
+the length of its block, its type, date, id and target; '-' for no target.
+
+Exit status: 0 listed; 2 the archive is refused, and nothing was written; 3 see 'warc --help'.
+
+Example: warc list examples/abc.warc";
+
+const CHECK_NOTES: &str =
+    "A line has the position of the record, the finding's number N1 to N12 and the name of the field that it is
+about, if it is about one; '- N12' is an archive of no records. A digest that can't be checked is no finding.
+
+Exit status: 0 nothing was found; 1 something was; 2 the archive is refused, and nothing was written;
+3 see 'warc --help'.
+
+Example: warc check examples/findings.warc";
+
+const EXTRACT_NOTES: &str =
+    "The block is written as it stands: it isn't joined to its segments, and nothing in it is decoded. The id
+is written in brackets or without, as <urn:uuid:..> or urn:uuid:...
+
+Exit status: 0 written; 1 no record has the id, and nothing was written; 2 the archive is refused, and nothing
+was written; 3 see 'warc --help'.
+
+Example: warc extract examples/abc.warc urn:uuid:00000000-0000-4000-8000-000000000001";
+
+const REPLAY_NOTES: &str =
+    "The body is that of the latest capture of the URI that isn't later than the date: its segments joined, and
+of an HTTP response what stands behind its head. A date is YYYY, YYYY-MM, YYYY-MM-DD, YYYY-MM-DDThh:mmZ or
+YYYY-MM-DDThh:mm:ssZ, also with a fraction of a second, and names its first instant. A line on standard error
+tells the positions of the chosen record and of the one whose body is given, the status of the HTTP response
+or '-', whether a record is marked as truncated, and the length of the body in bytes.
+
+Exit status: 0 written; 1 there is no body, for the reason P1 to P10 that is told, and nothing was written;
+2 the archive is refused, and nothing was written; 3 the date isn't one, or see 'warc --help'.
+
+Example: warc replay examples/abc.warc http://a.example/x 2021";
+
+const REWRITE_NOTES: &str =
+    "Each record is written in canonical form: folded values in one line, one space behind each colon. Names,
+the order of fields, versions and blocks stay.
+
+Exit status: 0 written; 2 the archive is refused, and nothing was written; 3 see 'warc --help'.
+
+Example: warc rewrite examples/folded.warc";
+
+const CONVERT_NOTES: &str =
+    "Each record is written in canonical form as one of WARC/1.1: its target stands without < and >. All else
+stays.
+
+Exit status: 0 written; 2 the archive is refused, and nothing was written; 3 see 'warc --help'.
+
+Example: warc convert examples/abc.warc";
+
+const WRITE_NOTES: &str =
+    "The record is one of WARC/1.1 with the digest of its block, which is all of the file. A record that can't be
+made is told by M1 to M5 (docs/FORMAT.md), and nothing is written.
+
+Exit status: 0 written; 3 the record isn't made, or see 'warc --help'.
+
+Example: warc write resource http://a.example/x 2020-01-01T00:00:00Z 00000000-0000-4000-8000-000000000001 \
+  text/plain page.txt > page.warc";
+
+const ARCHIVE: Word = Word {
+    name: "archive",
+    help: "The path of the archive; /dev/stdin is standard input, also a pipe",
+};
+
+const ID: Word = Word {
+    name: "id",
+    help: "The id of the record, in brackets or without",
+};
+
+const URI: Word = Word {
+    name: "uri",
+    help: "The URI, byte for byte as the archive's records have it, without brackets",
+};
+
+const DATE: Word = Word {
+    name: "date",
+    help: "The date as of which the URI is asked for; 9999 is the latest",
+};
+
+/// What `write` wants, in its order.
+const DRAFT: [Word; 6] = [
+    Word {
+        name: "kind",
+        help: "The kind of the record: resource, metadata or conversion",
+    },
+    Word {
+        name: "uri",
+        help: "The target, without brackets",
+    },
+    Word {
+        name: "date",
+        help: "The date, as 2020-01-01T00:00:00Z",
+    },
+    Word {
+        name: "uuid",
+        help: "The UUID of the record's id",
+    },
+    Word {
+        name: "type",
+        help: "The content type of the block, as text/plain",
+    },
+    Word {
+        name: "file",
+        help: "The path of the file whose bytes are the block",
+    },
+];
+
+/// The commands, in the order in which help lists them.
+const COMMANDS: [Entry; 7] = [
+    Entry {
+        name: "list",
+        about: "Prints a line for each record",
+        notes: LIST_NOTES,
+        words: &[ARCHIVE],
+    },
+    Entry {
+        name: "check",
+        about: "Prints a line for each finding: what is wrong with records that can be read",
+        notes: CHECK_NOTES,
+        words: &[ARCHIVE],
+    },
+    Entry {
+        name: "extract",
+        about: "Writes the block of the first record with an id",
+        notes: EXTRACT_NOTES,
+        words: &[ARCHIVE, ID],
+    },
+    Entry {
+        name: "replay",
+        about: "Writes the body that was captured of a URI, as of a date",
+        notes: REPLAY_NOTES,
+        words: &[ARCHIVE, URI, DATE],
+    },
+    Entry {
+        name: "rewrite",
+        about: "Writes the archive in canonical form",
+        notes: REWRITE_NOTES,
+        words: &[ARCHIVE],
+    },
+    Entry {
+        name: "convert",
+        about: "Writes the archive as one of WARC/1.1",
+        notes: CONVERT_NOTES,
+        words: &[ARCHIVE],
+    },
+    Entry {
+        name: "write",
+        about: "Writes one record, made of a file",
+        notes: WRITE_NOTES,
+        words: &DRAFT,
+    },
+];
+
+fn warc_parser<'a>(alloc: Global) -> Result<clap::Command<'a>, AllocError>
+    ensures { IfOk result (λ c. app_of c ≡ warc_app) }
+{
+    let parser = clap::Command::new(alloc, "warc")
+        .about("Reads and writes archives in the WARC format")
+        .version(VERSION)
+        .after_help(NOTES)
+        .subcommand_required(true);
+    with_commands(parser, alloc, &COMMANDS)
+}
+
+/// The parser with these commands, in their order.
+fn with_commands<'a>(
+    parser: clap::Command<'a>,
+    alloc: Global,
+    entries: &[Entry],
+) -> Result<clap::Command<'a>, AllocError>
+    ensures { (app : App) → app_of parser.entry ≡ app →
+        IfOk result (λ c. app_of c ≡ fold with_layout app (map layout_seen entries.now)) }
+{
+    let mut parser = parser;
+    for entry in entries {
+        parser = with_command(parser, alloc, entry)?;
+    }
+    Ok(parser)
+}
+
+/// The parser with one more command, which requires the words in their order.
+fn with_command<'a>(
+    parser: clap::Command<'a>,
+    alloc: Global,
+    entry: &Entry,
+) -> Result<clap::Command<'a>, AllocError>
+    ensures { (app : App) → app_of parser.entry ≡ app →
+        IfOk result (λ c. app_of c ≡ with_layout app (layout_seen entry.now)) }
+{
+    let mut command = clap::Command::new(alloc, entry.name)
+        .about(entry.about)
+        .after_help(entry.notes);
+    for word in entry.words {
+        command = with_word(command, alloc, word.name, word.help)?;
+    }
+    parser.subcommand(command)
+}
+
+/// The command with one more word.
+fn with_word<'a>(
+    command: clap::Command<'a>,
+    alloc: Global,
+    name: &'static str,
+    help: &'static str,
+) -> Result<clap::Command<'a>, AllocError>
+    ensures app { (app : App) → app_of command.entry ≡ app
+        → IfOk result (λ c. app_of c ≡ with_rule app (required_word name.entry.now)) }
+    ensures local { (out-Command command.entry).has_globals ≡ false
+        → IfOk result (λ c. (out-Command c).has_globals ≡ false) }
+{
+    command.arg(required(alloc, name, help))
+}
+
+fn required<'a>(alloc: Global, name: &'static str, help: &'static str) -> Arg<'a>
+    ensures rule { rule_of result ≡ required_word name.entry.now }
+    ensures local { result.global ≡ false }
+{
+    Arg::new(alloc, name).help(help).required(true)
+}
+
+/// The text of a word, which is there where `clap` takes the words.
+fn text_at<'a>(matches: &ArgMatches<'a>, name: &str) -> &'a str
+    ensures { result.now ≡ text_of (rows_of (found_of matches.now)) name.now }
+{
+    match matches.get_str(name) {
+        Some(text) => text,
+        None => "",
+    }
+}
+
+/// What `write` makes a record of.
+fn read_draft<'a>(texts: &ArgMatches<'a>) -> Draft<'a>
+    ensures { draft_texts result ≡ map (text_of (rows_of (found_of texts.now))) draft_words }
+{
+    Draft {
+        kind: text_at(texts, "kind"),
+        uri: text_at(texts, "uri"),
+        date: text_at(texts, "date"),
+        uuid: text_at(texts, "uuid"),
+        content_type: text_at(texts, "type"),
+    }
+}
+
+/// What the command of a name is asked to do. `clap` meets no command but the program's own, so one of them,
+/// `list`, needs no test.
+fn read_command<'a>(name: &str, texts: &ArgMatches<'a>) -> Command<'a>
+    ensures { view_of result ≡ named name.now (rows_of (found_of texts.now)) }
+{
+    let archive = text_at(texts, "archive");
+    match name {
+        "check" => Command::Check { archive },
+        "extract" => Command::Extract {
+            archive,
+            id: text_at(texts, "id"),
+        },
+        "replay" => Command::Replay {
+            archive,
+            uri: text_at(texts, "uri"),
+            date: text_at(texts, "date"),
+        },
+        "rewrite" => Command::Rewrite { archive },
+        "convert" => Command::Convert { archive },
+        "write" => Command::Write {
+            draft: read_draft(texts),
+            file: text_at(texts, "file"),
+        },
+        _ => Command::List { archive },
+    }
+}
+
+/// The command that was met.
+fn read<'a>(matches: &ArgMatches<'a>) -> Option<Command<'a>>
+    ensures { option_map view_of result
+        ≡ option_map (λ p. named p.0 p.1) (subcommand_rows_of matches.now) }
+{
+    let (name, texts) = matches.subcommand()?;
+    Some(read_command(name, texts))
+}
+
+/// What `clap` refused, or was asked to show.
+fn refusal(alloc: Global, error: &clap::Error) -> CommandFault
+    ensures memory { kind_of error.now ≡ ErrorKind.OutOfMemory → result ≡ CommandFault.Memory }
+    ensures told { IsToldBy (kind_of error.now ∷ []) result }
+{
+    if let ErrorKind::OutOfMemory = error.kind() {
+        return CommandFault::Memory;
+    }
+    match error.to_string(alloc) {
+        Ok(text) => CommandFault::Usage {
+            text,
+            asked: !error.use_stderr(),
+        },
+        Err(_) => CommandFault::Memory,
+    }
+}
+
+/// The command and the texts that the words name, the program's name being the first word. Words
+/// that `clap` refuses are a `Usage` with its text, and so are `help`, `--help` and `--version`,
+/// which ask for one.
+pub fn parse<'a, S: AsStr>(alloc: Global, words: &'a [S]) -> Result<Command<'a>, CommandFault>
+    ensures named { IfOk result (λ c. Some (view_of c) ≡ command_of (map S.text words.entry.now)) }
+    ensures accepted { IfOk result (λ _. fault_of warc_app (map S.text words.entry.now) ≡ []) }
+    ensures taken { IfErr result (λ e. takes warc_app (map S.text words.entry.now) ≡ true
+        → e ≡ CommandFault.Memory) }
+    ensures told { IfErr result (IsToldBy (fault_of warc_app (map S.text words.entry.now))) }
+{
+    let Ok(parser) = warc_parser(alloc) else {
+        return Err(CommandFault::Memory);
+    };
+    match parser.try_get_matches_from(words) {
+        Ok(matches) => match read(&matches) {
+            Some(command) => Ok(command),
+            None => unreachable!(),
+        },
+        Err(error) => Err(refusal(alloc, &error)),
+    }
+}
