@@ -19,12 +19,12 @@ use Rattle.warc_write.specs.Rendering.{AllGood, canonical_texts}
 use Rattle.warc_write.specs.declared.making.MakeFault.{MakeFault}
 use Rattle.warc_answer.specs.Answers.{Given, IsAnswer}
 use Rattle.warc_answer.specs.declared.answer.Reason.{Reason}
-use Rattle.warc.specs.Archive.{AreGood, IsArchiveOf, IsFaultOf, contents}
+use Rattle.warc_reading.specs.Archive.{AreGood, IsArchiveOf, IsFaultOf, contents}
 use Rattle.warc.specs.Forms.{record_as, texts_as}
-use Rattle.warc.specs.Indexed.{Archived, IsIndexed}
+use Rattle.warc_reading.specs.Indexed.{Archived, IsIndexed}
 use Rattle.warc.specs.Laws.{AreSpelledBy, MigrationKeepsAnswers, NoFaultWhereSpelled, WrittenOpensAsSame, WrittenSpells}
-use Rattle.warc.specs.Opening.{RefusesBy, faults_after}
-use Rattle.warc.specs.Row.{Placed, Row}
+use Rattle.warc_reading.specs.Opening.{RefusesBy, faults_after}
+use Rattle.warc_reading.specs.Row.{Placed, Row}
 use Rattle.warc.specs.Taking.{IsTaken}
 use Rattle.warc.specs.declared.copying.Form.TheVariants.{Canonical, Converted}
 use Rattle.suites_migration.specs.Migration.{IsMigrationOf, IsUnopened}

@@ -7,10 +7,10 @@ use Rattle.warc_frame.specs.declared.fault.Fault.{Fault}
 use Rattle.warc_frame.specs.declared.fault.FaultKind.TheVariants.{Memory, Read}
 use Rattle.warc_answer.specs.Answers.{Given, IsAnswer}
 use Rattle.warc_answer.specs.declared.answer.Reason.{Reason}
-use Rattle.warc.specs.Archive.{IsArchiveOf, contents}
+use Rattle.warc_reading.specs.Archive.{IsArchiveOf, contents}
 use Rattle.warc.specs.Forms.{texts_as}
-use Rattle.warc.specs.Indexed.{Archived, IsIndexed}
-use Rattle.warc.specs.Row.{Row}
+use Rattle.warc_reading.specs.Indexed.{Archived, IsIndexed}
+use Rattle.warc_reading.specs.Row.{Row}
 use Rattle.warc.specs.declared.copying.Form.TheVariants.{Converted}
 use Rattle.suites_migration.specs.Opened.{IsRefused}
 use Rattle.suites_migration.specs.declared.migration.MoveFault.{MoveFault}

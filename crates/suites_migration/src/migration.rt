@@ -1,7 +1,7 @@
 //! An archive moved to WARC 1.1, by public calls alone.
 ghost use Rattle.std.specs.Prelude.{◌≡◌, IfErr, IfOk};
 ghost use Rattle.warc_frame.specs.Seen.{IfHeld};
-ghost use Rattle.warc.specs.Archive.{IsArchiveOf, contents};
+ghost use Rattle.warc_reading.specs.Archive.{IsArchiveOf, contents};
 ghost use Rattle.warc.specs.Forms.{texts_as};
 ghost use Rattle.warc.specs.declared.copying.Form.TheVariants.{Converted};
 ghost use Rattle.suites_migration.specs.Migration.{IsFailed, IsMigrationOf};

@@ -3,7 +3,7 @@ ghost use Rattle.std.specs.Prelude.{◌≡◌, Ok, IfErr, IfOk, map};
 ghost use Rattle.warc_record.specs.Good.{IsGood};
 ghost use Rattle.warc_write.specs.Making.{made};
 ghost use Rattle.warc_write.specs.Rendering.{AllGood, canonical_texts};
-ghost use Rattle.warc.specs.Archive.{IsArchiveOf, contents};
+ghost use Rattle.warc_reading.specs.Archive.{IsArchiveOf, contents};
 ghost use Rattle.suites_migration.specs.RoundTrip.{IsUnread, plan_of};
 
 use crate::opening::opened;

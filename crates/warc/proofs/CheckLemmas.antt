@@ -7,7 +7,7 @@ use Rattle.warc_record.specs.Findings.{Found}
 use Rattle.warc_record.specs.Good.{SaysAll}
 use Rattle.warc_record.specs.Ids.{id_key}
 use Rattle.warc_record.specs.Readings.{reading_of}
-use Rattle.warc.specs.Row.{Placed, Row, row_of}
+use Rattle.warc_reading.specs.Row.{Placed, Row, row_of}
 use Rattle.warc.specs.Checking.{about_record, record_key, line_text, numbered_line}
 use Rattle.warc.specs.Examining.{record_text}
 

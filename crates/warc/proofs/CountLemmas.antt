@@ -10,13 +10,13 @@ use Rattle.warc_frame.specs.Spelling.{Spells, SpellsAll}
 use Rattle.warc_frame.specs.VersionLine.{version_line}
 use Rattle.warc_record.specs.Good.{IsGood}
 use Rattle.warc_record.proofs.CountLemmas.{findings_are_few}
-use Rattle.warc.specs.Archive.{AreGood, IsArchiveOf, contents}
+use Rattle.warc_reading.specs.Archive.{AreGood, IsArchiveOf, contents}
 use Rattle.warc_record.specs.Blocks.{has_bad_digest}
 use Rattle.warc.specs.Checking.{about_record, findings_at, findings_behind, findings_of_archive, findings_of_records, is_used, record_key}
 use Rattle.warc.specs.Laws.{FindingsAreCounted}
-use Rattle.warc.specs.Row.{Row}
+use Rattle.warc_reading.specs.Row.{Row}
 use Rattle.warc.proofs.OutputLemmas.{area_short, fields_few, records_len}
-use Rattle.warc.proofs.StreamLemmas.{spells_all}
+use Rattle.warc_reading.proofs.StreamLemmas.{spells_all}
 
 -- a record has fewer than 2^17 findings
 record_few : (before : List Record) (i : ℕ) (r : Record) → IsGood r → length (findings_at before i r) ≤ 65594

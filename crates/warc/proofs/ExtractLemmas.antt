@@ -12,10 +12,10 @@ use Rattle.warc_frame.specs.Seen.{Seen, Tapped}
 use Rattle.warc_frame.specs.Send.{WentOut, sent_of}
 use Rattle.warc_frame.specs.declared.fault.OutFault.{OutFault}
 use Rattle.warc_frame.specs.declared.fault.OutFault.TheVariants as outs
-use Rattle.warc.specs.Archive.{IsArchiveOf}
+use Rattle.warc_reading.specs.Archive.{IsArchiveOf}
 use Rattle.warc.specs.Extracting.{Extracts, ExtractsAt, IsExtract, IsExtractCut, ReadsBlock, extracted, position_with}
-use Rattle.warc.specs.Indexed.{Archived, AreOf}
-use Rattle.warc.specs.Row.{Placed, Row, row_of}
+use Rattle.warc_reading.specs.Indexed.{Archived, AreOf}
+use Rattle.warc_reading.specs.Row.{Placed, Row, row_of}
 use Rattle.warc.specs.Standing.{IsWritten}
 use Rattle.warc.specs.declared.fault.ExtractFault.{ExtractFault}
 use Rattle.warc.specs.declared.fault.ExtractFault.TheVariants.{NoRecord, Out}

@@ -6,10 +6,10 @@ use Rattle.warc_frame.specs.Spelling.{SpellsAll}
 use Rattle.warc_frame.specs.declared.fault.Fault.{Fault}
 use Rattle.warc_frame.proofs.LawLemmas.{no_fault_where_spelled, no_fault_where_spelled-or, faults_are_stable as frame_faults_are_stable, first_fault_is_unique as frame_fault_is_unique}
 use Rattle.warc_record.specs.Heads.{head_fault}
-use Rattle.warc.specs.Archive.{IsFaultOf}
+use Rattle.warc_reading.specs.Archive.{IsFaultOf}
 use Rattle.warc.specs.Laws.{AreSpelledBy, ArchivesSpell, FaultsAreStable, NoFaultWhereSpelled, OneFault, SomeFaultElse}
-use Rattle.warc.proofs.GoodLemmas.{accepted, are_good}
-use Rattle.warc.proofs.StreamLemmas.{spells_all}
+use Rattle.warc_reading.proofs.GoodLemmas.{accepted, are_good}
+use Rattle.warc_reading.proofs.StreamLemmas.{spells_all}
 
 pub archives_spell : ArchivesSpell
 archives_spell bytes rows is = (

@@ -4,25 +4,15 @@ pub mod OutputLemmas
 pub mod CountLemmas
 pub mod EmitLemmas
 pub mod ExtractLemmas
-pub mod GoodLemmas
-pub mod GrowLemmas
 pub mod HeadLemmas
-pub mod IndexedLemmas
-pub mod KindLemmas
 pub mod LawLemmas
 pub mod LineLemmas
 pub mod MetLemmas
-pub mod OpeningLemmas
 pub mod PlaceLemmas
 pub mod ReadLemmas
 pub mod RecordsLemmas
-pub mod RefusalLemmas
 pub mod ReplayLemmas
-pub mod RowLemmas
-pub mod SourceLemmas
 pub mod StandLemmas
-pub mod StepLemmas
-pub mod StreamLemmas
 pub mod WholeLemmas
 pub mod TakeLemmas
 mod WorkedValues

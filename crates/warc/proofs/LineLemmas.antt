@@ -10,7 +10,7 @@ use Rattle.warc_frame.specs.declared.send.SendFault.{SendFault}
 use Rattle.warc_frame.specs.Putting.{Puts}
 use Rattle.warc_frame.specs.Seen.{Seen}
 use Rattle.warc.specs.Listing.{line_of, listing, shown}
-use Rattle.warc.specs.Row.{Row}
+use Rattle.warc_reading.specs.Row.{Row}
 
 seven : (a b c d e f g : List ℕ) → concat (a ∷ (9 ∷ []) ∷ b ∷ (9 ∷ []) ∷ c ∷ (9 ∷ []) ∷ d ∷ (9 ∷ []) ∷ e ∷ (9 ∷ []) ∷ f ∷ (9 ∷ []) ∷ g ∷ (10 ∷ []) ∷ [])
     ≡ join_with_byte 9 (a ∷ b ∷ c ∷ d ∷ e ∷ f ∷ g ∷ []) ++ 10 ∷ []

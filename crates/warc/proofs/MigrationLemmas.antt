@@ -12,12 +12,12 @@ use Rattle.warc_answer.specs.declared.answer.Answer.{Answer}
 use Rattle.warc_answer.specs.declared.answer.Reason.{Reason as Why}
 use Rattle.warc_answer.specs.declared.answer.ReplayFault.{ReplayFault}
 use Rattle.warc_answer.specs.declared.answer.ReplayFault.TheVariants.{Reason, Out}
-use Rattle.warc.specs.Archive.{AreGood, contents}
+use Rattle.warc_reading.specs.Archive.{AreGood, contents}
 use Rattle.warc.specs.Forms.{record_as, texts_as}
 use Rattle.warc.specs.Laws.{MigrationKeepsAnswers, MigrationKeepsReplays, WrittenOpensAsSame, WrittenSpells}
 use Rattle.warc.specs.declared.copying.Form.{Form}
 use Rattle.warc.specs.declared.copying.Form.TheVariants.{Canonical, Converted}
-use Rattle.warc.proofs.StreamLemmas.{spells_all}
+use Rattle.warc_reading.proofs.StreamLemmas.{spells_all}
 
 -- what is written in a form is what is rendered of the records in that form
 texts_are : (form : Form) (records : List Record) → canonical_texts (map (record_as form) records) ≡ texts_as form records

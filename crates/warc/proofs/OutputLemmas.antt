@@ -21,14 +21,14 @@ use Rattle.warc_record.specs.Good.{IsGood}
 use Rattle.warc_record.specs.Ids.{BareTextsAreNoLonger, bare_text}
 use Rattle.warc_record.specs.Readings.{present_bare, present_value, unless_empty}
 use Rattle.warc_write.specs.Conversion.{ConvertedStaysGood, converted}
-use Rattle.warc.specs.Archive.{AreGood, IsArchiveOf, SpellsFrom, contents}
+use Rattle.warc_reading.specs.Archive.{AreGood, IsArchiveOf, SpellsFrom, contents}
 use Rattle.warc.specs.Checking.{about_record, field_text, findings_at, findings_behind, findings_of_archive, findings_of_records, check_text, is_used, record_key, line_text, no_records}
 use Rattle.warc.specs.Forms.{text_as, texts_as}
 use Rattle.warc.specs.declared.copying.Form.TheVariants.{Canonical, Converted}
 use Rattle.warc.specs.Laws.{OutputsAreCounted}
 use Rattle.warc.specs.Listing.{line_of, listing, shown}
-use Rattle.warc.specs.Row.{Placed, Row, row_of}
-use Rattle.warc.proofs.StreamLemmas.{spells_all}
+use Rattle.warc_reading.specs.Row.{Placed, Row, row_of}
+use Rattle.warc_reading.proofs.StreamLemmas.{spells_all}
 
 -- a number of 64 bits has at most 20 digits
 digits : (n : ℕ) → n < 2 ^ 64 → length (decimal n) ≤ 20

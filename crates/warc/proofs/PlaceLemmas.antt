@@ -9,10 +9,10 @@ use Rattle.warc_frame.specs.Reading.{Judgement, any_fields, head_of}
 use Rattle.warc_frame.specs.Record.{Record, head_text}
 use Rattle.warc_frame.specs.Spelling.{Spells}
 use Rattle.warc_record.specs.Heads.{head_fault}
-use Rattle.warc.specs.Archive.{AreRowsOf, Contents, IsArchiveOf, SpellsFrom, contents}
+use Rattle.warc_reading.specs.Archive.{AreRowsOf, Contents, IsArchiveOf, SpellsFrom, contents}
 use Rattle.warc.specs.Examining.{AreCheckable, HasHead}
-use Rattle.warc.specs.Row.{Placed, Row}
-use Rattle.warc.proofs.GoodLemmas.{accepted}
+use Rattle.warc_reading.specs.Row.{Placed, Row}
+use Rattle.warc_reading.proofs.GoodLemmas.{accepted}
 
 -- what is known of the head of a record that a text spells
 abbrev pub HeadsAreRead : Type 0

@@ -10,13 +10,13 @@ use Rattle.warc_frame.specs.Send.{sent_of}
 use Rattle.warc_frame.specs.declared.fault.OutFault.{OutFault}
 use Rattle.warc_frame.specs.Record.{Record}
 use Rattle.warc_record.specs.declared.checks.ArchiveFacts.{ArchiveFacts}
-use Rattle.warc.specs.Archive.{contents}
+use Rattle.warc_reading.specs.Archive.{contents}
 use Rattle.warc.specs.Checking.{Line, findings_at, findings_behind, findings_of_records, line_text}
 use Rattle.warc.specs.Examining.{AreCheckable, HasFailed, HasHead, HasMet, IsExamined, findings_of_first, first_text, found_by, halted, record_text, records_text}
 use Rattle.warc_frame.specs.Failing.{HasFailedBy}
 use Rattle.warc.specs.declared.heads.Halt.{Halt}
 use Rattle.warc.specs.declared.heads.Halt.TheVariants.{Read, Memory}
-use Rattle.warc.specs.Row.{Placed, Row, row_of}
+use Rattle.warc_reading.specs.Row.{Placed, Row, row_of}
 
 -- the record of a row
 pub placed : (records : List Placed) (i : ℕ) (row : Row) → slice_get (map row_of records) i ≡ Some row → (p : Placed) × (slice_get records i ≡ Some p) × (row ≡ row_of p)

@@ -5,8 +5,8 @@ use Rattle.std.specs.List.{slice_get}
 use Rattle.warc_field.specs.Lines.{crlf}
 use Rattle.warc_frame.specs.Record.{head_text}
 use Rattle.warc_frame.specs.Spelling.{Spells}
-use Rattle.warc.specs.Archive.{SpellsFrom}
-use Rattle.warc.specs.Row.{Placed}
+use Rattle.warc_reading.specs.Archive.{SpellsFrom}
+use Rattle.warc_reading.specs.Row.{Placed}
 use Rattle.warc.specs.Standing.{IsWritten}
 
 front_len : (head block : List ℕ) → length (head ++ block ++ crlf ++ crlf) ≡ length head + length block + 4

@@ -10,8 +10,8 @@ use Rattle.warc_frame.specs.Spelling.{Spells}
 use Rattle.warc_frame.specs.declared.fault.Fault.{Fault}
 use Rattle.warc_frame.specs.declared.fault.FaultKind.{FaultKind}
 use Rattle.warc_frame.specs.declared.fault.FaultKind.TheVariants.{Memory as NoMemory}
-use Rattle.warc.specs.Archive.{IsArchiveOf}
-use Rattle.warc.specs.Row.{Placed, Row, row_of}
+use Rattle.warc_reading.specs.Archive.{IsArchiveOf}
+use Rattle.warc_reading.specs.Row.{Placed, Row, row_of}
 use Rattle.warc.specs.Standing.{IsEnd, IsWritten}
 use Rattle.warc.specs.Taking.{IsTaken, ReadsRecord, Takes, take_result}
 use Rattle.warc.specs.declared.fault.TakeFault.{TakeFault}

@@ -14,19 +14,19 @@ use Rattle.warc_frame.specs.declared.version.Version.{Version}
 use Rattle.warc_frame.specs.declared.version.Version.TheVariants.{V1_1}
 use Rattle.warc_record.specs.Heads.{head_fault}
 use Rattle.warc_write.specs.Conversion.{converted, converted_fields}
-use Rattle.warc.specs.Archive.{IsArchiveOf, SpellsFrom, contents}
+use Rattle.warc_reading.specs.Archive.{IsArchiveOf, SpellsFrom, contents}
 use Rattle.warc.specs.Copied.{AreTextsOf, HasWhole, IsCopiedOf, IsCopy, IsTextOf}
 use Rattle.warc.specs.Examining.{HasHead, IsHeadOf}
 use Rattle.warc.specs.Forms.{IsInRecord, IsInRow, ReadsOnly, read_len, text_as, texts_as}
 use Rattle.warc.specs.Heads.{ReadsHeads}
 use Rattle.warc_frame.specs.Seen.{Tapped}
-use Rattle.warc.specs.Row.{Placed, Row, row_of}
+use Rattle.warc_reading.specs.Row.{Placed, Row, row_of}
 use Rattle.warc.specs.declared.copying.Copied.{Copied}
 use Rattle.warc.specs.declared.copying.Form.{Form}
 use Rattle.warc.specs.declared.copying.Form.TheVariants.{Canonical, Converted}
 use Rattle.warc_frame.specs.declared.reading.Head.{Head}
 use Rattle.warc.proofs.EmitLemmas.{Begins, InTurn, reads_both, reads_within}
-use Rattle.warc.proofs.GoodLemmas.{accepted}
+use Rattle.warc_reading.proofs.GoodLemmas.{accepted}
 use Rattle.warc.proofs.PlaceLemmas.{HeadsAreRead, head_here}
 use Rattle.warc.proofs.ReadLemmas.{one_row}
 use Rattle.warc.proofs.RecordsLemmas.{take_one}

@@ -5,10 +5,10 @@ use Rattle.warc_field.specs.Area.{canonical_fields}
 use Rattle.warc_field.specs.Lines.{crlf}
 use Rattle.warc_frame.specs.Copying.{HasRange}
 use Rattle.warc_frame.specs.Record.{head_text}
-use Rattle.warc.specs.Archive.{contents}
+use Rattle.warc_reading.specs.Archive.{contents}
 use Rattle.warc.specs.Examining.{HasHead}
 use Rattle.warc.specs.Forms.{text_as, texts_as}
-use Rattle.warc.specs.Row.{Placed, Row, row_of}
+use Rattle.warc_reading.specs.Row.{Placed, Row, row_of}
 use Rattle.warc.specs.declared.copying.Copied.{Copied}
 use Rattle.warc.specs.declared.copying.Form.{Form}
 

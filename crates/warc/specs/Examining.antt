@@ -18,7 +18,7 @@ use Rattle.warc_record.specs.Heads.{head_fault}
 use Rattle.warc_record.specs.Findings.{Found, findings_of}
 use Rattle.warc_record.specs.declared.checks.ArchiveFacts.{ArchiveFacts}
 use Rattle.warc_field.specs.Area.{Pair}
-use Rattle.warc.specs.Row.{Placed, Row, row_of}
+use Rattle.warc_reading.specs.Row.{Placed, Row, row_of}
 use Rattle.warc.specs.Checking.{Line, about_record, findings_at, findings_of_records, is_used, record_key, line_text}
 use Rattle.warc.specs.declared.heads.Halt.{Halt}
 use Rattle.warc.specs.declared.heads.Halt.TheVariants.{Read, Memory}

@@ -9,9 +9,9 @@ use Rattle.warc_frame.specs.declared.fault.OutFault.{OutFault}
 use Rattle.warc_frame.specs.declared.fault.OutFault.TheVariants as outs
 use Rattle.warc_record.specs.Ids.{id_key}
 use Rattle.warc_index.specs.Referents.{first_with}
-use Rattle.warc.specs.Archive.{IsArchiveOf}
-use Rattle.warc.specs.Indexed.{Archived, IsIndexed, indexed_record}
-use Rattle.warc.specs.Row.{Placed, Row, row_of}
+use Rattle.warc_reading.specs.Archive.{IsArchiveOf}
+use Rattle.warc_reading.specs.Indexed.{Archived, IsIndexed, indexed_record}
+use Rattle.warc_reading.specs.Row.{Placed, Row, row_of}
 use Rattle.warc.specs.declared.fault.ExtractFault.{ExtractFault}
 use Rattle.warc.specs.declared.fault.ExtractFault.TheVariants.{NoRecord, Out}
 

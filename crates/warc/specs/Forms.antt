@@ -9,8 +9,8 @@ use Rattle.warc_frame.specs.Send.{WentOut, sent_of}
 use Rattle.warc_frame.specs.Spelling.{canonical}
 use Rattle.warc_frame.specs.declared.fault.OutFault.{OutFault}
 use Rattle.warc_write.specs.Conversion.{converted}
-use Rattle.warc.specs.Archive.{IsArchiveOf, contents}
-use Rattle.warc.specs.Row.{Row}
+use Rattle.warc_reading.specs.Archive.{IsArchiveOf, contents}
+use Rattle.warc_reading.specs.Row.{Row}
 use Rattle.warc.specs.declared.copying.Form.{Form}
 use Rattle.warc.specs.declared.copying.Form.TheVariants.{Canonical, Converted}
 

@@ -1,7 +1,7 @@
 -- What reading heads again reads of a source: no byte that isn't a head's.
 use Rattle.std.specs.Prelude.{◌≡◌, ℕ, ◌+◌, ◌-◌, ◌<◌, ◌≤◌, List, Some}
 use Rattle.std.specs.List.{slice_get, sum_by}
-use Rattle.warc.specs.Row.{Row}
+use Rattle.warc_reading.specs.Row.{Row}
 use Rattle.warc_frame.specs.Seen.{AsksOnly, Tapped}
 
 -- the offset of a byte of the head of one of these rows' records

@@ -10,11 +10,11 @@ use Rattle.warc_answer.specs.Replays.{IsReplay}
 use Rattle.warc_answer.specs.declared.answer.Answer.{Answer}
 use Rattle.warc_answer.specs.declared.answer.Reason.{Reason}
 use Rattle.warc_answer.specs.declared.answer.ReplayFault.{ReplayFault}
-use Rattle.warc.specs.Archive.{AreGood, IsArchiveOf, IsFaultOf, contents}
+use Rattle.warc_reading.specs.Archive.{AreGood, IsArchiveOf, IsFaultOf, contents}
 use Rattle.warc.specs.Checking.{check_text, findings_of_archive}
 use Rattle.warc.specs.Forms.{record_as, texts_as}
 use Rattle.warc.specs.Listing.{listing}
-use Rattle.warc.specs.Row.{Placed, Row, row_of}
+use Rattle.warc_reading.specs.Row.{Placed, Row, row_of}
 use Rattle.warc.specs.declared.copying.Form.{Form}
 use Rattle.warc.specs.declared.copying.Form.TheVariants.{Canonical, Converted}
 

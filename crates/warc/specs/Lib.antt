@@ -1,4 +1,3 @@
-pub mod Archive
 pub mod Checking
 pub mod Checks
 pub mod Emitting
@@ -6,17 +5,10 @@ pub mod Examining
 pub mod Forms
 pub mod Copied
 pub mod Extracting
-pub mod Growing
 pub mod Heads
-pub mod Indexed
-pub mod Keeping
 pub mod Laws
 pub mod Listing
-pub mod Opening
 pub mod Replaying
-pub mod Row
-pub mod Rows
 pub mod Standing
-pub mod Stream
 pub mod TakeText
 pub mod Taking

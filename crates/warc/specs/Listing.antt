@@ -1,7 +1,7 @@
 -- The lines that `list` writes.
 use Rattle.std.specs.Prelude.{ℕ, List, [], ◌∷◌, ◌++◌, codes, decimal}
 use Rattle.std.specs.List.{enumerate_from, flat_map, join_with_byte}
-use Rattle.warc.specs.Row.{Row}
+use Rattle.warc_reading.specs.Row.{Row}
 
 -- a text, or `-` for an empty one
 abbrev pub shown : List ℕ → List ℕ

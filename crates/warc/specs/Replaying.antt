@@ -16,9 +16,9 @@ use Rattle.warc_answer.specs.declared.answer.Path.{Path}
 use Rattle.warc_answer.specs.declared.answer.ReplayFault.{ReplayFault}
 use Rattle.warc_index.specs.Orders.{Kept as Indexes}
 use Rattle.warc_segment.specs.Kept.{Kept as Parts}
-use Rattle.warc.specs.Archive.{IsArchiveOf, contents}
-use Rattle.warc.specs.Indexed.{AreOf, indexed_record, placed_record}
-use Rattle.warc.specs.Row.{Placed, Row}
+use Rattle.warc_reading.specs.Archive.{IsArchiveOf, contents}
+use Rattle.warc_reading.specs.Indexed.{AreOf, indexed_record, placed_record}
+use Rattle.warc_reading.specs.Row.{Placed, Row}
 
 -- how many bytes the blocks have that are joined, none where they don't join
 abbrev pub joined_len : Result (List ReadRecord) Gap → ℕ

@@ -5,9 +5,9 @@ use Rattle.warc_frame.specs.Record.{max_archive}
 use Rattle.warc_frame.specs.Spelling.{Spells}
 use Rattle.warc_answer.specs.Answers.{path_of}
 use Rattle.warc_answer.specs.declared.answer.Path.{Path}
-use Rattle.warc.specs.Archive.{SpellsFrom}
-use Rattle.warc.specs.Indexed.{indexed_record}
-use Rattle.warc.specs.Row.{Placed}
+use Rattle.warc_reading.specs.Archive.{SpellsFrom}
+use Rattle.warc_reading.specs.Indexed.{indexed_record}
+use Rattle.warc_reading.specs.Row.{Placed}
 use Rattle.warc.specs.declared.fault.TakeFault.{TakeFault}
 use Rattle.warc.specs.declared.fault.TakeFault.TheVariants.{NoRecord, Read, Memory}
 

@@ -5,8 +5,8 @@ use Rattle.warc_frame.specs.Record.{Record}
 use Rattle.warc_frame.specs.Seen.{AsksOnly, IfHeld, Tapped}
 use Rattle.warc_frame.specs.declared.fault.OutFault.{OutFault}
 use Rattle.warc_frame.specs.declared.fault.OutFault.TheVariants as outs
-use Rattle.warc.specs.Archive.{IsArchiveOf}
-use Rattle.warc.specs.Row.{Placed, Row}
+use Rattle.warc_reading.specs.Archive.{IsArchiveOf}
+use Rattle.warc_reading.specs.Row.{Placed, Row}
 use Rattle.warc.specs.declared.fault.TakeFault.{TakeFault}
 use Rattle.warc.specs.declared.fault.TakeFault.TheVariants.{NoRecord, Read, Memory}
 

@@ -6,25 +6,23 @@ ghost use Rattle.warc_frame.specs.Seen.{seen, tapped};
 ghost use Rattle.warc_frame.specs.Send.{WentOut, sent_of};
 ghost use Rattle.warc.specs.Checks.{Checks};
 ghost use Rattle.warc.specs.Extracting.{Extracts, position_with};
-ghost use Rattle.warc.specs.Keeping.{kept_bytes};
-ghost use Rattle.warc.specs.Indexed.{AreOf, IsIndexed, archive_of, source_left};
+ghost use Rattle.warc_reading.specs.Keeping.{kept_bytes};
+ghost use Rattle.warc_reading.specs.Indexed.{AreOf, IsIndexed, archive_of, source_left};
 ghost use Rattle.warc.specs.Listing.{listing};
-ghost use Rattle.warc.specs.Growing.{Grows, grown, source_grown, without_source};
-ghost use Rattle.warc.specs.Opening.{Opens};
+ghost use Rattle.warc_reading.specs.Growing.{Grows, grown, source_grown, without_source};
+ghost use Rattle.warc_reading.specs.Opening.{Opens};
 ghost use Rattle.warc.specs.Replaying.{Replays};
-ghost use Rattle.warc.specs.Row.{Placed};
+ghost use Rattle.warc_reading.specs.Row.{Placed};
 ghost use Rattle.warc.specs.Taking.{Takes};
 
-use crate::beside::Lookup;
 use crate::fault::{ExtractFault, TakeFault};
 use crate::reader::Listing;
-use crate::reading::read_on;
-use crate::rows::{Row, Rows};
 use std::alloc::{AllocError, Allocator, Global};
 use std::marker::Model;
 use std::mem;
 use warc_answer::{Answer, ReplayFault};
 use warc_frame::{Fault, Framed, OutFault, Sink, Source};
+use warc_reading::{Lookup, Row, Rows, read_on};
 use warc_record::id_key;
 use warc_value::Moment;
 
@@ -37,7 +35,7 @@ pub struct Archive<S: Source, A: Allocator = Global> {
 }
 
 impl<S: Source, A: Allocator> Model for Archive<S, A> {
-    ghost use Rattle.warc.specs.Indexed.{Archived};
+    ghost use Rattle.warc_reading.specs.Indexed.{Archived};
 
     ghost Value = { Archived S };
 

@@ -7,8 +7,8 @@ ghost use Rattle.warc_frame.specs.Send.{IsStaged, WentOut, sent_of};
 ghost use Rattle.warc_record.specs.Findings.{finding_seen};
 ghost use Rattle.warc_record.specs.Readings.{reading_of};
 ghost use Rattle.warc_record.specs.Seen.{said};
-ghost use Rattle.warc.specs.Archive.{contents};
-ghost use Rattle.warc.specs.Row.{Placed, row_of};
+ghost use Rattle.warc_reading.specs.Archive.{contents};
+ghost use Rattle.warc_reading.specs.Row.{Placed, row_of};
 ghost use Rattle.warc.specs.Checking.{about_record, check_text, findings_of_archive, findings_of_records, line_text, numbered_line};
 ghost use Rattle.warc.specs.Examining.{HasFailed, HasHead, HasMet, AreCheckable, IsExamined, MayHaveFailed, found_by, record_text, records_text};
 ghost use Rattle.warc.specs.Heads.{ReadsHeads};
@@ -17,12 +17,12 @@ ghost use Rattle.warc_frame.specs.Seen.{seen, tapped};
 ghost use Rattle.warc_frame.specs.Failing.{HasFailedBy, MayHaveFailedBy, failed_by, is_read};
 
 use crate::heads::{Halt, Reread, head_buffer, read_again};
-use crate::rows::{Row, Rows};
 use crate::used::Met;
 use itoa::Buffer;
 use std::alloc::Allocator;
 use warc_frame::laws::{staged_went_out, went_out_of_longer};
 use warc_frame::{OutBuffer, OutFault, SendFault, Sink, Source, put_all};
+use warc_reading::{Row, Rows};
 use warc_record::laws::good_heads_read;
 use warc_record::{ArchiveFacts, Finding, all_findings};
 

@@ -10,13 +10,13 @@ ghost use Rattle.warc.specs.Copied.{AreTextsOf, IsCopiedOf, IsCopy, IsTextOf};
 ghost use Rattle.warc.specs.Emitting.{Emits};
 ghost use Rattle.warc.specs.Examining.{IsHeadOf};
 ghost use Rattle.warc.specs.Forms.{IsInRecord, IsInRow, ReadsOnly, read_len};
-ghost use Rattle.warc.specs.Row.{Placed, row_of};
+ghost use Rattle.warc_reading.specs.Row.{Placed, row_of};
 
 use crate::heads::{head_buffer, reread_head};
-use crate::rows::{Row, Rows};
 use std::alloc::{AllocError, Allocator};
 use warc_field::Fields;
 use warc_frame::{Head, OutBuffer, OutFault, Sink, Source, Version, put_all, put_range};
+use warc_reading::{Row, Rows};
 use warc_write::{convert_fields, put_head};
 
 /// How the records of an archive are written anew.

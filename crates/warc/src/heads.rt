@@ -7,14 +7,14 @@ ghost use Rattle.warc_record.specs.Heads.{head_fault};
 ghost use Rattle.warc_record.specs.Readings.{reading_of};
 ghost use Rattle.warc_record.specs.Seen.{said};
 ghost use Rattle.warc.specs.Heads.{ReadsHeads};
-ghost use Rattle.warc.specs.Row.{Placed, row_of};
+ghost use Rattle.warc_reading.specs.Row.{Placed, row_of};
 ghost use Rattle.warc_frame.specs.Seen.{tapped};
 ghost use Rattle.warc.specs.Examining.{HasFailed, HasHead, IsHeadOf, MayHaveFailed, halt_of, halted};
 
-use crate::rows::Row;
 use std::alloc::{AllocError, Allocator};
 use warc_field::Fields;
 use warc_frame::{FaultKind, Head, MAX_HEAD, OutFault, Source, read_head, read_range};
+use warc_reading::Row;
 use warc_record::{Typed, type_head};
 
 /// Why a head isn't read again.

@@ -2,7 +2,6 @@
 #![tactic(auto)]
 
 mod archives;
-mod beside;
 mod blocks;
 mod check;
 mod copying;
@@ -10,10 +9,8 @@ mod fault;
 mod heads;
 pub mod laws;
 mod reader;
-mod reading;
 mod replay;
 mod row;
-mod rows;
 mod taking;
 mod used;
 
@@ -21,4 +18,4 @@ pub use archives::Archive;
 pub use copying::Form;
 pub use fault::{ExtractFault, TakeFault};
 pub use reader::Listing;
-pub use rows::Row;
+pub use warc_reading::Row;

@@ -3,27 +3,24 @@ ghost use Rattle.std.specs.Prelude.{◌≡◌, ℕ, List, length, IfErr, OnErr, 
 ghost use Rattle.std.specs.Io.KnownBytes.{append_known};
 ghost use Rattle.warc_frame.specs.Count.{raised};
 ghost use Rattle.warc_frame.specs.Send.{WentOut, sent_of};
-ghost use Rattle.warc.specs.Archive.{IsArchiveOf, rows_of, source_of};
+ghost use Rattle.warc_reading.specs.Archive.{IsArchiveOf, rows_of, source_of};
 ghost use Rattle.warc.specs.Checks.{Checks};
 ghost use Rattle.warc.specs.Forms.{Writes};
 ghost use Rattle.warc.specs.Extracting.{ExtractsAt};
 ghost use Rattle.warc.specs.Listing.{listing};
-ghost use Rattle.warc.specs.Growing.{Grows, grown, source_grown, without_source};
-ghost use Rattle.warc.specs.Opening.{Opens};
-ghost use Rattle.warc.specs.Stream.{IsKeptOf};
+ghost use Rattle.warc_reading.specs.Growing.{Grows, grown, source_grown, without_source};
+ghost use Rattle.warc_reading.specs.Opening.{Opens};
+ghost use Rattle.warc_reading.specs.Stream.{IsKeptOf};
 ghost use Rattle.warc.specs.Replaying.{Replays};
 ghost use Rattle.warc.specs.Taking.{Takes};
 ghost use Rattle.warc_frame.specs.Seen.{seen, tapped};
 
-use crate::beside::{Keep, Lookup, Nothing};
 use crate::blocks::send_range;
 use crate::check::check_rows;
 use crate::copying::{Form, write_rows};
 use crate::fault::{ExtractFault, TakeFault};
-use crate::reading::read_on;
 use crate::replay::replay_rows;
 use crate::row::put_line;
-use crate::rows::{Row, Rows};
 use crate::taking::take_record;
 use std::alloc::{Allocator, Global};
 use std::marker::Model;
@@ -31,6 +28,7 @@ use std::mem;
 use warc_answer::{Answer, ReplayFault};
 use warc_frame::laws::head_of_spelled;
 use warc_frame::{Fault, Framed, OutBuffer, OutFault, Sink, Source};
+use warc_reading::{Keep, Lookup, Nothing, Row, Rows, read_on};
 use warc_value::Moment;
 
 /// What is listed of an archive, and the source of its bytes. Contracts see the source, and a row for each record.
@@ -41,7 +39,7 @@ pub struct Listing<S: Source, A: Allocator = Global> {
 }
 
 impl<S: Source, A: Allocator> Model for Listing<S, A> {
-    ghost use Rattle.warc.specs.Archive.{Contents};
+    ghost use Rattle.warc_reading.specs.Archive.{Contents};
 
     ghost Value = { Contents S };
 

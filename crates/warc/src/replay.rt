@@ -11,16 +11,14 @@ ghost use Rattle.warc_segment.specs.Kept.{kept_in};
 ghost use Rattle.warc_answer.specs.Answers.{path_of};
 ghost use Rattle.warc_answer.specs.Payloads.{read_record};
 ghost use Rattle.warc_answer.specs.Replays.{IsReplay, IsSilent, out_result};
-ghost use Rattle.warc.specs.Archive.{contents};
-ghost use Rattle.warc.specs.Indexed.{AreOf, indexed_record, place_of, placed_record};
+ghost use Rattle.warc_reading.specs.Archive.{contents};
+ghost use Rattle.warc_reading.specs.Indexed.{AreOf, indexed_record, place_of, placed_record};
 ghost use Rattle.warc.specs.Examining.{HasHead};
 ghost use Rattle.warc.specs.Replaying.{IsJoined, IsOfOrigin, Replays, joined_len};
-ghost use Rattle.warc.specs.Row.{Placed, row_of};
+ghost use Rattle.warc_reading.specs.Row.{Placed, row_of};
 ghost use Rattle.warc.specs.Standing.{IsOrigin};
 
-use crate::beside::Lookup;
 use crate::heads::{head_buffer, read_again};
-use crate::rows::{Row, Rows};
 use std::alloc::Allocator;
 use warc_answer::laws::{fails_before_all, places_are_as_long, reasons_are_answers};
 use warc_answer::{Answer, Path, Reason, ReplayFault, replay_joined};
@@ -28,25 +26,28 @@ use warc_frame::laws::head_of_spelled;
 use warc_frame::{OutFault, Sink, Source};
 use warc_index::Unfound;
 use warc_index::laws::{chosen_is_latest, origins_stand};
+use warc_reading::{Lookup, Row, Rows};
 use warc_record::Typed;
 use warc_segment::laws::places_are_of_records;
 use warc_segment::{JoinFault, Parts, Place};
 use warc_value::Moment;
 
-impl<A: Allocator + Copy> Lookup<A> {
-    /// From the capture that is chosen for a URI as of a moment to its origin.
-    pub(crate) fn path(&self, uri: &[u8], moment: &Moment) -> Result<Path, Unfound>
-        ensures { (records : List Placed) → AreOf records self.now.index self.now.parts →
-            result ≡ path_of (map indexed_record records) uri.now moment.now }
-    {
-        let chosen = match self.index.latest(uri, moment) {
-            Ok(chosen) => chosen,
-            Err(unfound) => return Err(unfound),
-        };
-        match self.index.origin(chosen) {
-            Ok(given) => Ok(Path { chosen, given }),
-            Err(unfound) => Err(unfound),
-        }
+/// From the capture that is chosen for a URI as of a moment to its origin.
+fn path_in<A: Allocator + Copy>(
+    lookup: &Lookup<A>,
+    uri: &[u8],
+    moment: &Moment,
+) -> Result<Path, Unfound>
+    ensures { (records : List Placed) → AreOf records lookup.now.index lookup.now.parts →
+        result ≡ path_of (map indexed_record records) uri.now moment.now }
+{
+    let chosen = match lookup.index.latest(uri, moment) {
+        Ok(chosen) => chosen,
+        Err(unfound) => return Err(unfound),
+    };
+    match lookup.index.origin(chosen) {
+        Ok(given) => Ok(Path { chosen, given }),
+        Err(unfound) => Err(unfound),
     }
 }
 
@@ -171,7 +172,7 @@ pub(crate) fn replay_rows<S: Source, W: Sink, A: Allocator + Copy>(
     fails_before_all();
     chosen_is_latest();
     origins_stand();
-    let path = match lookup.path(uri, moment) {
+    let path = match path_in(lookup, uri, moment) {
         Ok(path) => path,
         Err(unfound) => return Err(ReplayFault::Reason(Reason::NotFound(unfound))),
     };

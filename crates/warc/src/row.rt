@@ -4,9 +4,9 @@ ghost use Rattle.warc.specs.Listing.{line_of, shown};
 ghost use Rattle.warc_frame.specs.Putting.{Puts};
 ghost use Rattle.warc_frame.specs.Seen.{seen};
 
-use crate::rows::Row;
 use itoa::Buffer;
 use warc_frame::{OutBuffer, SendFault, Sink, put_all};
+use warc_reading::Row;
 
 /// Adds a record's line to the output, by its position in the archive.
 pub(crate) fn put_line<W: Sink>(

@@ -5,14 +5,14 @@ ghost use Rattle.warc_frame.specs.Ranges.{HasFilled};
 ghost use Rattle.warc_frame.specs.Record.{Record, max_archive};
 ghost use Rattle.warc_frame.specs.Spelling.{Spells};
 ghost use Rattle.warc_frame.specs.Seen.{tapped};
-ghost use Rattle.warc.specs.Row.{Placed, row_of};
+ghost use Rattle.warc_reading.specs.Row.{Placed, row_of};
 ghost use Rattle.warc.specs.Standing.{IsEnd, IsWritten};
 ghost use Rattle.warc.specs.Taking.{IsTaken, ReadsRecord, take_result};
 
 use crate::fault::TakeFault;
-use crate::rows::Row;
 use std::alloc::Allocator;
 use warc_frame::{FaultKind, Framed, Source, read_one, read_range};
+use warc_reading::Row;
 
 /// The length of a record, the two line ends behind its block included, where it ends before offset 2^64.
 fn record_len(row: &Row<'_>) -> Option<usize>

@@ -3,15 +3,15 @@ use Rattle.std.proofs.Common.{◌≡◌, ◌⊎◌, inl, inr, ℕ, List, [], ◌
 use Rattle.std.specs.Prelude.{Result}
 use Rattle.warc_frame.specs.declared.fault.Fault.{Fault}
 use Rattle.warc_frame.specs.declared.fault.OutFault.{OutFault}
-use Rattle.warc.specs.Archive.{IsArchiveOf, contents}
+use Rattle.warc_reading.specs.Archive.{IsArchiveOf, contents}
 use Rattle.warc.specs.Checking.{Line}
 use Rattle.warc_frame.specs.Failing.{HasFailedBy, MayHaveFailedBy}
 use Rattle.warc_commands.specs.Devices.{devices}
-use Rattle.warc.specs.Opening.{Opens}
+use Rattle.warc_reading.specs.Opening.{Opens}
 use Rattle.warc_commands.specs.Program.{AreGoodRecordsOf, IsNotOpened, fault_line, status_of_findings, status_of_kind, Tells}
-use Rattle.warc.specs.Row.{Row}
+use Rattle.warc_reading.specs.Row.{Row}
 use Rattle.warc_frame.specs.Seen.{Seen, Tapped}
-use Rattle.warc.proofs.StreamLemmas.{spells_all}
+use Rattle.warc_reading.proofs.StreamLemmas.{spells_all}
 
 -- the records of an archive
 pub good_records_of : {bytes : List ℕ} {rows : List Row} (is : IsArchiveOf bytes rows) → AreGoodRecordsOf bytes (contents is.are.records)

@@ -32,12 +32,12 @@ use Rattle.warc_commands.specs.declared.words.Command.TheVariants as command
 use Rattle.warc_commands.specs.declared.words.Draft.{Draft}
 use Rattle.warc_commands.specs.declared.words.CommandFault.{CommandFault}
 use Rattle.warc_commands.specs.declared.words.CommandFault.TheVariants.{Usage, Memory as OutOfMemory}
-use Rattle.warc.specs.Opening.{IsRefusalOf, faults_after}
-use Rattle.warc.specs.Archive.{AreGood, IsArchiveOf}
+use Rattle.warc_reading.specs.Opening.{IsRefusalOf, faults_after}
+use Rattle.warc_reading.specs.Archive.{AreGood, IsArchiveOf}
 use Rattle.warc.specs.Checking.{Line, check_text, findings_of_archive}
 use Rattle.warc_frame.specs.Failing.{HasFailedBy, MayHaveFailedBy, failed_by, failed_with}
 use Rattle.warc.specs.Listing.{listing}
-use Rattle.warc.specs.Row.{Row}
+use Rattle.warc_reading.specs.Row.{Row}
 use Rattle.warc_commands.specs.Devices.{Devices}
 use Rattle.warc_frame.specs.Seen.{IfHeld, Seen}
 

@@ -1,5 +1,5 @@
 use Rattle.std.proofs.Common.{◌≡◌, take}
-use Rattle.warc.specs.Archive.{IsArchiveOf, contents}
+use Rattle.warc_reading.specs.Archive.{IsArchiveOf, contents}
 use Rattle.suites_migration.proofs.round_trip.read_all.Given as goal
 
 abbrev pub invariant-loop-position : goal.invariant-loop-position

@@ -1,7 +1,7 @@
 use Rattle.std.proofs.Common.{ap, ◌∙◌, sym}
 use Rattle.warc_value.specs.Digests.{is_bad}
 use Rattle.warc.specs.Checking.{is_used}
-use Rattle.warc.specs.Row.{Row}
+use Rattle.warc_reading.specs.Row.{Row}
 use Rattle.warc.proofs.CheckLemmas.{key_by_row}
 use Rattle.warc.proofs.check.examine.Goals as goal
 

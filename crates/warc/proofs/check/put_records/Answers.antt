@@ -1,10 +1,10 @@
 use Rattle.std.proofs.Common.{rules, ◌≡◌, ◌+◌, ◌++◌, ℕ, Some, length, take, arith, sym, ap, ◌∙◌}
 use Rattle.std.specs.List.{flat_map, slice_get}
 use Rattle.warc_frame.specs.Count.{capped}
-use Rattle.warc.specs.Archive.{contents}
+use Rattle.warc_reading.specs.Archive.{contents}
 use Rattle.warc.specs.Checking.{line_text}
 use Rattle.warc.specs.Examining.{findings_of_first, first_text}
-use Rattle.warc.specs.Row.{Row}
+use Rattle.warc_reading.specs.Row.{Row}
 use Rattle.warc_frame.proofs.LawLemmas.{same_out, same_staged}
 use Rattle.warc.proofs.ReadLemmas.{reads_all, reads_more}
 use Rattle.warc.proofs.RecordsLemmas.{failed_halted, first_all, met_one, number_more, record_at, rest_text, sent_halted, text_more, text_rest}

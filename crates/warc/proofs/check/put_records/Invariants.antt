@@ -2,8 +2,8 @@ use Rattle.std.proofs.Common.{◌≡◌, ◌≤◌, ◌++◌, ℕ, List, Option,
 use Rattle.warc_frame.specs.Count.{capped}
 use Rattle.warc_frame.specs.Record.{max_head}
 use Rattle.warc_frame.specs.Send.{IsStaged}
-use Rattle.warc.specs.Archive.{contents}
-use Rattle.warc.specs.Row.{Placed}
+use Rattle.warc_reading.specs.Archive.{contents}
+use Rattle.warc_reading.specs.Row.{Placed}
 use Rattle.warc.specs.Examining.{AreCheckable, HasMet, findings_of_first, first_text}
 use Rattle.warc.specs.Heads.{ReadsHeads}
 use Rattle.warc_frame.specs.Seen.{tapped}

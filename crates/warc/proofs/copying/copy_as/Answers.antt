@@ -1,5 +1,5 @@
 use Rattle.std.proofs.Common.{refl, ap, ◌∙◌}
-use Rattle.warc.specs.Row.{Row}
+use Rattle.warc_reading.specs.Row.{Row}
 use Rattle.warc_write.specs.Conversion.{converted_fields}
 use Rattle.warc.proofs.WholeLemmas.{canonical_copy, converted_copy}
 use Rattle.warc.proofs.copying.copy_as.Goals as goal

@@ -1,7 +1,7 @@
 use Rattle.std.proofs.Common.{rules, ◌≡◌, ◌+◌, ◌≤◌, List, Some, arith, length, take, take_all, refl, sym, subst, ap, ◌∙◌}
 use Rattle.std.specs.List.{slice_get}
 use Rattle.warc.specs.Copied.{AreTextsOf}
-use Rattle.warc.specs.Row.{Row}
+use Rattle.warc_reading.specs.Row.{Row}
 use Rattle.warc.proofs.EmitLemmas.{both, given, nothing, reads_none, short}
 use Rattle.warc.proofs.WholeLemmas.{reads_row, reads_rows, texts_begin_more, texts_more, texts_none}
 use Rattle.warc.proofs.copying.put_records.Goals as goal

@@ -2,7 +2,7 @@ use Rattle.std.proofs.Common.{◌≡◌, ◌≤◌, ◌∙◌, length, take, dro
 use Rattle.std.proofs.lemmas.List.{length-take-le}
 use Rattle.warc.proofs.HeadLemmas.{len_by_row, len_is, len_is_there, of_ok, only_memory, read_or_memory, reads_head}
 use Rattle.warc.proofs.ReadLemmas.{reads_one}
-use Rattle.warc.specs.Row.{Row}
+use Rattle.warc_reading.specs.Row.{Row}
 use Rattle.warc.proofs.heads.reread_head.Goals as goal
 
 pub returns-in_default-clause-failed : goal.returns-in_default-clause-failed

@@ -3,8 +3,8 @@ use Rattle.warc_record.specs.Seen.{said}
 use Rattle.warc_segment.specs.Joined.{ArePlacesOf, PlacedRecord}
 use Rattle.warc_answer.specs.Payloads.{read_record}
 use Rattle.warc_frame.specs.declared.fault.OutFault.TheVariants as outs
-use Rattle.warc.specs.Archive.{contents}
-use Rattle.warc.specs.Indexed.{placed_record}
+use Rattle.warc_reading.specs.Archive.{contents}
+use Rattle.warc_reading.specs.Indexed.{placed_record}
 use Rattle.warc.proofs.ReplayLemmas.{found_as, gap_is, join_gap, near_joined, places_are, reads_are}
 use Rattle.warc.proofs.replay.replay_origin.Goals as goal
 

@@ -2,7 +2,7 @@ use Rattle.std.proofs.Common.{◌≡◌, inl, map, refl, sym, ap, ◌∙◌, Som
 use Rattle.std.specs.List.{slice_get}
 use Rattle.warc_frame.specs.declared.fault.OutFault.TheVariants as outs
 use Rattle.warc_answer.specs.Answers.{path_of}
-use Rattle.warc.specs.Archive.{contents}
+use Rattle.warc_reading.specs.Archive.{contents}
 use Rattle.warc.specs.Standing.{IsOrigin}
 use Rattle.warc.proofs.PlaceLemmas.{checkable_archive}
 use Rattle.warc.proofs.RecordsLemmas.{placed}

@@ -1,6 +1,6 @@
 use Rattle.std.proofs.Common.{decimal, ap, ◌∙◌}
 use Rattle.warc.specs.Listing.{shown}
-use Rattle.warc.specs.Row.{Row}
+use Rattle.warc_reading.specs.Row.{Row}
 use Rattle.warc.proofs.LineLemmas.{line_from, puts_same}
 use Rattle.warc.proofs.row.put_line.Goals as goal
 

@@ -1,7 +1,7 @@
 use Rattle.std.proofs.Common.{◌≡◌, ◌∙◌, length, take, drop, refl, ap, sym, arith}
 use Rattle.warc.proofs.HeadLemmas.{len_is_there}
 use Rattle.warc.proofs.TakeLemmas.{end_below, end_by_row, reads_record, spells_there, taken_by}
-use Rattle.warc.specs.Row.{Row}
+use Rattle.warc_reading.specs.Row.{Row}
 use Rattle.warc.proofs.taking.take_record.Goals as goal
 
 pub returns-in_default-clause-failed : goal.returns-in_default-clause-failed

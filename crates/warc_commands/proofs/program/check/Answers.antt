@@ -1,5 +1,5 @@
 use Rattle.std.proofs.Common.{inl, inr, min, refl, sym, ap, ◌∙◌}
-use Rattle.warc.specs.Archive.{contents}
+use Rattle.warc_reading.specs.Archive.{contents}
 use Rattle.warc.specs.Checking.{findings_of_archive}
 use Rattle.warc_commands.proofs.ProgramLemmas.{good_records_of, has_failed, may_have_failed, status_by}
 use Rattle.warc_commands.proofs.program.check.Goals as goal

@@ -1,5 +1,5 @@
 use Rattle.std.proofs.Common.{inl, inr, refl, sym, ap, ◌∙◌}
-use Rattle.warc.specs.Archive.{contents}
+use Rattle.warc_reading.specs.Archive.{contents}
 use Rattle.warc_commands.proofs.ProgramLemmas.{good_records_of, has_failed, may_have_failed}
 use Rattle.warc_commands.proofs.program.write_anew.Goals as goal
 

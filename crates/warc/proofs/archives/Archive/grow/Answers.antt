@@ -1,6 +1,6 @@
 use Rattle.std.proofs.Common.{ap, ◌∙◌}
-use Rattle.warc.proofs.GrowLemmas.{grows_as, kept_by_rows, on_err_by}
-use Rattle.warc.proofs.IndexedLemmas.{are_of_same}
+use Rattle.warc_reading.proofs.GrowLemmas.{grows_as, kept_by_rows, on_err_by}
+use Rattle.warc_reading.proofs.IndexedLemmas.{are_of_same}
 use Rattle.warc.proofs.archives.Archive.grow.Goals as goal
 
 pub returns-clause-grows : goal.returns-clause-grows

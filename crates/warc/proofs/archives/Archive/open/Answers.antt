@@ -1,5 +1,5 @@
 use Rattle.std.proofs.Common.{refl}
-use Rattle.warc.proofs.GrowLemmas.{opens_failed, opens_made}
+use Rattle.warc_reading.proofs.GrowLemmas.{opens_failed, opens_made}
 use Rattle.warc.proofs.archives.Archive.open.Goals as goal
 
 pub returns-in-Ok : goal.returns-in-Ok

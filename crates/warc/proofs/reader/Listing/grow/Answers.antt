@@ -1,5 +1,5 @@
 use Rattle.std.proofs.Common.{refl}
-use Rattle.warc.proofs.GrowLemmas.{grows_as, kept_by_rows}
+use Rattle.warc_reading.proofs.GrowLemmas.{grows_as, kept_by_rows}
 use Rattle.warc.proofs.reader.Listing.grow.Goals as goal
 
 pub returns-clause-grows : goal.returns-clause-grows

@@ -1,7 +1,7 @@
 use Rattle.std.proofs.Common.{◌≡◌, List, ap, sym, subst, ◌∙◌}
-use Rattle.warc.specs.Row.{Row}
-use Rattle.warc.specs.Stream.{IsKeptOf}
-use Rattle.warc.proofs.GrowLemmas.{contents_same, grows_by_answer, kept_by_rows, when_err}
+use Rattle.warc_reading.specs.Row.{Row}
+use Rattle.warc_reading.specs.Stream.{IsKeptOf}
+use Rattle.warc_reading.proofs.GrowLemmas.{contents_same, grows_by_answer, kept_by_rows, when_err}
 use Rattle.warc.proofs.reader.Listing.grow_with.Goals as goal
 
 pub returns-in-Ok-clause-grows : goal.returns-in-Ok-clause-grows

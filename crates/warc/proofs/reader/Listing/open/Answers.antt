@@ -1,5 +1,5 @@
 use Rattle.std.proofs.Common.{refl}
-use Rattle.warc.proofs.GrowLemmas.{opens_made}
+use Rattle.warc_reading.proofs.GrowLemmas.{opens_made}
 use Rattle.warc.proofs.reader.Listing.open.Goals as goal
 
 pub returns-in-Ok : goal.returns-in-Ok

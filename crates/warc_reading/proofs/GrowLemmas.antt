@@ -1,0 +1,420 @@
+-- Reading on in a source behind records that are kept.
+use Rattle.std.proofs.Common.{◌≡◌, ◌≢◌, ℕ, ◌+◌, ◌-◌, ◌<◌, ◌≤◌, inl, inr, Bool, true, false, List, [], ◌∷◌, ◌++◌, length, take, drop, map, if◌then◌else◌, Option, None, Some, Result, Ok, Err, MatchResult, IfErr, OnErr, refl, sym, ap, subst, ◌∙◌, arith, length-append}
+use Rattle.std.proofs.Math.Seq.{drop-append_seam, take-add, take-append_seam, take-append-add}
+use Rattle.std.proofs.lemmas.List.{append_assoc, append-nil, drop-drop, length-drop, length-map, length-take}
+use Rattle.warc_frame.specs.Count.{raised}
+use Rattle.warc_frame.specs.Decoding.{Finishes, IsAt, PhaseIs, State}
+use Rattle.warc_frame.specs.Device.{Gives}
+use Rattle.warc_frame.specs.Ranges.{IsReadAt}
+use Rattle.warc_frame.specs.Reading.{fault}
+use Rattle.warc_frame.specs.Record.{Record, max_archive}
+use Rattle.warc_frame.specs.Seen.{Tapped}
+use Rattle.warc_frame.specs.Told.{Lies, Told, nothing}
+use Rattle.warc_frame.specs.declared.fault.Fault.{Fault}
+use Rattle.warc_frame.specs.declared.fault.FaultKind.{FaultKind}
+use Rattle.warc_frame.specs.declared.fault.FaultKind.TheVariants.{Memory, Read, Truncated}
+use Rattle.warc_frame.proofs.JudgedLemmas.{judged_cut}
+use Rattle.warc_frame.proofs.LawLemmas.{no_fault_where_spelled}
+use Rattle.warc_record.specs.Heads.{head_fault}
+use Rattle.warc_reading.specs.Archive.{Contents, IsArchiveOf, IsFaultOf, SpellsFrom, contents}
+use Rattle.warc_reading.specs.Growing.{Grows, IsOfDevice, grown}
+use Rattle.warc_reading.specs.Opening.{Opens, faults_after}
+use Rattle.warc_reading.specs.Row.{Placed, Row, row_of}
+use Rattle.warc_reading.specs.Stream.{Extends, HasGiven, HasGivenFrom, HasRead, IsKeptOf, IsLeft, Matches, Since, Stands, StaysRefused, WantsSince}
+use Rattle.warc_reading.specs.declared.reading.Current.{Current}
+use Rattle.warc_reading.specs.declared.reading.Reading.{Reading}
+use Rattle.warc_reading.proofs.GoodLemmas.{accepted}
+use Rattle.warc_reading.proofs.IndexedLemmas.{opens_with, refuses_with}
+use Rattle.warc_reading.proofs.OpeningLemmas.{near_more, opens_ended, opens_refused, opens_unread, read_there}
+use Rattle.warc_reading.proofs.RefusalLemmas.{stays_not_read}
+use Rattle.warc_reading.proofs.SourceLemmas.{ends, front_grows, not_raised, raised_by_one}
+use Rattle.warc_reading.proofs.StreamLemmas.{accepts_told, kept_whole, spells_all}
+
+-- ---- lists that go on
+
+pub extends_none : {X : Type 0} (xs : List X) → Extends xs xs
+extends_none xs = ([], sym (append-nil xs))
+
+pub extends_same : {X : Type 0} (xs ys : List X) → ys ≡ xs → Extends xs ys
+extends_same xs ys same = ([], same ∙ sym (append-nil xs))
+
+pub extends_more : {X : Type 0} (xs ys zs : List X) → Extends xs ys → Extends ys zs → Extends xs zs
+extends_more xs ys zs (one, first) (two, second) = (one ++ two, second ∙ ap (λ l. l ++ two) first ∙ append_assoc xs one two)
+
+pub extends_front : {X : Type 0} (n : ℕ) (xs ys : List X) → n ≡ length xs → Extends xs ys → take n ys ≡ xs
+extends_front n xs ys size (more, is) = ap (λ k. take k ys) size ∙ ap (take (length xs)) is ∙ take-append_seam xs more
+
+no_more : {X : Type 0} (xs ys : List X) → [] ≡ xs ++ ys → ys ≡ []
+no_more [] ys is = sym is
+no_more (x ∷ xs) ys is = absurd (cc is)
+
+empty : {X : Type 0} (xs : List X) → length xs ≡ 0 → xs ≡ []
+empty [] none = refl
+empty (x ∷ xs) none = let e : length xs + 1 ≡ 0 = omega (arith, none) in absurd (omega (arith, e))
+
+-- ---- what is kept of records that begin with others
+
+pub since_left : {L : Type 0} (K : L → List Placed → Type 0) (was : List Placed) (l : L) (records : List Placed) → Since K was l records → IsLeft K was l
+since_left K was l records (kept, (more, is)) = let P : List Placed → Type 0 = λ rs. K l rs in (more, subst P is kept)
+
+pub left_by : {L : Type 0} (K : L → List Placed → Type 0) (was : List Placed) (l m : L) (records : List Placed) → Since K was l records → K m records → IsLeft K was m
+left_by K was l m records (kept, (more, is)) now = let P : List Placed → Type 0 = λ rs. K m rs in (more, subst P is now)
+
+pub since_more : {L : Type 0} (K : L → List Placed → Type 0) (was : List Placed) (l m : L) (records : List Placed) (p : Placed) → Since K was l records → K m (records ++ p ∷ []) → Since K was m (records ++ p ∷ [])
+since_more K was l m records p (kept, (more, is)) now = (now, (more ++ p ∷ [], ap (λ rs. rs ++ p ∷ []) is ∙ append_assoc was more (p ∷ [])))
+
+-- ---- where reading begins
+
+-- the decoder begins behind records that it might have taken
+begins_behind : (bytes : List ℕ) (records : List Placed) (d : State) → SpellsFrom 0 records bytes → IsAt (length bytes) [] nothing d → IsAt 0 bytes (record { records = contents records; unclosed = None }) d
+begins_behind bytes records d spelled is =
+    let none : is.rest ≡ [] = no_more is.front is.rest is.taken_is in
+    let P : List ℕ → Type 0 = λ rest. PhaseIs rest None d d.phase in
+    record {
+      front = bytes;
+      rest = [];
+      taken_is = sym (append-nil bytes);
+      spelled = spells_all 0 records bytes spelled;
+      position_is = omega (arith, is.position_is);
+      phase_is = subst P none is.phase_is;
+    }
+
+pub begun : {A L : Type 0} (K : L → List Placed → Type 0) (bytes : List ℕ) (d : State) (r : Reading A L) (is : IsKeptOf K bytes (r.rows, r.beside)) → r.begin ≡ length bytes → r.current ≡ None
+    → IsAt r.begin [] nothing d → Stands (Since K is.listed.are.records) (bytes ++ []) d r
+begun {A} {L} K bytes d r is at none start =
+    let was = is.listed.are.records in
+    let M : Option (Current A) → Type 0 = λ c. Matches (length bytes) [] None c in
+    let Q : ℕ → Type 0 = λ n. IsAt n [] nothing d in
+    let told : Told = record { records = contents was; unclosed = None } in
+    let has : HasRead (Since K was) bytes told r = record {
+      records = was;
+      front = bytes;
+      rest = [];
+      text_is = sym (append-nil bytes);
+      spelled = is.listed.are.spelled;
+      told_is = refl;
+      good = accepted (contents was) is.listed.are.good;
+      rows_are = is.listed.are.rows_are;
+      beside = (is.beside, extends_none was);
+      begin_is = at;
+      current = subst M (sym none) tt;
+    } in
+    let stands : Stands (Since K was) bytes d r = record { told = told; is_at = begins_behind bytes was d is.listed.are.spelled (subst Q at start); has = has } in
+    let P : List ℕ → Type 0 = λ t. Stands (Since K was) t d r in
+    subst P (sym (append-nil bytes)) stands
+
+-- ---- what a source gives from an offset on
+
+pub given_none : (start : ℕ) (old : Tapped) → HasGivenFrom start old old []
+given_none start old = record {
+  part = λ bytes held. refl;
+  kept = refl;
+  sound = refl;
+  cost = omega arith;
+  watched = refl;
+  near = λ these. refl;
+}
+
+pub given_on : (start : ℕ) (old mid new : Tapped) (taken buf : List ℕ) (n at : ℕ) → HasGivenFrom start old mid taken → IsReadAt (start + length taken) false mid new → start + length taken ≤ max_archive → 0 < length (take n buf)
+    → length (taken ++ take n buf) ≡ length taken + n → at ≡ start + length taken → ((bytes : List ℕ) → old.holds ≡ Some bytes → Gives bytes at buf n) → HasGivenFrom start old new (taken ++ take n buf)
+given_on start old mid new taken buf n at has read short some size here gives = record {
+  part = λ bytes held.
+      let there : drop at bytes ≡ drop (length taken) (drop start bytes) = ap (λ k. drop k bytes) here ∙ sym (drop-drop (length taken) start bytes) in
+      ap (λ t. t ++ take n buf) (has.part bytes held) ∙ ap (λ t. take (length taken) (drop start bytes) ++ t) ((gives bytes held).same ∙ ap (take n) there)
+      ∙ sym (take-add (length taken) n (drop start bytes)) ∙ ap (λ k. take k (drop start bytes)) (sym size);
+  kept = read.kept ∙ has.kept;
+  sound = read.cause ∙ has.sound;
+  cost = omega (arith, has.cost, read.counted, raised_by_one mid.reads, length-append taken (take n buf), some);
+  watched = read.watched ∙ has.watched;
+  near = near_more old mid new (start + length taken) false short has.watched read has.near;
+}
+
+-- a piece was taken
+pub part_grows : {A L : Type 0} (K : L → List Placed → Type 0) (was : List Placed) (bytes taken part : List ℕ) (d : State) (r : Reading A L) → Stands (Since K was) ((bytes ++ taken) ++ part) d r → Stands (Since K was) (bytes ++ (taken ++ part)) d r
+part_grows K was bytes taken part d r stands = let P : List ℕ → Type 0 = λ t. Stands (Since K was) t d r in subst P (append_assoc bytes taken part) stands
+
+pub on_err : {X E P : Type 0} (r : Result X E) → P → OnErr r P
+on_err (Ok x) p = tt
+on_err (Err e) p = p
+
+-- behind the bytes that a source begins with, it gives the others
+more_given : (start : ℕ) (old new : Tapped) (taken bytes more : List ℕ) → HasGivenFrom start old new taken → start ≡ length bytes → old.holds ≡ Some (bytes ++ more) → taken ≡ take (length taken) more
+more_given start old new taken bytes more has at held =
+    has.part (bytes ++ more) held ∙ ap (λ n. take (length taken) (drop n (bytes ++ more))) at ∙ ap (take (length taken)) (drop-append_seam bytes more)
+
+whole_given : (start : ℕ) (old new : Tapped) (taken bytes more : List ℕ) → HasGivenFrom start old new taken → start ≡ length bytes → old.holds ≡ Some (bytes ++ more) → HasGiven old new (bytes ++ taken)
+whole_given start old new taken bytes more has at held = record {
+  front = λ all is.
+      let same : bytes ++ more ≡ all = cc (sym held ∙ is) in
+      ap (λ t. bytes ++ t) (more_given start old new taken bytes more has at held) ∙ sym (take-append-add bytes more (length taken))
+      ∙ ap (λ n. take n (bytes ++ more)) (sym (length-append bytes taken)) ∙ ap (take (length (bytes ++ taken))) same;
+  kept = has.kept;
+  sound = has.sound;
+  cost = omega (arith, has.cost, length-append bytes taken);
+  watched = has.watched;
+  near = has.near;
+}
+
+-- ---- how it ends
+
+-- the stream ends where the source does
+finished : {A L : Type 0} (K : L → List Placed → Type 0) (was : List Placed) (text : List ℕ) (told : Told) (r : Reading A L) (result : Result (Unit {0}) Fault) → HasRead (Since K was) text told r → Lies text told
+    → length text ≤ max_archive → Finishes 0 text told result → MatchResult (grown result (r.rows, r.beside)) (IsKeptOf K text) (λ f. (f.kind ≡ Truncated) × IsFaultOf text f)
+finished K was text told r (Ok u) has lies short (none, spelled) =
+    let kept = kept_whole text told r has spelled short in
+    record { listed = kept.listed; beside = kept.beside.0 }
+finished K was text told r (Err f) has lies short (is, frame) =
+    (ap (λ (g : Fault). g.kind) is, judged_cut head_fault 0 text told f lies (accepts_told text told r has) (omega (arith, short)) frame)
+
+module _ (start : ℕ) (old mid new : Tapped) (taken : List ℕ) (has : HasGivenFrom start old mid taken) (failed : Bool) (read : IsReadAt (start + length taken) failed mid new) (short : start + length taken ≤ max_archive) where
+  bound : new.reads ≤ old.reads + max_archive + 1
+  bound = omega (arith, has.cost, read.counted, raised_by_one mid.reads, short)
+
+  cost : (bytes more : List ℕ) → start ≡ length bytes → old.holds ≡ Some (bytes ++ more) → new.reads ≤ old.reads + length more + 1
+  cost bytes more at held =
+      omega (arith, has.cost, read.counted, raised_by_one mid.reads, ap length (more_given start old mid taken bytes more has at held) ∙ length-take (length taken) more)
+
+  none : (bytes held : List ℕ) → start ≡ length bytes → old.holds ≡ Some held → length held ≤ length bytes → taken ≡ []
+  none bytes held at is less =
+      empty taken (omega (arith, at, less, ap length (has.part held is) ∙ length-take (length taken) (drop start held), length-drop start held))
+
+  sound : failed ≡ false → new.faults ≡ old.faults
+  sound well = read.cause ∙ ap (λ b. if b then raised mid.faults else mid.faults) well ∙ has.sound
+
+  size : (bytes : List ℕ) → start ≡ length bytes → start + length taken ≡ length (bytes ++ taken)
+  size bytes at = omega (arith, at, length-append bytes taken)
+
+  grows_by : {X : Type 0} {Is : List ℕ → X → Type 0} (was : X) (answer : Result X Fault) → ((bytes : List ℕ) → Is bytes was → start ≡ length bytes)
+      → ((bytes more : List ℕ) → Is bytes was → old.holds ≡ Some (bytes ++ more) → Opens Is old new answer)
+      → ((bytes held : List ℕ) → Is bytes was → old.holds ≡ Some held → length held ≤ length bytes → MatchResult answer (Is bytes) IsOfDevice)
+      → MatchResult answer (λ x. new.faults ≡ old.faults) (λ f. new.faults ≡ faults_after f.kind old.faults) → IfErr answer (λ f. f.kind ≡ Read → f.offset ≡ new.asked) → Grows Is was old new answer
+  grows_by was answer at whole less cause asked = record {
+    whole = whole;
+    less = less;
+    cost = λ bytes more is held. cost bytes more (at bytes is) held;
+    kept = read.kept ∙ has.kept;
+    cause = cause;
+    asked = asked;
+    near = near_more old mid new (start + length taken) failed short has.watched read has.near;
+    bound = bound;
+  }
+
+  module _ {A L : Type 0} (K : L → List Placed → Type 0) (was : List Row × L) (at : (bytes : List ℕ) → IsKeptOf K bytes was → start ≡ length bytes) (d : State) (r : Reading A L)
+      (stands : (bytes : List ℕ) (is : IsKeptOf K bytes was) → Stands (Since K is.listed.are.records) (bytes ++ taken) d r) (lies : (text : List ℕ) (told : Told) → IsAt 0 text told d → Lies text told) where
+    short_of : (bytes : List ℕ) → start ≡ length bytes → length (bytes ++ taken) ≤ max_archive
+    short_of bytes here = omega (arith, size bytes here, short)
+
+    read_of : (bytes : List ℕ) → start ≡ length bytes → IsReadAt (length (bytes ++ taken)) failed mid new
+    read_of bytes here = read_there (size bytes here) read
+
+    -- a read failed
+    pub grows_unread : failed ≡ true → Grows (IsKeptOf K) was old new (Err (fault Read (start + length taken)))
+    grows_unread fails =
+        grows_by was (Err (fault Read (start + length taken))) at
+        (λ bytes more is held.
+        let here = at bytes is in
+        let s = stands bytes is in
+        let P : ℕ → Type 0 = λ n. Opens (IsKeptOf K) old new (Err (fault Read n)) in
+        subst P (sym (size bytes here)) (opens_unread old mid new (bytes ++ taken) (whole_given start old mid taken bytes more has here held) failed (read_of bytes here) (short_of bytes here) s.told r fails
+        (lies (bytes ++ taken) s.told s.is_at) s.has))
+        (λ bytes held is holds less. inl refl)
+        (read.cause ∙ ap (λ b. if b then raised mid.faults else mid.faults) fails ∙ ap raised has.sound)
+        (λ is. sym read.asked)
+
+    -- a piece was refused
+    pub grows_refused : (buf : List ℕ) (n place : ℕ) (f : Fault) → failed ≡ false → place ≡ start + length taken → 0 < n → f.kind ≢ Read → ((bytes : List ℕ) → old.holds ≡ Some bytes → Gives bytes place buf n)
+        → ((bytes : List ℕ) (is : IsKeptOf K bytes was) → StaysRefused ((bytes ++ taken) ++ take n buf) f) → ((bytes : List ℕ) (is : IsKeptOf K bytes was) → WantsSince (bytes ++ taken) (take n buf) r.begin f)
+        → Grows (IsKeptOf K) was old new (Err f)
+    grows_refused buf n place f well there some never gives stays wants =
+        grows_by was (Err f) at
+        (λ bytes more is held.
+        let here = at bytes is in
+        let s = stands bytes is in
+        let given = whole_given start old mid taken bytes more has here held in
+        opens_refused old mid new (bytes ++ taken) given failed (read_of bytes here) (short_of bytes here) s.told r (take n buf) (length (bytes ++ taken) + n) f well (lies (bytes ++ taken) s.told s.is_at) s.has
+        (λ all holds. front_grows all (bytes ++ taken) buf place n (there ∙ size bytes here) (given.front all holds) (gives all holds))
+        (stays bytes is) (wants bytes is))
+        (λ bytes held is holds less. absurd (omega (arith, some, less, there, at bytes is, (gives held holds).within)))
+        (sound well ∙ sym (not_raised f.kind old.faults never))
+        (λ is. absurd (never is))
+
+    ended : (bytes more buf : List ℕ) (n place : ℕ) (result : Result (Unit {0}) Fault) → failed ≡ false → place ≡ start + length taken → n ≡ 0 → 0 < length buf
+        → ((all : List ℕ) → old.holds ≡ Some all → Gives all place buf n) → ((at : ℕ) (text : List ℕ) (told : Told) → IsAt at text told d → Finishes at text told result)
+        → IsKeptOf K bytes was → old.holds ≡ Some (bytes ++ more) → Opens (IsKeptOf K) old new (grown result (r.rows, r.beside))
+    ended bytes more buf n place result well there zero room gives ends_so is held =
+        let here = at bytes is in
+        let s = stands bytes is in
+        let given = whole_given start old mid taken bytes more has here held in
+        opens_ended old mid new (bytes ++ taken) given failed (read_of bytes here) (short_of bytes here) (grown result (r.rows, r.beside)) well
+        (λ all holds. ends all (bytes ++ taken) buf place n (there ∙ size bytes here) (given.front all holds) (gives all holds) room zero)
+        (finished K is.listed.are.records (bytes ++ taken) s.told r result s.has (lies (bytes ++ taken) s.told s.is_at) (short_of bytes here) (ends_so 0 (bytes ++ taken) s.told s.is_at))
+
+    -- nothing stands behind the bytes
+    unchanged : (bytes held : List ℕ) (result : Result (Unit {0}) Fault) → ((at : ℕ) (text : List ℕ) (told : Told) → IsAt at text told d → Finishes at text told result)
+        → IsKeptOf K bytes was → old.holds ≡ Some held → length held ≤ length bytes → MatchResult (grown result (r.rows, r.beside)) (IsKeptOf K bytes) IsOfDevice
+    unchanged bytes held (Ok u) ends_so is holds less =
+        let here = at bytes is in
+        let s = stands bytes is in
+        let same : bytes ++ taken ≡ bytes = ap (λ t. bytes ++ t) (none bytes held here holds less) ∙ append-nil bytes in
+        let P : List ℕ → Type 0 = λ t. IsKeptOf K t (r.rows, r.beside) in
+        subst P same (finished K is.listed.are.records (bytes ++ taken) s.told r (Ok u) s.has (lies (bytes ++ taken) s.told s.is_at) (short_of bytes here) (ends_so 0 (bytes ++ taken) s.told s.is_at))
+    unchanged bytes held (Err f) ends_so is holds less =
+        let here = at bytes is in
+        let s = stands bytes is in
+        let same : bytes ++ taken ≡ bytes = ap (λ t. bytes ++ t) (none bytes held here holds less) ∙ append-nil bytes in
+        let (kind, first) = finished K is.listed.are.records (bytes ++ taken) s.told r (Err f) s.has (lies (bytes ++ taken) s.told s.is_at) (short_of bytes here) (ends_so 0 (bytes ++ taken) s.told s.is_at) in
+        let P : List ℕ → Type 0 = λ t. IsFaultOf t f in
+        let was_of = is.listed.are.records in
+        absurd (no_fault_where_spelled head_fault 0 bytes (contents was_of) f (omega (arith, is.listed.short)) (spells_all 0 was_of bytes is.listed.are.spelled) (accepted (contents was_of) is.listed.are.good)
+        (subst P same first))
+
+    -- the source ended
+    pub grows_ended : (told : Told) (buf : List ℕ) (n place : ℕ) (result : Result (Unit {0}) Fault) → IsAt start taken told d → failed ≡ false → place ≡ start + length taken → n ≡ 0 → 0 < length buf
+        → ((all : List ℕ) → old.holds ≡ Some all → Gives all place buf n) → ((at : ℕ) (text : List ℕ) (told : Told) → IsAt at text told d → Finishes at text told result)
+        → Grows (IsKeptOf K) was old new (grown result (r.rows, r.beside))
+    grows_ended told buf n place (Ok u) is_at well there zero room gives ends_so =
+        grows_by was (Ok (r.rows, r.beside)) at
+        (λ bytes more is held. ended bytes more buf n place (Ok u) well there zero room gives ends_so is held)
+        (λ bytes held is holds less. unchanged bytes held (Ok u) ends_so is holds less)
+        (sound well) tt
+    grows_ended told buf n place (Err f) is_at well there zero room gives ends_so =
+        let kind : f.kind ≡ Truncated = ap (λ (g : Fault). g.kind) (ends_so start taken told is_at).0 in
+        let never : f.kind ≢ Read = λ (is : f.kind ≡ Read). let no : Truncated ≡ Read = sym kind ∙ is in cc no in
+        grows_by was (Err f) at
+        (λ bytes more is held. ended bytes more buf n place (Err f) well there zero room gives ends_so is held)
+        (λ bytes held is holds less. unchanged bytes held (Err f) ends_so is holds less)
+        (sound well ∙ sym (not_raised f.kind old.faults never))
+        (λ is. absurd (never is))
+
+-- ---- the whole answer
+
+-- memory was refused before the first read
+pub grows_untried : {X : Type 0} {Is : List ℕ → X → Type 0} (was : X) (old : Tapped) → Grows Is was old old (Err (fault Memory 0))
+grows_untried was old = record {
+  whole = λ bytes more is held. record {
+    accepted = λ all holds. tt;
+    refused = λ all holds. inl (record { front = refl; same = refl });
+    kept = refl;
+    cause = refl;
+    asked = λ is. cc is;
+    near = λ these. refl;
+    bound = omega arith;
+    cost = λ all holds. omega arith;
+  };
+  less = λ bytes held is holds less. inr refl;
+  cost = λ bytes more is held. omega arith;
+  kept = refl;
+  cause = refl;
+  asked = λ is. cc is;
+  near = λ these. refl;
+  bound = omega arith;
+}
+
+pub opens_as : {X Y : Type 0} {Is : List ℕ → X → Type 0} {Gives : List ℕ → Y → Type 0} {old new : Tapped} (x : X) (y : Y) (r : Result (Unit {0}) Fault) → ((bytes : List ℕ) → Is bytes x → Gives bytes y)
+    → Opens Is old new (grown r x) → Opens Gives old new (grown r y)
+opens_as x y (Ok u) gives o = opens_with x y gives o
+opens_as x y (Err f) gives o = refuses_with f o
+
+match_as : {X Y : Type 0} (x : X) (y : Y) (r : Result (Unit {0}) Fault) (P : X → Type 0) (Q : Y → Type 0) (R : Fault → Type 0) → (P x → Q y) → MatchResult (grown r x) P R → MatchResult (grown r y) Q R
+match_as x y (Ok u) P Q R gives m = gives m
+match_as x y (Err f) P Q R gives m = m
+
+asked_as : {X Y : Type 0} (x : X) (y : Y) (r : Result (Unit {0}) Fault) (R : Fault → Type 0) → IfErr (grown r x) R → IfErr (grown r y) R
+asked_as x y (Ok u) R m = tt
+asked_as x y (Err f) R m = m
+
+-- the same growth, by what is made of what it keeps
+pub grows_as : {X Y : Type 0} {Is : List ℕ → X → Type 0} {Gives : List ℕ → Y → Type 0} {old new : Tapped} (was x : X) (seen y : Y) (r : Result (Unit {0}) Fault) → ((bytes : List ℕ) → Gives bytes seen → Is bytes was)
+    → ((bytes : List ℕ) → Is bytes x → Gives bytes y) → Grows Is was old new (grown r x) → Grows Gives seen old new (grown r y)
+grows_as {X} {Y} {Is} {Gives} {old} {new} was x seen y r begins gives grows = record {
+  whole = λ bytes more is held. opens_as x y r gives (grows.whole bytes more (begins bytes is) held);
+  less = λ bytes held is holds less. match_as x y r (Is bytes) (Gives bytes) IsOfDevice (gives bytes) (grows.less bytes held (begins bytes is) holds less);
+  cost = λ bytes more is held. grows.cost bytes more (begins bytes is) held;
+  kept = grows.kept;
+  cause = match_as x y r (λ z. new.faults ≡ old.faults) (λ z. new.faults ≡ old.faults) (λ f. new.faults ≡ faults_after f.kind old.faults) (λ same. same) grows.cause;
+  asked = asked_as x y r (λ f. f.kind ≡ Read → f.offset ≡ new.asked) grows.asked;
+  near = grows.near;
+  bound = grows.bound;
+}
+
+-- opening is growing of nothing
+pub opens_new : {X : Type 0} {Is : List ℕ → X → Type 0} {old new : Tapped} (was : X) (answer : Result X Fault) → Is [] was → Grows Is was old new answer → Opens Is old new answer
+opens_new was answer is grows = record {
+  accepted = λ bytes held. (grows.whole [] bytes is held).accepted bytes held;
+  refused = λ bytes held. (grows.whole [] bytes is held).refused bytes held;
+  kept = grows.kept;
+  cause = grows.cause;
+  asked = grows.asked;
+  near = grows.near;
+  bound = grows.bound;
+  cost = λ bytes held. (grows.whole [] bytes is held).cost bytes held;
+}
+
+pub none_kept : {L : Type 0} (K : L → List Placed → Type 0) (l : L) → K l [] → IsKeptOf K [] ([], l)
+none_kept K l is = record {
+  listed = record {
+    short = omega arith;
+    are = record { records = []; spelled = refl; good = tt; rows_are = refl };
+  };
+  beside = is;
+}
+
+pub grows_from : {L : Type 0} {Is : List ℕ → List Row × L → Type 0} {old new : Tapped} (rows now : List Row) (l m : L) (answer : Result (List Row × L) Fault) → rows ≡ now → l ≡ m → Grows Is (rows, l) old new answer → Grows Is (now, m) old new answer
+grows_from {L} {Is} {old} {new} rows now l m answer same also grows =
+    let P : List Row → Type 0 = λ xs. Grows Is (xs, l) old new answer in
+    let Q : L → Type 0 = λ x. Grows Is (now, x) old new answer in
+    subst Q also (subst P same grows)
+
+-- what was kept before is kept, once all behind it is forgotten
+pub kept_again : {L : Type 0} (K : L → List Placed → Type 0) (bytes : List ℕ) (rows now : List Row) (l m k : L) (n : ℕ) (is : IsKeptOf K bytes (rows, l)) → now ≡ rows → n ≡ length rows
+    → IsLeft K is.listed.are.records m → ((records : List Placed) → K m records → K k (take n records)) → IsKeptOf K bytes (now, k)
+kept_again K bytes rows now l m k n is same size (more, left) forgets =
+    let was = is.listed.are.records in
+    let count : n ≡ length was = size ∙ ap length is.listed.are.rows_are ∙ length-map was row_of in
+    let P : List Placed → Type 0 = λ rs. K k rs in
+    record {
+      listed = record {
+        short = is.listed.short;
+        are = record { records = was; spelled = is.listed.are.spelled; good = is.listed.are.good; rows_are = same ∙ is.listed.are.rows_are };
+      };
+      beside = subst P (extends_front n was (was ++ more) count (more, refl)) (forgets (was ++ more) left);
+    }
+
+pub when_err : {X E P : Type 0} (r : Result X E) (e : E) → OnErr r P → r ≡ Err e → P
+when_err {X} {E} {P} r e p is = let Q : Result X E → Type 0 = λ x. OnErr x P in subst Q is p
+
+pub kept_by_rows : {L : Type 0} (K : L → List Placed → Type 0) (bytes : List ℕ) (rows kept : List Row) (l : L) → kept ≡ rows → (is : IsArchiveOf bytes rows) → K l is.are.records → IsKeptOf K bytes (kept, l)
+kept_by_rows K bytes rows kept l same is beside = record {
+  listed = record {
+    short = is.short;
+    are = record { records = is.are.records; spelled = is.are.spelled; good = is.are.good; rows_are = same ∙ is.are.rows_are };
+  };
+  beside = beside;
+}
+
+pub contents_same : {S : Type 0} (s : S) (a b : List Row) → a ≡ b → ◌≡◌ {A = Contents S} (record { source = s; rows = a }) (record { source = s; rows = b })
+contents_same {S} s a b same = let f : List Row → Contents S = λ rows. record { source = s; rows = rows } in ap f same
+
+-- the same by what was answered, where that is known
+pub grows_by_answer : {L : Type 0} {K : L → List Placed → Type 0} {old new : Tapped} (kept was rows : List Row) (l m : L) (r answer : Result (Unit {0}) Fault) → kept ≡ was → r ≡ answer
+    → Grows (IsKeptOf K) (kept, l) old new (grown r (rows, m)) → Grows (IsKeptOf K) (was, l) old new (grown answer (rows, m))
+grows_by_answer {L} {K} {old} {new} kept was rows l m r answer same is grows =
+    let P : List Row → Type 0 = λ xs. Grows (IsKeptOf K) (xs, l) old new (grown r (rows, m)) in
+    let Q : Result (Unit {0}) Fault → Type 0 = λ x. Grows (IsKeptOf K) (was, l) old new (grown x (rows, m)) in
+    subst Q is (subst P same grows)
+
+-- what opening gives
+pub opens_made : {L Y : Type 0} {K : L → List Placed → Type 0} {Gives : List ℕ → Y → Type 0} {old new : Tapped} (l m : L) (none rows : List Row) (y : Y) (r answer : Result (Unit {0}) Fault) → r ≡ answer → none ≡ [] → K l []
+    → ((bytes : List ℕ) → IsKeptOf K bytes (rows, m) → Gives bytes y) → Grows (IsKeptOf K) (none, l) old new (grown r (rows, m)) → Opens Gives old new (grown answer y)
+opens_made {L} {Y} {K} {Gives} {old} {new} l m none rows y r answer is empty_rows begins gives grows =
+    opens_as (rows, m) y answer gives (opens_new ([], l) (grown answer (rows, m)) (none_kept K l begins) (grows_by_answer none [] rows l m r answer empty_rows is grows))
+
+pub opens_failed : {L Y : Type 0} {K : L → List Placed → Type 0} {Gives : List ℕ → Y → Type 0} {old new : Tapped} (l m : L) (none rows : List Row) (r : Result (Unit {0}) Fault) (f : Fault) → r ≡ Err f → none ≡ [] → K l []
+    → Grows (IsKeptOf K) (none, l) old new (grown r (rows, m)) → Opens Gives old new (Err f)
+opens_failed {L} {Y} {K} {Gives} {old} {new} l m none rows r f is empty_rows begins grows =
+    let failed : Opens (IsKeptOf K) old new (Err f) = opens_new ([], l) (Err f) (none_kept K l begins) (grows_by_answer none [] rows l m r (Err f) empty_rows is grows) in
+    refuses_with f failed
+
+pub on_err_by : {X E P Q : Type 0} (r : Result X E) → (P → Q) → OnErr r P → OnErr r Q
+on_err_by (Ok x) gives p = tt
+on_err_by (Err e) gives p = gives p

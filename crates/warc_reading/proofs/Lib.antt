@@ -1,0 +1,10 @@
+pub mod GoodLemmas
+pub mod GrowLemmas
+pub mod IndexedLemmas
+pub mod KindLemmas
+pub mod OpeningLemmas
+pub mod RefusalLemmas
+pub mod RowLemmas
+pub mod SourceLemmas
+pub mod StepLemmas
+pub mod StreamLemmas

@@ -1,0 +1,225 @@
+-- Rows in flat lists.
+use Rattle.std.proofs.Common.{◌≡◌, ℕ, ◌+◌, ◌-◌, ◌≤◌, List, [], ◌∷◌, ◌++◌, length, zero, suc, take, drop, map, Some, refl, subst, sym, ap, ◌∙◌, arith, length-append}
+use Rattle.std.proofs.lemmas.List.{append_assoc, length-drop, length-take-le, take-map, take-append-drop, take-append-le, drop-append-le, map-append, take_at, drop_at, append-nil}
+use Rattle.std.specs.List.{slice_get, slice_range, sum_by}
+use Rattle.std.proofs.lemmas.List.Sums.{sum_by-cons}
+use Rattle.warc_reading.specs.Archive.{IsArchiveOf, SpellsFrom}
+use Rattle.warc_reading.specs.Row.{Placed, Row, row_of}
+use Rattle.warc_reading.specs.Keeping.{texts_len}
+use Rattle.warc_reading.specs.Rows.{row_at, IsWithin, AreFlat, ArePacked, AreWithin}
+use Rattle.warc_reading.specs.declared.rows.Entry.{Entry}
+
+-- a part of bytes stays when more follow
+pub slice_front : (a b : ℕ) (xs more : List ℕ) → a ≤ b → b ≤ length xs → slice_range (xs ++ more) a b ≡ slice_range xs a b
+slice_front a b xs more order le =
+    ap (take (b - a)) (drop-append-le a xs more (omega (arith, order, le)))
+    ∙ take-append-le (b - a) (drop a xs) more (omega (arith, length-drop a xs, order, le))
+
+length-slice_range : (xs : List ℕ) (a b : ℕ) → b ≤ length xs → length (slice_range xs a b) ≡ b - a
+length-slice_range xs a b le = length-take-le (b - a) (drop a xs) (omega (arith, length-drop a xs, le))
+
+-- a part behind bytes
+pub slice_behind : (a b : ℕ) (xs ys more : List ℕ) → a ≡ length xs → b ≡ a + length ys → slice_range (xs ++ (ys ++ more)) a b ≡ ys
+slice_behind a b xs ys more start end =
+    ap (take (b - a)) (drop_at xs (ys ++ more) a (sym start)) ∙ take_at ys more (b - a) (omega (arith, end))
+
+stays : (texts more : List ℕ) (e : Entry) → IsWithin (length texts) e → row_at (texts ++ more) e ≡ row_at texts e
+stays texts more e w =
+    let kind = slice_front e.kind_start e.kind_end texts more w.kind (omega (arith, w.date, w.id, w.target, w.end)) in
+    let date = slice_front e.kind_end e.date_end texts more w.date (omega (arith, w.id, w.target, w.end)) in
+    let id = slice_front e.date_end e.id_end texts more w.id (omega (arith, w.target, w.end)) in
+    let target = slice_front e.id_end e.target_end texts more w.target w.end in
+    rw (kind, date, id, target) refl
+
+-- rows stay when bytes are added behind their texts
+pub rows_stay : (texts more : List ℕ) (es : List Entry) → AreWithin (length texts) es → map (row_at (texts ++ more)) es ≡ map (row_at texts) es
+rows_stay texts more [] within = refl
+rows_stay texts more (e ∷ es) (w, within) = rw (stays texts more e w) (ap (λ rows. row_at texts e ∷ rows) (rows_stay texts more es within))
+
+longer : (n m : ℕ) (e : Entry) → n ≤ m → IsWithin n e → IsWithin m e
+longer n m e le w = record { kind = w.kind; date = w.date; id = w.id; target = w.target; end = omega (arith, le, w.end) }
+
+pub within_longer : (n m : ℕ) (es : List Entry) → n ≤ m → AreWithin n es → AreWithin m es
+within_longer n m [] le within = tt
+within_longer n m (e ∷ es) le (w, within) = (longer n m e le w, within_longer n m es le within)
+
+pub within_more : (n : ℕ) (es : List Entry) (e : Entry) → AreWithin n es → IsWithin n e → AreWithin n (es ++ e ∷ [])
+within_more n [] e within w = (w, tt)
+within_more n (x ∷ es) e (v, within) w = (v, within_more n es e within w)
+
+-- the row of an entry that was added behind the others, whose texts were added behind theirs
+module _ (t k d i g t1 t2 t3 t4 : List ℕ) (e : Entry) (h1 : t1 ≡ t ++ k) (h2 : t2 ≡ t1 ++ d) (h3 : t3 ≡ t2 ++ i) (h4 : t4 ≡ t3 ++ g)
+    (a : e.kind_start ≡ length t) (b : e.kind_end ≡ length t1) (c : e.date_end ≡ length t2) (f : e.id_end ≡ length t3) (j : e.target_end ≡ length t4) where
+  e4 : t4 ≡ t3 ++ (g ++ [])
+  e4 = h4 ∙ ap (λ x. t3 ++ x) (sym (append-nil g))
+
+  e3 : t4 ≡ t2 ++ (i ++ g)
+  e3 = h4 ∙ ap (λ x. x ++ g) h3 ∙ append_assoc t2 i g
+
+  e2 : t4 ≡ t1 ++ (d ++ (i ++ g))
+  e2 = e3 ∙ ap (λ x. x ++ (i ++ g)) h2 ∙ append_assoc t1 d (i ++ g)
+
+  e1 : t4 ≡ t ++ (k ++ (d ++ (i ++ g)))
+  e1 = e2 ∙ ap (λ x. x ++ (d ++ (i ++ g))) h1 ∙ append_assoc t k (d ++ (i ++ g))
+
+  n1 : length t1 ≡ length t + length k
+  n1 = ap length h1 ∙ length-append t k
+
+  n2 : length t2 ≡ length t1 + length d
+  n2 = ap length h2 ∙ length-append t1 d
+
+  n3 : length t3 ≡ length t2 + length i
+  n3 = ap length h3 ∙ length-append t2 i
+
+  n4 : length t4 ≡ length t3 + length g
+  n4 = ap length h4 ∙ length-append t3 g
+
+  kind_is : slice_range t4 e.kind_start e.kind_end ≡ k
+  kind_is = ap (λ x. slice_range x e.kind_start e.kind_end) e1 ∙ slice_behind e.kind_start e.kind_end t k (d ++ (i ++ g)) a (omega (arith, a, b, n1))
+
+  date_is : slice_range t4 e.kind_end e.date_end ≡ d
+  date_is = ap (λ x. slice_range x e.kind_end e.date_end) e2 ∙ slice_behind e.kind_end e.date_end t1 d (i ++ g) b (omega (arith, b, c, n2))
+
+  id_is : slice_range t4 e.date_end e.id_end ≡ i
+  id_is = ap (λ x. slice_range x e.date_end e.id_end) e3 ∙ slice_behind e.date_end e.id_end t2 i g c (omega (arith, c, f, n3))
+
+  target_is : slice_range t4 e.id_end e.target_end ≡ g
+  target_is = ap (λ x. slice_range x e.id_end e.target_end) e4 ∙ slice_behind e.id_end e.target_end t3 g [] f (omega (arith, f, j, n4))
+
+  pub added_within : IsWithin (length t4) e
+  added_within = record {
+    kind = omega (arith, a, b, n1);
+    date = omega (arith, b, c, n2);
+    id = omega (arith, c, f, n3);
+    target = omega (arith, f, j, n4);
+    end = omega (arith, j);
+  }
+
+  -- the row
+  abbrev pub added : Row
+  added = record {
+    offset = e.offset;
+    block_start = e.block_start;
+    block_len = e.block_len;
+    verdict = e.verdict;
+    is_truncated = e.is_truncated;
+    kind = k;
+    date = d;
+    id = i;
+    target = g;
+  }
+
+  added_is : row_at t4 e ≡ added
+  added_is = rw (kind_is, date_is, id_is, target_is) refl
+
+  pub rows_added : (es : List Entry) → AreWithin (length t) es → map (row_at t4) (es ++ e ∷ []) ≡ map (row_at t) es ++ added ∷ []
+  rows_added es within =
+      map-append (row_at t4) es (e ∷ [])
+      ∙ ap (λ rows. rows ++ row_at t4 e ∷ []) (ap (λ x. map (row_at x) es) e1 ∙ rows_stay t (k ++ (d ++ (i ++ g))) es within)
+      ∙ ap (λ row. map (row_at t) es ++ row ∷ []) added_is
+
+  pub all_within : (es : List Entry) → AreWithin (length t) es → AreWithin (length t4) (es ++ e ∷ [])
+  all_within es within = within_more (length t4) es e (within_longer (length t) (length t4) es (omega (arith, n1, n2, n3, n4)) within) added_within
+
+-- ---- packed texts
+
+packed_more : (start end : ℕ) (es : List Entry) (e : Entry) → ArePacked start es end → e.kind_start ≡ end → IsWithin e.target_end e → ArePacked start (es ++ e ∷ []) e.target_end
+packed_more start end [] e packed begin w = (begin ∙ sym packed, w, refl)
+packed_more start end (x ∷ es) e (at, v, packed) begin w = (at, v, packed_more x.target_end end es e packed begin w)
+
+-- one more entry
+pub flat_more : (n m : ℕ) (es : List Entry) (e : Entry) → AreFlat n es → e.kind_start ≡ n → e.target_end ≡ m → IsWithin m e → AreWithin m (es ++ e ∷ []) → AreFlat m (es ++ e ∷ [])
+flat_more n m es e flat begin end w within =
+    let P : ℕ → Type 0 = λ k. ArePacked 0 (es ++ e ∷ []) k in
+    let Q : ℕ → Type 0 = λ k. IsWithin k e in
+    record { within = within; packed = subst P end (packed_more 0 n es e flat.packed begin (subst Q (sym end) w)) }
+
+packed_rises : (start end : ℕ) (es : List Entry) → ArePacked start es end → start ≤ end
+packed_rises start end [] packed = omega (arith, packed)
+packed_rises start end (e ∷ es) (at, w, packed) = omega (arith, at, w.kind, w.date, w.id, w.target, packed_rises e.target_end end es packed)
+
+packed_within : (start end : ℕ) (es : List Entry) → ArePacked start es end → AreWithin end es
+packed_within start end [] packed = tt
+packed_within start end (e ∷ es) (at, w, packed) = (longer e.target_end end e (packed_rises e.target_end end es packed) w, packed_within e.target_end end es packed)
+
+-- the first entries end where the next one begins
+packed_first : (start end : ℕ) (es : List Entry) (i : ℕ) (e : Entry) → slice_get es i ≡ Some e → ArePacked start es end → ArePacked start (take i es) e.kind_start × (e.kind_start ≤ end)
+packed_first start end [] i e is packed = cc is
+packed_first start end (x ∷ es) zero e is (at, w, packed) =
+    let same : x ≡ e = cc is in
+    (sym at ∙ ap (λ (y : Entry). y.kind_start) same, omega (arith, ap (λ (y : Entry). y.kind_start) same, w.kind, w.date, w.id, w.target, packed_rises x.target_end end es packed))
+packed_first start end (x ∷ es) (suc i) e is (at, w, packed) =
+    let (front, le) = packed_first x.target_end end es i e is packed in
+    ((at, w, front), le)
+
+pub flat_first : (n : ℕ) (es : List Entry) (i : ℕ) (e : Entry) → slice_get es i ≡ Some e → AreFlat n es → AreFlat e.kind_start (take i es) × (e.kind_start ≤ n)
+flat_first n es i e is flat =
+    let (front, le) = packed_first 0 n es i e is flat.packed in
+    (record { within = packed_within 0 e.kind_start (take i es) front; packed = front }, le)
+
+-- the rows of the first entries, by their texts alone
+pub rows_first : (texts : List ℕ) (n : ℕ) (es : List Entry) (i : ℕ) → n ≤ length texts → AreWithin n (take i es) → map (row_at (take n texts)) (take i es) ≡ take i (map (row_at texts) es)
+rows_first texts n es i le within =
+    let size : length (take n texts) ≡ n = length-take-le n texts le in
+    let P : ℕ → Type 0 = λ k. AreWithin k (take i es) in
+    sym (rows_stay (take n texts) (drop n texts) (take i es) (subst P (sym size) within)) ∙ ap (λ t. map (row_at t) (take i es)) (take-append-drop n texts) ∙ sym (take-map (row_at texts) i es)
+
+-- how many bytes the texts have
+packed_sum : (texts : List ℕ) (start end : ℕ) (es : List Entry) → ArePacked start es end → end ≤ length texts → start + sum_by texts_len (map (row_at texts) es) ≡ end
+packed_sum texts start end [] packed le = omega (arith, packed)
+packed_sum texts start end (e ∷ es) (at, w, packed) le =
+    let rest = packed_sum texts e.target_end end es packed le in
+    let top = packed_rises e.target_end end es packed in
+    let kind = length-slice_range texts e.kind_start e.kind_end (omega (arith, w.date, w.id, w.target, top, le)) in
+    let date = length-slice_range texts e.kind_end e.date_end (omega (arith, w.id, w.target, top, le)) in
+    let id = length-slice_range texts e.date_end e.id_end (omega (arith, w.target, top, le)) in
+    let target = length-slice_range texts e.id_end e.target_end (omega (arith, top, le)) in
+    omega (arith, at, w.kind, w.date, w.id, w.target, rest, kind, date, id, target, sum_by-cons texts_len (row_at texts e) (map (row_at texts) es))
+
+pub flat_sum : (texts : List ℕ) (es : List Entry) → AreFlat (length texts) es → length texts ≡ sum_by texts_len (map (row_at texts) es)
+flat_sum texts es flat = omega (arith, packed_sum texts 0 (length texts) es flat.packed (omega arith))
+
+-- ---- where the last record ends
+
+end_from : (texts : List ℕ) (q : ℕ) (ps : List Placed) (es : List Entry) (text : List ℕ) (i : ℕ) (e : Entry) → SpellsFrom q ps text → map (row_at texts) es ≡ map row_of ps → slice_get es i ≡ Some e
+    → i + 1 ≡ length es → e.block_start + e.block_len + 4 ≡ q + length text
+end_from texts q ps [] text i e spelled rows is last = cc is
+end_from texts q [] (x ∷ es) text i e spelled rows is last = absurd (cc rows)
+end_from texts q (p ∷ []) (x ∷ []) text zero e (front, rest, one, at, start, text_is, more) rows is last =
+    let head : row_at texts x ≡ row_of p = cc rows in
+    let same : x ≡ e = cc is in
+    omega (
+      arith,
+      start,
+      ap (λ (r : Row). r.block_start) head,
+      ap (λ (r : Row). r.block_len) head,
+      ap (λ (y : Entry). y.block_start) same,
+      ap (λ (y : Entry). y.block_len) same,
+      ap length text_is ∙ length-append front rest,
+      ap length more,
+    )
+end_from texts q (p ∷ r ∷ ps) (x ∷ []) text zero e spelled rows is last = absurd (cc rows)
+end_from texts q (p ∷ ps) (x ∷ y ∷ es) text zero e spelled rows is last = omega (arith, last)
+end_from texts q (p ∷ ps) (x ∷ es) text (suc i) e (front, rest, one, at, start, text_is, more) rows is last =
+    let tail : map (row_at texts) es ≡ map row_of ps = cc rows in
+    omega (arith, end_from texts (q + length front) ps es rest i e more tail is (omega (arith, last)), ap length text_is ∙ length-append front rest)
+
+pub end_is : (texts bytes : List ℕ) (rows : List Row) (es : List Entry) (i : ℕ) (e : Entry) → IsArchiveOf bytes rows → map (row_at texts) es ≡ rows → slice_get es i ≡ Some e → i + 1 ≡ length es
+    → e.block_start + e.block_len + 4 ≡ length bytes
+end_is texts bytes rows es i e of seen is last = omega (arith, end_from texts 0 of.are.records es bytes i e of.are.spelled (seen ∙ of.are.rows_are) is last)
+
+none_end : (ps : List Placed) (bytes : List ℕ) → SpellsFrom 0 ps bytes → length (map row_of ps) ≡ 0 → length bytes ≡ 0
+none_end [] bytes spelled none = ap length spelled
+none_end (p ∷ ps) bytes spelled none = omega (arith, none)
+
+pub end_none : (bytes : List ℕ) (rows : List Row) → IsArchiveOf bytes rows → length rows ≡ 0 → length bytes ≡ 0
+end_none bytes rows of none = none_end of.are.records bytes of.are.spelled (sym (ap length of.are.rows_are) ∙ none)
+
+-- rows and texts that were cut
+pub flat_cut : (texts : List ℕ) (es : List Entry) (i : ℕ) (e : Entry) (ts : List ℕ) (fs : List Entry) → slice_get es i ≡ Some e → AreFlat (length texts) es → ts ≡ take e.kind_start texts → fs ≡ take i es
+    → AreFlat (length ts) fs × (map (row_at ts) fs ≡ take i (map (row_at texts) es))
+flat_cut texts es i e ts fs is flat cut first =
+    let (front, le) = flat_first (length texts) es i e is flat in
+    let size : length (take e.kind_start texts) ≡ e.kind_start = length-take-le e.kind_start texts le in
+    let P : ℕ → Type 0 = λ n. AreFlat n (take i es) in
+    rw (cut, first) (subst P (sym size) front, rows_first texts e.kind_start es i le front.within)

@@ -1,0 +1,110 @@
+-- One step of the decoder, and what is kept of it.
+use Rattle.std.proofs.Common.{◌≡◌, ℕ, ◌≤◌, List, [], ◌∷◌, ◌++◌, length, take, drop, Option, Some, None, Result, Ok, Err, OnOk, IfErr, slice_range, refl, sym, ap, subst, ◌∙◌}
+use Rattle.std.proofs.lemmas.List.{append_assoc, take-append-drop}
+use Rattle.warc_field.specs.Area.{Pair}
+use Rattle.warc_frame.specs.Decoding.{State, Takes}
+use Rattle.warc_frame.specs.Reading.{fault}
+use Rattle.warc_frame.specs.Record.{Record, max_archive}
+use Rattle.warc_frame.specs.Told.{IsExact, IsWhole, Told, Unclosed, ended, tell}
+use Rattle.warc_frame.specs.declared.fault.Fault.{Fault}
+use Rattle.warc_frame.specs.declared.fault.FaultKind.{FaultKind}
+use Rattle.warc_frame.specs.declared.fault.FaultKind.TheVariants.{Memory}
+use Rattle.warc_frame.specs.declared.stream.Event.{Event}
+use Rattle.warc_frame.specs.declared.stream.Event.TheVariants as events
+use Rattle.warc_frame.specs.declared.version.Version.{Version}
+use Rattle.warc_record.specs.Heads.{head_fault}
+use Rattle.warc_reading.specs.Indexed.{place_of}
+use Rattle.warc_reading.specs.Stream.{HasRead, HasSeen, IsHead, Stands, StaysRefused, place_by, row_by}
+use Rattle.warc_reading.specs.Row.{Placed, Row}
+use Rattle.warc_reading.specs.declared.reading.Current.{Current}
+use Rattle.warc_reading.specs.declared.reading.Reading.{Reading}
+use Rattle.warc_reading.proofs.StreamLemmas.{TakesPart, end_kept_by, head_kept, more_kept, part_kept}
+use Rattle.warc_reading.proofs.RefusalLemmas.{head_refused, memory_at, stays_more}
+
+pub ok_then : {E : Type 0} {P : Type 0} (r : Result (Unit {0}) E) (x : Unit {0}) → OnOk r P → r ≡ Ok x → P
+ok_then (Ok u) x p is = p
+ok_then (Err e) x p is = cc is
+
+pub err_then : {X E : Type 0} (P : E → Type 0) (r : Result X E) (e : E) → IfErr r P → r ≡ Err e → P e
+err_then {X} {E} P r e p is = let Q : Result X E → Type 0 = λ x. IfErr x P in subst Q is p
+
+unclosed_as : {A L : Type 0} {K : L → List Placed → Type 0} (text : List ℕ) (told : Told) (o : Option Unclosed) (r : Reading A L) → told.unclosed ≡ o → HasRead K text told r → HasRead K text (record { records = told.records; unclosed = o }) r
+unclosed_as {A} {L} {K} text told o r is has = let P : Option Unclosed → Type 0 = λ x. HasRead K text (record { records = told.records; unclosed = x }) r in subst P is has
+
+-- the end of a record was told
+abbrev pub AddsRow : {A L : Type 0} → Reading A L → List Row → Type 0
+AddsRow {A} old rows = (c : Current A) (bytes : List ℕ) → old.current ≡ Some c → HasSeen c.digest bytes → rows ≡ old.rows ++ row_by old.begin c bytes ∷ []
+
+-- what is wanted of that record is kept beside its row
+abbrev pub AddsBeside : {A L : Type 0} → (L → List Placed → Type 0) → Reading A L → L → Type 0
+AddsBeside {A} K old beside = (c : Current A) (bytes : List ℕ) (records : List Placed) (p : Placed) → old.current ≡ Some c → HasSeen c.digest bytes → K old.beside records → length old.rows ≡ length records
+    → c.fields ≡ p.content.fields → head_fault p.content.fields ≡ None → place_by c bytes ≡ place_of p → K beside (records ++ p ∷ [])
+
+end_kept : {A L : Type 0} {K : L → List Placed → Type 0} (text more : List ℕ) (rs : List Record) (o : Option Unclosed) (rows : List Row) (beside : L) (begin : ℕ) (cur : Option (Current A)) (new : Reading A L)
+    → HasRead K text (record { records = rs; unclosed = o }) (record { rows = rows; beside = beside; begin = begin; current = cur }) → IsWhole o
+    → IsExact (text ++ more) (record { records = rs ++ ended o; unclosed = None }) → new.begin ≡ length (text ++ more) → new.current ≡ None
+    → AddsRow (record { rows = rows; beside = beside; begin = begin; current = cur }) new.rows → AddsBeside K (record { rows = rows; beside = beside; begin = begin; current = cur }) new.beside
+    → HasRead K (text ++ more) (record { records = rs ++ ended o; unclosed = None }) new
+end_kept text more rs None rows beside begin cur new has whole exact at none adds keeps = absurd whole
+end_kept text more rs (Some u) rows beside begin None new has whole exact at none adds keeps = absurd has.current
+end_kept text more rs (Some u) rows beside begin (Some c) new has whole exact at none adds keeps =
+    end_kept_by text more rs u (record { rows = rows; beside = beside; begin = begin; current = Some c }) new c has has.current whole exact at none (adds c u.bytes refl has.current.seen)
+    (λ records p kept size same good placed. keeps c u.bytes records p refl has.current.seen kept size same good placed)
+
+module _ {A B L : Type 0} {K : L → List Placed → Type 0} (text piece : List ℕ) (told : Told) (d : State) (took : ℕ) (event : Event B) (takes : Takes 0 text told d piece took event) (old new : Reading A L)
+    (has : HasRead K text told old) where
+  stands : HasRead K (text ++ take took piece) (tell told piece event) new → Stands K (text ++ take took piece) d new
+  stands now = record { told = tell told piece event; is_at = takes.is_at; has = now }
+
+  pub more_stands : event ≡ events.More → new ≡ old → Stands K (text ++ take took piece) d new
+  more_stands is same =
+      let P : Event B → Type 0 = λ e. HasRead K (text ++ take took piece) (tell told piece e) new in
+      let Q : Reading A L → Type 0 = λ r. HasRead K (text ++ take took piece) told r in
+      stands (subst P (sym is) (subst Q (sym same) (more_kept text (take took piece) told old has)))
+
+  pub head_stands : (version : Version) (fields : List Pair) (n : ℕ) (c : Current A) → event ≡ events.Head version fields n → new.rows ≡ old.rows → new.beside ≡ old.beside → new.begin ≡ old.begin
+      → new.current ≡ Some c → IsHead fields c → HasSeen c.digest [] → c.block_start ≡ length (text ++ take took piece) → c.block_len ≡ n → Stands K (text ++ take took piece) d new
+  head_stands version fields n c is rows beside begin current of seen start len =
+      let T : Event B → Type 0 = λ e. Takes 0 text told d piece took e in
+      let here = subst T is takes in
+      let P : Event B → Type 0 = λ e. HasRead K (text ++ take took piece) (tell told piece e) new in
+      let u : Unclosed = record { version = version; fields = fields; block_len = n; bytes = [] } in
+      stands (subst P (sym is) (head_kept text (take took piece) told.records u old new c (unclosed_as text told None old here.may has) here.exact refl rows beside begin current of seen start len))
+
+  pub part_stands : (from to : ℕ) → event ≡ events.Part from to → new.rows ≡ old.rows → new.beside ≡ old.beside → new.begin ≡ old.begin → TakesPart (slice_range piece from to) old.current new.current
+      → Stands K (text ++ take took piece) d new
+  part_stands from to is rows beside begin part =
+      let T : Event B → Type 0 = λ e. Takes 0 text told d piece took e in
+      let here = subst T is takes in
+      let P : Event B → Type 0 = λ e. HasRead K (text ++ take took piece) (tell told piece e) new in
+      stands (subst P (sym is) (part_kept text (take took piece) (slice_range piece from to) told old new has here.may rows beside begin part))
+
+  pub end_stands : event ≡ events.End → new.begin ≡ length (text ++ take took piece) → new.current ≡ None → AddsRow old new.rows → AddsBeside K old new.beside → Stands K (text ++ take took piece) d new
+  end_stands is begin none adds keeps =
+      let T : Event B → Type 0 = λ e. Takes 0 text told d piece took e in
+      let here = subst T is takes in
+      let P : Event B → Type 0 = λ e. HasRead K (text ++ take took piece) (tell told piece e) new in
+      stands (subst P (sym is) (end_kept text (take took piece) told.records told.unclosed old.rows old.beside old.begin old.current new has here.may here.exact begin none adds keeps))
+
+  whole : (text ++ take took piece) ++ drop took piece ≡ text ++ piece
+  whole = append_assoc text (take took piece) (drop took piece) ∙ ap (λ t. text ++ t) (take-append-drop took piece)
+
+  further : (f : Fault) → StaysRefused (text ++ take took piece) f → StaysRefused (text ++ piece) f
+  further f is =
+      let P : List ℕ → Type 0 = λ t. StaysRefused t f in
+      subst P whole (stays_more (text ++ take took piece) (drop took piece) f is)
+
+  pub head_stops : (version : Version) (fields : List Pair) (n : ℕ) (kind : FaultKind) → event ≡ events.Head version fields n → head_fault fields ≡ Some kind
+      → length (text ++ take took piece) ≤ max_archive → StaysRefused (text ++ piece) (fault kind old.begin)
+  head_stops version fields n kind is fault_is short =
+      let T : Event B → Type 0 = λ e. Takes 0 text told d piece took e in
+      let here = subst T is takes in
+      let u : Unclosed = record { version = version; fields = fields; block_len = n; bytes = [] } in
+      further (fault kind old.begin)
+      (head_refused text (take took piece) told.records u old kind (unclosed_as text told None old here.may has) here.exact fault_is short)
+
+-- memory was wanted for the record that was being read
+pub memory_stops : {A L : Type 0} {K : L → List Placed → Type 0} (text piece : List ℕ) (told : Told) (r : Reading A L) → HasRead K text told r → (kind : FaultKind) → kind ≡ Memory → StaysRefused (text ++ piece) (fault kind r.begin)
+memory_stops text piece told r has kind is =
+    let P : FaultKind → Type 0 = λ k. StaysRefused (text ++ piece) (fault k r.begin) in
+    subst P (sym is) (memory_at text piece told r has)

@@ -1,0 +1,129 @@
+use Rattle.std.proofs.Common.{rules, ◌≡◌, ℕ, ◌+◌, ◌<◌, ◌≤◌, ◌^◌, true, false, List, ◌++◌, [], length, take, refl, sym, ap, ◌∙◌, arith, length-append}
+use Rattle.std.proofs.lemmas.Result.{err_from_is_err_and}
+use Rattle.warc_frame.specs.Told.{nothing}
+use Rattle.warc_reading.proofs.GrowLemmas.{begun, extends_more, extends_none, given_none, given_on, grows_ended, grows_refused, grows_unread, on_err, part_grows, since_left}
+use Rattle.warc_reading.proofs.OpeningLemmas.{read_there}
+use Rattle.warc_reading.proofs.SourceLemmas.{length_grows}
+use Rattle.warc_reading.proofs.reading.read_through.Goals as goal
+
+pub reading-init : goal.reading-init
+reading-init g c = record {
+  taken = [];
+  told = nothing;
+  is_at = c.new-decoder.ensures;
+  stands = λ bytes is. begun g.L.Keep.keeps bytes _ c.args.reading.now is (c.requires.begin bytes is.listed) c.requires.current c.new-decoder.ensures;
+  rows = extends_none c.args.reading.now.rows;
+  given = given_none c.args.reading.now.begin _;
+  room = refl;
+}
+
+pub returns-in-Err-clause-grows : goal.returns-in-Err-clause-grows
+returns-in-Err-clause-grows g c =
+    let i = c.reading.invariant in
+    let (end, lies) = c.position-at.ensures.history c.args.reading.now.begin i.taken i.told i.is_at in
+    let grows = grows_unread c.args.reading.now.begin _ _ _ i.taken i.given true (read_there end (record {
+      kept = c.in-Err.ensures.kept;
+      cause = c.in-Err.ensures.cause;
+      counted = c.in-Err.ensures.counted;
+      asked = c.in-Err.ensures.asked;
+      watched = c.in-Err.ensures.watched;
+      strayed = c.in-Err.ensures.strayed;
+    })) (omega (arith, end, c.position-at.ensures.limit)) g.L.Keep.keeps (c.args.reading.now.rows, c.args.reading.now.beside) (λ bytes is. c.requires.begin bytes is.listed) c.reading.decoder c.reading.reading
+    i.stands (λ text told is. (c.position-at.ensures.history 0 text told is).1) refl in
+    rw end grows
+
+pub returns-in-Err-clause-rows : goal.returns-in-Err-clause-rows
+returns-in-Err-clause-rows g c = c.reading.invariant.rows
+
+pub returns-in-Err-clause-left : goal.returns-in-Err-clause-left
+returns-in-Err-clause-left g c = λ bytes is.
+    let s = c.reading.invariant.stands bytes is in
+    since_left g.L.Keep.keeps is.listed.are.records c.reading.reading.beside s.has.records s.has.beside
+
+pub reading-smaller : goal.reading-smaller
+reading-smaller g c =
+    let i = c.reading.invariant in
+    let (now, here) = c.in_ok-take_piece.ensures.taken c.args.reading.now.begin i.taken i.told i.is_at in
+    let size = length_grows i.taken c.read_at.new.buf c.in-Ok.n c.in-Ok.ensures.bound in
+    omega (arith, i.is_at.position_is, here.position_is, size, c.if-n-eq0.false, c.position-at.ensures.value, c.position-at.ensures.limit)
+
+pub reading-preserved : goal.reading-preserved
+reading-preserved g c =
+    let i = c.reading.invariant in
+    let start : ℕ = c.args.reading.now.begin in
+    let (end, lies) = c.position-at.ensures.history start i.taken i.told i.is_at in
+    let n : ℕ = c.in-Ok.n in
+    let buf : List ℕ = c.read_at.new.buf in
+    let size = length_grows i.taken buf n c.in-Ok.ensures.bound in
+    let some : 0 < length (take n buf) = omega (arith, size, c.if-n-eq0.false, length-append i.taken (take n buf)) in
+    let (now, here) = c.in_ok-take_piece.ensures.taken start i.taken i.told i.is_at in
+    record {
+      taken = i.taken ++ take n buf;
+      told = now;
+      is_at = here;
+      stands = λ bytes is. part_grows g.L.Keep.keeps is.listed.are.records bytes i.taken (take n buf) _ _ (c.in_ok-take_piece.ensures.history is.listed.are.records (bytes ++ i.taken) (i.stands bytes is));
+      rows = extends_more _ _ _ i.rows c.take_piece.ensures.rows;
+      given = given_on start _ _ _ i.taken buf n c.position-at.result i.given (read_there end (record {
+        kept = c.in-Ok.ensures.kept;
+        cause = c.in-Ok.ensures.cause;
+        counted = c.in-Ok.ensures.counted;
+        asked = c.in-Ok.ensures.asked;
+        watched = c.in-Ok.ensures.watched;
+        strayed = c.in-Ok.ensures.strayed;
+      })) (omega (arith, end, c.position-at.ensures.limit)) some size end (λ bytes held. c.in-Ok.ensures.bytes bytes (i.given.kept ∙ held));
+      room = search rules;
+    }
+
+pub returns-in_err-take_piece-clause-grows : goal.returns-in_err-take_piece-clause-grows
+returns-in_err-take_piece-clause-grows g c =
+    let p = err_from_is_err_and c.from_residual.result c.from_residual.ensures.1 in
+    let i = c.reading.invariant in
+    let start : ℕ = c.args.reading.now.begin in
+    let (end, lies) = c.position-at.ensures.history start i.taken i.told i.is_at in
+    rw (p.1, p.2) (grows_refused start _ _ _ i.taken i.given false (read_there end (record {
+      kept = c.in-Ok.ensures.kept;
+      cause = c.in-Ok.ensures.cause;
+      counted = c.in-Ok.ensures.counted;
+      asked = c.in-Ok.ensures.asked;
+      watched = c.in-Ok.ensures.watched;
+      strayed = c.in-Ok.ensures.strayed;
+    })) (omega (arith, end, c.position-at.ensures.limit)) g.L.Keep.keeps (c.args.reading.now.rows, c.args.reading.now.beside) (λ bytes is. c.requires.begin bytes is.listed) c.reading.decoder c.reading.reading
+    i.stands (λ text told is. (c.position-at.ensures.history 0 text told is).1) c.read_at.new.buf c.in-Ok.n c.position-at.result c.in_err-take_piece.field-0.0 refl end (omega (arith, c.if-n-eq0.false))
+    (c.in_err-take_piece.ensures.taken start i.taken i.told i.is_at)
+    (λ bytes held. c.in-Ok.ensures.bytes bytes (i.given.kept ∙ held))
+    (λ bytes is. c.in_err-take_piece.ensures.history is.listed.are.records (bytes ++ i.taken) (i.stands bytes is))
+    (λ bytes is. c.in_err-take_piece.ensures.memory is.listed.are.records (bytes ++ i.taken) (i.stands bytes is)))
+
+pub returns-in_err-take_piece-clause-rows : goal.returns-in_err-take_piece-clause-rows
+returns-in_err-take_piece-clause-rows g c = extends_more _ _ _ c.reading.invariant.rows c.take_piece.ensures.rows
+
+pub returns-in_err-take_piece-clause-left : goal.returns-in_err-take_piece-clause-left
+returns-in_err-take_piece-clause-left g c =
+    let i = c.reading.invariant in
+    λ bytes is. on_err c.from_residual.result (c.in_err-take_piece.ensures.left is.listed.are.records (bytes ++ i.taken) (i.stands bytes is))
+
+pub returns-clause-grows : goal.returns-clause-grows
+returns-clause-grows g c =
+    let i = c.reading.invariant in
+    let start : ℕ = c.args.reading.now.begin in
+    let (end, lies) = c.position-at.ensures.history start i.taken i.told i.is_at in
+    grows_ended start _ _ _ i.taken i.given false (read_there end (record {
+      kept = c.in-Ok.ensures.kept;
+      cause = c.in-Ok.ensures.cause;
+      counted = c.in-Ok.ensures.counted;
+      asked = c.in-Ok.ensures.asked;
+      watched = c.in-Ok.ensures.watched;
+      strayed = c.in-Ok.ensures.strayed;
+    })) (omega (arith, end, c.position-at.ensures.limit)) g.L.Keep.keeps (c.args.reading.now.rows, c.args.reading.now.beside) (λ bytes is. c.requires.begin bytes is.listed) c.reading.decoder c.reading.reading
+    i.stands (λ text told is. (c.position-at.ensures.history 0 text told is).1) i.told c.read_at.new.buf c.in-Ok.n c.position-at.result c.finish.result i.is_at refl end c.if-n-eq0.true
+    (omega (arith, c.requires.room, i.room, c.read_at.auto.buf))
+    (λ bytes held. c.in-Ok.ensures.bytes bytes (i.given.kept ∙ held))
+    (λ at text told is. c.finish.ensures.history at text told is)
+
+pub returns-clause-rows : goal.returns-clause-rows
+returns-clause-rows g c = c.reading.invariant.rows
+
+pub returns-clause-left : goal.returns-clause-left
+returns-clause-left g c = λ bytes is.
+    let s = c.reading.invariant.stands bytes is in
+    on_err c.finish.result (since_left g.L.Keep.keeps is.listed.are.records c.reading.reading.beside s.has.records s.has.beside)

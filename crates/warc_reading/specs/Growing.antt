@@ -1,0 +1,41 @@
+-- What growing reads of a source, and when it is refused.
+use Rattle.std.specs.Prelude.{◌≡◌, ℕ, ◌+◌, ◌≤◌, ◌⊎◌, List, ◌++◌, length, Some, Result, Ok, Err, IfErr, MatchResult}
+use Rattle.warc_frame.specs.Record.{max_archive}
+use Rattle.warc_frame.specs.Seen.{AsksOnly, Tapped}
+use Rattle.warc_frame.specs.declared.fault.Fault.{Fault}
+use Rattle.warc_frame.specs.declared.fault.FaultKind.TheVariants.{Memory, Read}
+use Rattle.warc_reading.specs.Opening.{Opens, faults_after}
+
+-- a refusal by a device or by memory
+abbrev pub IsOfDevice : Fault → Type 0
+IsOfDevice f = (f.kind ≡ Read) ⊎ (f.kind ≡ Memory)
+
+-- growing by a source: over one that begins with the bytes of which something was right, it gives what opening it
+-- gives, and at most one read is made for each byte behind them, and one. A source that isn't longer than those
+-- bytes adds nothing. Of any source all else is as in opening
+pub record Grows {X : Type 0} (Is : List ℕ → X → Type 0) (was : X) (old new : Tapped) (answer : Result X Fault)
+    : Type 0 where
+  pub whole : (bytes more : List ℕ) → Is bytes was → old.holds ≡ Some (bytes ++ more) → Opens Is old new answer
+  pub less : (bytes held : List ℕ) → Is bytes was → old.holds ≡ Some held → length held ≤ length bytes
+      → MatchResult answer (Is bytes) IsOfDevice
+  pub cost : (bytes more : List ℕ) → Is bytes was → old.holds ≡ Some (bytes ++ more)
+      → new.reads ≤ old.reads + length more + 1
+  pub kept : new.holds ≡ old.holds
+  pub cause : MatchResult answer (λ x. new.faults ≡ old.faults) (λ f. new.faults ≡ faults_after f.kind old.faults)
+  pub asked : IfErr answer (λ f. f.kind ≡ Read → f.offset ≡ new.asked)
+  pub near : AsksOnly (λ at. at ≤ max_archive) old new
+  pub bound : new.reads ≤ old.reads + max_archive + 1
+
+-- what growing gives, by what is there afterwards
+abbrev pub grown : {X : Type 0} → Result (Unit {0}) Fault → X → Result X Fault
+grown (Ok u) x = Ok x
+grown (Err f) x = Err f
+
+abbrev pub without_source : {S : Type 0} → Result (Unit {0}) (Fault × S) → Result (Unit {0}) Fault
+without_source (Ok u) = Ok u
+without_source (Err refused) = Err refused.0
+
+-- the new source: it is kept, or handed back
+abbrev pub source_grown : {S : Type 0} → Result (Unit {0}) (Fault × S) → S → S
+source_grown (Ok u) s = s
+source_grown (Err refused) s = refused.1

@@ -1,0 +1,59 @@
+-- What opening a source reads of it, and when it is refused.
+use Rattle.std.specs.Prelude.{◌≡◌, ℕ, ◌+◌, ◌≤◌, ◌<◌, ◌⊎◌, List, length, take, drop, Result, IfOk, IfErr, MatchResult}
+use Rattle.warc_frame.specs.Count.{raised}
+use Rattle.warc_frame.specs.Record.{max_archive}
+use Rattle.warc_frame.specs.Told.{IsCut}
+use Rattle.warc_frame.specs.declared.fault.Fault.{Fault}
+use Rattle.warc_frame.specs.declared.fault.FaultKind.{FaultKind}
+use Rattle.warc_frame.specs.declared.fault.FaultKind.TheVariants.{Read, Memory, Truncated}
+use Rattle.warc_reading.specs.Archive.{IsFaultOf, IsRecordEnd}
+use Rattle.warc_frame.specs.Seen.{AsksOnly, IfHeld, Tapped}
+
+-- a text has no fault but that it ends too early, if that
+abbrev pub IsOnlyCut : List ℕ → Type 0
+IsOnlyCut text = (f : Fault) → IsFaultOf text f → f.kind ≡ Truncated
+
+-- a read failed behind these bytes, and what stands before is no reason to refuse them
+pub record IsUnread (bytes : List ℕ) (offset : ℕ) : Type 0 where
+  pub within : offset ≤ length bytes
+  pub before : IsOnlyCut (take offset bytes)
+
+-- memory was wanted for the record that begins at this offset, and `asked` was the last offset asked for: all
+-- records before it are good, a byte of it is there, and no whole record lies between it and `asked`
+pub record IsUnkept (bytes : List ℕ) (asked offset : ℕ) : Type 0 where
+  pub end : IsRecordEnd bytes offset
+  pub begins : offset < length bytes
+  pub cut : offset < asked → IsCut (drop offset (take asked bytes))
+
+-- memory was wanted before the first read
+pub record IsUntried (old new : Tapped) (offset : ℕ) : Type 0 where
+  pub front : offset ≡ 0
+  pub same : new ≡ old
+
+-- why bytes aren't opened: a read or a growth of the memory failed, or else this is their first fault
+abbrev pub RefusesBy : FaultKind → List ℕ → Tapped → Tapped → Fault → Type 0
+RefusesBy Read bytes old new f = IsUnread bytes f.offset
+RefusesBy Memory bytes old new f = IsUntried old new f.offset ⊎ IsUnkept bytes new.asked f.offset
+RefusesBy kind bytes old new f = IsFaultOf bytes f
+
+abbrev pub IsRefusalOf : List ℕ → Tapped → Tapped → Fault → Type 0
+IsRefusalOf bytes old new f = RefusesBy f.kind bytes old new f
+
+-- how often a source has failed after a refusal
+abbrev pub faults_after : FaultKind → ℕ → ℕ
+faults_after Read n = raised n
+faults_after kind n = n
+
+-- opening a source: it gives what is right for the bytes, or a refusal, by the bytes that the source holds, where
+-- they are known. The source still holds them, and has failed once more exactly where the refusal is a read fault, at
+-- the offset asked last. No offset above 2^48 is asked for, at most 2^48 reads and one are made, and at most one for
+-- each byte and one
+pub record Opens {X : Type 0} (Is : List ℕ → X → Type 0) (old new : Tapped) (answer : Result X Fault) : Type 0 where
+  pub accepted : IfHeld old.holds (λ bytes. IfOk answer (Is bytes))
+  pub refused : IfHeld old.holds (λ bytes. IfErr answer (IsRefusalOf bytes old new))
+  pub kept : new.holds ≡ old.holds
+  pub cause : MatchResult answer (λ x. new.faults ≡ old.faults) (λ f. new.faults ≡ faults_after f.kind old.faults)
+  pub asked : IfErr answer (λ f. f.kind ≡ Read → f.offset ≡ new.asked)
+  pub near : AsksOnly (λ at. at ≤ max_archive) old new
+  pub bound : new.reads ≤ old.reads + max_archive + 1
+  pub cost : IfHeld old.holds (λ bytes. new.reads ≤ old.reads + length bytes + 1)

@@ -1,0 +1,156 @@
+-- What is kept of an archive while it is read as a stream. States of the code: no public clause cites them.
+use Rattle.std.specs.Prelude.{◌≡◌, ℕ, ◌+◌, ◌<◌, ◌≤◌, ◌⊎◌, Bool, List, [], ◌++◌, length, map, take, drop, Option, Some, None, unwrap_or, if◌then◌else◌}
+use Rattle.warc_field.specs.Area.{Pair}
+use Rattle.warc_value.specs.Digests.{verdict_of}
+use Rattle.warc_value.specs.Running.{HasTaken}
+use Rattle.warc_value.specs.declared.hash.Wanted.{Wanted}
+use Rattle.warc_value.specs.declared.hash.Wanted.TheVariants.{Sha1, Unchecked}
+use Rattle.warc_frame.specs.Count.{raised}
+use Rattle.warc_frame.specs.Decoding.{State, IsAt}
+use Rattle.warc_frame.specs.Faults.{AllAccepted}
+use Rattle.warc_frame.specs.Record.{max_archive}
+use Rattle.warc_frame.specs.Told.{Told, Unclosed, IsHeadOf}
+use Rattle.warc_frame.specs.declared.fault.Fault.{Fault}
+use Rattle.warc_frame.specs.declared.fault.FaultKind.{FaultKind}
+use Rattle.warc_frame.specs.declared.fault.FaultKind.TheVariants.{Memory, Read, Truncated}
+use Rattle.warc_record.specs.Heads.{head_fault}
+use Rattle.warc_record.specs.Readings.{digest_wanted, reading_of}
+use Rattle.warc_segment.specs.declared.place.Place.{Place}
+use Rattle.warc_reading.specs.Archive.{IsArchiveOf, SpellsFrom, contents, IsFaultOf, IsRecordEnd}
+use Rattle.warc_reading.specs.Row.{Placed, Row, row_of}
+use Rattle.warc_frame.specs.Seen.{AsksOnly, IfHeld, Tapped}
+use Rattle.warc_reading.specs.declared.reading.BlockDigest.{BlockDigest}
+use Rattle.warc_reading.specs.declared.reading.Current.{Current}
+use Rattle.warc_reading.specs.declared.reading.Reading.{Reading}
+
+abbrev pub IfChecked : Wanted → Type 0 → Type 0
+IfChecked Unchecked P = Unit {0}
+IfChecked (Sha1 digest) P = P
+
+-- these are the bytes of the block so far
+abbrev pub HasSeen : BlockDigest → List ℕ → Type 0
+HasSeen digest bytes = IfChecked digest.wanted (HasTaken digest.running bytes)
+
+-- what is kept of a good head
+pub record IsHead {A : Type 0} (fields : List Pair) (c : Current A) : Type 0 where
+  pub good : head_fault fields ≡ None
+  pub fields_are : c.fields ≡ fields
+  pub wanted : c.digest.wanted ≡ digest_wanted fields
+
+-- the record that is being read begins at this offset, and of it these bytes were taken and this was told
+pub record IsCurrent {A : Type 0} (begin : ℕ) (rest : List ℕ) (u : Unclosed) (c : Current A) : Type 0 where
+  pub head : List ℕ
+  pub tail : List ℕ
+  pub rest_is : rest ≡ head ++ tail
+  pub head_is : IsHeadOf u head
+  pub of : IsHead u.fields c
+  pub start : c.block_start ≡ begin + length head
+  pub len : c.block_len ≡ u.block_len
+  pub seen : HasSeen c.digest u.bytes
+
+abbrev pub Matches : {A : Type 0} → ℕ → List ℕ → Option Unclosed → Option (Current A) → Type 0
+Matches begin rest None None = Unit {0}
+Matches begin rest None (Some c) = ⊥
+Matches begin rest (Some u) None = ⊥
+Matches begin rest (Some u) (Some c) = IsCurrent begin rest u c
+
+-- of a text of which this was told: a row of each record that ended and what is kept beside the rows, where the next
+-- record begins, and what is kept of it
+pub record HasRead {A L : Type 0} (Keeps : L → List Placed → Type 0) (text : List ℕ) (told : Told) (r : Reading A L)
+    : Type 0 where
+  pub records : List Placed
+  pub front : List ℕ
+  pub rest : List ℕ
+  pub text_is : text ≡ front ++ rest
+  pub spelled : SpellsFrom 0 records front
+  pub told_is : told.records ≡ contents records
+  pub good : AllAccepted head_fault told.records
+  pub rows_are : r.rows ≡ map row_of records
+  pub beside : Keeps r.beside records
+  pub begin_is : r.begin ≡ length front
+  pub current : Matches (length front) rest told.unclosed r.current
+
+-- a list goes on with more
+abbrev pub Extends : {X : Type 0} → List X → List X → Type 0
+Extends {X} old new = (more : List X) × (new ≡ old ++ more)
+
+-- it is kept of these records, the first of which are those
+abbrev pub Since : {L : Type 0} → (L → List Placed → Type 0) → List Placed → L → List Placed → Type 0
+Since Keeps was l records = Keeps l records × Extends was records
+
+-- it is kept of records the first of which are these
+abbrev pub IsLeft : {L : Type 0} → (L → List Placed → Type 0) → List Placed → L → Type 0
+IsLeft Keeps was l = (more : List Placed) × Keeps l (was ++ more)
+
+-- the decoder took this text, and what it told was kept
+pub record Stands {A L : Type 0} (Keeps : L → List Placed → Type 0) (text : List ℕ) (d : State) (r : Reading A L)
+    : Type 0 where
+  pub told : Told
+  pub is_at : IsAt 0 text told d
+  pub has : HasRead Keeps text told r
+
+-- the row of the record that is being read, once these are all bytes of its block
+abbrev pub row_by : {A : Type 0} → ℕ → Current A → List ℕ → Row
+row_by begin c bytes = record {
+  offset = begin;
+  block_start = c.block_start;
+  block_len = c.block_len;
+  verdict = verdict_of c.digest.wanted bytes;
+  is_truncated = (reading_of c.fields).truncated;
+  kind = unwrap_or (reading_of c.fields).type_text [];
+  date = unwrap_or (reading_of c.fields).date_text [];
+  id = unwrap_or (reading_of c.fields).id_text [];
+  target = unwrap_or (reading_of c.fields).target [];
+}
+
+-- where its block stands, and what was found of it
+abbrev pub place_by : {A : Type 0} → Current A → List ℕ → Place
+place_by c bytes = record {
+  start = c.block_start;
+  len = c.block_len;
+  verdict = verdict_of c.digest.wanted bytes;
+  truncated = (reading_of c.fields).truncated;
+}
+
+-- these are the rows of the records that bytes spell, and beside the rows is kept what is wanted of them
+pub record IsKeptOf {L : Type 0} (Keeps : L → List Placed → Type 0) (bytes : List ℕ) (kept : List Row × L)
+    : Type 0 where
+  pub listed : IsArchiveOf bytes kept.0
+  pub beside : Keeps kept.1 listed.are.records
+
+-- why bytes are refused, whatever follows them: memory ran out at a record, or this is their first fault
+abbrev pub StaysBy : FaultKind → List ℕ → Fault → Type 0
+StaysBy Memory bytes f = IsRecordEnd bytes f.offset
+StaysBy Read bytes f = ⊥
+StaysBy Truncated bytes f = ⊥
+StaysBy kind bytes f = IsFaultOf bytes f
+
+abbrev pub StaysRefused : List ℕ → Fault → Type 0
+StaysRefused bytes f = StaysBy f.kind bytes f
+
+-- behind this text the record that is being read is still the same, or it begins behind the text
+abbrev pub BeginsSince : List ℕ → ℕ → ℕ → Type 0
+BeginsSince text old new = (new ≡ old) ⊎ (length text ≤ new)
+
+-- memory was wanted while a piece behind this text was taken: for the record that was being read, or one that
+-- begins behind the text; and for one that begins before the piece ends
+abbrev pub WantsSince : List ℕ → List ℕ → ℕ → Fault → Type 0
+WantsSince text piece begin f = f.kind ≡ Memory → BeginsSince text begin f.offset × (f.offset < length (text ++ piece))
+
+-- this text was read of a source, from its front on, with at most one read for each byte
+pub record HasGiven (old new : Tapped) (text : List ℕ) : Type 0 where
+  pub front : IfHeld old.holds (λ bytes. text ≡ take (length text) bytes)
+  pub kept : new.holds ≡ old.holds
+  pub sound : new.faults ≡ old.faults
+  pub cost : new.reads ≤ old.reads + length text
+  pub watched : new.watches ≡ old.watches
+  pub near : AsksOnly (λ at. at ≤ max_archive) old new
+
+-- these bytes were read of a source, from an offset on, with at most one read for each
+pub record HasGivenFrom (start : ℕ) (old new : Tapped) (taken : List ℕ) : Type 0 where
+  pub part : IfHeld old.holds (λ bytes. taken ≡ take (length taken) (drop start bytes))
+  pub kept : new.holds ≡ old.holds
+  pub sound : new.faults ≡ old.faults
+  pub cost : new.reads ≤ old.reads + length taken
+  pub watched : new.watches ≡ old.watches
+  pub near : AsksOnly (λ at. at ≤ max_archive) old new

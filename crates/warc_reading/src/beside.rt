@@ -1,0 +1,128 @@
+//! What is kept of records beside their rows: nothing in a listing; in an archive, what finds them and what joins them.
+ghost use Rattle.std.specs.Prelude.{◌≡◌, None, List, [], ◌∷◌, ◌++◌, length, take, OnErr, OnOk};
+ghost use Rattle.warc_record.specs.Heads.{head_fault};
+ghost use Rattle.warc_record.specs.Readings.{reading_of};
+ghost use Rattle.warc_record.specs.Seen.{said};
+ghost use Rattle.warc_reading.specs.Indexed.{AreOf, place_of};
+ghost use Rattle.warc_reading.specs.Row.{Placed};
+
+use std::alloc::{AllocError, Allocator};
+use warc_field::Fields;
+use warc_index::Index;
+use warc_record::{Typed, type_head};
+use warc_segment::{Parts, Place};
+
+/// What is kept of records beside their rows, as they are read.
+pub trait Keep<A: Allocator> {
+    /// It is kept of these records.
+    ghost keeps: { Self → List Placed → Type 0 };
+
+    /// Keeps what is wanted of the next record, by its position, the fields of its good head and where its block
+    /// stands. Where memory is refused, what is kept is of the records before.
+    fn keep(
+        &mut self,
+        alloc: A,
+        position: usize,
+        fields: &Fields<A>,
+        place: Place,
+    ) -> Result<(), AllocError>
+        ensures ok { (records : List Placed) (p : Placed) → keeps self.old records → position ≡ length records →
+            fields.now ≡ p.content.fields → head_fault p.content.fields ≡ None → place ≡ place_of p →
+            OnOk result (keeps self.new (records ++ p ∷ [])) }
+        ensures err { (records : List Placed) → keeps self.old records → position ≡ length records →
+            OnErr result (keeps self.new records) };
+
+    /// Forgets all but the first so many records. It takes no memory.
+    fn forget_after(&mut self, count: usize)
+        ensures { (records : List Placed) → keeps self.old records → keeps self.new (take count records) };
+}
+
+/// Rows alone are kept.
+#[derive(Drop)]
+pub struct Nothing;
+
+impl<A: Allocator> Keep<A> for Nothing {
+    ghost keeps = { λ _ _. Unit {0} };
+
+    fn keep(
+        &mut self,
+        _alloc: A,
+        _position: usize,
+        _fields: &Fields<A>,
+        _place: Place,
+    ) -> Result<(), AllocError> {
+        Ok(())
+    }
+
+    fn forget_after(&mut self, _count: usize) {}
+}
+
+/// What finds the records of an archive, and what joins those that are in segments.
+#[derive(Drop)]
+pub struct Lookup<A: Allocator> {
+    pub index: Index<A>,
+    pub parts: Parts<A>,
+}
+
+impl<A: Allocator + Copy> Lookup<A> {
+    /// Of no records.
+    pub fn new(alloc: A) -> Lookup<A>
+        ensures { AreOf [] result.index result.parts }
+    {
+        Lookup {
+            index: Index::new(alloc),
+            parts: Parts::new(alloc),
+        }
+    }
+
+    /// Keeps the next record, by its position, what its head says and where its block stands.
+    fn add(&mut self, position: usize, typed: &Typed<A>, place: Place) -> Result<(), AllocError>
+        ensures ok { (records : List Placed) (p : Placed) → AreOf records self.old.index self.old.parts →
+            said typed.now ≡ reading_of p.content.fields → place ≡ place_of p →
+            OnOk result (AreOf (records ++ p ∷ []) self.new.index self.new.parts) }
+        ensures err { (records : List Placed) → AreOf records self.old.index self.old.parts →
+            position ≡ length records → OnErr result (AreOf records self.new.index self.new.parts) }
+    {
+        self.index.add(typed)?;
+        match self.parts.add(typed, place) {
+            Ok(()) => Ok(()),
+            Err(refused) => {
+                // What was added is taken back, which takes no memory.
+                self.index.forget_after(position);
+                Err(refused)
+            }
+        }
+    }
+}
+
+impl<A: Allocator + Copy> Keep<A> for Lookup<A> {
+    ghost keeps = { λ l records. AreOf records l.index l.parts };
+
+    fn keep(
+        &mut self,
+        alloc: A,
+        position: usize,
+        fields: &Fields<A>,
+        place: Place,
+    ) -> Result<(), AllocError>
+        ensures ok { (records : List Placed) (p : Placed) → AreOf records self.old.index self.old.parts →
+            position ≡ length records → fields.now ≡ p.content.fields → head_fault p.content.fields ≡ None →
+            place ≡ place_of p → OnOk result (AreOf (records ++ p ∷ []) self.new.index self.new.parts) }
+        ensures err { (records : List Placed) → AreOf records self.old.index self.old.parts →
+            position ≡ length records → OnErr result (AreOf records self.new.index self.new.parts) }
+    {
+        // The head is good, so that nothing but memory fails.
+        let Ok(typed) = type_head(alloc, fields) else {
+            return Err(AllocError);
+        };
+        self.add(position, &typed, place)
+    }
+
+    fn forget_after(&mut self, count: usize)
+        ensures { (records : List Placed) → AreOf records self.old.index self.old.parts →
+            AreOf (take count records) self.new.index self.new.parts }
+    {
+        self.index.forget_after(count);
+        self.parts.forget_after(count);
+    }
+}

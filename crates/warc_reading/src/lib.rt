@@ -1,0 +1,10 @@
+//! An archive read as a stream: a row is kept of each of its records, and what finds and joins them beside.
+#![tactic(auto)]
+
+mod beside;
+mod reading;
+mod rows;
+
+pub use beside::{Keep, Lookup, Nothing};
+pub use reading::read_on;
+pub use rows::{Row, Rows};

@@ -1,0 +1,342 @@
+//! Reads the good records of a source as a stream, and keeps a row of each, and what is wanted beside it.
+ghost use Rattle.std.specs.Prelude.{◌≡◌, ◌≢◌, ℕ, ◌<◌, ◌≤◌, ◌^◌, List, [], ◌∷◌, ◌++◌, length, take, Some, None, IfOk, IfErr, OnErr, OnOk, MatchResult};
+ghost use Rattle.warc_value.specs.Digests.{verdict_of};
+ghost use Rattle.warc_record.specs.Heads.{head_fault};
+ghost use Rattle.warc_reading.specs.Archive.{IsArchiveOf};
+ghost use Rattle.warc_reading.specs.Indexed.{place_of};
+ghost use Rattle.warc_reading.specs.Growing.{Grows, grown};
+ghost use Rattle.warc_reading.specs.Row.{Placed};
+ghost use Rattle.warc_frame.specs.Decoding.{IsAt};
+ghost use Rattle.warc_frame.specs.Seen.{tapped};
+ghost use Rattle.warc_frame.specs.Told.{Told};
+ghost use Rattle.warc_reading.specs.Stream.{BeginsSince, Extends, HasSeen, WantsSince, IsHead, IsKeptOf, IsLeft, Since, Stands, StaysRefused, place_by, row_by};
+ghost use Rattle.warc_reading.specs.declared.reading.Current.{Current as Kept};
+
+use crate::beside::Keep;
+use crate::rows::{Row, Rows};
+use std::alloc::{AllocError, Allocator};
+use warc_field::Fields;
+use warc_frame::{Decoder, Event, Fault, FaultKind, Source};
+use warc_record::{head_texts, judge_head};
+use warc_segment::Place;
+use warc_value::{Running, Verdict, Wanted};
+
+/// How many bytes a read asks for.
+const PIECE: usize = 65_536;
+
+/// The digest that a head wants of its block, and that of the block's bytes so far.
+#[derive(Drop)]
+struct BlockDigest {
+    wanted: Wanted,
+    running: Running,
+}
+
+impl BlockDigest {
+    /// No byte of the block is there yet.
+    fn new(wanted: Wanted) -> BlockDigest
+        ensures wanted { result.wanted ≡ wanted }
+        ensures seen { HasSeen result [] }
+    {
+        BlockDigest {
+            wanted,
+            running: Running::new(),
+        }
+    }
+
+    /// Takes the block's next bytes. Where nothing is wanted it takes no time.
+    fn update(&mut self, part: &[u8])
+        ensures wanted { self.new.wanted ≡ self.old.wanted }
+        ensures seen { (bytes : List ℕ) → HasSeen self.old bytes → HasSeen self.new (bytes ++ part.now) }
+    {
+        if let Wanted::Sha1(_) = self.wanted {
+            self.running.update(part);
+        }
+    }
+
+    /// How the block compares with what is wanted.
+    fn verdict(self) -> Verdict
+        ensures { (bytes : List ℕ) → HasSeen self bytes → result ≡ verdict_of self.wanted bytes }
+    {
+        let BlockDigest { wanted, running } = self;
+        running.verdict(&wanted)
+    }
+}
+
+/// The record that is being read: what its head says, and where its block lies.
+#[derive(Drop)]
+struct Current<A: Allocator> {
+    fields: Fields<A>,
+    block_start: u64,
+    block_len: u64,
+    digest: BlockDigest,
+}
+
+/// What was read so far: a row of each record that ended and what is kept beside it, the offset at which the next
+/// record begins, and that record, once its head is there.
+#[derive(Drop)]
+struct Reading<A: Allocator, L> {
+    rows: Rows<A>,
+    beside: L,
+    begin: u64,
+    current: Option<Current<A>>,
+}
+
+impl<A: Allocator + Copy, L: Keep<A> + Drop> Reading<A, L> {
+    /// The records of these rows were read.
+    fn behind(rows: Rows<A>, beside: L) -> Reading<A, L>
+        ensures rows { result.rows ≡ rows }
+        ensures beside { result.beside ≡ beside }
+        ensures limit { result.begin ≤ 2 ^ 48 }
+        ensures begin { (bytes : List ℕ) → IsArchiveOf bytes rows → result.begin ≡ length bytes }
+        ensures current { result.current ≡ None }
+    {
+        let begin = rows.end();
+        Reading {
+            rows,
+            beside,
+            begin,
+            current: None,
+        }
+    }
+
+    /// Forgets all but the first so many records.
+    fn forget_after(&mut self, count: usize)
+        ensures rows { self.new.rows ≡ take count self.old.rows }
+        ensures beside { (records : List Placed) → L.keeps self.old.beside records → L.keeps self.new.beside
+            (take count records) }
+    {
+        self.rows.truncate(count);
+        self.beside.forget_after(count);
+    }
+
+    /// Reads a head, behind which a block of so many bytes begins at an offset.
+    fn begin_block(
+        &mut self,
+        fields: Fields<A>,
+        block_start: u64,
+        block_len: u64,
+    ) -> Result<(), FaultKind>
+        ensures rows { self.new.rows ≡ self.old.rows }
+        ensures beside { self.new.beside ≡ self.old.beside }
+        ensures begin { self.new.begin ≡ self.old.begin }
+        ensures current { OnOk result ((c : Kept A) × (self.new.current ≡ Some c) × IsHead fields c
+            × HasSeen c.digest []
+            × (c.block_start ≡ block_start) × (c.block_len ≡ block_len)) }
+        ensures fault { IfErr result (λ kind. head_fault fields ≡ Some kind) }
+    {
+        let digest = BlockDigest::new(judge_head(&fields)?);
+        self.current = Some(Current {
+            fields,
+            block_start,
+            block_len,
+            digest,
+        });
+        Ok(())
+    }
+
+    /// Takes the next bytes of the block.
+    fn take_part(&mut self, part: &[u8])
+        ensures rows { self.new.rows ≡ self.old.rows }
+        ensures beside { self.new.beside ≡ self.old.beside }
+        ensures begin { self.new.begin ≡ self.old.begin }
+        ensures current { (c : Kept A) → self.old.current ≡ Some c → (d : Kept A) × (self.new.current ≡ Some d)
+            × (d.fields ≡ c.fields) × (d.block_start ≡ c.block_start) × (d.block_len ≡ c.block_len)
+            × (d.digest.wanted ≡ c.digest.wanted)
+            × ((bytes : List ℕ) → HasSeen c.digest bytes → HasSeen d.digest (bytes ++ part.now)) }
+    {
+        if let Some(current) = &mut self.current {
+            current.digest.update(part);
+        }
+    }
+
+    /// Keeps a row of the record that ends at an offset, and what is wanted beside it.
+    fn end_record(&mut self, alloc: A, end: u64) -> Result<(), AllocError>
+        ensures begin { OnOk result (self.new.begin ≡ end) }
+        ensures current { self.new.current ≡ None }
+        ensures row { (c : Kept A) (bytes : List ℕ) → self.old.current ≡ Some c → HasSeen c.digest bytes →
+            OnOk result (self.new.rows ≡ self.old.rows ++ row_by self.old.begin c bytes ∷ []) }
+        ensures extends { Extends self.old.rows self.new.rows }
+        ensures beside { (c : Kept A) (bytes : List ℕ) (records : List Placed) (p : Placed) →
+            self.old.current ≡ Some c → HasSeen c.digest bytes → L.keeps self.old.beside records →
+            length self.old.rows ≡ length records → c.fields ≡ p.content.fields →
+            head_fault p.content.fields ≡ None → place_by c bytes ≡ place_of p →
+            OnOk result (L.keeps self.new.beside (records ++ p ∷ [])) }
+        ensures left { (records : List Placed) → L.keeps self.old.beside records →
+            length self.old.rows ≡ length records → OnErr result (L.keeps self.new.beside records) }
+    {
+        if let Some(current) = self.current.take() {
+            let Current {
+                fields,
+                block_start,
+                block_len,
+                digest,
+            } = current;
+            let verdict = digest.verdict();
+            let texts = head_texts(&fields);
+            let position = self.rows.len();
+            self.rows.push(&Row {
+                offset: self.begin,
+                block_start,
+                block_len,
+                verdict,
+                is_truncated: texts.is_truncated,
+                kind: texts.kind,
+                date: texts.date,
+                id: texts.id,
+                target: texts.target,
+            })?;
+            let place = Place {
+                start: block_start,
+                len: block_len,
+                verdict,
+                truncated: texts.is_truncated,
+            };
+            self.beside.keep(alloc, position, &fields, place)?;
+        }
+        self.begin = end;
+        Ok(())
+    }
+}
+
+/// Keeps what the decoder tells of the piece's front, and answers how many bytes that takes.
+fn take_front<A: Allocator + Copy, L: Keep<A> + Drop>(
+    alloc: A,
+    decoder: &mut Decoder<A>,
+    reading: &mut Reading<A, L>,
+    piece: &[u8],
+) -> Result<usize, Fault>
+    requires { 0 < length piece.now }
+    ensures history { (was : List Placed) (text : List ℕ) → Stands (Since L.keeps was) text decoder.old reading.old
+        → MatchResult result (λ took. Stands (Since L.keeps was) (text ++ take took piece.now) decoder.new reading.new)
+        (StaysRefused (text ++ piece.now)) }
+    ensures begins { (was : List Placed) (text : List ℕ) → Stands (Since L.keeps was) text decoder.old reading.old
+        → MatchResult result (λ _. BeginsSince text reading.old.begin reading.new.begin)
+        (WantsSince text piece.now reading.old.begin) }
+    ensures left { (was : List Placed) (text : List ℕ) → Stands (Since L.keeps was) text decoder.old reading.old
+        → OnErr result (IsLeft L.keeps was reading.new.beside) }
+    ensures rows { Extends reading.old.rows reading.new.rows }
+    ensures taken { (at : ℕ) (taken : List ℕ) (told : Told) → IsAt at taken told decoder.old → MatchResult result
+        (λ took. (now : Told) × IsAt at (taken ++ take took piece.now) now decoder.new) (λ f. f.kind ≢ FaultKind.Read) }
+    ensures within { IfOk result (λ took. (0 < took) × (took ≤ length piece.now)) }
+{
+    let (took, event) = decoder.step(piece)?;
+    let position = decoder.position();
+    let begin = reading.begin;
+    let kept = match event {
+        Event::More => Ok(()),
+        Event::Head(_, fields, block_len) => { reading.begin_block(fields, position, block_len) }
+        Event::Part(from, to) => {
+            reading.take_part(&piece[from..to]);
+            Ok(())
+        }
+        Event::End => match reading.end_record(alloc, position) {
+            Ok(()) => Ok(()),
+            Err(_) => Err(FaultKind::Memory),
+        },
+    };
+    match kept {
+        Ok(()) => Ok(took),
+        Err(kind) => Err(Fault {
+            kind,
+            offset: begin,
+        }),
+    }
+}
+
+/// Keeps what the decoder tells of a piece.
+fn take_piece<A: Allocator + Copy, L: Keep<A> + Drop>(
+    alloc: A,
+    decoder: &mut Decoder<A>,
+    reading: &mut Reading<A, L>,
+    piece: &[u8],
+) -> Result<(), Fault>
+    ensures history { (was : List Placed) (text : List ℕ) → Stands (Since L.keeps was) text decoder.old reading.old
+        → MatchResult result (λ _. Stands (Since L.keeps was) (text ++ piece.now) decoder.new reading.new)
+        (StaysRefused (text ++ piece.now)) }
+    ensures memory { (was : List Placed) (text : List ℕ) → Stands (Since L.keeps was) text decoder.old reading.old
+        → IfErr result (WantsSince text piece.now reading.old.begin) }
+    ensures left { (was : List Placed) (text : List ℕ) → Stands (Since L.keeps was) text decoder.old reading.old
+        → OnErr result (IsLeft L.keeps was reading.new.beside) }
+    ensures rows { Extends reading.old.rows reading.new.rows }
+    ensures taken { (at : ℕ) (taken : List ℕ) (told : Told) → IsAt at taken told decoder.old → MatchResult result
+        (λ _. (now : Told) × IsAt at (taken ++ piece.now) now decoder.new) (λ f. f.kind ≢ FaultKind.Read) }
+{
+    let mut from = 0;
+    'taking: while from < piece.len() {
+        from += take_front(alloc, decoder, reading, &piece[from..])?;
+    }
+    Ok(())
+}
+
+/// Reads a source through the buffer, from where the next record begins to its end.
+fn read_through<S: Source, A: Allocator + Copy, L: Keep<A> + Drop>(
+    alloc: A,
+    source: &mut S,
+    buf: &mut [u8],
+    reading: &mut Reading<A, L>,
+) -> Result<(), Fault>
+    requires room { 0 < length buf.old }
+    requires limit { reading.old.begin ≤ 2 ^ 48 }
+    requires begin { (bytes : List ℕ) → IsArchiveOf bytes reading.old.rows → reading.old.begin ≡ length bytes }
+    requires current { reading.old.current ≡ None }
+    ensures grows { Grows (IsKeptOf L.keeps) (reading.old.rows, reading.old.beside)
+        (tapped (S.holds source.old) (S.faults source.old) (S.reads source.old) (S.asked source.old)
+        (S.watches source.old) (S.strays source.old))
+        (tapped (S.holds source.new) (S.faults source.new) (S.reads source.new) (S.asked source.new)
+        (S.watches source.new) (S.strays source.new)) (grown result (reading.new.rows, reading.new.beside)) }
+    ensures rows { Extends reading.old.rows reading.new.rows }
+    ensures left { (bytes : List ℕ) (is : IsKeptOf L.keeps bytes (reading.old.rows, reading.old.beside))
+        → OnErr result (IsLeft L.keeps is.listed.are.records reading.new.beside) }
+{
+    let mut decoder = Decoder::new(alloc, reading.begin);
+    'reading: loop {
+        let at = decoder.position();
+        let n = match source.read_at(at, buf) {
+            Ok(n) => n,
+            Err(_) => return Err(Fault {
+                kind: FaultKind::Read,
+                offset: at,
+            }),
+        };
+        if n == 0 {
+            break;
+        }
+        take_piece(alloc, &mut decoder, reading, &buf[..n])?;
+    }
+    decoder.finish()
+}
+
+/// Reads on in a source behind the records that are kept, to its end: keeps a row of each good record there, and what
+/// is wanted beside it. Each read is at the offset where the bytes so far end. A refusal leaves what was kept.
+pub fn read_on<S: Source, A: Allocator + Copy, L: Keep<A> + Drop>(
+    alloc: A,
+    source: &mut S,
+    rows: Rows<A>,
+    beside: L,
+) -> (Result<(), Fault>, Rows<A>, L)
+    ensures grows { Grows (IsKeptOf L.keeps) (rows, beside)
+        (tapped (S.holds source.old) (S.faults source.old) (S.reads source.old) (S.asked source.old)
+        (S.watches source.old) (S.strays source.old))
+        (tapped (S.holds source.new) (S.faults source.new) (S.reads source.new) (S.asked source.new)
+        (S.watches source.new) (S.strays source.new)) (grown result.0 (result.1, result.2)) }
+    ensures rows { OnErr result.0 (result.1 ≡ rows) }
+    ensures beside { (bytes : List ℕ) → IsKeptOf L.keeps bytes (rows, beside)
+        → OnErr result.0 (IsKeptOf L.keeps bytes (result.1, result.2)) }
+{
+    let Ok(mut buf) = vec![in alloc; 0u8; PIECE] else {
+        let fault = Fault {
+            kind: FaultKind::Memory,
+            offset: 0,
+        };
+        return (Err(fault), rows, beside);
+    };
+    let count = rows.len();
+    let mut reading = Reading::behind(rows, beside);
+    match read_through(alloc, source, &mut buf, &mut reading) {
+        Ok(()) => (Ok(()), reading.rows, reading.beside),
+        Err(fault) => {
+            reading.forget_after(count);
+            (Err(fault), reading.rows, reading.beside)
+        }
+    }
+}

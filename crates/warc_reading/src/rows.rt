@@ -1,0 +1,235 @@
+//! What an archive keeps of its records, in flat lists: where each stands, and its texts one behind another.
+ghost use Rattle.std.specs.Prelude.{◌≡◌, ℕ, ◌+◌, ◌≤◌, ◌^◌, List, [], ◌∷◌, ◌++◌, length, take, slice_range, vec_capacity, vec_len, IfSome, OnErr, OnOk};
+ghost use Rattle.std.specs.List.{slice_get, sum_by};
+ghost use Rattle.warc_reading.specs.Archive.{IsArchiveOf};
+ghost use Rattle.warc_reading.specs.Keeping.{texts_len};
+
+use std::alloc::{AllocError, Allocator};
+use std::marker::Model;
+use warc_frame::MAX_ARCHIVE;
+use warc_value::Verdict;
+
+/// How many bytes close a record: CRLF CRLF.
+const CLOSING: u64 = 4;
+
+/// What is kept of a record: where it stands, and the texts of its type, date, id and target.
+#[derive(Drop)]
+pub struct Row<'a> {
+    /// The offset of its first byte.
+    pub offset: u64,
+    /// The offset of its block's first byte.
+    pub block_start: u64,
+    /// How many bytes its block has.
+    pub block_len: u64,
+    /// How its block compares with the digest that its head wants.
+    pub verdict: Verdict,
+    /// Whether it is marked as truncated.
+    pub is_truncated: bool,
+    /// The value of its `WARC-Type`.
+    pub kind: &'a [u8],
+    /// The value of its `WARC-Date`.
+    pub date: &'a [u8],
+    /// The value of its `WARC-Record-ID`.
+    pub id: &'a [u8],
+    /// Its target without brackets, empty where it is absent.
+    pub target: &'a [u8],
+}
+
+impl<'a> Model for Row<'a> {
+    ghost use Rattle.warc_reading.specs.Row.{Row as Seen};
+
+    ghost Value = { Seen };
+
+    ghost view = { λ r. record {
+      offset = r.offset;
+      block_start = r.block_start;
+      block_len = r.block_len;
+      verdict = r.verdict;
+      is_truncated = r.is_truncated;
+      kind = r.kind.now;
+      date = r.date.now;
+      id = r.id.now;
+      target = r.target.now;
+    } };
+}
+
+/// A record's place, and where its texts begin and end in the list of texts.
+#[derive(Clone, Copy)]
+struct Entry {
+    offset: u64,
+    block_start: u64,
+    block_len: u64,
+    verdict: Verdict,
+    is_truncated: bool,
+    kind_start: usize,
+    kind_end: usize,
+    date_end: usize,
+    id_end: usize,
+    target_end: usize,
+}
+
+/// The rows of an archive's records, in their order.
+#[derive(Drop)]
+pub struct Rows<A: Allocator> {
+    texts: Vec<u8, A>,
+    entries: Vec<Entry, A>,
+}
+
+impl<A: Allocator> Model for Rows<A> {
+    ghost use Rattle.std.specs.Prelude.{List, length, map};
+    ghost use Rattle.warc_reading.specs.Row.{Row as Seen};
+    ghost use Rattle.warc_reading.specs.Rows.{row_at, AreFlat};
+
+    ghost Value = { List Seen };
+
+    ghost view = { λ r. map (row_at r.texts.items) r.entries.items };
+
+    ghost invariant = { λ r. AreFlat (length r.texts.items) r.entries.items };
+}
+
+/// A part of the bytes.
+fn part(bytes: &[u8], start: usize, end: usize) -> &[u8]
+    requires order { start ≤ end }
+    requires end { end ≤ length bytes.now }
+    ensures { result.now ≡ slice_range bytes.now start end }
+{
+    &bytes[start..end]
+}
+
+/// How many bytes a row's texts have, if they are fewer than 2^64.
+fn texts_len(row: &Row<'_>) -> Option<usize>
+    ensures { IfSome result (λ n. n ≡ texts_len row.now) }
+{
+    row.kind
+        .len()
+        .checked_add(row.date.len())?
+        .checked_add(row.id.len())?
+        .checked_add(row.target.len())
+}
+
+/// Appends a text for which there is room, and answers where it ends.
+fn put<A: Allocator>(text: &[u8], texts: &mut Vec<u8, A>) -> usize
+    requires { vec_len texts.old + length text.now ≤ vec_capacity texts.old }
+    ensures items { texts.new.items ≡ texts.old.items ++ text.now }
+    ensures len { vec_len texts.new ≡ vec_len texts.old + length text.now }
+    ensures capacity { vec_capacity texts.old ≤ vec_capacity texts.new }
+    ensures end { result ≡ length texts.new.items }
+{
+    match texts.extend_from_slice(text) {
+        Ok(()) => {}
+        Err(_) => unreachable!(),
+    }
+    texts.len()
+}
+
+impl<A: Allocator + Copy> Rows<A> {
+    /// No rows.
+    pub fn new(alloc: A) -> Rows<A>
+        ensures { result ≡ [] }
+    {
+        Rows {
+            texts: Vec::new(alloc),
+            entries: Vec::new(alloc),
+        }
+    }
+
+    /// Adds a row behind the others. Where memory is refused no row is added, and no text is left behind.
+    pub fn push(&mut self, row: &Row<'_>) -> Result<(), AllocError>
+        ensures ok { OnOk result (self.new ≡ self.old ++ row.now ∷ []) }
+        ensures err { OnErr result (self.new ≡ self.old) }
+    {
+        let Some(room) = texts_len(row) else {
+            return Err(AllocError);
+        };
+        self.texts.reserve(room)?;
+        self.entries.reserve(1)?;
+        let kind_start = self.texts.len();
+        let kind_end = put(row.kind, &mut self.texts);
+        let date_end = put(row.date, &mut self.texts);
+        let id_end = put(row.id, &mut self.texts);
+        let target_end = put(row.target, &mut self.texts);
+        self.entries.push_reserved(Entry {
+            offset: row.offset,
+            block_start: row.block_start,
+            block_len: row.block_len,
+            verdict: row.verdict,
+            is_truncated: row.is_truncated,
+            kind_start,
+            kind_end,
+            date_end,
+            id_end,
+            target_end,
+        });
+        Ok(())
+    }
+}
+
+impl<A: Allocator> Rows<A> {
+    /// Keeps the first so many rows. It takes no memory.
+    pub fn truncate(&mut self, count: usize)
+        ensures { self.new ≡ take count self.old }
+    {
+        if let Some(entry) = self.entries.get(count) {
+            let end = entry.kind_start;
+            self.texts.truncate(end);
+            self.entries.truncate(count);
+        }
+    }
+
+    /// The offset behind the last record, at most 2^48.
+    pub fn end(&self) -> u64
+        ensures limit { result ≤ 2 ^ 48 }
+        ensures end { (bytes : List ℕ) → IsArchiveOf bytes self.now → result ≡ length bytes }
+    {
+        let Some(last) = self.entries.len().checked_sub(1) else {
+            return 0;
+        };
+        let Some(entry) = self.entries.get(last) else {
+            return 0;
+        };
+        let block_end = entry.block_start.saturating_add(entry.block_len);
+        block_end.saturating_add(CLOSING).min(MAX_ARCHIVE)
+    }
+
+    /// How many bytes the texts have.
+    pub fn kept(&self) -> u64
+        ensures { result ≡ sum_by texts_len self.now }
+    {
+        self.texts.len() as u64
+    }
+}
+
+impl<A: Allocator + Copy> Rows<A> {
+    /// Where its memory comes from.
+    pub fn allocator(&self) -> A {
+        *self.texts.allocator()
+    }
+}
+
+impl<A: Allocator> Rows<A> {
+    /// How many rows there are.
+    pub fn len(&self) -> usize
+        ensures { result ≡ length self.now }
+    {
+        self.entries.len()
+    }
+
+    /// The row at a place, if there is one.
+    pub fn get(&self, i: usize) -> Option<Row<'_>>
+        ensures { result ≡ slice_get self.now i }
+    {
+        let entry = self.entries.get(i)?;
+        let texts = self.texts.as_slice();
+        Some(Row {
+            offset: entry.offset,
+            block_start: entry.block_start,
+            block_len: entry.block_len,
+            verdict: entry.verdict,
+            is_truncated: entry.is_truncated,
+            kind: part(texts, entry.kind_start, entry.kind_end),
+            date: part(texts, entry.kind_end, entry.date_end),
+            id: part(texts, entry.date_end, entry.id_end),
+            target: part(texts, entry.id_end, entry.target_end),
+        })
+    }
+}
