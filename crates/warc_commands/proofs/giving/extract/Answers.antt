@@ -1,4 +1,4 @@
-use Rattle.std.proofs.Common.{inl, inr, refl, sym, ap, ◌∙◌}
+use Rattle.std.proofs.Common.{inl, inr, sym, ap, ◌∙◌}
 use Rattle.warc.specs.Extracting.{extract_result}
 use Rattle.warc_commands.proofs.ProgramLemmas.{failed_as, may_have_failed_as, not_opened, told_among}
 use Rattle.warc_commands.proofs.giving.extract.Goals as goal

@@ -1,4 +1,4 @@
-use Rattle.std.proofs.Common.{inl, inr, refl, sym, ap, ◌∙◌}
+use Rattle.std.proofs.Common.{inl, inr, sym, ap, ◌∙◌}
 use Rattle.warc_answer.specs.Replays.{out_result}
 use Rattle.warc_reading.specs.Archive.{contents}
 use Rattle.warc_commands.proofs.ProgramLemmas.{failed_as, good_records_of, may_have_failed_as, not_opened, told_among}
