@@ -144,7 +144,7 @@ more_given start old new taken bytes more has at held =
 
 whole_given : (start : ℕ) (old new : Tapped) (taken bytes more : List ℕ) → HasGivenFrom start old new taken → start ≡ length bytes → old.holds ≡ Some (bytes ++ more) → HasGiven old new (bytes ++ taken)
 whole_given start old new taken bytes more has at held = record {
-  front = λ all is.
+  part = λ all is.
       let same : bytes ++ more ≡ all = cc (sym held ∙ is) in
       ap (λ t. bytes ++ t) (more_given start old new taken bytes more has at held) ∙ sym (take-append-add bytes more (length taken))
       ∙ ap (λ n. take n (bytes ++ more)) (sym (length-append bytes taken)) ∙ ap (take (length (bytes ++ taken))) same;
@@ -232,7 +232,7 @@ module _ (start : ℕ) (old mid new : Tapped) (taken : List ℕ) (has : HasGiven
         let s = stands bytes is in
         let given = whole_given start old mid taken bytes more has here held in
         opens_refused old mid new (bytes ++ taken) given failed (read_of bytes here) (short_of bytes here) s.told r (take n buf) (length (bytes ++ taken) + n) f well (lies (bytes ++ taken) s.told s.is_at) s.has
-        (λ all holds. front_grows all (bytes ++ taken) buf place n (there ∙ size bytes here) (given.front all holds) (gives all holds))
+        (λ all holds. front_grows all (bytes ++ taken) buf place n (there ∙ size bytes here) (given.part all holds) (gives all holds))
         (stays bytes is) (wants bytes is))
         (λ bytes held is holds less. absurd (omega (arith, some, less, there, at bytes is, (gives held holds).within)))
         (sound well ∙ sym (not_raised f.kind old.faults never))
@@ -246,7 +246,7 @@ module _ (start : ℕ) (old mid new : Tapped) (taken : List ℕ) (has : HasGiven
         let s = stands bytes is in
         let given = whole_given start old mid taken bytes more has here held in
         opens_ended old mid new (bytes ++ taken) given failed (read_of bytes here) (short_of bytes here) (grown result (r.rows, r.beside)) well
-        (λ all holds. ends all (bytes ++ taken) buf place n (there ∙ size bytes here) (given.front all holds) (gives all holds) room zero)
+        (λ all holds. ends all (bytes ++ taken) buf place n (there ∙ size bytes here) (given.part all holds) (gives all holds) room zero)
         (finished K is.listed.are.records (bytes ++ taken) s.told r result s.has (lies (bytes ++ taken) s.told s.is_at) (short_of bytes here) (ends_so 0 (bytes ++ taken) s.told s.is_at))
 
     -- nothing stands behind the bytes

@@ -102,20 +102,9 @@ near_more old mid new at failed low watched read asks = λ these.
 pub read_there : {old new : Tapped} {failed : Bool} {at n : ℕ} → at ≡ n → IsReadAt at failed old new → IsReadAt n failed old new
 read_there {old} {new} {failed} same read = let P : ℕ → Type 0 = λ q. IsReadAt q failed old new in subst P same read
 
-pub given_more : (old mid new : Tapped) (text part : List ℕ) → HasGiven old mid text → IsReadAt (length text) false mid new → length text ≤ max_archive → 0 < length part
-    → ((bytes : List ℕ) → old.holds ≡ Some bytes → text ++ part ≡ take (length (text ++ part)) bytes) → HasGiven old new (text ++ part)
-given_more old mid new text part has read short some front = record {
-  front = front;
-  kept = read.kept ∙ has.kept;
-  sound = read.cause ∙ has.sound;
-  cost = omega (arith, has.cost, read.counted, raised_by_one mid.reads, length-append text part, some);
-  watched = read.watched ∙ has.watched;
-  near = near_more old mid new (length text) false short has.watched read has.near;
-}
-
 module _ (old mid new : Tapped) (text : List ℕ) (has : HasGiven old mid text) (failed : Bool) (read : IsReadAt (length text) failed mid new) (short : length text ≤ max_archive) where
   low : (bytes : List ℕ) → old.holds ≡ Some bytes → length text ≤ length bytes
-  low bytes held = omega (arith, ap length (has.front bytes held) ∙ length-take (length text) bytes)
+  low bytes held = omega (arith, ap length (has.part bytes held) ∙ length-take (length text) bytes)
 
   bound : new.reads ≤ old.reads + max_archive + 1
   bound = omega (arith, has.cost, read.counted, raised_by_one mid.reads, short)
@@ -129,7 +118,7 @@ module _ (old mid new : Tapped) (text : List ℕ) (has : HasGiven old mid text) 
     accepted = λ bytes held. tt;
     refused = λ bytes held. record {
       within = low bytes held;
-      before = let P : List ℕ → Type 0 = λ t. IsOnlyCut t in subst P (has.front bytes held) (only_cut text told r lies kept short);
+      before = let P : List ℕ → Type 0 = λ t. IsOnlyCut t in subst P (has.part bytes held) (only_cut text told r lies kept short);
     };
     kept = read.kept ∙ has.kept;
     cause = read.cause ∙ ap (λ b. if b then raised mid.faults else mid.faults) fails ∙ ap raised has.sound;
@@ -178,7 +167,7 @@ module _ (old mid new : Tapped) (text : List ℕ) (has : HasGiven old mid text) 
         begins = omega (arith, before, more);
         cut = λ (first : f.offset < new.asked).
             let Q : List ℕ → Type 0 = λ t. IsCut (drop f.offset t) in
-            let asked : text ≡ take new.asked bytes = has.front bytes held ∙ ap (λ q. take q bytes) (sym read.asked) in
+            let asked : text ≡ take new.asked bytes = has.part bytes held ∙ ap (λ q. take q bytes) (sym read.asked) in
             subst Q asked (cut_since text told r f.offset lies kept since (omega (arith, first, read.asked)));
       }))
 

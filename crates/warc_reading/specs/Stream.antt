@@ -137,15 +137,6 @@ BeginsSince text old new = (new ≡ old) ⊎ (length text ≤ new)
 abbrev pub WantsSince : List ℕ → List ℕ → ℕ → Fault → Type 0
 WantsSince text piece begin f = f.kind ≡ Memory → BeginsSince text begin f.offset × (f.offset < length (text ++ piece))
 
--- this text was read of a source, from its front on, with at most one read for each byte
-pub record HasGiven (old new : Tapped) (text : List ℕ) : Type 0 where
-  pub front : IfHeld old.holds (λ bytes. text ≡ take (length text) bytes)
-  pub kept : new.holds ≡ old.holds
-  pub sound : new.faults ≡ old.faults
-  pub cost : new.reads ≤ old.reads + length text
-  pub watched : new.watches ≡ old.watches
-  pub near : AsksOnly (λ at. at ≤ max_archive) old new
-
 -- these bytes were read of a source, from an offset on, with at most one read for each
 pub record HasGivenFrom (start : ℕ) (old new : Tapped) (taken : List ℕ) : Type 0 where
   pub part : IfHeld old.holds (λ bytes. taken ≡ take (length taken) (drop start bytes))
@@ -154,3 +145,7 @@ pub record HasGivenFrom (start : ℕ) (old new : Tapped) (taken : List ℕ) : Ty
   pub cost : new.reads ≤ old.reads + length taken
   pub watched : new.watches ≡ old.watches
   pub near : AsksOnly (λ at. at ≤ max_archive) old new
+
+-- this text was read of a source, from its front on
+abbrev pub HasGiven : Tapped → Tapped → List ℕ → Type 0
+HasGiven old new text = HasGivenFrom 0 old new text

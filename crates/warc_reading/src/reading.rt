@@ -236,10 +236,7 @@ fn take_front<A: Allocator + Copy, L: Keep<A> + Drop>(
     };
     match kept {
         Ok(()) => Ok(took),
-        Err(kind) => Err(Fault {
-            kind,
-            offset: begin,
-        }),
+        Err(kind) => Err(kind.at(begin)),
     }
 }
 
@@ -293,10 +290,7 @@ fn read_through<S: Source, A: Allocator + Copy, L: Keep<A> + Drop>(
         let at = decoder.position();
         let n = match source.read_at(at, buf) {
             Ok(n) => n,
-            Err(_) => return Err(Fault {
-                kind: FaultKind::Read,
-                offset: at,
-            }),
+            Err(_) => return Err(FaultKind::Read.at(at)),
         };
         if n == 0 {
             break;
@@ -324,11 +318,7 @@ pub fn read_on<S: Source, A: Allocator + Copy, L: Keep<A> + Drop>(
         → OnErr result.0 (IsKeptOf L.keeps bytes (result.1, result.2)) }
 {
     let Ok(mut buf) = vec![in alloc; 0u8; PIECE] else {
-        let fault = Fault {
-            kind: FaultKind::Memory,
-            offset: 0,
-        };
-        return (Err(fault), rows, beside);
+        return (Err(FaultKind::Memory.at(0)), rows, beside);
     };
     let count = rows.len();
     let mut reading = Reading::behind(rows, beside);

@@ -30,7 +30,7 @@ returns-in-Err-clause-grows g c =
       strayed = c.in-Err.ensures.strayed;
     })) (omega (arith, end, c.position-at.ensures.limit)) g.L.Keep.keeps (c.args.reading.now.rows, c.args.reading.now.beside) (λ bytes is. c.requires.begin bytes is.listed) c.reading.decoder c.reading.reading
     i.stands (λ text told is. (c.position-at.ensures.history 0 text told is).1) refl in
-    rw end grows
+    rw (c.at.ensures, end) grows
 
 pub returns-in-Err-clause-rows : goal.returns-in-Err-clause-rows
 returns-in-Err-clause-rows g c = c.reading.invariant.rows

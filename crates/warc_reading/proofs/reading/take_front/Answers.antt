@@ -54,7 +54,7 @@ returns-in-Err-kept-clause-history g c = λ was text stands.
     let new = c.match-event.reading in
     let at = (c.position-position.ensures.history 0 (text ++ take took piece) _ takes.is_at).0 in
     let here : c.position-position.result ≡ length (text ++ take took piece) = omega (arith, at) in
-    elim c.match-event.branch [
+    rw c.at.ensures (elim c.match-event.branch [
       | in-More w ↦ cc (sym c.in-Err-kept.is ∙ w.kept-is)
       | in-Head w ↦
           head_stops text piece stands.told c.step.new.self took c.in_ok-took.event takes old new stands.has w.in-Head.field-0 w.in-Head.fields w.in-Head.block_len c.in-Err-kept.kind w.in-Head.is
@@ -63,7 +63,7 @@ returns-in-Err-kept-clause-history g c = λ was text stands.
       | in-End+in-Ok w ↦ cc (sym c.in-Err-kept.is ∙ w.kept-is)
       | in-End+in-Err w ↦
           memory_stops text piece stands.told old stands.has c.in-Err-kept.kind (cc (sym c.in-Err-kept.is ∙ w.kept-is))
-    ]
+    ])
 
 pub returns-in_err-took-clause-begins : goal.returns-in_err-took-clause-begins
 returns-in_err-took-clause-begins g c =
@@ -142,7 +142,7 @@ returns-in-Ok-kept-clause-taken g c = λ at taken told is.
 
 pub returns-in-Err-kept-clause-taken : goal.returns-in-Err-kept-clause-taken
 returns-in-Err-kept-clause-taken g c = λ at taken told is.
-    elim c.match-event.branch [
+    rw c.at.ensures (elim c.match-event.branch [
       | in-More w ↦ cc (sym c.in-Err-kept.is ∙ w.kept-is)
       | in-Head w ↦
           head_not_read w.in-Head.fields c.in-Err-kept.kind (err_then _ w.begin_block-kept.result c.in-Err-kept.kind w.begin_block-kept.ensures.fault (sym w.kept-is ∙ c.in-Err-kept.is))
@@ -152,4 +152,4 @@ returns-in-Err-kept-clause-taken g c = λ at taken told is.
           let memory : c.in-Err-kept.kind ≡ Memory = cc (sym c.in-Err-kept.is ∙ w.kept-is) in
           let no : Memory ≡ Read = sym memory ∙ read in
           cc no
-    ]
+    ])
