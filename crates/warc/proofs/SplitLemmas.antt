@@ -25,7 +25,7 @@ use Rattle.warc.specs.Segments.{AreSegmentTexts, IsCutOf, IsSegmentText}
 use Rattle.warc.specs.declared.copying.Copied.{Copied}
 use Rattle.warc.specs.declared.segments.Cut.{Cut}
 use Rattle.warc.specs.Examining.{IsHeadOf}
-use Rattle.warc.proofs.EmitLemmas.{Begins, InTurn, reads_within}
+use Rattle.warc.proofs.EmitLemmas.{Begins, InTurn, reads_both, reads_within}
 use Rattle.warc.proofs.WholeLemmas.{copy_of}
 
 -- ---- a segment
@@ -169,6 +169,18 @@ whole_of_row {A} copy size row head bytes text version fields start len by (is, 
 -- ---- what is read for them
 
 -- a piece of a block
-pub reads_piece : (start len gone n most : ℕ) {old new : Tapped} → gone + n ≤ len → n ≤ most → HasFilled (start + gone) n old new → ReadsOnly (IsInBlock start len) most old new
+pub reads_piece : (start len gone n most : ℕ) {old new : Tapped} → gone + n ≤ len → n ≤ most → ReadsOnly (IsInBlock (start + gone) n) n old new
+    → ReadsOnly (IsInBlock start len) most old new
 reads_piece start len gone n most {old} {new} within le has =
-    reads_within (λ at in_. (omega (arith, in_.0), omega (arith, in_.1, within))) le (record { near = has.near; bound = has.bound; watched = has.watched })
+    reads_within (λ at in_. (omega (arith, in_.0), omega (arith, in_.1, within))) le has
+
+-- one more piece of a range
+pub reads_more : (at done n m : ℕ) {old mid new : Tapped} → m ≡ n → ReadsOnly (IsInBlock at done) done old mid → HasFilled (at + done) m mid new
+    → ReadsOnly (IsInBlock at (done + n)) (done + n) old new
+reads_more at done n m {old} {mid} {new} same first has =
+    let front : ReadsOnly (IsInBlock at (done + n)) done old mid = reads_within (λ q in_. (in_.0, omega (arith, in_.1))) (omega arith) first in
+    reads_both front (record {
+      near = λ off. has.near (λ q in_. off q (omega (arith, in_.0), omega (arith, in_.1, same)));
+      bound = omega (arith, has.bound, same);
+      watched = has.watched;
+    })

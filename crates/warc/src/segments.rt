@@ -3,7 +3,6 @@ ghost use Rattle.std.specs.Prelude.{◌≡◌, ℕ, ◌+◌, ◌-◌, ◌*◌, �
 ghost use Rattle.sha1.specs.Sha1.{sha1};
 ghost use Rattle.warc_frame.specs.Copying.{HasRange};
 ghost use Rattle.warc_frame.specs.Count.{raised};
-ghost use Rattle.warc_frame.specs.Ranges.{HasFilled};
 ghost use Rattle.warc_frame.specs.Record.{Record};
 ghost use Rattle.warc_frame.specs.Seen.{seen, tapped};
 ghost use Rattle.warc_value.specs.Digests.{is_bad};
@@ -17,7 +16,7 @@ ghost use Rattle.warc.specs.Segments.{AreSegmentTexts, IsSegmentText};
 use crate::copying::{Copied, put_copied};
 use std::alloc::{AllocError, Allocator};
 use warc_field::Fields;
-use warc_frame::{Head, OutBuffer, OutFault, ReadFault, Sink, Source, Version};
+use warc_frame::{Head, OutBuffer, OutFault, ReadFault, Sink, Source, Version, read_range};
 use warc_reading::Row;
 use warc_value::Running;
 use warc_write::{SplitFault, cut, part_at, segment_count, segment_head};
@@ -50,7 +49,7 @@ fn digest_range<S: Source>(
         IfOk result (λ digest. digest ≡ sha1 (take len (drop at bytes))) }
     ensures kept { S.holds source.new ≡ S.holds source.old }
     ensures sound { OnOk result (S.faults source.new ≡ S.faults source.old) }
-    ensures filled { HasFilled at len
+    ensures reads { ReadsOnly (IsInBlock at len) len
         (tapped (S.holds source.old) (S.faults source.old) (S.reads source.old) (S.asked source.old)
         (S.watches source.old) (S.strays source.old))
         (tapped (S.holds source.new) (S.faults source.new) (S.reads source.new) (S.asked source.new)
@@ -68,12 +67,12 @@ fn digest_range<S: Source>(
     'digesting: while done < len {
         let want = (len - done).min(scratch.len() as u64) as usize;
         let piece = &mut scratch[..want];
-        let n = match source.read_at(at + done, piece) {
-            Ok(n) if n > 0 => n,
-            _ => return Err(ReadFault),
-        };
-        running.update(&piece[..n]);
-        done += n as u64;
+        match read_range(source, at + done, piece) {
+            Ok(()) => {}
+            Err(fault) => return Err(fault),
+        }
+        running.update(piece);
+        done += want as u64;
     }
     Ok(running.digest())
 }

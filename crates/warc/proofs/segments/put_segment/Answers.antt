@@ -13,7 +13,7 @@ pub returns-in_default-segment_head-clause-reads : goal.returns-in_default-segme
 returns-in_default-segment_head-clause-reads g c =
     let cut = c.args.cut.now in
     reads_piece cut.block_start cut.block_len (c.args.at * cut.size) c.min-len.result _
-    (omega (arith, c.min-len.ensures, c.requires.inside)) (omega (arith, c.min-len.ensures)) c.in-Ok.ensures.filled
+    (omega (arith, c.min-len.ensures, c.requires.inside)) (omega (arith, c.min-len.ensures)) c.in-Ok.ensures.reads
 
 pub returns-clause-emits : goal.returns-clause-emits
 returns-clause-emits g c =
@@ -31,6 +31,6 @@ pub returns-clause-reads : goal.returns-clause-reads
 returns-clause-reads g c =
     let cut = c.args.cut.now in
     let n = c.min-len.result in
-    let first : ReadsOnly (IsInBlock cut.block_start cut.block_len) n _ _ = reads_piece cut.block_start cut.block_len (c.args.at * cut.size) n n (omega (arith, c.min-len.ensures, c.requires.inside)) (omega arith) c.in-Ok.ensures.filled in
+    let first : ReadsOnly (IsInBlock cut.block_start cut.block_len) n _ _ = reads_piece cut.block_start cut.block_len (c.args.at * cut.size) n n (omega (arith, c.min-len.ensures, c.requires.inside)) (omega arith) c.in-Ok.ensures.reads in
     let second : ReadsOnly (IsInBlock cut.block_start cut.block_len) n _ _ = reads_within (λ at in_. (omega (arith, in_.0), omega (arith, in_.1, c.min-len.ensures, c.requires.inside))) (omega arith) c.put_copied.ensures.reads in
     reads_within (λ at in_. in_) (omega (arith, c.min-len.ensures)) (reads_both first second)
