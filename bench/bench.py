@@ -1,5 +1,5 @@
 #!/usr/bin/env python3
-"""Times `warc list`, `warc check` and `warc rewrite` on archives of its own, beside `cat` and `sha1sum`.
+"""Times `warc list`, `warc check`, `warc rewrite` and `warc split` on archives of its own, beside `cat` and `sha1sum`.
 
 Usage: bench.py PROGRAM FOLDER
 
@@ -74,6 +74,7 @@ def main():
             "list": [program, "list", path],
             "check": [program, "check", path],
             "rewrite": [program, "rewrite", path],
+            "split": [program, "split", path, "1000000"],
             "cat": ["cat", path],
             "sha1sum": ["sha1sum", path],
         }
@@ -82,7 +83,7 @@ def main():
             for key, words in commands.items():
                 least[key] = min(least.get(key, (1e9, 0)), run(words))
         print(f"{name}: {size} bytes, {count} records")
-        for key in ("list", "check", "rewrite"):
+        for key in ("list", "check", "rewrite", "split"):
             seconds, peak = least[key]
             print(
                 f"  {key}: {seconds:.2f} s, {seconds / least['cat'][0]:.1f} of cat, "

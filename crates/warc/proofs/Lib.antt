@@ -12,6 +12,7 @@ pub mod PlaceLemmas
 pub mod ReadLemmas
 pub mod RecordsLemmas
 pub mod ReplayLemmas
+pub mod SplitLemmas
 pub mod StandLemmas
 pub mod WholeLemmas
 pub mod TakeLemmas

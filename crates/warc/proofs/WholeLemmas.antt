@@ -3,7 +3,7 @@ use Rattle.std.proofs.Common.{◌≡◌, ℕ, ◌+◌, ◌-◌, ◌^◌, ◌<◌
 use Rattle.std.proofs.Math.Seq.{drop-append_seam, take-append_seam}
 use Rattle.std.proofs.lemmas.List.{append-nil, take-append-drop}
 use Rattle.std.proofs.lemmas.List.Sums.{sum_by-cons, sum_by-take-le, sum_by_push}
-use Rattle.std.specs.List.{AllByRecursion, slice_get, sum_by}
+use Rattle.std.specs.List.{AllByRecursion, flat_map, slice_get, sum_by}
 use Rattle.warc_field.specs.Area.{Pair, canonical_fields}
 use Rattle.warc_field.specs.Lines.{crlf}
 use Rattle.warc_frame.specs.Copying.{HasRange}
@@ -16,15 +16,13 @@ use Rattle.warc_record.specs.Heads.{head_fault}
 use Rattle.warc_write.specs.Conversion.{converted, converted_fields}
 use Rattle.warc_reading.specs.Archive.{IsArchiveOf, SpellsFrom, contents}
 use Rattle.warc.specs.Copied.{AreTextsOf, HasWhole, IsCopiedOf, IsCopy, IsTextOf}
-use Rattle.warc.specs.Examining.{HasHead, IsHeadOf}
-use Rattle.warc.specs.Forms.{IsInRecord, IsInRow, ReadsOnly, read_len, text_as, texts_as}
+use Rattle.warc.specs.Forms.{IsInBlock, IsInRecord, IsInRow, ReadsOnly, text_as}
 use Rattle.warc.specs.Heads.{ReadsHeads}
 use Rattle.warc_frame.specs.Seen.{Tapped}
 use Rattle.warc_reading.specs.Row.{Placed, Row, row_of}
 use Rattle.warc.specs.declared.copying.Copied.{Copied}
 use Rattle.warc.specs.declared.copying.Form.{Form}
 use Rattle.warc.specs.declared.copying.Form.TheVariants.{Canonical, Converted}
-use Rattle.warc_frame.specs.declared.reading.Head.{Head}
 use Rattle.warc.proofs.EmitLemmas.{Begins, InTurn, reads_both, reads_within}
 use Rattle.warc_reading.proofs.GoodLemmas.{accepted}
 use Rattle.warc.proofs.PlaceLemmas.{HeadsAreRead, head_here}
@@ -71,9 +69,9 @@ wholes_from law q before (r ∷ rs) text q_is (front, rest, one, at, start, text
     )
 
 -- the texts of the records of an archive
-pub texts_of_archive : HeadsAreRead → (form : Form) (bytes : List ℕ) (rows seen : List Row) (is : IsArchiveOf bytes seen) → rows ≡ seen
-    → AreTextsOf form rows bytes (texts_as form (contents is.are.records))
-texts_of_archive law form bytes rows seen is same = record {
+pub texts_of_archive : HeadsAreRead → (text_of : Record → List ℕ) (bytes : List ℕ) (rows seen : List Row) (is : IsArchiveOf bytes seen) → rows ≡ seen
+    → AreTextsOf text_of rows bytes (flat_map text_of (contents is.are.records))
+texts_of_archive law text_of bytes rows seen is same = record {
   records = is.are.records;
   whole = wholes_from law 0 [] is.are.records bytes refl is.are.spelled (accepted (contents is.are.records) is.are.good) (omega (arith, is.short));
   rows_are = same ∙ is.are.rows_are;
@@ -82,64 +80,64 @@ texts_of_archive law form bytes rows seen is same = record {
 
 -- ---- the texts of rows, one behind another
 
-texts_parts_on : (form : Form) (bytes : List ℕ) (xs ys : List Row) (text : List ℕ) (records : List Placed) → AllByRecursion (HasWhole bytes) records
-    → xs ++ ys ≡ map row_of records → text ≡ texts_as form (contents records) → InTurn (AreTextsOf form xs) (AreTextsOf form ys) bytes text
-texts_parts_on form bytes [] ys text records whole rows_are is =
+texts_parts_on : (text_of : Record → List ℕ) (bytes : List ℕ) (xs ys : List Row) (text : List ℕ) (records : List Placed) → AllByRecursion (HasWhole bytes) records
+    → xs ++ ys ≡ map row_of records → text ≡ flat_map text_of (contents records) → InTurn (AreTextsOf text_of xs) (AreTextsOf text_of ys) bytes text
+texts_parts_on text_of bytes [] ys text records whole rows_are is =
     ([], text, refl, record { records = []; whole = tt; rows_are = refl; is = refl }, record { records = records; whole = whole; rows_are = rows_are; is = is })
-texts_parts_on form bytes (x ∷ xs) ys text [] whole rows_are is = absurd (cc rows_are)
-texts_parts_on form bytes (x ∷ xs) ys text (p ∷ ps) whole rows_are is =
+texts_parts_on text_of bytes (x ∷ xs) ys text [] whole rows_are is = absurd (cc rows_are)
+texts_parts_on text_of bytes (x ∷ xs) ys text (p ∷ ps) whole rows_are is =
     let head : x ≡ row_of p = cc rows_are in
     let tail : xs ++ ys ≡ map row_of ps = cc rows_are in
-    let (one, two, same, first, second) = texts_parts_on form bytes xs ys (texts_as form (contents ps)) ps whole.1 tail refl in (
-      text_as form p.content ++ one,
+    let (one, two, same, first, second) = texts_parts_on text_of bytes xs ys (flat_map text_of (contents ps)) ps whole.1 tail refl in (
+      text_of p.content ++ one,
       two,
-      is ∙ ap (λ l. text_as form p.content ++ l) same ∙ sym (append_assoc (text_as form p.content) one two),
+      is ∙ ap (λ l. text_of p.content ++ l) same ∙ sym (append_assoc (text_of p.content) one two),
       record {
         records = p ∷ first.records;
         whole = (whole.0, first.whole);
         rows_are = ap (λ r. r ∷ xs) head ∙ ap (λ l. row_of p ∷ l) first.rows_are;
-        is = ap (λ l. text_as form p.content ++ l) first.is;
+        is = ap (λ l. text_of p.content ++ l) first.is;
       },
       second,
     )
 
-pub texts_parts : (form : Form) (bytes : List ℕ) (xs ys : List Row) (text : List ℕ) → AreTextsOf form (xs ++ ys) bytes text
-    → InTurn (AreTextsOf form xs) (AreTextsOf form ys) bytes text
-texts_parts form bytes xs ys text are = texts_parts_on form bytes xs ys text are.records are.whole are.rows_are are.is
+pub texts_parts : (text_of : Record → List ℕ) (bytes : List ℕ) (xs ys : List Row) (text : List ℕ) → AreTextsOf text_of (xs ++ ys) bytes text
+    → InTurn (AreTextsOf text_of xs) (AreTextsOf text_of ys) bytes text
+texts_parts text_of bytes xs ys text are = texts_parts_on text_of bytes xs ys text are.records are.whole are.rows_are are.is
 
-text_of_one_on : (form : Form) (bytes : List ℕ) (row : Row) (text : List ℕ) (records : List Placed) → AllByRecursion (HasWhole bytes) records
-    → row ∷ [] ≡ map row_of records → text ≡ texts_as form (contents records) → IsTextOf form row bytes text
-text_of_one_on form bytes row text [] whole rows_are is = absurd (cc rows_are)
-text_of_one_on form bytes row text (p ∷ []) whole rows_are is =
-    record { placed = p; whole = whole.0; row_is = cc rows_are; is = is ∙ append-nil (text_as form p.content) }
-text_of_one_on form bytes row text (p ∷ q ∷ ps) whole rows_are is = absurd (cc rows_are)
+text_of_one_on : (text_of : Record → List ℕ) (bytes : List ℕ) (row : Row) (text : List ℕ) (records : List Placed) → AllByRecursion (HasWhole bytes) records
+    → row ∷ [] ≡ map row_of records → text ≡ flat_map text_of (contents records) → IsTextOf text_of row bytes text
+text_of_one_on text_of bytes row text [] whole rows_are is = absurd (cc rows_are)
+text_of_one_on text_of bytes row text (p ∷ []) whole rows_are is =
+    record { placed = p; whole = whole.0; row_is = cc rows_are; is = is ∙ append-nil (text_of p.content) }
+text_of_one_on text_of bytes row text (p ∷ q ∷ ps) whole rows_are is = absurd (cc rows_are)
 
 -- the texts of one more row
-pub texts_more : (form : Form) (rows : List Row) (i : ℕ) (row : Row) (bytes text : List ℕ) → slice_get rows i ≡ Some row → AreTextsOf form (take (i + 1) rows) bytes text
-    → InTurn (AreTextsOf form (take i rows)) (IsTextOf form row) bytes text
-texts_more form rows i row bytes text is are =
-    let P : List Row → Type 0 = λ l. AreTextsOf form l bytes text in
-    let (one, two, same, first, second) = texts_parts form bytes (take i rows) (row ∷ []) text (subst P (take_one rows i row is) are) in
-    (one, two, same, first, text_of_one_on form bytes row two second.records second.whole second.rows_are second.is)
+pub texts_more : (text_of : Record → List ℕ) (rows : List Row) (i : ℕ) (row : Row) (bytes text : List ℕ) → slice_get rows i ≡ Some row → AreTextsOf text_of (take (i + 1) rows) bytes text
+    → InTurn (AreTextsOf text_of (take i rows)) (IsTextOf text_of row) bytes text
+texts_more text_of rows i row bytes text is are =
+    let P : List Row → Type 0 = λ l. AreTextsOf text_of l bytes text in
+    let (one, two, same, first, second) = texts_parts text_of bytes (take i rows) (row ∷ []) text (subst P (take_one rows i row is) are) in
+    (one, two, same, first, text_of_one_on text_of bytes row two second.records second.whole second.rows_are second.is)
 
-pub texts_begin : (form : Form) (rows : List Row) (n : ℕ) (bytes text : List ℕ) → AreTextsOf form rows bytes text → Begins (AreTextsOf form (take n rows)) bytes text
-texts_begin form rows n bytes text are =
-    let P : List Row → Type 0 = λ l. AreTextsOf form l bytes text in
-    let (one, two, same, first, second) = texts_parts form bytes (take n rows) (drop n rows) text (subst P (sym (take-append-drop n rows)) are) in
+pub texts_begin : (text_of : Record → List ℕ) (rows : List Row) (n : ℕ) (bytes text : List ℕ) → AreTextsOf text_of rows bytes text → Begins (AreTextsOf text_of (take n rows)) bytes text
+texts_begin text_of rows n bytes text are =
+    let P : List Row → Type 0 = λ l. AreTextsOf text_of l bytes text in
+    let (one, two, same, first, second) = texts_parts text_of bytes (take n rows) (drop n rows) text (subst P (sym (take-append-drop n rows)) are) in
     (one, two, same, first)
 
-pub texts_begin_more : (form : Form) (rows : List Row) (i : ℕ) (row : Row) (bytes text : List ℕ) → slice_get rows i ≡ Some row → AreTextsOf form rows bytes text
-    → Begins (InTurn (AreTextsOf form (take i rows)) (IsTextOf form row)) bytes text
-texts_begin_more form rows i row bytes text is are =
-    let (one, more, same, first) = texts_begin form rows (i + 1) bytes text are in
-    (one, more, same, texts_more form rows i row bytes one is first)
+pub texts_begin_more : (text_of : Record → List ℕ) (rows : List Row) (i : ℕ) (row : Row) (bytes text : List ℕ) → slice_get rows i ≡ Some row → AreTextsOf text_of rows bytes text
+    → Begins (InTurn (AreTextsOf text_of (take i rows)) (IsTextOf text_of row)) bytes text
+texts_begin_more text_of rows i row bytes text is are =
+    let (one, more, same, first) = texts_begin text_of rows (i + 1) bytes text are in
+    (one, more, same, texts_more text_of rows i row bytes one is first)
 
-none_on : (form : Form) (text : List ℕ) (records : List Placed) → [] ≡ map row_of records → text ≡ texts_as form (contents records) → text ≡ []
-none_on form text [] rows_are is = is
-none_on form text (p ∷ ps) rows_are is = absurd (cc rows_are)
+none_on : (text_of : Record → List ℕ) (text : List ℕ) (records : List Placed) → [] ≡ map row_of records → text ≡ flat_map text_of (contents records) → text ≡ []
+none_on text_of text [] rows_are is = is
+none_on text_of text (p ∷ ps) rows_are is = absurd (cc rows_are)
 
-pub texts_none : (form : Form) (bytes text : List ℕ) → AreTextsOf form [] bytes text → text ≡ []
-texts_none form bytes text are = none_on form text are.records are.rows_are are.is
+pub texts_none : (text_of : Record → List ℕ) (bytes text : List ℕ) → AreTextsOf text_of [] bytes text → text ≡ []
+texts_none text_of bytes text are = none_on text_of text are.records are.rows_are are.is
 
 -- ---- a record whose block is copied
 
@@ -177,8 +175,8 @@ copy_begins_block {A} c bytes text copy =
     (head ++ block, crlf ++ crlf, copy_parts c bytes text copy ∙ sym (append_assoc head block (crlf ++ crlf)), (head, block, refl, refl, (copy.range, refl)))
 
 -- the copy that is written of a row's record
-pub copy_of : {A : Type 0} (form : Form) (row : Row) (c : Copied A) (bytes text : List ℕ) (is : IsTextOf form row bytes text) → IsCopiedOf form is.placed c → IsCopy c bytes text
-copy_of {A} form row c bytes text is copied =
+pub copy_of : {A : Type 0} (text_of : Record → List ℕ) (row : Row) (c : Copied A) (bytes text : List ℕ) (is : IsTextOf text_of row bytes text) → IsCopiedOf text_of is.placed c → IsCopy c bytes text
+copy_of {A} text_of row c bytes text is copied =
     let p = is.placed in
     let block : p.content.block ≡ take c.block_len (drop c.block_start bytes) =
     sym is.whole.block ∙ ap (λ n. take n (drop p.block_start bytes)) (sym copied.len) ∙ ap (λ n. take c.block_len (drop n bytes)) (sym copied.start) in
@@ -198,7 +196,7 @@ unfolding canonical converted
 converted_text p version fields version_is fields_are = rw (version_is, fields_are) refl
 
 pub canonical_copy : {A : Type 0} (form : Form) (p : Placed) (row : Row) (c : Copied A) → form ≡ Canonical → row ≡ row_of p → c.version ≡ p.content.version
-    → c.fields ≡ p.content.fields → c.block_start ≡ row.block_start → c.block_len ≡ row.block_len → IsCopiedOf form p c
+    → c.fields ≡ p.content.fields → c.block_start ≡ row.block_start → c.block_len ≡ row.block_len → IsCopiedOf (text_as form) p c
 canonical_copy {A} form p row c form_is row_is version fields start len = record {
   start = start ∙ ap (λ (r : Row). r.block_start) row_is;
   len = len ∙ ap (λ (r : Row). r.block_len) row_is;
@@ -206,7 +204,7 @@ canonical_copy {A} form p row c form_is row_is version fields start len = record
 }
 
 pub converted_copy : {A : Type 0} (form : Form) (p : Placed) (row : Row) (c : Copied A) → form ≡ Converted → row ≡ row_of p → c.version ≡ V1_1
-    → c.fields ≡ converted_fields p.content.fields → c.block_start ≡ row.block_start → c.block_len ≡ row.block_len → IsCopiedOf form p c
+    → c.fields ≡ converted_fields p.content.fields → c.block_start ≡ row.block_start → c.block_len ≡ row.block_len → IsCopiedOf (text_as form) p c
 converted_copy {A} form p row c form_is row_is version fields start len = record {
   start = start ∙ ap (λ (r : Row). r.block_start) row_is;
   len = len ∙ ap (λ (r : Row). r.block_len) row_is;
@@ -226,22 +224,21 @@ reads_head_of row {old} {new} has = record {
 }
 
 -- the block of a row's record
-pub reads_block_of : (row : Row) (start len : ℕ) {old new : Tapped} → row.offset ≤ row.block_start → start ≡ row.block_start → len ≡ row.block_len
-    → ReadsOnly (λ at. (start ≤ at) × (at < start + len)) len old new → ReadsOnly (IsInRow row) row.block_len old new
-reads_block_of row start len {old} {new} order start_is len_is reads =
-    reads_within (λ at in_. (omega (arith, in_.0, start_is, order), omega (arith, in_.1, start_is, len_is))) (omega (arith, len_is)) reads
+pub reads_block_of : (row : Row) (most : ℕ) {old new : Tapped} → row.offset ≤ row.block_start
+    → ReadsOnly (IsInBlock row.block_start row.block_len) most old new → ReadsOnly (IsInRow row) most old new
+reads_block_of row most {old} {new} order reads = reads_within (λ at in_. (omega (arith, in_.0, order), in_.1)) (omega arith) reads
 
 -- the records of the first rows, and of one more
-pub reads_row : (form : Form) (rows : List Row) (i : ℕ) (row : Row) {old mid new : Tapped} → slice_get rows i ≡ Some row
-    → ReadsOnly (IsInRecord rows) (sum_by (read_len form) (take i rows)) old mid → ReadsOnly (IsInRow row) (read_len form row) mid new
-    → ReadsOnly (IsInRecord rows) (sum_by (read_len form) (take (i + 1) rows)) old new
-reads_row form rows i row {old} {mid} {new} is first one =
-    let whole : sum_by (read_len form) (take (i + 1) rows) ≡ sum_by (read_len form) (take i rows) + read_len form row =
-    ap (sum_by (read_len form)) (take_one rows i row is) ∙ sum_by_push (read_len form) (take i rows) row in
-    let last : ReadsOnly (IsInRecord rows) (read_len form row) mid new =
+pub reads_row : (len_of : Row → ℕ) (rows : List Row) (i : ℕ) (row : Row) {old mid new : Tapped} → slice_get rows i ≡ Some row
+    → ReadsOnly (IsInRecord rows) (sum_by len_of (take i rows)) old mid → ReadsOnly (IsInRow row) (len_of row) mid new
+    → ReadsOnly (IsInRecord rows) (sum_by len_of (take (i + 1) rows)) old new
+reads_row len_of rows i row {old} {mid} {new} is first one =
+    let whole : sum_by len_of (take (i + 1) rows) ≡ sum_by len_of (take i rows) + len_of row =
+    ap (sum_by len_of) (take_one rows i row is) ∙ sum_by_push len_of (take i rows) row in
+    let last : ReadsOnly (IsInRecord rows) (len_of row) mid new =
     reads_within (λ at in_. record { place = i; row = row; is = is; inside = in_ }) (omega arith) one in
     reads_within (λ at in_. in_) (omega (arith, whole)) (reads_both first last)
 
-pub reads_rows : (form : Form) (rows : List Row) (n : ℕ) {old new : Tapped} → ReadsOnly (IsInRecord rows) (sum_by (read_len form) (take n rows)) old new
-    → ReadsOnly (IsInRecord rows) (sum_by (read_len form) rows) old new
-reads_rows form rows n {old} {new} reads = reads_within (λ at in_. in_) (sum_by-take-le (read_len form) rows n) reads
+pub reads_rows : (len_of : Row → ℕ) (rows : List Row) (n : ℕ) {old new : Tapped} → ReadsOnly (IsInRecord rows) (sum_by len_of (take n rows)) old new
+    → ReadsOnly (IsInRecord rows) (sum_by len_of rows) old new
+reads_rows len_of rows n {old} {new} reads = reads_within (λ at in_. in_) (sum_by-take-le len_of rows n) reads

@@ -9,6 +9,7 @@ pub mod Heads
 pub mod Laws
 pub mod Listing
 pub mod Replaying
+pub mod Segments
 pub mod Standing
 pub mod TakeText
 pub mod Taking

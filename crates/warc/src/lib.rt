@@ -1,6 +1,7 @@
 //! WARC archives read as streams: their records, what is wrong with them, and what they answer.
 #![tactic(auto)]
 
+mod anew;
 mod archives;
 mod blocks;
 mod check;
@@ -11,6 +12,7 @@ pub mod laws;
 mod reader;
 mod replay;
 mod row;
+mod segments;
 mod taking;
 mod used;
 

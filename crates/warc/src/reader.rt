@@ -5,7 +5,8 @@ ghost use Rattle.warc_frame.specs.Count.{raised};
 ghost use Rattle.warc_frame.specs.Send.{WentOut, sent_of};
 ghost use Rattle.warc_reading.specs.Archive.{IsArchiveOf, rows_of, source_of};
 ghost use Rattle.warc.specs.Checks.{Checks};
-ghost use Rattle.warc.specs.Forms.{Writes};
+ghost use Rattle.warc.specs.Forms.{Writes, WritesEach, WritesSplit};
+ghost use Rattle.warc.specs.Copied.{len_by, text_by};
 ghost use Rattle.warc.specs.Extracting.{ExtractsAt};
 ghost use Rattle.warc.specs.Listing.{listing};
 ghost use Rattle.warc_reading.specs.Growing.{Grows, grown, source_grown, without_source};
@@ -15,9 +16,10 @@ ghost use Rattle.warc.specs.Replaying.{Replays};
 ghost use Rattle.warc.specs.Taking.{Takes};
 ghost use Rattle.warc_frame.specs.Seen.{seen, tapped};
 
+use crate::anew::{Manner, write_rows};
 use crate::blocks::send_range;
 use crate::check::check_rows;
-use crate::copying::{Form, write_rows};
+use crate::copying::Form;
 use crate::fault::{ExtractFault, TakeFault};
 use crate::replay::replay_rows;
 use crate::row::put_line;
@@ -268,8 +270,42 @@ impl<S: Source, A: Allocator + Copy> Listing<S, A> {
         // The rows stay.
         ensures rows { self.new.rows ≡ self.old.rows }
     {
+        self.write_each(Manner::As(form), out)
+    }
+
+    /// Writes the records anew, in their order, each split into segments of `size` bytes, the last one shorter or
+    /// equal. A record whose block has no more bytes, or which `warc_write::split` refuses but for want of memory, is
+    /// written whole, in canonical form. No block is kept: each piece is read twice, for its digest and to be copied.
+    ///
+    /// A read that fails, or a source that no longer gives what it gave at opening, is `Read`; a write that fails is
+    /// `Write`, and a refused growth of the memory `Memory`. Each tells how many bytes went out, which are the first of
+    /// the output, up to 2^64 - 1.
+    pub fn split<W: Sink>(&mut self, size: u64, out: &mut W) -> Result<(), OutFault>
+        ensures writes { WritesSplit size self.old.rows
+            (tapped (S.holds self.old.source) (S.faults self.old.source) (S.reads self.old.source)
+            (S.asked self.old.source) (S.watches self.old.source) (S.strays self.old.source))
+            (tapped (S.holds self.new.source) (S.faults self.new.source) (S.reads self.new.source)
+            (S.asked self.new.source) (S.watches self.new.source) (S.strays self.new.source))
+            (seen (W.tells out.old) (W.faults out.old)) (seen (W.tells out.new) (W.faults out.new)) result }
+
+        // The rows stay.
+        ensures rows { self.new.rows ≡ self.old.rows }
+    {
+        self.write_each(Manner::Split(size), out)
+    }
+
+    /// Writes the records anew in a manner.
+    fn write_each<W: Sink>(&mut self, manner: Manner, out: &mut W) -> Result<(), OutFault>
+        ensures writes { WritesEach (text_by manner) (len_by manner) self.old.rows
+            (tapped (S.holds self.old.source) (S.faults self.old.source) (S.reads self.old.source)
+            (S.asked self.old.source) (S.watches self.old.source) (S.strays self.old.source))
+            (tapped (S.holds self.new.source) (S.faults self.new.source) (S.reads self.new.source)
+            (S.asked self.new.source) (S.watches self.new.source) (S.strays self.new.source))
+            (seen (W.tells out.old) (W.faults out.old)) (seen (W.tells out.new) (W.faults out.new)) result }
+        ensures rows { self.new.rows ≡ self.old.rows }
+    {
         head_of_spelled();
         let alloc = self.rows.allocator();
-        write_rows(alloc, &mut self.source, form, &self.rows, out)
+        write_rows(alloc, &mut self.source, manner, &self.rows, out)
     }
 }

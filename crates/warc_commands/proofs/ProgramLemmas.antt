@@ -1,5 +1,9 @@
 -- How a run ends, from what its calls answered.
-use Rattle.std.proofs.Common.{◌≡◌, ◌⊎◌, inl, inr, ℕ, List, [], ◌∷◌, length, min, Err, refl, subst, arith}
+use Rattle.std.proofs.Common.{◌≡◌, ◌⊎◌, inl, inr, ℕ, List, [], ◌∷◌, length, min, Ok, Err, refl, sym, subst, ◌∙◌, arith}
+use Rattle.std.specs.List.{flat_map}
+use Rattle.warc_frame.specs.FaultText.{out_fault_text}
+use Rattle.warc_frame.specs.Record.{Record}
+use Rattle.warc.specs.Forms.{WritesEach}
 use Rattle.std.specs.Prelude.{Result}
 use Rattle.warc_frame.specs.declared.fault.Fault.{Fault}
 use Rattle.warc_frame.specs.declared.fault.OutFault.{OutFault}
@@ -8,7 +12,7 @@ use Rattle.warc.specs.Checking.{Line}
 use Rattle.warc_frame.specs.Failing.{HasFailedBy, MayHaveFailedBy}
 use Rattle.warc_commands.specs.Devices.{devices}
 use Rattle.warc_reading.specs.Opening.{Opens}
-use Rattle.warc_commands.specs.Program.{AreGoodRecordsOf, IsNotOpened, fault_line, status_of_findings, status_of_kind, Tells}
+use Rattle.warc_commands.specs.Program.{AreGoodRecordsOf, IsCutOff, IsNotOpened, IsWritten, Tells, fault_line, status_of_findings, status_of_kind, told_line}
 use Rattle.warc_reading.specs.Row.{Row}
 use Rattle.warc_frame.specs.Seen.{Seen, Tapped}
 use Rattle.warc_reading.proofs.StreamLemmas.{spells_all}
@@ -55,6 +59,43 @@ may_have_failed f old new other now a b is =
     let P : ℕ → Type 0 = λ n. MayHaveFailedBy {X = ℕ} (Err f) n now in
     let Q : ℕ → Type 0 = λ n. MayHaveFailedBy {X = ℕ} (Err f) old n in
     subst P a (subst Q b is)
+
+-- an archive of which a text was written
+pub all_written : {text_of : Record → List ℕ} {len_of : Row → ℕ} {rows : List Row} {old mid last new : Tapped} {before after err : Seen} {u : Unit {0}}
+    → Opens IsArchiveOf old mid (Ok rows) → WritesEach text_of len_of rows mid last before after (Ok u) → new.faults ≡ last.faults
+    → IsWritten (flat_map text_of) (devices old before err) (devices new after err) 0
+all_written opened writes same = record {
+  is = λ bytes held.
+      let archive = opened.accepted bytes held in
+      record {
+        records = contents archive.are.records;
+        are = good_records_of archive;
+        told = writes.told bytes (opened.kept ∙ held) archive;
+      };
+  sound = same ∙ writes.may ∙ opened.cause;
+  silent = refl;
+  status_is = refl;
+}
+
+-- an archive of which a front of a text was written
+pub part_written : {text_of : Record → List ℕ} {len_of : Row → ℕ} {rows : List Row} {old mid last new : Tapped} {before after err told : Seen} {status : ℕ} (e : OutFault)
+    → Opens IsArchiveOf old mid (Ok rows) → WritesEach text_of len_of rows mid last before after (Err e) → new.faults ≡ last.faults
+    → Tells (told_line (out_fault_text e)) err told → status ≡ 3 → IsCutOff (flat_map text_of) (devices old before err) (devices new after told) status
+part_written e opened writes same tells is = record {
+  fault = e;
+  is = λ bytes held.
+      let archive = opened.accepted bytes held in
+      record {
+        records = contents archive.are.records;
+        are = good_records_of archive;
+        front = writes.cut bytes (opened.kept ∙ held) archive;
+        source = has_failed e _ _ _ _ opened.cause (sym same) (writes.failed bytes (opened.kept ∙ held) archive);
+      };
+  source = may_have_failed e _ _ _ _ opened.cause (sym same) writes.may;
+  failed = writes.cause;
+  told = tells;
+  status_is = is;
+}
 
 -- the same line
 pub told_as : {line other : List ℕ} {old new : Seen} → line ≡ other → Tells line old new → Tells other old new

@@ -17,6 +17,7 @@ view_of (command.Extract archive id) = (codes "extract", archive.now ∷ id.now 
 view_of (command.Replay archive uri date) = (codes "replay", archive.now ∷ uri.now ∷ date.now ∷ [])
 view_of (command.Rewrite archive) = (codes "rewrite", archive.now ∷ [])
 view_of (command.Convert archive) = (codes "convert", archive.now ∷ [])
+view_of (command.Split archive size) = (codes "split", archive.now ∷ size.now ∷ [])
 view_of (command.Write draft file) = (codes "write", draft_texts draft ++ file.now ∷ [])
 
 -- the path of the file that it reads
@@ -27,4 +28,5 @@ path_of (command.Extract archive id) = archive.now
 path_of (command.Replay archive uri date) = archive.now
 path_of (command.Rewrite archive) = archive.now
 path_of (command.Convert archive) = archive.now
+path_of (command.Split archive size) = archive.now
 path_of (command.Write draft file) = file.now

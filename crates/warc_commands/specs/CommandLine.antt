@@ -35,6 +35,7 @@ layouts =
     ∷ layout (codes "replay") (codes "archive" ∷ codes "uri" ∷ codes "date" ∷ [])
     ∷ layout (codes "rewrite") (codes "archive" ∷ [])
     ∷ layout (codes "convert") (codes "archive" ∷ [])
+    ∷ layout (codes "split") (codes "archive" ∷ codes "size" ∷ [])
     ∷ layout (codes "write") (draft_words ++ codes "file" ∷ [])
     ∷ []
 

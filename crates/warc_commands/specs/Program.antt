@@ -1,11 +1,12 @@
 -- How a run of the program ends: what went to its two sinks, and its exit status.
-use Rattle.std.specs.Prelude.{◌≡◌, ℕ, ◌+◌, ◌^◌, ◌<◌, ◌≤◌, Bool, List, [], ◌∷◌, ◌++◌, length, take, codes, decimal, Option, Some, None, Result, Ok, Err, ◌⊎◌, true, false, string_bytes}
+use Rattle.std.specs.Prelude.{◌≡◌, ℕ, ◌+◌, ◌^◌, ◌<◌, ◌≤◌, Bool, List, [], ◌∷◌, ◌++◌, length, take, codes, decimal, Option, Some, None, Result, Ok, Err, ◌⊎◌, true, false, ◌&&◌, nat_le, nat_lt, option_and_then, if◌then◌else◌, string_bytes}
 use Rattle.std.specs.Io.KnownBytes.{append_known}
 use Rattle.warc_answer.specs.ReasonText.{replay_fault_text}
 use Rattle.warc_answer.specs.Replays.{IsReplay, IsSilent, out_result}
 use Rattle.warc_answer.specs.declared.answer.Answer.{Answer}
 use Rattle.warc_answer.specs.declared.answer.ReplayFault.{ReplayFault}
 use Rattle.warc_answer.specs.declared.answer.ReplayFault.TheVariants.{Reason, Out as ReplayOut}
+use Rattle.warc_field.specs.Decimal.{decimal_of}
 use Rattle.warc_frame.specs.Count.{raised}
 use Rattle.warc_frame.specs.FaultText.{fault_text, out_fault_text}
 use Rattle.warc_frame.specs.Record.{Record, max_archive, max_block}
@@ -21,9 +22,8 @@ use Rattle.warc.specs.Extracting.{IsExtract, extract_result, extracted}
 use Rattle.warc_record.specs.Kinds.{kind_named}
 use Rattle.warc_write.specs.Making.{Makes, Plan, made, make_fault_text}
 use Rattle.warc_write.specs.declared.making.MakeFault.{MakeFault}
-use Rattle.warc.specs.Forms.{texts_as}
+use Rattle.warc.specs.Forms.{split_texts, texts_as}
 use Rattle.warc.specs.TakeText.{extract_fault_text}
-use Rattle.warc.specs.declared.copying.Form.{Form}
 use Rattle.warc.specs.declared.copying.Form.TheVariants.{Canonical, Converted}
 use Rattle.warc.specs.declared.fault.ExtractFault.{ExtractFault}
 use Rattle.warc.specs.declared.fault.ExtractFault.TheVariants.{NoRecord, Out as ExtractOut}
@@ -225,35 +225,44 @@ pub record IsReplayed (uri : List ℕ) (moment : Instant) (old new : Devices) (s
   pub told : Tells (replay_line answer) old.err new.err
   pub status_is : status ≡ replay_status answer
 
--- the text isn't a date: nothing was read or written
-pub record IsBadDate (old new : Devices) (status : ℕ) : Type 0 where
+-- a word isn't what it should be, as is told: nothing was read or written
+pub record IsBadWord (why : List ℕ) (old new : Devices) (status : ℕ) : Type 0 where
   pub unread : new.source ≡ old.source
   pub untouched : new.out ≡ old.out
-  pub told : Tells (told_line (codes "bad date")) old.err new.err
+  pub told : Tells (told_line why) old.err new.err
   pub status_is : status ≡ 3
 
 -- how `replay` ends, as of the first instant of a date
 abbrev pub ReplayEnds : List ℕ → Option Instant → Devices → Devices → ℕ → Type 0
-ReplayEnds uri None old new status = IsBadDate old new status
+ReplayEnds uri None old new status = IsBadWord (codes "bad date") old new status
 ReplayEnds uri (Some moment) old new status = IsReplayed uri moment old new status ⊎ IsNotOpened old new status
 
--- the good records that the bytes spell were written in a form
-pub record IsWrittenOf (form : Form) (bytes : List ℕ) (old new : Seen) : Type 0 where
+-- a text of the good records that the bytes spell was written
+pub record IsWrittenOf (text : List Record → List ℕ) (bytes : List ℕ) (old new : Seen) : Type 0 where
   pub records : List Record
   pub are : AreGoodRecordsOf bytes records
-  pub told : new.tells ≡ append_known old.tells (texts_as form records)
+  pub told : new.tells ≡ append_known old.tells (text records)
 
--- all records were written
-pub record IsWritten (form : Form) (old new : Devices) (status : ℕ) : Type 0 where
-  pub is : IfHeld old.source.holds (λ bytes. IsWrittenOf form bytes old.out new.out)
+-- all of it was written
+pub record IsWritten (text : List Record → List ℕ) (old new : Devices) (status : ℕ) : Type 0 where
+  pub is : IfHeld old.source.holds (λ bytes. IsWrittenOf text bytes old.out new.out)
   pub sound : new.source.faults ≡ old.source.faults
   pub silent : new.err ≡ old.err
   pub status_is : status ≡ 0
 
--- how writing an archive anew in a form ends
-abbrev pub WriteEnds : Form → Devices → Devices → ℕ → Type 0
-WriteEnds form old new status =
-    IsWritten form old new status ⊎ (IsNotOpened old new status ⊎ IsCutOff (texts_as form) old new status)
+-- how writing a text of the records of an archive ends
+abbrev pub WriteEnds : (List Record → List ℕ) → Devices → Devices → ℕ → Type 0
+WriteEnds text old new status =
+    IsWritten text old new status ⊎ (IsNotOpened old new status ⊎ IsCutOff text old new status)
+
+-- how many bytes a segment is to have, by a word: decimal digits, a number from 1 to that of the longest block
+abbrev pub size_of : List ℕ → Option ℕ
+size_of word = option_and_then (λ n. if nat_lt 0 n && nat_le n max_block then Some n else None) (decimal_of word)
+
+-- how `split` ends
+abbrev pub SplitEnds : Option ℕ → Devices → Devices → ℕ → Type 0
+SplitEnds None old new status = IsBadWord (codes "bad size") old new status
+SplitEnds (Some n) old new status = WriteEnds (split_texts n) old new status
 
 -- what `write` makes a record of, by its words and the bytes of its file: all of them, or one more than a block may
 -- have
@@ -323,8 +332,9 @@ Ends (command.List archive) old new status = ListEnds old new status
 Ends (command.Check archive) old new status = CheckEnds old new status
 Ends (command.Extract archive id) old new status = ExtractEnds id.now old new status
 Ends (command.Replay archive uri date) old new status = ReplayEnds uri.now (instant_of date.now) old new status
-Ends (command.Rewrite archive) old new status = WriteEnds Canonical old new status
-Ends (command.Convert archive) old new status = WriteEnds Converted old new status
+Ends (command.Rewrite archive) old new status = WriteEnds (texts_as Canonical) old new status
+Ends (command.Convert archive) old new status = WriteEnds (texts_as Converted) old new status
+Ends (command.Split archive size) old new status = SplitEnds (size_of size.now) old new status
 Ends (command.Write draft file) old new status = MakeEnds draft old new status
 
 -- the exit statuses of a command
@@ -335,6 +345,7 @@ IsStatusOf (command.Extract archive id) status = (status ≡ 0) ⊎ ((status ≡
 IsStatusOf (command.Replay archive uri date) status = (status ≡ 0) ⊎ ((status ≡ 1) ⊎ ((status ≡ 2) ⊎ (status ≡ 3)))
 IsStatusOf (command.Rewrite archive) status = (status ≡ 0) ⊎ ((status ≡ 2) ⊎ (status ≡ 3))
 IsStatusOf (command.Convert archive) status = (status ≡ 0) ⊎ ((status ≡ 2) ⊎ (status ≡ 3))
+IsStatusOf (command.Split archive size) status = (status ≡ 0) ⊎ ((status ≡ 2) ⊎ (status ≡ 3))
 IsStatusOf (command.Write draft file) status = (status ≡ 0) ⊎ (status ≡ 3)
 
 -- a text that was asked for went out, or a write failed and a front of it did

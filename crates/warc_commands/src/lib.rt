@@ -4,6 +4,7 @@
 mod giving;
 mod making;
 mod program;
+mod splitting;
 mod words;
 
 pub use program::{perform, refuse};

@@ -4,10 +4,12 @@ ghost use Rattle.warc_frame.specs.FaultText.{out_fault_text};
 ghost use Rattle.warc_frame.specs.Send.{sent_of};
 ghost use Rattle.warc_commands.specs.Program.{CheckEnds, Ends, FaultEnds, IsShown, IsStatusOf, ListEnds, Tells, WriteEnds, fault_line, status_of_kind, told_line};
 ghost use Rattle.warc_commands.specs.Devices.{devices};
+ghost use Rattle.warc.specs.Forms.{texts_as};
 ghost use Rattle.warc_frame.specs.Seen.{seen, tapped};
 
 use crate::giving::{extract, replay};
 use crate::making::write;
+use crate::splitting::split;
 use crate::words::{Command, CommandFault};
 use arrayvec::ArrayString;
 use itoa::Buffer;
@@ -32,9 +34,9 @@ pub(crate) const LINE: usize = 128;
 
 /// Does what a command says. The output goes to `out` and a line on what went wrong to `err`, where
 /// failures to write are ignored. The answer is the exit status, 0 done, 1 checked and something was
-/// found, or what was asked for isn't there, 2 the archive is refused, 3 a date that is none, a record that
-/// isn't made, or a read, a write or a growth of the memory failed; and the source. A date is judged before
-/// the source is read.
+/// found, or what was asked for isn't there, 2 the archive is refused, 3 a date or a size that is none, a record
+/// that isn't made, or a read, a write or a growth of the memory failed; and the source. A date and a size are
+/// judged before the source is read.
 pub fn perform<A, S, W, E>(
     alloc: A,
     command: &Command<'_>,
@@ -73,6 +75,7 @@ where
         } => replay(alloc, uri, date, source, out, err),
         Command::Rewrite { archive: _ } => write_anew(alloc, Form::Canonical, source, out, err),
         Command::Convert { archive: _ } => write_anew(alloc, Form::Converted, source, out, err),
+        Command::Split { archive: _, size } => split(alloc, size, source, out, err),
         Command::Write { draft, file: _ } => write(alloc, draft, source, out, err),
     }
 }
@@ -142,7 +145,7 @@ where
     S: Source + Drop,
     W: Sink,
     E: Sink,
-    ensures ends { WriteEnds form
+    ensures ends { WriteEnds (texts_as form)
         (devices (tapped (S.holds source) (S.faults source) (S.reads source) (S.asked source) (S.watches source)
         (S.strays source)) (seen (W.tells out.old) (W.faults out.old)) (seen (E.tells err.old) (E.faults err.old)))
         (devices (tapped (S.holds result.1) (S.faults result.1) (S.reads result.1) (S.asked result.1)

@@ -48,6 +48,11 @@ pub enum Command<'a> {
     Convert {
         archive: &'a str,
     },
+    /// The records split into segments of a number of bytes.
+    Split {
+        archive: &'a str,
+        size: &'a str,
+    },
     /// One record, whose block are the bytes of a file.
     Write {
         draft: Draft<'a>,
@@ -86,6 +91,7 @@ impl<'a> Command<'a> {
             } => archive,
             Command::Rewrite { archive } => archive,
             Command::Convert { archive } => archive,
+            Command::Split { archive, size: _ } => archive,
             Command::Write { draft: _, file } => file,
         }
     }
@@ -193,6 +199,17 @@ Exit status: 0 written; 2 the archive is refused, and nothing was written; 3 see
 
 Example: warc convert examples/abc.warc";
 
+const SPLIT_NOTES: &str =
+    "A record whose block has more bytes than the size is written as its segments, each of so many bytes, the
+last one shorter or equal, with the digest of its bytes. Any other record is written as by 'warc rewrite': a
+short one, and one that can't be split, as a record of another kind, one without a target, one that is a
+segment, one whose id is no UUID, or one whose digest is wrong.
+
+Exit status: 0 written; 2 the archive is refused, and nothing was written; 3 the size isn't a number from 1 to
+1099511627776, or see 'warc --help'.
+
+Example: warc split examples/abc.warc 2";
+
 const WRITE_NOTES: &str =
     "The record is one of WARC/1.1 with the digest of its block, which is all of the file. A record that can't be
 made is told by M1 to M5 (docs/FORMAT.md), and nothing is written.
@@ -220,6 +237,11 @@ const URI: Word = Word {
 const DATE: Word = Word {
     name: "date",
     help: "The date as of which the URI is asked for; 9999 is the latest",
+};
+
+const SIZE: Word = Word {
+    name: "size",
+    help: "The most bytes of a block that a segment has, from 1 on",
 };
 
 /// What `write` wants, in its order.
@@ -251,7 +273,7 @@ const DRAFT: [Word; 6] = [
 ];
 
 /// The commands, in the order in which help lists them.
-const COMMANDS: [Entry; 7] = [
+const COMMANDS: [Entry; 8] = [
     Entry {
         name: "list",
         about: "Prints a line for each record",
@@ -287,6 +309,12 @@ const COMMANDS: [Entry; 7] = [
         about: "Writes the archive as one of WARC/1.1",
         notes: CONVERT_NOTES,
         words: &[ARCHIVE],
+    },
+    Entry {
+        name: "split",
+        about: "Writes the archive with its records split into segments",
+        notes: SPLIT_NOTES,
+        words: &[ARCHIVE, SIZE],
     },
     Entry {
         name: "write",
@@ -405,6 +433,10 @@ fn read_command<'a>(name: &str, texts: &ArgMatches<'a>) -> Command<'a>
         },
         "rewrite" => Command::Rewrite { archive },
         "convert" => Command::Convert { archive },
+        "split" => Command::Split {
+            archive,
+            size: text_at(texts, "size"),
+        },
         "write" => Command::Write {
             draft: read_draft(texts),
             file: text_at(texts, "file"),

@@ -1,5 +1,5 @@
 use Rattle.std.proofs.Common.{[]}
-use Rattle.warc.proofs.copying.write_rows.Goals as goal
+use Rattle.warc.proofs.anew.write_rows.Goals as goal
 
 pub returns-in-Ok-flush-clause-told : goal.returns-in-Ok-flush-clause-told
 returns-in-Ok-flush-clause-told g c = λ bytes text held are.

@@ -1,18 +1,19 @@
 use Rattle.std.proofs.Common.{rules, ap, ◌∙◌}
+use Rattle.warc.specs.Copied.{text_by}
 use Rattle.warc.proofs.PlaceLemmas.{same_rows, same_source}
 use Rattle.warc.proofs.WholeLemmas.{texts_of_archive}
-use Rattle.warc.proofs.reader.Listing.write_as.Goals as goal
+use Rattle.warc.proofs.reader.Listing.write_each.Goals as goal
 
 pub returns-clause-writes : goal.returns-clause-writes
 returns-clause-writes g c = record {
   told = λ bytes held is.
-      let are = texts_of_archive c.head_of_spelled.ensures c.args.form bytes c.self.inside.rows _ is (same_rows c.self.view_is) in
+      let are = texts_of_archive c.head_of_spelled.ensures (text_by c.args.manner) bytes c.self.inside.rows _ is (same_rows c.self.view_is) in
       c.write_rows.ensures.told bytes _ (ap g.S.Source.holds (same_source c.self.view_is) ∙ held) are;
   cut = λ bytes held is.
-      let are = texts_of_archive c.head_of_spelled.ensures c.args.form bytes c.self.inside.rows _ is (same_rows c.self.view_is) in
+      let are = texts_of_archive c.head_of_spelled.ensures (text_by c.args.manner) bytes c.self.inside.rows _ is (same_rows c.self.view_is) in
       c.write_rows.ensures.cut bytes _ (ap g.S.Source.holds (same_source c.self.view_is) ∙ held) are;
   failed = λ bytes held is.
-      let are = texts_of_archive c.head_of_spelled.ensures c.args.form bytes c.self.inside.rows _ is (same_rows c.self.view_is) in
+      let are = texts_of_archive c.head_of_spelled.ensures (text_by c.args.manner) bytes c.self.inside.rows _ is (same_rows c.self.view_is) in
       let failed = c.write_rows.ensures.failed bytes _ (ap g.S.Source.holds (same_source c.self.view_is) ∙ held) are in
       rw (← (ap g.S.Source.faults (same_source c.self.view_is))) failed;
   kept = search rules;

@@ -1,0 +1,245 @@
+//! Records of an archive that are split into segments, whose blocks are copied from the source.
+ghost use Rattle.std.specs.Prelude.{◌≡◌, ℕ, ◌+◌, ◌-◌, ◌*◌, ◌^◌, ◌<◌, ◌≤◌, ◌⊎◌, Bool, List, length, take, drop, min, Some, IfOk, IfSome, OnOk, OnErr};
+ghost use Rattle.sha1.specs.Sha1.{sha1};
+ghost use Rattle.warc_frame.specs.Copying.{HasRange};
+ghost use Rattle.warc_frame.specs.Count.{raised};
+ghost use Rattle.warc_frame.specs.Record.{Record};
+ghost use Rattle.warc_frame.specs.Seen.{seen, tapped};
+ghost use Rattle.warc_value.specs.Digests.{is_bad};
+ghost use Rattle.warc_write.specs.Cutting.{HasParts, records_by, split_or_whole};
+ghost use Rattle.warc_write.specs.Splitting.{segment_count};
+ghost use Rattle.warc.specs.Copied.{IsTextWith};
+ghost use Rattle.warc.specs.Emitting.{Emits};
+ghost use Rattle.warc.specs.Forms.{IsInBlock, ReadsOnly, split_text};
+ghost use Rattle.warc.specs.Segments.{AreSegmentTexts, IsSegmentText};
+
+use crate::copying::{Copied, put_copied};
+use std::alloc::{AllocError, Allocator};
+use warc_field::Fields;
+use warc_frame::{Head, OutBuffer, OutFault, ReadFault, Sink, Source, Version, read_range};
+use warc_reading::Row;
+use warc_value::Running;
+use warc_write::{SplitFault, cut, part_at, segment_count, segment_head};
+
+/// A record that is cut into segments, whose block stands in the source.
+#[derive(Drop)]
+struct Cut<A: Allocator> {
+    version: Version,
+    fields: Fields<A>,
+
+    /// The sixteen bytes of the UUID of its id.
+    uuid: [u8; 16],
+
+    /// How many bytes of the block a segment has, but for the last one.
+    size: u64,
+    block_start: u64,
+    block_len: u64,
+}
+
+/// The SHA-1 of `len` bytes at an offset of the source, which are read in pieces as long as `scratch` at most. It fails
+/// where a read does, where the source ends too early, and where the range doesn't end before offset 2^64.
+fn digest_range<S: Source>(
+    source: &mut S,
+    at: u64,
+    len: u64,
+    scratch: &mut [u8],
+) -> Result<[u8; 20], ReadFault>
+    requires { 0 < length scratch.old }
+    ensures digest { (bytes : List ℕ) → S.holds source.old ≡ Some bytes →
+        IfOk result (λ digest. digest ≡ sha1 (take len (drop at bytes))) }
+    ensures kept { S.holds source.new ≡ S.holds source.old }
+    ensures sound { OnOk result (S.faults source.new ≡ S.faults source.old) }
+    ensures reads { ReadsOnly (IsInBlock at len) len
+        (tapped (S.holds source.old) (S.faults source.old) (S.reads source.old) (S.asked source.old)
+        (S.watches source.old) (S.strays source.old))
+        (tapped (S.holds source.new) (S.faults source.new) (S.reads source.new) (S.asked source.new)
+        (S.watches source.new) (S.strays source.new)) }
+    ensures may { OnErr result
+        ((S.faults source.new ≡ S.faults source.old) ⊎ (S.faults source.new ≡ raised (S.faults source.old))) }
+    ensures failed { (bytes : List ℕ) → S.holds source.old ≡ Some bytes → HasRange at len bytes →
+        OnErr result (S.faults source.new ≡ raised (S.faults source.old)) }
+{
+    if len > u64::MAX - at {
+        return Err(ReadFault);
+    }
+    let mut running = Running::new();
+    let mut done = 0u64;
+    'digesting: while done < len {
+        let want = (len - done).min(scratch.len() as u64) as usize;
+        let piece = &mut scratch[..want];
+        match read_range(source, at + done, piece) {
+            Ok(()) => {}
+            Err(fault) => return Err(fault),
+        }
+        running.update(piece);
+        done += want as u64;
+    }
+    Ok(running.digest())
+}
+
+/// Adds the segment at a place, counted from 0, to the output. Its piece of the block is read twice: for its digest,
+/// and to be copied.
+fn put_segment<S: Source, A: Allocator + Copy, W: Sink>(
+    alloc: A,
+    cut: &Cut<A>,
+    at: u64,
+    source: &mut S,
+    scratch: &mut [u8],
+    buffer: &mut OutBuffer,
+    out: &mut W,
+) -> Result<(), OutFault>
+    requires room { 0 < length scratch.old }
+    requires some { 0 < cut.now.size }
+    requires inside { at * cut.now.size < cut.now.block_len }
+    requires end { cut.now.block_start + cut.now.block_len < 2 ^ 64 }
+    ensures emits { Emits (IsSegmentText cut.now at)
+        (tapped (S.holds source.old) (S.faults source.old) (S.reads source.old) (S.asked source.old)
+        (S.watches source.old) (S.strays source.old))
+        (tapped (S.holds source.new) (S.faults source.new) (S.reads source.new) (S.asked source.new)
+        (S.watches source.new) (S.strays source.new))
+        (seen (W.tells out.old) (W.faults out.old)) (seen (W.tells out.new) (W.faults out.new))
+        buffer.old buffer.new result }
+    ensures reads { ReadsOnly (IsInBlock cut.now.block_start cut.now.block_len)
+        (2 * min cut.now.size (cut.now.block_len - at * cut.now.size))
+        (tapped (S.holds source.old) (S.faults source.old) (S.reads source.old) (S.asked source.old)
+        (S.watches source.old) (S.strays source.old))
+        (tapped (S.holds source.new) (S.faults source.new) (S.reads source.new) (S.asked source.new)
+        (S.watches source.new) (S.strays source.new)) }
+{
+    let gone = at * cut.size;
+    let start = cut.block_start + gone;
+    let len = cut.size.min(cut.block_len - gone);
+    let Ok(digest) = digest_range(source, start, len, scratch) else {
+        return Err(OutFault::Read(buffer.sent()));
+    };
+    let part = part_at(cut.size, cut.block_len, at, digest);
+    let Ok(fields) = segment_head(alloc, &cut.fields, &cut.uuid, &part) else {
+        return Err(OutFault::Memory(buffer.sent()));
+    };
+    let segment = Copied {
+        version: cut.version,
+        fields,
+        block_start: start,
+        block_len: len,
+    };
+    put_copied(&segment, source, scratch, buffer, out)
+}
+
+/// Adds all segments to the output, in their order.
+fn put_segments<S: Source, A: Allocator + Copy, W: Sink>(
+    alloc: A,
+    cut: &Cut<A>,
+    source: &mut S,
+    scratch: &mut [u8],
+    buffer: &mut OutBuffer,
+    out: &mut W,
+) -> Result<(), OutFault>
+    requires room { 0 < length scratch.old }
+    requires some { 0 < cut.now.size }
+    requires more { 0 < cut.now.block_len }
+    ensures emits { Emits (AreSegmentTexts cut.now (segment_count cut.now.size cut.now.block_len))
+        (tapped (S.holds source.old) (S.faults source.old) (S.reads source.old) (S.asked source.old)
+        (S.watches source.old) (S.strays source.old))
+        (tapped (S.holds source.new) (S.faults source.new) (S.reads source.new) (S.asked source.new)
+        (S.watches source.new) (S.strays source.new))
+        (seen (W.tells out.old) (W.faults out.old)) (seen (W.tells out.new) (W.faults out.new))
+        buffer.old buffer.new result }
+    ensures reads { ReadsOnly (IsInBlock cut.now.block_start cut.now.block_len) (2 * cut.now.block_len)
+        (tapped (S.holds source.old) (S.faults source.old) (S.reads source.old) (S.asked source.old)
+        (S.watches source.old) (S.strays source.old))
+        (tapped (S.holds source.new) (S.faults source.new) (S.reads source.new) (S.asked source.new)
+        (S.watches source.new) (S.strays source.new)) }
+{
+    if cut.block_len > u64::MAX - cut.block_start {
+        return Err(OutFault::Read(buffer.sent()));
+    }
+    'splitting: for at in 0..segment_count(cut.size, cut.block_len) {
+        match put_segment(alloc, cut, at, source, scratch, buffer, out) {
+            Ok(()) => {}
+            Err(fault) => return Err(fault),
+        }
+    }
+    Ok(())
+}
+
+/// How a row's record is cut, by its head: the bytes of its UUID, or `None` where it stands whole, since it is short or
+/// isn't split.
+fn cut_or_whole<A: Allocator + Copy>(
+    alloc: A,
+    size: u64,
+    row: &Row<'_>,
+    head: &Head<A>,
+) -> Result<Option<[u8; 16]>, AllocError>
+    ensures cut { (r : Record) →
+        HasParts head.now.version head.now.fields row.now.block_len (is_bad row.now.verdict) r →
+        IfOk result (λ uuid. split_or_whole size r ≡ records_by r size uuid) }
+    ensures long { IfOk result (λ uuid. IfSome uuid (λ _. (0 < size) × (size < row.now.block_len))) }
+{
+    match cut(
+        alloc,
+        head.version,
+        &head.fields,
+        size,
+        row.block_len,
+        row.verdict.is_bad(),
+    ) {
+        Ok(uuid) => Ok(uuid),
+        Err(SplitFault::Memory) => Err(AllocError),
+        Err(_) => Ok(None),
+    }
+}
+
+/// Adds a row's record to the output, by its head, split into segments of `size` bytes, or whole where it is short or
+/// isn't split.
+pub(crate) fn put_split<S: Source, A: Allocator + Copy, W: Sink>(
+    alloc: A,
+    size: u64,
+    row: &Row<'_>,
+    head: Head<A>,
+    source: &mut S,
+    scratch: &mut [u8],
+    buffer: &mut OutBuffer,
+    out: &mut W,
+) -> Result<(), OutFault>
+    requires { 0 < length scratch.old }
+    ensures emits { Emits (IsTextWith (split_text size) row.now head)
+        (tapped (S.holds source.old) (S.faults source.old) (S.reads source.old) (S.asked source.old)
+        (S.watches source.old) (S.strays source.old))
+        (tapped (S.holds source.new) (S.faults source.new) (S.reads source.new) (S.asked source.new)
+        (S.watches source.new) (S.strays source.new))
+        (seen (W.tells out.old) (W.faults out.old)) (seen (W.tells out.new) (W.faults out.new))
+        buffer.old buffer.new result }
+    ensures reads { ReadsOnly (IsInBlock row.now.block_start row.now.block_len) (2 * row.now.block_len)
+        (tapped (S.holds source.old) (S.faults source.old) (S.reads source.old) (S.asked source.old)
+        (S.watches source.old) (S.strays source.old))
+        (tapped (S.holds source.new) (S.faults source.new) (S.reads source.new) (S.asked source.new)
+        (S.watches source.new) (S.strays source.new)) }
+{
+    let Ok(uuid) = cut_or_whole(alloc, size, row, &head) else {
+        return Err(OutFault::Memory(buffer.sent()));
+    };
+    let (version, fields) = (head.version, head.fields);
+    let (block_start, block_len) = (row.block_start, row.block_len);
+    match uuid {
+        Some(uuid) => {
+            let cut = Cut {
+                version,
+                fields,
+                uuid,
+                size,
+                block_start,
+                block_len,
+            };
+            put_segments(alloc, &cut, source, scratch, buffer, out)
+        }
+        None => {
+            let copy = Copied {
+                version,
+                fields,
+                block_start,
+                block_len,
+            };
+            put_copied(&copy, source, scratch, buffer, out)
+        }
+    }
+}

@@ -1,0 +1,61 @@
+//! What the program does to split the records of an archive.
+ghost use Rattle.std.specs.Prelude.{◌≡◌, ◌⊎◌};
+ghost use Rattle.warc_frame.specs.Seen.{seen, tapped};
+ghost use Rattle.warc_commands.specs.Devices.{devices};
+ghost use Rattle.warc_commands.specs.Program.{SplitEnds, size_of};
+
+use crate::program::{DONE, FAILED, tell, tell_cut, tell_refusal};
+use std::alloc::Allocator;
+use warc::Listing;
+use warc_field::decimal;
+use warc_frame::{MAX_BLOCK, Sink, Source};
+
+/// How many bytes a segment is to have, by a word: a number from 1 to 2^40.
+fn size_of(word: &[u8]) -> Option<u64>
+    ensures { result ≡ size_of word.now }
+{
+    match decimal(word) {
+        Some(size) if size > 0 && size <= MAX_BLOCK => Some(size),
+        _ => None,
+    }
+}
+
+/// Writes an archive anew, with its records split into segments of as many bytes as a word says.
+pub(crate) fn split<A, S, W, E>(
+    alloc: A,
+    size: &str,
+    source: S,
+    out: &mut W,
+    err: &mut E,
+) -> (u8, S)
+where
+    A: Allocator + Copy,
+    S: Source + Drop,
+    W: Sink,
+    E: Sink,
+    ensures ends { SplitEnds (size_of size.now)
+        (devices (tapped (S.holds source) (S.faults source) (S.reads source) (S.asked source) (S.watches source)
+        (S.strays source)) (seen (W.tells out.old) (W.faults out.old)) (seen (E.tells err.old) (E.faults err.old)))
+        (devices (tapped (S.holds result.1) (S.faults result.1) (S.reads result.1) (S.asked result.1)
+        (S.watches result.1) (S.strays result.1))
+        (seen (W.tells out.new) (W.faults out.new)) (seen (E.tells err.new) (E.faults err.new)))
+        result.0 }
+
+    // The source still holds what it held.
+    ensures kept { S.holds result.1 ≡ S.holds source }
+    ensures refused { result.0 ≡ 2 → (W.tells out.new ≡ W.tells out.old) × (W.faults out.new ≡ W.faults out.old) }
+    ensures answers { (result.0 ≡ 0) ⊎ ((result.0 ≡ 2) ⊎ (result.0 ≡ 3)) }
+{
+    let Some(size) = size_of(size.as_bytes()) else {
+        tell("warc: bad size\n", err);
+        return (FAILED, source);
+    };
+    let mut archive = match Listing::open(alloc, source) {
+        Ok(archive) => archive,
+        Err((fault, source)) => return (tell_refusal(fault, err), source),
+    };
+    match archive.split(size, out) {
+        Ok(()) => (DONE, archive.into_source()),
+        Err(fault) => (tell_cut(fault, err), archive.into_source()),
+    }
+}
