@@ -18,3 +18,5 @@ pub mod WholeLemmas
 pub mod TakeLemmas
 mod WorkedValues
 pub mod MigrationLemmas
+mod LengthLemmas
+pub mod KeptLemmas

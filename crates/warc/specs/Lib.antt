@@ -1,3 +1,4 @@
+pub mod Bounds
 pub mod Checking
 pub mod Checks
 pub mod Emitting

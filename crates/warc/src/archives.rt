@@ -4,6 +4,7 @@ ghost use Rattle.std.specs.Io.KnownBytes.{append_known};
 ghost use Rattle.warc_frame.specs.Count.{raised};
 ghost use Rattle.warc_frame.specs.Seen.{seen, tapped};
 ghost use Rattle.warc_frame.specs.Send.{WentOut, sent_of};
+ghost use Rattle.warc.specs.Bounds.{IsKeptCount};
 ghost use Rattle.warc.specs.Checks.{Checks};
 ghost use Rattle.warc.specs.Extracting.{Extracts, position_with};
 ghost use Rattle.warc_reading.specs.Keeping.{kept_bytes};
@@ -124,9 +125,10 @@ impl<S: Source, A: Allocator + Copy> Archive<S, A> {
     }
 
     /// How many bytes of texts are kept of the records: those that `list` writes, those by which records are found, and
-    /// the keys of the records that segments are of.
+    /// the keys of the records that segments are of. They are at most three times as many as the bytes of the heads.
     pub fn kept(&self) -> u64
-        ensures { result ≡ min (kept_bytes self.now) 18446744073709551615 }
+        ensures sum { result ≡ min (kept_bytes self.now) 18446744073709551615 }
+        ensures bounds { (bytes : List ℕ) → IsIndexed bytes self.now → IsKeptCount self.now result }
     {
         let found = self
             .lookup
