@@ -23,6 +23,7 @@ pub mod SourceLemmas
 pub mod StandLemmas
 pub mod StepLemmas
 pub mod StreamLemmas
+pub mod TallyLemmas
 pub mod WholeLemmas
 pub mod TakeLemmas
 mod WorkedValues

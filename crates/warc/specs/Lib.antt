@@ -20,3 +20,4 @@ pub mod Standing
 pub mod Stream
 pub mod TakeText
 pub mod Taking
+pub mod Used
