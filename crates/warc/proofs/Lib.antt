@@ -14,6 +14,7 @@ pub mod RecordsLemmas
 pub mod ReplayLemmas
 pub mod SplitLemmas
 pub mod StandLemmas
+pub mod TallyLemmas
 pub mod WholeLemmas
 pub mod TakeLemmas
 mod WorkedValues

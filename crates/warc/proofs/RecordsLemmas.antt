@@ -3,7 +3,6 @@ use Rattle.std.proofs.Common.{◌≡◌, ℕ, zero, suc, ◌+◌, ◌-◌, ◌^�
 use Rattle.std.proofs.lemmas.Grind.{flat_map-append}
 use Rattle.std.proofs.lemmas.List.{append-nil, length-map, length-take-le, take-append-drop}
 use Rattle.std.specs.List.{enumerate_from, flat_map, slice_get}
-use Rattle.std.specs.BTreeSet.{BTreeSet}
 use Rattle.warc_field.specs.Area.{Pair}
 use Rattle.warc_frame.specs.Count.{capped, raised}
 use Rattle.warc_frame.specs.Send.{sent_of}
@@ -12,11 +11,12 @@ use Rattle.warc_frame.specs.Record.{Record}
 use Rattle.warc_record.specs.declared.checks.ArchiveFacts.{ArchiveFacts}
 use Rattle.warc_reading.specs.Archive.{contents}
 use Rattle.warc.specs.Checking.{Line, findings_at, findings_behind, findings_of_records, line_text}
-use Rattle.warc.specs.Examining.{AreCheckable, HasFailed, HasHead, HasMet, IsExamined, findings_of_first, first_text, found_by, halted, record_text, records_text}
+use Rattle.warc.specs.Examining.{AreCheckable, HasFailed, HasHead, IsExamined, findings_of_first, first_text, found_by, halted, record_text, records_text}
 use Rattle.warc_frame.specs.Failing.{HasFailedBy}
 use Rattle.warc.specs.declared.heads.Halt.{Halt}
 use Rattle.warc.specs.declared.heads.Halt.TheVariants.{Read, Memory}
 use Rattle.warc_reading.specs.Row.{Placed, Row, row_of}
+use Rattle.warc.specs.Used.{HasMet, Ids}
 
 -- the record of a row
 pub placed : (records : List Placed) (i : ℕ) (row : Row) → slice_get (map row_of records) i ≡ Some row → (p : Placed) × (slice_get records i ≡ Some p) × (row ≡ row_of p)
@@ -95,7 +95,7 @@ number_more records i p fields block_len facts at is len =
     saturated (length (findings_of_first i rs)) (length (found_by fields block_len facts)) (2 ^ 64 - 1) ∙ ap capped (sym more)
 
 -- the ids of one more record
-pub met_one : (records : List Placed) (i : ℕ) (p : Placed) (met : BTreeSet (List ℕ)) → slice_get records i ≡ Some p → HasMet (take i (contents records) ++ p.content ∷ []) met
+pub met_one : (records : List Placed) (i : ℕ) (p : Placed) (met : Ids) → slice_get records i ≡ Some p → HasMet (take i (contents records) ++ p.content ∷ []) met
     → HasMet (take (i + 1) (contents records)) met
 met_one records i p met at has =
     let P : List Record → Type 0 = λ rs. HasMet rs met in

@@ -1,10 +1,7 @@
 -- What a record's head is when it is read again, and what reading it again may answer. States of the code: no
 -- public clause cites them.
 use Rattle.std.specs.Prelude.{◌≡◌, ℕ, ◌+◌, ◌≤◌, ◌⊎◌, List, length, map, take, slice_get, slice_range, Ok, Some, None}
-use Rattle.std.specs.BTreeSet.{BTreeSet, contains}
-use Rattle.std.specs.Cmp.Lexicographic.{slice_cmp}
 use Rattle.std.specs.List.{enumerate_from, flat_map}
-use Rattle.std.specs.Ordering.{nat_cmp}
 use Rattle.warc_frame.specs.Count.{raised}
 use Rattle.warc_frame.specs.Reading.{any_fields, head_of}
 use Rattle.warc_frame.specs.Record.{Record, max_head}
@@ -42,10 +39,6 @@ pub record HasHead (bytes : List ℕ) (p : Placed) : Type 0 where
 pub record IsHeadOf {A : Type 0} (r : Record) (h : Head A) : Type 0 where
   pub version : h.version ≡ r.version
   pub fields : h.fields ≡ r.fields
-
--- a set holds the keys of the ids of these records, and no others
-abbrev pub HasMet : List Record → BTreeSet (List ℕ) → Type 0
-HasMet records met = (key : List ℕ) → contains (slice_cmp nat_cmp) met key ≡ is_used records (Some key)
 
 -- how often a source has failed after a call: once more, or else the call isn't told apart from a source that
 -- gives too little

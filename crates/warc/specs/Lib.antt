@@ -14,3 +14,4 @@ pub mod Segments
 pub mod Standing
 pub mod TakeText
 pub mod Taking
+pub mod Used

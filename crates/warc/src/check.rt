@@ -10,8 +10,10 @@ ghost use Rattle.warc_record.specs.Seen.{said};
 ghost use Rattle.warc_reading.specs.Archive.{contents};
 ghost use Rattle.warc_reading.specs.Row.{Placed, row_of};
 ghost use Rattle.warc.specs.Checking.{about_record, check_text, findings_of_archive, findings_of_records, line_text, numbered_line};
-ghost use Rattle.warc.specs.Examining.{HasFailed, HasHead, HasMet, AreCheckable, IsExamined, MayHaveFailed, found_by, record_text, records_text};
+ghost use Rattle.warc.specs.Examining.{HasFailed, HasHead, AreCheckable, IsExamined, MayHaveFailed, found_by, record_text, records_text};
 ghost use Rattle.warc.specs.Heads.{ReadsHeads};
+ghost use Rattle.warc.specs.Used.{HasMet, IsAlone, IsTally};
+ghost use Rattle.warc_record.specs.Ids.{id_key};
 ghost use Rattle.warc_frame.specs.Putting.{Puts};
 ghost use Rattle.warc_frame.specs.Seen.{seen, tapped};
 ghost use Rattle.warc_frame.specs.Failing.{HasFailedBy, MayHaveFailedBy, failed_by, is_read};
@@ -45,10 +47,12 @@ fn examine<S: Source, A: Allocator + Copy>(
     ensures said { IfOk result (λ x. said x.reread.typed ≡ reading_of x.reread.fields) }
     ensures read { (bytes : List ℕ) (p : Placed) (before : List Record) →
         S.holds source.old ≡ Some bytes → HasHead bytes p → row.now ≡ row_of p → HasMet before met.old →
+        IsAlone before met.old (id_key row.now.id) →
         IfOk result (λ x. IsExamined before p.content x.reread.fields x.facts) }
     ensures met { (bytes : List ℕ) (p : Placed) (before : List Record) →
         S.holds source.old ≡ Some bytes → HasHead bytes p → row.now ≡ row_of p → HasMet before met.old →
         OnOk result (HasMet (before ++ p.content ∷ []) met.new) }
+    ensures counts { met.new.counts ≡ met.old.counts }
     ensures kept { S.holds source.new ≡ S.holds source.old }
     ensures sound { OnOk result (S.faults source.new ≡ S.faults source.old) }
     ensures heads { ReadsHeads (row.now ∷ [])
@@ -184,11 +188,14 @@ fn put_records<S: Source, A: Allocator + Copy, W: Sink>(
     alloc: A,
     source: &mut S,
     rows: &Rows<A>,
+    met: &mut Met<A>,
     head: &mut [u8],
     buffer: &mut OutBuffer,
     out: &mut W,
 ) -> Result<usize, OutFault>
-    requires { max_head ≤ length head.old }
+    requires head { max_head ≤ length head.old }
+    requires tally { IsTally (length rows.now) rows.now met.old.counts }
+    requires met { HasMet [] met.old }
     ensures out { (bytes : List ℕ) (records : List Placed) (start : Option (List ℕ)) (output : List ℕ) →
         S.holds source.old ≡ Some bytes → AreCheckable bytes records rows.now →
         IsStaged start output (W.tells out.old) buffer.old →
@@ -214,13 +221,13 @@ fn put_records<S: Source, A: Allocator + Copy, W: Sink>(
 {
     staged_went_out();
     went_out_of_longer();
-    let mut met = Met::new(alloc);
+    good_heads_read();
     let mut count = 0usize;
     'checking: for position in 0..rows.len() {
         let Some(row) = rows.get(position) else {
             unreachable!()
         };
-        let examined = match examine(alloc, source, &row, &mut met, head) {
+        let examined = match examine(alloc, source, &row, met, head) {
             Ok(examined) => examined,
             Err(halt) => return Err(halt.after(buffer.sent())),
         };
@@ -272,7 +279,10 @@ fn put_archive<S: Source, A: Allocator + Copy, W: Sink>(
     let Ok(mut head) = head_buffer(alloc) else {
         return Err(OutFault::Memory(buffer.sent()));
     };
-    put_records(alloc, source, rows, &mut head, buffer, out)
+    let Ok(mut met) = Met::new(alloc, rows) else {
+        return Err(OutFault::Memory(buffer.sent()));
+    };
+    put_records(alloc, source, rows, &mut met, &mut head, buffer, out)
 }
 
 /// Writes a line for each finding of the records, in their order, or that there is no record. The

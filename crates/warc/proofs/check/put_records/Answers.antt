@@ -1,4 +1,4 @@
-use Rattle.std.proofs.Common.{rules, ◌≡◌, ◌+◌, ◌++◌, ℕ, Some, length, take, arith, sym, ap, ◌∙◌}
+use Rattle.std.proofs.Common.{rules, List, subst, ◌≡◌, ◌+◌, ◌++◌, ℕ, Some, length, take, arith, sym, ap, ◌∙◌}
 use Rattle.std.specs.List.{flat_map, slice_get}
 use Rattle.warc_frame.specs.Count.{capped}
 use Rattle.warc_reading.specs.Archive.{contents}
@@ -8,6 +8,8 @@ use Rattle.warc_reading.specs.Row.{Row}
 use Rattle.warc_frame.proofs.LawLemmas.{same_out, same_staged}
 use Rattle.warc.proofs.ReadLemmas.{reads_all, reads_more}
 use Rattle.warc.proofs.RecordsLemmas.{failed_halted, first_all, met_one, number_more, record_at, rest_text, sent_halted, text_more, text_rest}
+use Rattle.warc.specs.Used.{IsTally}
+use Rattle.warc.proofs.TallyLemmas.{alone}
 use Rattle.warc.proofs.check.put_records.Goals as goal
 
 pub returns-clause-out : goal.returns-clause-out
@@ -41,7 +43,8 @@ returns-in_err-number-clause-cut g c = λ bytes records start output held can is
     let i = c.checking.position in
     let row_is : slice_get c.args.rows.now i ≡ Some c.in-Some.row = sym c.get.ensures ∙ c.in-Some.is in
     let at = record_at bytes records c.args.rows.now i c.in-Some.row can row_is in
-    let examined = c.in-Ok.ensures.read bytes at.0 (take i rs) (c.checking.invariant.kept ∙ held) at.3 at.2 (c.checking.invariant.met bytes records held can) in
+    let examined = c.in-Ok.ensures.read bytes at.0 (take i rs) (c.checking.invariant.kept ∙ held) at.3 at.2 (c.checking.invariant.met bytes records held can)
+    (alone bytes records c.args.rows.now i c.in-Some.row c.checking.met c.good_heads_read.ensures can c.checking.invariant.tally row_is) in
     let len = ap (λ (r : Row). r.block_len) (c.row.view_is ∙ at.2) in
     let cut = c.in_err-number.ensures.cut start (output ++ first_text i rs) (c.checking.invariant.staged bytes records start output held can is) in
     let longer = c.went_out_of_longer.ensures start _ _ (rest_text (i + 1) rs) _ cut in
@@ -68,12 +71,15 @@ pub checking-preserved : goal.checking-preserved
 checking-preserved g c =
     let i = c.checking.position in
     let row_is : slice_get c.args.rows.now i ≡ Some c.in-Some.row = sym c.get.ensures ∙ c.in-Some.is in
+    let P : List ℕ → Type 0 = λ l. IsTally (length c.args.rows.now) c.args.rows.now l in
     record {
+      tally = subst P (sym c.examine.ensures.counts) c.checking.invariant.tally;
       room = omega (arith, c.checking.invariant.room, c.examine.auto.buf);
       staged = λ bytes records start output held can is.
           let rs = contents records in
           let at = record_at bytes records c.args.rows.now i c.in-Some.row can row_is in
-          let examined = c.in-Ok.ensures.read bytes at.0 (take i rs) (c.checking.invariant.kept ∙ held) at.3 at.2 (c.checking.invariant.met bytes records held can) in
+          let examined = c.in-Ok.ensures.read bytes at.0 (take i rs) (c.checking.invariant.kept ∙ held) at.3 at.2 (c.checking.invariant.met bytes records held can)
+          (alone bytes records c.args.rows.now i c.in-Some.row c.checking.met c.good_heads_read.ensures can c.checking.invariant.tally row_is) in
           let len = ap (λ (r : Row). r.block_len) (c.row.view_is ∙ at.2) in
           same_staged (text_more records i at.0 c.in-Ok.examined.reread.fields c.row.inside.block_len c.in-Ok.examined.facts output at.1 examined len)
           (c.in_ok-number.ensures.out start (output ++ first_text i rs) (c.checking.invariant.staged bytes records start output held can is));
@@ -85,7 +91,8 @@ checking-preserved g c =
       number = λ bytes records held can.
           let rs = contents records in
           let at = record_at bytes records c.args.rows.now i c.in-Some.row can row_is in
-          let examined = c.in-Ok.ensures.read bytes at.0 (take i rs) (c.checking.invariant.kept ∙ held) at.3 at.2 (c.checking.invariant.met bytes records held can) in
+          let examined = c.in-Ok.ensures.read bytes at.0 (take i rs) (c.checking.invariant.kept ∙ held) at.3 at.2 (c.checking.invariant.met bytes records held can)
+          (alone bytes records c.args.rows.now i c.in-Some.row c.checking.met c.good_heads_read.ensures can c.checking.invariant.tally row_is) in
           let len = ap (λ (r : Row). r.block_len) (c.row.view_is ∙ at.2) in
           c.saturating_add-count.ensures ∙ ap (λ n. capped (n + c.in_ok-number.number)) (c.checking.invariant.number bytes records held can)
           ∙ ap (λ n. capped (capped (length (findings_of_first i rs)) + n)) c.in_ok-number.ensures.number

@@ -4,7 +4,8 @@ use Rattle.warc_frame.specs.Record.{max_head}
 use Rattle.warc_frame.specs.Send.{IsStaged}
 use Rattle.warc_reading.specs.Archive.{contents}
 use Rattle.warc_reading.specs.Row.{Placed}
-use Rattle.warc.specs.Examining.{AreCheckable, HasMet, findings_of_first, first_text}
+use Rattle.warc.specs.Examining.{AreCheckable, findings_of_first, first_text}
+use Rattle.warc.specs.Used.{HasMet, IsTally}
 use Rattle.warc.specs.Heads.{ReadsHeads}
 use Rattle.warc_frame.specs.Seen.{tapped}
 use Rattle.warc.proofs.check.put_records.Given as goal
@@ -13,6 +14,7 @@ use Rattle.warc.proofs.check.put_records.Given as goal
 abbrev pub invariant-checking : goal.invariant-checking
 invariant-checking g l = record {
   room : max_head ≤ length l.head;
+  tally : IsTally (length l.rows) l.rows l.met.counts;
   staged : (bytes : List ℕ) (records : List Placed) (start : Option (List ℕ)) (output : List ℕ) → g.S.Source.holds l.fn.source ≡ Some bytes
       → AreCheckable bytes records l.rows → IsStaged start output (g.W.Sink.tells l.fn.out) l.fn.buffer
       → IsStaged start (output ++ first_text l.position (contents records)) (g.W.Sink.tells l.out) l.buffer;
