@@ -1,10 +1,12 @@
--- What words name, computed.
-use Rattle.std.proofs.Common.{◌≡◌, true, [], ◌∷◌, Some, codes, refl}
+-- What words name, and which sizes a word tells, computed.
+use Rattle.std.proofs.Common.{◌≡◌, ◌^◌, true, [], ◌∷◌, None, Some, codes, refl}
 use Rattle.clap.specs.Faults.{fault_of}
 use Rattle.clap.specs.Takes.{takes}
 use Rattle.clap.specs.declared.error.kind.ErrorKind.TheVariants.{DisplayHelp, DisplayVersion, MissingRequiredArgument, MissingSubcommand, UnknownArgument}
 use Rattle.clap.proofs.OnLiterals.{clap_on_literals}
+use Rattle.warc_field.specs.Decimal.{decimal_of}
 use Rattle.warc_commands.specs.CommandLine.{command_of, warc_app}
+use Rattle.warc_commands.specs.Program.{size_of}
 
 -- warc list a.warc
 list_names : command_of (codes "warc" ∷ codes "list" ∷ codes "a.warc" ∷ []) ≡ Some (codes "list", codes "a.warc" ∷ [])
@@ -54,3 +56,29 @@ check_names = refl
 check_faults : fault_of warc_app (codes "warc" ∷ codes "check" ∷ []) ≡ MissingRequiredArgument ∷ []
 unfolding clap_on_literals
 check_faults = refl
+
+-- warc split a.warc 2
+split_names : command_of (codes "warc" ∷ codes "split" ∷ codes "a.warc" ∷ codes "2" ∷ []) ≡ Some (codes "split", codes "a.warc" ∷ codes "2" ∷ [])
+unfolding clap_on_literals
+split_names = refl
+
+-- sizes
+small_size : size_of (codes "0002") ≡ Some 2
+unfolding decimal_of
+small_size = refl
+
+greatest_size : size_of (codes "1099511627776") ≡ Some (2 ^ 40)
+unfolding decimal_of
+greatest_size = refl
+
+over_greatest : size_of (codes "1099511627777") ≡ None
+unfolding decimal_of
+over_greatest = refl
+
+no_size : size_of (codes "0") ≡ None
+unfolding decimal_of
+no_size = refl
+
+unread_size : size_of (codes "1x") ≡ None
+unfolding decimal_of
+unread_size = refl
