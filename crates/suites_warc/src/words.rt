@@ -72,6 +72,15 @@ fn commands_that_write_name_their_archive(rt: HostRuntime) {
             Ok(Command::Convert { archive: "a.warc" })
         )
     );
+    assert!(rt;
+        matches!(
+            parse(rt.alloc(), &["warc", "split", "a.warc", "2"]),
+            Ok(Command::Split {
+                archive: "a.warc",
+                size: "2"
+            })
+        )
+    );
 }
 
 #[test]

@@ -4,7 +4,7 @@ use std::alloc::{Allocator, Global};
 use std::test::Fail;
 use warc_frame::{Framed, MemSink, OutFault, read_one};
 use warc_record::Kind;
-use warc_vectors::{RefusingAllocator, Row};
+use warc_vectors::{ONE_RESOURCE_SPLIT, RefusingAllocator, Row};
 use warc_write::{
     MakeFault, Part, SplitFault, convert, make, render, segment_head, split, splittable,
 };
@@ -28,31 +28,6 @@ pub(crate) const ONE: &[u8] = b"WARC/1.1\r\n\
     Content-Length: 3\r\n\
     \r\n\
     abc\r\n\r\n";
-
-/// The same, split at 2.
-const TWO: &[u8] = b"WARC/1.1\r\n\
-    WARC-Type: resource\r\n\
-    WARC-Record-ID: <urn:uuid:00000000-0000-4000-8000-000000000001>\r\n\
-    WARC-Date: 2020-01-01T00:00:00Z\r\n\
-    WARC-Target-URI: http://a.example/x\r\n\
-    Content-Type: text/plain\r\n\
-    Content-Length: 2\r\n\
-    WARC-Segment-Number: 1\r\n\
-    WARC-Block-Digest: sha1:3IRWCTQCI2NA27D32G62WXE4I5FRSBG4\r\n\
-    \r\n\
-    ab\r\n\r\n\
-    WARC/1.1\r\n\
-    WARC-Type: continuation\r\n\
-    WARC-Record-ID: <urn:uuid:ec828c2b-30cf-583d-8660-1d587530a97e>\r\n\
-    WARC-Date: 2020-01-01T00:00:00Z\r\n\
-    WARC-Target-URI: http://a.example/x\r\n\
-    WARC-Segment-Origin-ID: <urn:uuid:00000000-0000-4000-8000-000000000001>\r\n\
-    WARC-Segment-Number: 2\r\n\
-    WARC-Segment-Total-Length: 3\r\n\
-    WARC-Block-Digest: sha1:QSSRNBA3U55FWRSI3YWNBX6LGDVENW5U\r\n\
-    Content-Length: 1\r\n\
-    \r\n\
-    c\r\n\r\n";
 
 /// What is written of the records.
 pub(crate) fn rendered<A: Allocator>(
@@ -184,7 +159,7 @@ fn split_in_two(rt: HostRuntime) -> Result<(), Fail> {
     let whole = record(rt.alloc(), ONE)?;
     let parts = split(rt.alloc(), &whole, 2)?;
     let text = rendered(rt.alloc(), &parts)?;
-    assert_eq!(rt; text.as_slice(), TWO);
+    assert_eq!(rt; text.as_slice(), ONE_RESOURCE_SPLIT);
     let (first, len) = read_one(rt.alloc(), &text)?;
     assert_eq!(rt; len, 301);
     assert_eq!(rt; first.block().len() + 4 + 295, len);

@@ -1,6 +1,6 @@
-//! How `rewrite` and `convert` end where the archive is refused, and where a read, a write or memory fails.
+//! How `rewrite`, `convert` and `split` end where the archive is refused, and where a read, a write or memory fails.
 
-use crate::runs::{CONVERT, REWRITE, both_rewritten, both_versions, ends, folded, told};
+use crate::runs::{CONVERT, REWRITE, both_rewritten, both_versions, ends, folded, split_at, told};
 use std::test::Fail;
 use warc_frame::{MemSink, MemSource};
 use warc_vectors::{
@@ -12,7 +12,7 @@ use warc_vectors::{
 fn refused_archives_are_not_written(rt: HostRuntime) -> Result<(), Fail> {
     let alloc = rt.alloc();
     let text = both_versions(alloc)?;
-    for command in [REWRITE, CONVERT] {
+    for command in [REWRITE, CONVERT, split_at("2")] {
         for (old, new, line) in [
             (
                 "\r\n\r\nWARC/1.0",
@@ -93,7 +93,7 @@ fn each_read_fails_in_turn(rt: HostRuntime) -> Result<(), Fail> {
 fn each_growth_is_refused_in_turn(rt: HostRuntime) -> Result<(), Fail> {
     let alloc = rt.alloc();
     let text = both_versions(alloc)?;
-    for command in [REWRITE, CONVERT] {
+    for command in [REWRITE, CONVERT, split_at("2")] {
         let mut was_opened = false;
         for number in 1..1000u64 {
             let heap = RefusingAllocator::new(alloc, number);

@@ -9,3 +9,5 @@ mod forms;
 mod records;
 #[cfg(test)]
 mod runs;
+#[cfg(test)]
+mod splits;

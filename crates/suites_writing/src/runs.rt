@@ -10,6 +10,14 @@ pub(crate) const REWRITE: Command<'static> = Command::Rewrite { archive: "a.warc
 
 pub(crate) const CONVERT: Command<'static> = Command::Convert { archive: "a.warc" };
 
+/// A split at a size.
+pub(crate) const fn split_at(size: &str) -> Command<'_> {
+    Command::Split {
+        archive: "a.warc",
+        size,
+    }
+}
+
 /// The one resource record as a record of WARC 1.0, whose target stands in brackets.
 pub(crate) const OLDER: Row<'static> = Row {
     version: "1.0",

@@ -69,7 +69,8 @@ pub record ReadsOnly (These : ℕ → Type 0) (most : ℕ) (old new : Tapped) : 
 -- writing an archive of these rows: of each record a text, for which so many bytes are read. Where its source holds the
 -- archive's bytes, the records' texts are written, or a front of them is; and the source has failed once more exactly
 -- where a read is told. Any source still holds what it held, is asked for no byte outside the records, and read at most
--- as often as bytes are wanted; where a read is told it has failed once more, unless it told of other bytes than it held
+-- as often as bytes are wanted; where a read is told it has failed once more, unless it told of other bytes than it
+-- held
 pub record WritesEach (text_of : Record → List ℕ) (len_of : Row → ℕ) (rows : List Row) (old new : Tapped)
     (before after : Seen) (answer : Result (Unit {0}) OutFault) : Type 0 where
   pub told : IfHeld old.holds (λ bytes. (is : IsArchiveOf bytes rows)

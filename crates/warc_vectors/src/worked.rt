@@ -23,6 +23,31 @@ pub const ONE_RESOURCE: Row<'static> = Row {
 pub const ONE_RESOURCE_LINE: &str =
     "0\t0\t3\tresource\t2020-01-01T00:00:00Z\t<urn:uuid:00000000-0000-4000-8000-000000000001>\thttp://a.example/x\n";
 
+/// The same record split at 2: its two segments, of which the second begins at 301.
+pub const ONE_RESOURCE_SPLIT: &[u8] = b"WARC/1.1\r\n\
+    WARC-Type: resource\r\n\
+    WARC-Record-ID: <urn:uuid:00000000-0000-4000-8000-000000000001>\r\n\
+    WARC-Date: 2020-01-01T00:00:00Z\r\n\
+    WARC-Target-URI: http://a.example/x\r\n\
+    Content-Type: text/plain\r\n\
+    Content-Length: 2\r\n\
+    WARC-Segment-Number: 1\r\n\
+    WARC-Block-Digest: sha1:3IRWCTQCI2NA27D32G62WXE4I5FRSBG4\r\n\
+    \r\n\
+    ab\r\n\r\n\
+    WARC/1.1\r\n\
+    WARC-Type: continuation\r\n\
+    WARC-Record-ID: <urn:uuid:ec828c2b-30cf-583d-8660-1d587530a97e>\r\n\
+    WARC-Date: 2020-01-01T00:00:00Z\r\n\
+    WARC-Target-URI: http://a.example/x\r\n\
+    WARC-Segment-Origin-ID: <urn:uuid:00000000-0000-4000-8000-000000000001>\r\n\
+    WARC-Segment-Number: 2\r\n\
+    WARC-Segment-Total-Length: 3\r\n\
+    WARC-Block-Digest: sha1:QSSRNBA3U55FWRSI3YWNBX6LGDVENW5U\r\n\
+    Content-Length: 1\r\n\
+    \r\n\
+    c\r\n\r\n";
+
 /// The text with the first of one text in it replaced by another.
 /// An error says that it doesn't stand there, or that memory ran out.
 pub fn changed(alloc: Global, text: &[u8], old: &str, new: &str) -> Result<Vec<u8>, Fail> {
