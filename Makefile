@@ -2,7 +2,7 @@
 # make test      everything that must pass, from nothing; the last line is 'N passed, M failed'
 # make check     the quick check while editing: the whole tree, over what earlier checks kept
 # make bench     times the program beside cat and sha1sum, and the decoder, the order of texts, the joining of
-#                segments and the index alone, on what is made under out/
+#                segments, the index and archives that answer alone, on what is made under out/
 # make install   copies the program to PREFIX/bin
 # make clean     drops what was built and kept
 
@@ -26,6 +26,7 @@ bench: all
 	@python3 bench/order.py .
 	@python3 bench/segment.py .
 	@python3 bench/index.py .
+	@python3 bench/replay.py . bin/warc out/bench
 
 install: all
 	install -D bin/warc $(DESTDIR)$(PREFIX)/bin/warc

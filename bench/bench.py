@@ -7,11 +7,10 @@ The archives are made in FOLDER once and kept; each record carries the digest of
 blocks. Each command runs five times, the commands interleaved, and the least time counts. Printed per archive and
 command: seconds, ratios, bytes and records a second, peak memory.
 """
-import base64
-import hashlib
 import os
 import sys
-import time
+
+from shared import make, run
 
 RUNS = 5
 ARCHIVES = [
@@ -22,45 +21,6 @@ ARCHIVES = [
     ("large", 5, 100_000_000),
     ("one", 1, 1_000_000_000),
 ]
-
-
-def head(number, length, digest):
-    """The head of record `number`, as common crawlers write it."""
-    return (
-        "WARC/1.1\r\nWARC-Type: resource\r\n"
-        f"WARC-Record-ID: <urn:uuid:00000000-0000-4000-8000-{number:012d}>\r\n"
-        "WARC-Date: 2020-01-01T00:00:00Z\r\n"
-        f"WARC-Target-URI: http://a.example/{number}\r\n"
-        f"WARC-Block-Digest: sha1:{digest}\r\n"
-        f"Content-Type: text/plain\r\nContent-Length: {length}\r\n\r\n"
-    ).encode()
-
-
-def make(path, count, length):
-    if os.path.exists(path):
-        return
-    block = (b"0123456789abcdef" * (length // 16 + 1))[:length]
-    digest = base64.b32encode(hashlib.sha1(block).digest()).decode()
-    with open(path + ".part", "wb", buffering=1 << 20) as out:
-        for number in range(count):
-            out.write(head(number, length, digest))
-            out.write(block)
-            out.write(b"\r\n\r\n")
-    os.rename(path + ".part", path)
-
-
-def run(words):
-    """Seconds and peak kilobytes of one run; its output is thrown away."""
-    begin = time.perf_counter()
-    child = os.fork()
-    if child == 0:
-        null = os.open(os.devnull, os.O_WRONLY)
-        os.dup2(null, 1)
-        os.execvp(words[0], words)
-    _, status, usage = os.wait4(child, 0)
-    if status != 0:
-        sys.exit(f"{' '.join(words)}: status {status}")
-    return time.perf_counter() - begin, usage.ru_maxrss
 
 
 def main():

@@ -1,26 +1,11 @@
 //! An archive of one record that grows: to each part of the next record, by damage, by nothing.
 
+use crate::runs::{FIRST, SECOND, lengths, opened, refused};
 use std::alloc::Global;
 use std::test::Fail;
-use warc::{Archive, Listing};
+use warc::Listing;
 use warc_frame::{Fault, MemSource};
-use warc_vectors::{Row, archive_text};
-
-const FIRST: Row<'static> = Row {
-    version: "1.1",
-    kind: "resource",
-    number: '1',
-    date: "2020-01-01T00:00:00Z",
-    target: "http://a.example/x",
-    extras: &["Content-Type: text/plain"],
-    block: b"abc",
-};
-
-const SECOND: Row<'static> = Row {
-    number: '2',
-    block: b"abcd",
-    ..FIRST
-};
+use warc_vectors::{archive_text, changed};
 
 /// The first bytes of both records.
 fn front(alloc: Global, len: usize) -> Result<Vec<u8>, Fail> {
@@ -29,29 +14,27 @@ fn front(alloc: Global, len: usize) -> Result<Vec<u8>, Fail> {
     Ok(bytes)
 }
 
-/// How many records there are once an archive of the first record has grown by a source, one byte a read, and why not.
+/// How many records there are once an archive of the first record has grown by a source, and why not.
 fn grown(alloc: Global, bytes: Vec<u8>) -> Result<(usize, Option<Fault>), Fail> {
-    let old = archive_text(alloc, &[FIRST])?;
-    let mut archive = match Archive::open(alloc, MemSource::new(old, 1)) {
-        Ok(archive) => archive,
-        Err((fault, _source)) => return Err(fault.into()),
-    };
+    let mut archive = opened(alloc, &[FIRST])?;
     let kept = archive.kept();
-    let refused = match archive.grow(MemSource::new(bytes, 1)) {
-        Ok(()) => None,
-        Err((fault, _source)) => Some(fault),
-    };
+    let fault = refused(&mut archive, bytes);
     if archive.kept() < kept {
         return Err("a text was lost".into());
     }
-    Ok((archive.count(), refused))
+    Ok((archive.count(), fault))
 }
 
-/// How many bytes a record has, and both.
-fn lengths(alloc: Global) -> Result<(usize, usize), Fail> {
-    let one = archive_text(alloc, &[FIRST])?.len();
-    let both = archive_text(alloc, &[FIRST, SECOND])?.len();
-    Ok((one, both))
+/// Whether an archive of the first record refuses to grow to these bytes, keeps the record, and grows to both records
+/// then.
+fn recovers(alloc: Global, bytes: Vec<u8>) -> Result<bool, Fail> {
+    let mut archive = opened(alloc, &[FIRST])?;
+    let kept = archive.kept();
+    let is_refused = refused(&mut archive, bytes).is_some();
+    let is_as_before = archive.count() == 1 && archive.kept() == kept;
+    let both = archive_text(alloc, &[FIRST, SECOND])?;
+    let is_grown = refused(&mut archive, both).is_none() && archive.count() == 2;
+    Ok(is_refused && is_as_before && is_grown)
 }
 
 #[test]
@@ -77,9 +60,25 @@ fn a_torn_record_is_refused(rt: HostRuntime) -> Result<(), Fail> {
     let alloc = rt.alloc();
     let (one, both) = lengths(alloc)?;
     for len in one.saturating_add(1)..both {
-        let (count, refused) = grown(alloc, front(alloc, len)?)?;
-        assert_eq!(rt; count, 1);
-        assert!(rt; refused.is_some());
+        assert!(rt; recovers(alloc, front(alloc, len)?)?, "{len}");
+    }
+    Ok(())
+}
+
+#[test]
+fn a_damaged_record_is_refused(rt: HostRuntime) -> Result<(), Fail> {
+    let alloc = rt.alloc();
+    let (_, both) = lengths(alloc)?;
+    let whole = front(alloc, both)?;
+    for (old, new) in [
+        ("\r\n\r\nWARC/1.1", "\r\n\r\nWARC/1.2"),
+        ("Content-Length: 4", "Content-Length: 5"),
+        ("abcd\r\n\r\n", "abcd\r\n\n\r"),
+    ] {
+        assert!(rt;
+            recovers(alloc, changed(alloc, &whole, old, new)?)?,
+            "{new}"
+        );
     }
     Ok(())
 }

@@ -1,26 +1,11 @@
 //! What README.md shows of an archive that a service keeps open.
 
+use crate::runs::{FIRST, SECOND};
 use std::alloc::Global;
 use std::test::Fail;
 use warc::Archive;
 use warc_frame::{MemSink, MemSource};
-use warc_vectors::{Row, archive_text};
-
-const RECORD: Row<'static> = Row {
-    version: "1.1",
-    kind: "resource",
-    number: '1',
-    date: "2020-01-01T00:00:00Z",
-    target: "http://a.example/x",
-    extras: &["Content-Type: text/plain"],
-    block: b"abc",
-};
-
-const LATER: Row<'static> = Row {
-    number: '2',
-    block: b"abcd",
-    ..RECORD
-};
+use warc_vectors::archive_text;
 
 /// The lengths of the block with an id in an archive, before it grows and after.
 fn lengths(
@@ -44,8 +29,8 @@ fn lengths(
 #[test]
 fn a_later_record_is_found(rt: HostRuntime) -> Result<(), Fail> {
     let alloc = rt.alloc();
-    let old = archive_text(alloc, &[RECORD])?;
-    let new = archive_text(alloc, &[RECORD, LATER])?;
+    let old = archive_text(alloc, &[FIRST])?;
+    let new = archive_text(alloc, &[FIRST, SECOND])?;
     let id = b"<urn:uuid:00000000-0000-4000-8000-000000000002>".as_slice();
     assert_eq!(rt; lengths(alloc, old, new, id)?, (None, Some(4)));
     Ok(())

@@ -9,6 +9,10 @@ mod captures;
 #[cfg(test)]
 mod extracts;
 #[cfg(test)]
+mod failures;
+#[cfg(test)]
+mod responses;
+#[cfg(test)]
 mod revisits;
 #[cfg(test)]
 mod runs;

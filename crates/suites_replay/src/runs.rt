@@ -9,6 +9,9 @@ use warc_vectors::{ONE_RESOURCE, Row, archive_text};
 /// The target of the one resource record.
 pub(crate) const U: &str = "http://a.example/x";
 
+/// The line of a digest, that of a block of no bytes.
+pub(crate) const OF_NOTHING: &str = "WARC-Block-Digest: sha1:3I42H3S6NNFQ2MSVX7XZKYAYSCX5QBYJ";
+
 /// A resource of the year 2020 whose head states no digest.
 pub(crate) const PLAIN: Row<'static> = Row {
     date: "2020",

@@ -1,10 +1,12 @@
 //! Replays of records in segments, and each gap.
 
-use crate::runs::{PLAIN, U, asked, lacks};
+use crate::runs::{OF_NOTHING, PLAIN, RESPONSE, U, asked, gives, lacks};
 use std::test::Fail;
 use warc_vectors::Row;
 
 const ORIGIN: &str = "WARC-Segment-Origin-ID: <urn:uuid:00000000-0000-4000-8000-000000000001>";
+
+const TOTAL: &str = "WARC-Segment-Total-Length: 3";
 
 const FIRST: Row<'static> = Row {
     extras: &["Content-Type: text/plain", "WARC-Segment-Number: 1"],
@@ -21,16 +23,108 @@ const SECOND: Row<'static> = Row {
 };
 
 const THIRD: Row<'static> = Row {
-    kind: "continuation",
     number: '3',
+    extras: &[ORIGIN, "WARC-Segment-Number: 3", TOTAL],
+    block: b"c",
+    ..SECOND
+};
+
+const BEYOND: Row<'static> = Row {
+    number: '4',
+    extras: &[ORIGIN, "WARC-Segment-Number: 4"],
+    block: b"d",
+    ..SECOND
+};
+
+const TRUNCATED: Row<'static> = Row {
     extras: &[
         ORIGIN,
-        "WARC-Segment-Number: 3",
-        "WARC-Segment-Total-Length: 3",
+        "WARC-Segment-Number: 2",
+        "WARC-Truncated: disconnect",
     ],
-    block: b"c",
-    ..PLAIN
+    ..SECOND
 };
+
+const WRONG: Row<'static> = Row {
+    extras: &[ORIGIN, "WARC-Segment-Number: 2", OF_NOTHING],
+    ..SECOND
+};
+
+/// Orders of the three segments, and what is said of the body.
+const ORDERS: &[(&[Row<'static>], &str)] = &[
+    (
+        &[FIRST, SECOND, THIRD],
+        "chosen 0 given 0 status - truncated no",
+    ),
+    (
+        &[THIRD, FIRST, SECOND],
+        "chosen 1 given 1 status - truncated no",
+    ),
+    (
+        &[THIRD, SECOND, FIRST],
+        "chosen 2 given 2 status - truncated no",
+    ),
+    (
+        &[TRUNCATED, FIRST, THIRD],
+        "chosen 1 given 1 status - truncated yes",
+    ),
+];
+
+#[test]
+fn segments_out_of_order(rt: HostRuntime) -> Result<(), Fail> {
+    for (rows, said) in ORDERS {
+        assert!(rt;
+            gives(rt.alloc(), rows, &asked(U, "2020"), b"abc", said)?,
+            "{said}"
+        );
+    }
+    Ok(())
+}
+
+/// Records whose segments don't give a body, and the reason.
+const BROKEN: &[(&[Row<'static>], &str)] = &[
+    (&[FIRST, SECOND, THIRD, SECOND], "P7 Segment G1 Repeated 2"),
+    (&[BEYOND, THIRD, SECOND, FIRST], "P7 Segment G3 AfterEnd 4"),
+    (&[THIRD, FIRST], "P7 Segment G4 Absent 2"),
+    (&[THIRD, FIRST, WRONG], "P8 BadDigest"),
+];
+
+#[test]
+fn segments_that_give_no_body(rt: HostRuntime) -> Result<(), Fail> {
+    for (rows, reason) in BROKEN {
+        assert!(rt;
+            lacks(rt.alloc(), rows, &asked(U, "2020"), reason)?,
+            "{reason}"
+        );
+    }
+    Ok(())
+}
+
+/// A response whose head is cut behind the first bytes of its second line.
+const CUT: &[Row<'static>] = &[
+    Row {
+        extras: &[
+            ORIGIN,
+            "WARC-Segment-Number: 2",
+            "WARC-Segment-Total-Length: 33",
+        ],
+        block: b"ver: a\r\n\r\nabc",
+        ..SECOND
+    },
+    Row {
+        number: '1',
+        extras: &["WARC-Segment-Number: 1"],
+        block: b"HTTP/1.1 200 OK\r\nSer",
+        ..RESPONSE
+    },
+];
+
+#[test]
+fn a_head_in_two_segments(rt: HostRuntime) -> Result<(), Fail> {
+    let said = "chosen 1 given 1 status 200 truncated no";
+    assert!(rt; gives(rt.alloc(), CUT, &asked(U, "2020"), b"abc", said)?);
+    Ok(())
+}
 
 #[test]
 fn totals_that_do_not_join(rt: HostRuntime) -> Result<(), Fail> {

@@ -1,13 +1,10 @@
 -- How many findings an archive has at most.
-use Rattle.std.proofs.Common.{◌≡◌, ℕ, ◌+◌, ◌*◌, ◌^◌, ◌<◌, ◌≤◌, List, [], ◌∷◌, ◌++◌, length, take, refl, length-append, ap, arith}
+use Rattle.std.proofs.Common.{◌≡◌, ℕ, ◌+◌, ◌*◌, ◌^◌, ◌<◌, ◌≤◌, List, [], ◌∷◌, length, take, length-append, arith}
 use Rattle.std.proofs.lemmas.List.{length-map}
 use Rattle.std.specs.List.{enumerate_from, flat_map}
-use Rattle.warc_field.specs.Area.{Pair, canonical_fields, canonical_line}
-use Rattle.warc_field.specs.Lines.{crlf}
 use Rattle.warc_frame.specs.Count.{capped}
-use Rattle.warc_frame.specs.Record.{Record, IsFramed, canonical_len, head_text, max_archive}
-use Rattle.warc_frame.specs.Spelling.{Spells, SpellsAll}
-use Rattle.warc_frame.specs.VersionLine.{version_line}
+use Rattle.warc_frame.specs.Record.{Record, max_archive}
+use Rattle.warc_frame.specs.Spelling.{SpellsAll}
 use Rattle.warc_record.specs.Good.{IsGood}
 use Rattle.warc_record.proofs.CountLemmas.{findings_are_few}
 use Rattle.warc_reading.specs.Archive.{AreGood, IsArchiveOf, contents}

@@ -1,13 +1,13 @@
 -- Texts that are made from the bytes of a source and go to an output, one behind another.
-use Rattle.std.proofs.Common.{◌≡◌, ℕ, ◌+◌, ◌≤◌, Bool, false, List, [], ◌++◌, Option, Some, Result, Ok, Err, IfErr, OnOk, append_assoc, refl, sym, ap, subst, ◌∙◌, arith}
+use Rattle.std.proofs.Common.{◌≡◌, ℕ, ◌+◌, ◌≤◌, Bool, false, List, [], ◌++◌, Option, Some, Result, Ok, Err, append_assoc, refl, sym, ap, subst, ◌∙◌, arith}
 use Rattle.std.proofs.lemmas.List.{append-nil}
 use Rattle.std.proofs.lemmas.Result.{IfErr-weaker, on_ok_weaker}
 use Rattle.warc_frame.specs.Copying.{Copies}
 use Rattle.warc_frame.specs.Device.{Staged}
 use Rattle.warc_frame.specs.Failing.{HasFailedBy, MayHaveFailedBy, failed_by}
 use Rattle.warc_frame.specs.Putting.{Puts}
-use Rattle.warc_frame.specs.Seen.{AsksOnly, Seen, Tapped}
-use Rattle.warc_frame.specs.Send.{IsStaged, WentOut, sent_of}
+use Rattle.warc_frame.specs.Seen.{Seen, Tapped}
+use Rattle.warc_frame.specs.Send.{WentOut, sent_of}
 use Rattle.warc_frame.specs.declared.fault.OutFault.{OutFault}
 use Rattle.warc_frame.specs.declared.fault.OutFault.TheVariants.{Write, Memory}
 use Rattle.warc_frame.specs.declared.send.SendFault.{SendFault}

@@ -1,5 +1,5 @@
 -- What is written of an archive is shorter than 2^64.
-use Rattle.std.proofs.Common.{◌≡◌, ℕ, zero, suc, ◌+◌, ◌*◌, ◌==◌, ◌^◌, ◌<◌, ◌≤◌, Bool, true, false, List, [], ◌∷◌, ◌++◌, length, take, map, filter, decimal, codes, Option, None, Some, if◌then◌else◌, length-append, refl, sym, ◌∙◌, ap, arith}
+use Rattle.std.proofs.Common.{◌≡◌, ℕ, ◌+◌, ◌*◌, ◌^◌, ◌<◌, ◌≤◌, Bool, true, false, List, [], ◌∷◌, ◌++◌, length, take, map, decimal, codes, Option, None, Some, if◌then◌else◌, length-append, refl, ◌∙◌, ap, arith}
 use Rattle.std.specs.Prelude.{option_and_then, option_map, unwrap_or}
 use Rattle.std.specs.List.{enumerate_from, find, flat_map, join_with_byte, sum_by}
 use Rattle.std.proofs.lemmas.Fmt.{length-decimal-le}
@@ -9,8 +9,8 @@ use Rattle.std.proofs.lemmas.Grind.{flat_map-append}
 use Rattle.warc_field.specs.Area.{Pair, canonical_fields, canonical_line, first_value}
 use Rattle.warc_field.specs.Lines.{crlf}
 use Rattle.warc_field.specs.Text.{same}
-use Rattle.warc_frame.specs.Record.{Record, IsFramed, canonical_len, head_text, max_archive}
-use Rattle.warc_frame.specs.Spelling.{Spells, SpellsAll, canonical, record_text}
+use Rattle.warc_frame.specs.Record.{Record, IsFramed, canonical_len, head_text}
+use Rattle.warc_frame.specs.Spelling.{Spells, SpellsAll, canonical}
 use Rattle.warc_frame.specs.VersionLine.{version_line}
 use Rattle.warc_frame.specs.declared.version.Version.{Version}
 use Rattle.warc_frame.specs.declared.version.Version.TheVariants.{V1_0, V1_1}
@@ -19,15 +19,13 @@ use Rattle.warc_record.specs.FindingLaws.{FindingsAreFew, FindingsAreShort, told
 use Rattle.warc_record.specs.Findings.{Found}
 use Rattle.warc_record.specs.Good.{IsGood}
 use Rattle.warc_record.specs.Ids.{BareTextsAreNoLonger, bare_text}
-use Rattle.warc_record.specs.Readings.{present_bare, present_value, unless_empty}
+use Rattle.warc_record.specs.Readings.{unless_empty}
 use Rattle.warc_write.specs.Conversion.{ConvertedStaysGood, converted}
-use Rattle.warc_reading.specs.Archive.{AreGood, IsArchiveOf, SpellsFrom, contents}
-use Rattle.warc.specs.Checking.{about_record, field_text, findings_at, findings_behind, findings_of_archive, findings_of_records, check_text, is_used, record_key, line_text, no_records}
-use Rattle.warc.specs.Forms.{text_as, texts_as}
-use Rattle.warc.specs.declared.copying.Form.TheVariants.{Canonical, Converted}
+use Rattle.warc_reading.specs.Archive.{AreGood, SpellsFrom, contents}
+use Rattle.warc.specs.Checking.{about_record, field_text, findings_at, findings_behind, check_text, is_used, record_key, line_text}
 use Rattle.warc.specs.Laws.{OutputsAreCounted}
 use Rattle.warc.specs.Listing.{line_of, listing, shown}
-use Rattle.warc_reading.specs.Row.{Placed, Row, row_of}
+use Rattle.warc_reading.specs.Row.{Placed, row_of}
 use Rattle.warc_reading.proofs.StreamLemmas.{spells_all}
 
 -- a number of 64 bits has at most 20 digits

@@ -1,5 +1,5 @@
 -- What `check` writes, computed.
-use Rattle.std.proofs.Common.{◌≡◌, [], ◌∷◌, None, codes, refl}
+use Rattle.std.proofs.Common.{◌≡◌, [], None, codes, refl}
 use Rattle.std.specs.Fmt.{digits}
 use Rattle.warc_record.specs.Findings.{about}
 use Rattle.warc.specs.Checking.{about_record, check_text, line_text}

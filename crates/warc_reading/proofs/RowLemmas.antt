@@ -1,13 +1,14 @@
 -- Rows in flat lists.
-use Rattle.std.proofs.Common.{◌≡◌, ℕ, ◌+◌, ◌-◌, ◌≤◌, List, [], ◌∷◌, ◌++◌, length, zero, suc, take, drop, map, Some, refl, subst, sym, ap, ◌∙◌, arith, length-append}
+use Rattle.std.proofs.Common.{◌≡◌, ℕ, ◌+◌, ◌-◌, ◌^◌, ◌<◌, ◌≤◌, List, [], ◌∷◌, ◌++◌, length, zero, suc, take, drop, map, Some, refl, subst, sym, ap, ◌∙◌, arith, length-append}
 use Rattle.std.proofs.lemmas.List.{append_assoc, length-drop, length-take-le, take-map, take-append-drop, take-append-le, drop-append-le, map-append, take_at, drop_at, append-nil}
-use Rattle.std.specs.List.{slice_get, slice_range, sum_by}
+use Rattle.std.specs.List.{AllByRecursion, slice_get, slice_range, sum_by}
 use Rattle.std.proofs.lemmas.List.Sums.{sum_by-cons}
 use Rattle.warc_reading.specs.Archive.{IsArchiveOf, SpellsFrom}
 use Rattle.warc_reading.specs.Row.{Placed, Row, row_of}
 use Rattle.warc_reading.specs.Keeping.{texts_len}
-use Rattle.warc_reading.specs.Rows.{row_at, IsWithin, AreFlat, ArePacked, AreWithin}
+use Rattle.warc_reading.specs.Rows.{row_at, packed_row, unpacked, IsWithin, IsPackedOf, AreFlat, AreKept, ArePacked, AreWithin}
 use Rattle.warc_reading.specs.declared.rows.Entry.{Entry}
+use Rattle.warc_reading.specs.declared.rows.Packed.{Packed}
 
 -- a part of bytes stays when more follow
 pub slice_front : (a b : ℕ) (xs more : List ℕ) → a ≤ b → b ≤ length xs → slice_range (xs ++ more) a b ≡ slice_range xs a b
@@ -223,3 +224,56 @@ flat_cut texts es i e ts fs is flat cut first =
     let size : length (take e.kind_start texts) ≡ e.kind_start = length-take-le e.kind_start texts le in
     let P : ℕ → Type 0 = λ n. AreFlat n (take i es) in
     rw (cut, first) (subst P (sym size) front, rows_first texts e.kind_start es i le front.within)
+
+-- ---- entries in 40 bytes
+
+pub rows_unpacked : (texts : List ℕ) (ps : List Packed) → map (row_at texts) (map unpacked ps) ≡ map (packed_row texts) ps
+rows_unpacked texts [] = refl
+rows_unpacked texts (p ∷ ps) = ap (λ rows. packed_row texts p ∷ rows) (rows_unpacked texts ps)
+
+all_within_kept : (n : ℕ) (ps : List Packed) → AreWithin n (map unpacked ps) → AllByRecursion (λ p. IsWithin n (unpacked p)) ps
+all_within_kept n [] within = tt
+all_within_kept n (p ∷ ps) (w, within) = (w, all_within_kept n ps within)
+
+pub kept_flat : (n : ℕ) (ps : List Packed) → AreFlat n (map unpacked ps) → AreKept n ps
+kept_flat n ps flat = record { within = all_within_kept n ps flat.within; flat = flat }
+
+pub entry_at : (ps : List Packed) (i : ℕ) (p : Packed) → slice_get ps i ≡ Some p → slice_get (map unpacked ps) i ≡ Some (unpacked p)
+entry_at [] i p is = absurd (cc is)
+entry_at (x ∷ ps) zero p is = let same : x ≡ p = cc is in ap (λ y. Some (unpacked y)) same
+entry_at (x ∷ ps) (suc i) p is = entry_at ps i p is
+
+-- rows and texts that were cut
+pub cut_kept : (texts : List ℕ) (ps : List Packed) (i : ℕ) (p : Packed) (ts : List ℕ) (qs : List Packed) → slice_get ps i ≡ Some p → AreKept (length texts) ps
+    → ts ≡ take p.start texts → qs ≡ take i ps → AreKept (length ts) qs × (map (packed_row ts) qs ≡ take i (map (packed_row texts) ps))
+cut_kept texts ps i p ts qs is kept cut first =
+    let entries : map unpacked qs ≡ take i (map unpacked ps) = ap (map unpacked) first ∙ sym (take-map unpacked i ps) in
+    let (flat, rows) = flat_cut texts (map unpacked ps) i (unpacked p) ts (map unpacked qs) (entry_at ps i p is) kept.flat cut entries in
+    (kept_flat (length ts) qs flat, sym (rows_unpacked ts qs) ∙ rows ∙ ap (take i) (rows_unpacked texts ps))
+
+-- a row that was added, and its texts behind the others
+pub push_kept : (t t1 t2 t3 t4 : List ℕ) (row : Row) (p : Packed) (ps qs : List Packed) → t1 ≡ t ++ row.kind → t2 ≡ t1 ++ row.date → t3 ≡ t2 ++ row.id
+    → t4 ≡ t3 ++ row.target → length t4 < 2 ^ 64 → IsPackedOf (length t) row p → qs ≡ ps ++ p ∷ [] → AreKept (length t) ps
+    → AreKept (length t4) qs × (map (packed_row t4) qs ≡ map (packed_row t) ps ++ row ∷ [])
+push_kept t t1 t2 t3 t4 row p ps qs h1 h2 h3 h4 short is pushed kept =
+    let e : Entry = unpacked p in
+    let n1 = ap length h1 ∙ length-append t row.kind in
+    let n2 = ap length h2 ∙ length-append t1 row.date in
+    let n3 = ap length h3 ∙ length-append t2 row.id in
+    let n4 = ap length h4 ∙ length-append t3 row.target in
+    let a : e.kind_start ≡ length t = is.begin in
+    let b : e.kind_end ≡ length t1 = omega (arith, is.begin, is.kind, n1, n2, n3, n4, short) in
+    let c : e.date_end ≡ length t2 = omega (arith, b, is.date, n2, n3, n4, short) in
+    let f : e.id_end ≡ length t3 = omega (arith, c, is.id, n3, n4, short) in
+    let j : e.target_end ≡ length t4 = omega (arith, f, is.target, n4, short) in
+    let entries : map unpacked qs ≡ map unpacked ps ++ e ∷ [] = ap (map unpacked) pushed ∙ map-append unpacked ps (p ∷ []) in
+    let within = all_within t row.kind row.date row.id row.target t1 t2 t3 t4 e h1 h2 h3 h4 a b c f j (map unpacked ps) kept.flat.within in
+    let last = added_within t row.kind row.date row.id row.target t1 t2 t3 t4 e h1 h2 h3 h4 a b c f j in
+    let flat = flat_more (length t) (length t4) (map unpacked ps) e kept.flat a j last within in
+    let P : List Entry → Type 0 = λ es. AreFlat (length t4) es in
+    let rows = rows_added t row.kind row.date row.id row.target t1 t2 t3 t4 e h1 h2 h3 h4 a b c f j (map unpacked ps) kept.flat.within in
+    let same : added t row.kind row.date row.id row.target t1 t2 t3 t4 e h1 h2 h3 h4 a b c f j ≡ row = rw (is.head, is.offset, is.block, is.verdict, is.truncated) refl in (
+      kept_flat (length t4) qs (subst P (sym entries) flat),
+      sym (rows_unpacked t4 qs) ∙ ap (map (row_at t4)) entries ∙ rows ∙ ap (λ (r : Row). map (row_at t) (map unpacked ps) ++ r ∷ []) same
+          ∙ ap (λ rows. rows ++ row ∷ []) (rows_unpacked t ps),
+    )

@@ -1,8 +1,9 @@
 -- What the flat lists of an archive hold. States of the code: no public clause cites them.
-use Rattle.std.specs.Prelude.{◌≡◌, ℕ, ◌≤◌, List, [], ◌∷◌, slice_range}
+use Rattle.std.specs.Prelude.{◌≡◌, ℕ, ◌+◌, ◌-◌, ◌^◌, ◌≤◌, List, [], ◌∷◌, length, map, min, slice_range}
 use Rattle.std.specs.List.{AllByRecursion}
 use Rattle.warc_reading.specs.Row.{Row}
 use Rattle.warc_reading.specs.declared.rows.Entry.{Entry}
+use Rattle.warc_reading.specs.declared.rows.Packed.{Packed}
 
 -- the row of an entry, its texts lying one behind another in the bytes
 abbrev pub row_at : List ℕ → Entry → Row
@@ -38,3 +39,43 @@ ArePacked start (e ∷ es) end = (e.kind_start ≡ start) × IsWithin e.target_e
 pub record AreFlat (count : ℕ) (entries : List Entry) : Type 0 where
   pub within : AreWithin count entries
   pub packed : ArePacked 0 entries count
+
+-- a place that is so far behind another, up to 2^64 - 1
+abbrev pub reach : ℕ → ℕ → ℕ
+reach start len = min (start + len) (2 ^ 64 - 1)
+
+-- the entry that is kept in 40 bytes
+abbrev pub unpacked : Packed → Entry
+unpacked p = record {
+  offset = p.offset;
+  block_start = reach p.offset p.head_len;
+  block_len = p.block_len;
+  verdict = p.verdict;
+  is_truncated = p.is_truncated;
+  kind_start = p.start;
+  kind_end = reach p.start p.kind_len;
+  date_end = reach (reach p.start p.kind_len) p.date_len;
+  id_end = reach (reach (reach p.start p.kind_len) p.date_len) p.id_len;
+  target_end = reach (reach (reach (reach p.start p.kind_len) p.date_len) p.id_len) p.target_len;
+}
+
+-- what is kept in 40 bytes of a row whose texts begin there
+pub record IsPackedOf (start : ℕ) (row : Row) (p : Packed) : Type 0 where
+  pub offset : p.offset ≡ row.offset
+  pub head : reach p.offset p.head_len ≡ row.block_start
+  pub block : p.block_len ≡ row.block_len
+  pub verdict : p.verdict ≡ row.verdict
+  pub truncated : p.is_truncated ≡ row.is_truncated
+  pub begin : p.start ≡ start
+  pub kind : p.kind_len ≡ length row.kind
+  pub date : p.date_len ≡ length row.date
+  pub id : p.id_len ≡ length row.id
+  pub target : p.target_len ≡ length row.target
+
+abbrev pub packed_row : List ℕ → Packed → Row
+packed_row texts p = row_at texts (unpacked p)
+
+-- so many bytes are the texts of these entries, and nothing else
+pub record AreKept (count : ℕ) (ps : List Packed) : Type 0 where
+  pub within : AllByRecursion (λ p. IsWithin count (unpacked p)) ps
+  pub flat : AreFlat count (map unpacked ps)

@@ -3,6 +3,7 @@ ghost use Rattle.std.specs.Prelude.{◌≡◌, ℕ, ◌+◌, ◌≤◌, ◌^◌,
 ghost use Rattle.std.specs.List.{slice_get, sum_by};
 ghost use Rattle.warc_reading.specs.Archive.{IsArchiveOf};
 ghost use Rattle.warc_reading.specs.Keeping.{texts_len};
+ghost use Rattle.warc_reading.specs.Rows.{unpacked, IsPackedOf};
 
 use std::alloc::{AllocError, Allocator};
 use std::marker::Model;
@@ -68,23 +69,100 @@ struct Entry {
     target_end: usize,
 }
 
+/// An entry in 40 bytes: of its head and its texts it keeps the lengths.
+#[derive(Clone, Copy)]
+struct Packed {
+    offset: u64,
+    block_len: u64,
+    start: usize,
+    head_len: u32,
+    kind_len: u16,
+    date_len: u16,
+    id_len: u16,
+    target_len: u16,
+    verdict: Verdict,
+    is_truncated: bool,
+}
+
+/// A length, if it is shorter than 2^16, as that of any value in a head is.
+fn short(len: usize) -> Option<u16>
+    ensures { IfSome result (λ n. n ≡ len) }
+{
+    match u16::try_from(len) {
+        Ok(len) => Some(len),
+        Err(_) => None,
+    }
+}
+
+/// The length from one offset to another, if it is shorter than 2^32, as that of any head is.
+fn distance(from: u64, to: u64) -> Option<u32>
+    ensures { IfSome result (λ n. from + n ≡ to) }
+{
+    match u32::try_from(to.checked_sub(from)?) {
+        Ok(len) => Some(len),
+        Err(_) => None,
+    }
+}
+
+impl Packed {
+    /// The entry of a row whose texts begin at a place of the list. `None`: a head of 2^32 bytes or more, or a text of
+    /// 2^16 or more, which no good record has.
+    fn of(start: usize, row: &Row<'_>) -> Option<Packed>
+        ensures { IfSome result (IsPackedOf start row.now) }
+    {
+        Some(Packed {
+            offset: row.offset,
+            block_len: row.block_len,
+            start,
+            head_len: distance(row.offset, row.block_start)?,
+            kind_len: short(row.kind.len())?,
+            date_len: short(row.date.len())?,
+            id_len: short(row.id.len())?,
+            target_len: short(row.target.len())?,
+            verdict: row.verdict,
+            is_truncated: row.is_truncated,
+        })
+    }
+
+    /// The entry.
+    fn entry(self) -> Entry
+        ensures { result ≡ unpacked self }
+    {
+        let kind_end = self.start.saturating_add(self.kind_len as usize);
+        let date_end = kind_end.saturating_add(self.date_len as usize);
+        let id_end = date_end.saturating_add(self.id_len as usize);
+        Entry {
+            offset: self.offset,
+            block_start: self.offset.saturating_add(self.head_len as u64),
+            block_len: self.block_len,
+            verdict: self.verdict,
+            is_truncated: self.is_truncated,
+            kind_start: self.start,
+            kind_end,
+            date_end,
+            id_end,
+            target_end: id_end.saturating_add(self.target_len as usize),
+        }
+    }
+}
+
 /// The rows of an archive's records, in their order.
 #[derive(Drop)]
 pub struct Rows<A: Allocator> {
     texts: Vec<u8, A>,
-    entries: Vec<Entry, A>,
+    entries: Vec<Packed, A>,
 }
 
 impl<A: Allocator> Model for Rows<A> {
     ghost use Rattle.std.specs.Prelude.{List, length, map};
     ghost use Rattle.warc_reading.specs.Row.{Row as Seen};
-    ghost use Rattle.warc_reading.specs.Rows.{row_at, AreFlat};
+    ghost use Rattle.warc_reading.specs.Rows.{packed_row, AreKept};
 
     ghost Value = { List Seen };
 
-    ghost view = { λ r. map (row_at r.texts.items) r.entries.items };
+    ghost view = { λ r. map (packed_row r.texts.items) r.entries.items };
 
-    ghost invariant = { λ r. AreFlat (length r.texts.items) r.entries.items };
+    ghost invariant = { λ r. AreKept (length r.texts.items) r.entries.items };
 }
 
 /// A part of the bytes.
@@ -141,25 +219,16 @@ impl<A: Allocator + Copy> Rows<A> {
         let Some(room) = texts_len(row) else {
             return Err(AllocError);
         };
+        let Some(packed) = Packed::of(self.texts.len(), row) else {
+            return Err(AllocError);
+        };
         self.texts.reserve(room)?;
         self.entries.reserve(1)?;
-        let kind_start = self.texts.len();
-        let kind_end = put(row.kind, &mut self.texts);
-        let date_end = put(row.date, &mut self.texts);
-        let id_end = put(row.id, &mut self.texts);
-        let target_end = put(row.target, &mut self.texts);
-        self.entries.push_reserved(Entry {
-            offset: row.offset,
-            block_start: row.block_start,
-            block_len: row.block_len,
-            verdict: row.verdict,
-            is_truncated: row.is_truncated,
-            kind_start,
-            kind_end,
-            date_end,
-            id_end,
-            target_end,
-        });
+        put(row.kind, &mut self.texts);
+        put(row.date, &mut self.texts);
+        put(row.id, &mut self.texts);
+        put(row.target, &mut self.texts);
+        self.entries.push_reserved(packed);
         Ok(())
     }
 }
@@ -170,7 +239,7 @@ impl<A: Allocator> Rows<A> {
         ensures { self.new ≡ take count self.old }
     {
         if let Some(entry) = self.entries.get(count) {
-            let end = entry.kind_start;
+            let end = entry.start;
             self.texts.truncate(end);
             self.entries.truncate(count);
         }
@@ -184,9 +253,10 @@ impl<A: Allocator> Rows<A> {
         let Some(last) = self.entries.len().checked_sub(1) else {
             return 0;
         };
-        let Some(entry) = self.entries.get(last) else {
+        let Some(packed) = self.entries.get(last) else {
             return 0;
         };
+        let entry = packed.entry();
         let block_end = entry.block_start.saturating_add(entry.block_len);
         block_end.saturating_add(CLOSING).min(MAX_ARCHIVE)
     }
@@ -218,7 +288,7 @@ impl<A: Allocator> Rows<A> {
     pub fn get(&self, i: usize) -> Option<Row<'_>>
         ensures { result ≡ slice_get self.now i }
     {
-        let entry = self.entries.get(i)?;
+        let entry = self.entries.get(i)?.entry();
         let texts = self.texts.as_slice();
         Some(Row {
             offset: entry.offset,

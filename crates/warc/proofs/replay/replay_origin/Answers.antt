@@ -1,4 +1,4 @@
-use Rattle.std.proofs.Common.{◌≡◌, ◌∙◌, ap, map, refl, subst, sym, Ok, Err}
+use Rattle.std.proofs.Common.{◌∙◌, ap, map, refl, subst, sym, Ok, Err}
 use Rattle.warc_record.specs.Seen.{said}
 use Rattle.warc_segment.specs.Joined.{ArePlacesOf, PlacedRecord}
 use Rattle.warc_answer.specs.Payloads.{read_record}

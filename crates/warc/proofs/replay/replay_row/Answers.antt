@@ -1,4 +1,4 @@
-use Rattle.std.proofs.Common.{◌≡◌, ap, ◌∙◌}
+use Rattle.std.proofs.Common.{ap, ◌∙◌}
 use Rattle.warc_record.specs.Readings.{reading_of}
 use Rattle.warc.proofs.ReplayLemmas.{halted_failed, near_head, near_origin, place_by_row, row_reads}
 use Rattle.warc.proofs.replay.replay_row.Goals as goal

@@ -1,4 +1,4 @@
-use Rattle.std.proofs.Common.{◌≡◌, inl, map, refl, sym, ap, ◌∙◌, Some, None, arith}
+use Rattle.std.proofs.Common.{inl, refl, sym, ap, ◌∙◌, arith}
 use Rattle.std.specs.List.{slice_get}
 use Rattle.warc_frame.specs.declared.fault.OutFault.TheVariants as outs
 use Rattle.warc_answer.specs.Answers.{path_of}

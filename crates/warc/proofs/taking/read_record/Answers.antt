@@ -1,4 +1,4 @@
-use Rattle.std.proofs.Common.{◌≡◌, length, take, drop, sym, subst}
+use Rattle.std.proofs.Common.{sym, subst}
 use Rattle.warc_frame.specs.Spelling.{Spells}
 use Rattle.warc.proofs.HeadLemmas.{of_ok}
 use Rattle.warc.proofs.TakeLemmas.{failed_by_none, may_take, read_is}

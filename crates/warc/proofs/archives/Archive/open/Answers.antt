@@ -1,4 +1,3 @@
-use Rattle.std.proofs.Common.{refl}
 use Rattle.warc_reading.proofs.GrowLemmas.{opens_failed, opens_made}
 use Rattle.warc.proofs.archives.Archive.open.Goals as goal
 

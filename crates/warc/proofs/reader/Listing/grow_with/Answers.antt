@@ -1,6 +1,4 @@
-use Rattle.std.proofs.Common.{◌≡◌, List, ap, sym, subst, ◌∙◌}
-use Rattle.warc_reading.specs.Row.{Row}
-use Rattle.warc_reading.specs.Stream.{IsKeptOf}
+use Rattle.std.proofs.Common.{ap, ◌∙◌}
 use Rattle.warc_reading.proofs.GrowLemmas.{contents_same, grows_by_answer, kept_by_rows, when_err}
 use Rattle.warc.proofs.reader.Listing.grow_with.Goals as goal
 

@@ -1,4 +1,3 @@
-use Rattle.std.proofs.Common.{refl}
 use Rattle.warc_reading.proofs.GrowLemmas.{opens_made}
 use Rattle.warc.proofs.reader.Listing.open.Goals as goal
 

@@ -1,0 +1,80 @@
+#!/usr/bin/env python3
+"""Times archives that answer: opening one beside a listing, replays from it, and the program's `replay` beside `cat`.
+
+Usage: replay.py REPOSITORY PROGRAM FOLDER
+
+It has `rt run` prove and build crates/bench_archive, and runs it three times over 1,000,000 tiny records: the least of
+each figure counts. Then the program replays a body of 1 GB that has no digest, opening included, and `cat` copies its
+archive, both to where nothing is kept: each five times, by turns, and the least time counts. The most memory of the
+program is what the system tells of it while it runs once more. The archives are made in FOLDER once and kept.
+"""
+import os
+import subprocess
+import sys
+import time
+
+from shared import make, run
+
+RUNS = 5
+OPENINGS = 3
+REPLAYS = "100000"
+
+
+def least_figures(words):
+    """For each line that the runs of a program print, the one with the least number before `ns`."""
+    least = {}
+    for _ in range(OPENINGS):
+        done = subprocess.run(words, check=True, capture_output=True, text=True)
+        for line in done.stdout.splitlines():
+            _, verb, _, each, _ = line.split(maxsplit=4)
+            least[verb] = min(least.get(verb, (1e9, "")), (int(each), line))
+    return least
+
+
+def most_memory(words):
+    """The most memory of a run in kilobytes, without what Python took before it."""
+    most = 0
+    with open(os.devnull, "wb") as null:
+        child = subprocess.Popen(words, stdout=null, stderr=null)
+        while child.poll() is None:
+            with open(f"/proc/{child.pid}/status", encoding="ascii") as status:
+                for line in status:
+                    if line.startswith("VmHWM:"):
+                        most = int(line.split()[1])
+            time.sleep(0.001)
+    return most
+
+
+def time_openings(crate, path):
+    built = subprocess.run(["rt", "run"], cwd=crate, capture_output=True, text=True)
+    if built.returncode != 0:
+        sys.exit(built.stdout + built.stderr)
+    least = least_figures([f"{crate}/out/bench_archive", path, REPLAYS])
+    for _, line in least.values():
+        print(line)
+    print(f"an archive takes {least['opened'][0] / least['listed'][0]:.2f} of a listing")
+
+
+def time_replay(program, path):
+    words = [program, "replay", path, "http://a.example/0", "2021"]
+    replays, copies = [], []
+    for _ in range(RUNS):
+        replays.append(run(words)[0])
+        copies.append(run(["cat", path])[0])
+    print(
+        f"a body of 1 GB: {min(replays):.2f} s, {min(replays) / min(copies):.1f} of cat, "
+        f"most memory {most_memory(words) / 1024:.1f} MB"
+    )
+
+
+def main():
+    repository, program, folder = sys.argv[1:]
+    os.makedirs(folder, exist_ok=True)
+    tiny, whole = os.path.join(folder, "tiny.warc"), os.path.join(folder, "plain.warc")
+    make(tiny, 1_000_000, 3)
+    make(whole, 1, 1_000_000_000, has_digests=False)
+    time_openings(f"{repository}/crates/bench_archive", tiny)
+    time_replay(program, whole)
+
+
+main()

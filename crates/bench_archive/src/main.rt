@@ -1,0 +1,125 @@
+//! Times archives: `bench_archive FILE COUNT`. It opens the file as a `Listing`, then as an `Archive`, and prints
+//! nanoseconds a record. Then it replays COUNT bodies in random order, whose targets are `http://a.example/` and the
+//! position of a record, and prints nanoseconds a replay. Without arguments it does nothing.
+#![tactic(auto)]
+
+use bench_texts::{per, scattered};
+use std::alloc::Global;
+use std::fs::File;
+use std::rt::{Clock, Files};
+use std::time::Instant;
+use std::{env, io};
+use warc::{Archive, Listing};
+use warc_frame::{Fault, FileSource, MemSink, Source};
+use warc_value::{Moment, read_date};
+
+/// The listing of a source.
+fn listed<S: Source + Drop>(alloc: Global, source: S) -> Result<Listing<S>, Fault> {
+    match Listing::open(alloc, source) {
+        Ok(listing) => Ok(listing),
+        Err((fault, _source)) => Err(fault),
+    }
+}
+
+/// The archive of a source.
+fn opened<S: Source + Drop>(alloc: Global, source: S) -> Result<Archive<S>, Fault> {
+    match Archive::open(alloc, source) {
+        Ok(archive) => Ok(archive),
+        Err((fault, _source)) => Err(fault),
+    }
+}
+
+/// Opens the file as a listing, and prints what it took.
+fn list<R: Print + Clock + Files>(rt: &R, alloc: Global, path: &str) -> io::Result<()> {
+    let source = FileSource::new(File::open(rt, path)?);
+    let start = Instant::now(rt)?;
+    let answer = listed(alloc, source);
+    let taken = start.elapsed(rt)?.as_nanos();
+    match answer {
+        Ok(listing) => {
+            let count = listing.count();
+            let each = per(taken, count);
+            println!(rt; "{count} listed in {each} ns each")
+        }
+        Err(fault) => println!(rt; "{fault}"),
+    }
+}
+
+/// Whether an archive gives a body of the record at a position.
+fn is_given<S: Source + Drop>(
+    alloc: Global,
+    archive: &mut Archive<S>,
+    moment: &Moment,
+    position: u64,
+    out: &mut MemSink,
+) -> io::Result<bool> {
+    let target = format!(in alloc; "http://a.example/{position}")?;
+    Ok(archive.replay(target.as_bytes(), moment, out).is_ok())
+}
+
+/// How many replays of so many give a body.
+fn replayed<S: Source + Drop>(
+    alloc: Global,
+    archive: &mut Archive<S>,
+    moment: &Moment,
+    count: usize,
+) -> io::Result<usize> {
+    let records = (archive.count() as u64).max(1);
+    let mut given = 0usize;
+    let mut out = MemSink::new(Vec::new(alloc));
+    for i in 0..count {
+        let position = scattered(i as u64) % records;
+        if is_given(alloc, archive, moment, position, &mut out)? {
+            given = given.saturating_add(1);
+        }
+    }
+    Ok(given)
+}
+
+/// Replays bodies, and prints what it took.
+fn replay<R: Print + Clock, S: Source + Drop>(
+    rt: &R,
+    alloc: Global,
+    archive: &mut Archive<S>,
+    count: usize,
+) -> io::Result<()> {
+    let Some(moment) = read_date(b"2021") else {
+        return Ok(());
+    };
+    let start = Instant::now(rt)?;
+    let given = replayed(alloc, archive, &moment, count)?;
+    let each = per(start.elapsed(rt)?.as_nanos(), count);
+    println!(rt; "{given} replayed in {each} ns each")
+}
+
+/// Opens the file as an archive, prints what it took, and replays bodies.
+fn answer<R: Print + Clock + Files>(
+    rt: &R,
+    alloc: Global,
+    path: &str,
+    count: usize,
+) -> io::Result<()> {
+    let source = FileSource::new(File::open(rt, path)?);
+    let start = Instant::now(rt)?;
+    let answer = opened(alloc, source);
+    let taken = start.elapsed(rt)?.as_nanos();
+    match answer {
+        Ok(mut archive) => {
+            let records = archive.count();
+            let each = per(taken, records);
+            println!(rt; "{records} opened in {each} ns each")?;
+            replay(rt, alloc, &mut archive, count)
+        }
+        Err(fault) => println!(rt; "{fault}"),
+    }
+}
+
+fn main(rt: HostRuntime) -> io::Result<()> {
+    let words: Vec<String> = env::args(&rt)?.collect(rt.alloc())?;
+    let (Some(path), Some(count)) = (words.get(1), words.get(2)) else {
+        return Ok(());
+    };
+    list(&rt, rt.alloc(), path.as_str())?;
+    let count = count.parse::<usize>().unwrap_or(0);
+    answer(&rt, rt.alloc(), path.as_str(), count)
+}
