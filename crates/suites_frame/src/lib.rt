@@ -6,4 +6,6 @@ mod devices;
 #[cfg(test)]
 mod framing;
 #[cfg(test)]
+mod ranges;
+#[cfg(test)]
 mod worked;
