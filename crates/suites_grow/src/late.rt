@@ -72,8 +72,8 @@ const DIGESTED: Row<'static> = Row {
     ..FIRST
 };
 
-/// Whether a replay gives nothing, for this reason, until the archive has grown by the last of the records, and then the
-/// three bytes.
+/// Whether a replay gives nothing, for this reason, until the archive has grown by the last of the records, and then
+/// the three bytes.
 fn comes_late(alloc: Global, rows: &[Row<'_>], reason: Reason) -> Result<bool, Fail> {
     let (_, before) = rows.split_last().ok_or("a record")?;
     let mut archive = opened(alloc, before)?;

@@ -3,4 +3,6 @@
 
 pub mod migration;
 mod opening;
+#[cfg(test)]
+mod returned;
 pub mod round_trip;
