@@ -3,7 +3,7 @@
 use crate::runs::{FIRST, SECOND, lengths, opened, refused};
 use std::alloc::Global;
 use std::test::Fail;
-use warc::Listing;
+use warc::{Archive, Listing};
 use warc_frame::{Fault, MemSource};
 use warc_vectors::{archive_text, changed};
 
@@ -14,26 +14,32 @@ fn front(alloc: Global, len: usize) -> Result<Vec<u8>, Fail> {
     Ok(bytes)
 }
 
+/// How many records an archive has, and how many bytes of texts it keeps of them.
+fn size(archive: &Archive<MemSource>) -> (usize, u64) {
+    (archive.count(), archive.kept())
+}
+
 /// How many records there are once an archive of the first record has grown by a source, and why not.
 fn grown(alloc: Global, bytes: Vec<u8>) -> Result<(usize, Option<Fault>), Fail> {
     let mut archive = opened(alloc, &[FIRST])?;
-    let kept = archive.kept();
+    let (_, before) = size(&archive);
     let fault = refused(&mut archive, bytes);
-    if archive.kept() < kept {
+    let (count, kept) = size(&archive);
+    if kept < before {
         return Err("a text was lost".into());
     }
-    Ok((archive.count(), fault))
+    Ok((count, fault))
 }
 
 /// Whether an archive of the first record refuses to grow to these bytes, keeps the record, and grows to both records
 /// then.
 fn recovers(alloc: Global, bytes: Vec<u8>) -> Result<bool, Fail> {
     let mut archive = opened(alloc, &[FIRST])?;
-    let kept = archive.kept();
+    let before = size(&archive);
     let is_refused = refused(&mut archive, bytes).is_some();
-    let is_as_before = archive.count() == 1 && archive.kept() == kept;
+    let is_as_before = size(&archive) == before;
     let both = archive_text(alloc, &[FIRST, SECOND])?;
-    let is_grown = refused(&mut archive, both).is_none() && archive.count() == 2;
+    let is_grown = refused(&mut archive, both).is_none() && size(&archive).0 == 2;
     Ok(is_refused && is_as_before && is_grown)
 }
 

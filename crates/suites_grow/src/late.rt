@@ -3,7 +3,9 @@
 use crate::runs::{FIRST, opened, refused, replayed};
 use std::alloc::{AllocError, Global};
 use std::test::Fail;
+use warc::Archive;
 use warc_answer::{Reason, ReplayFault};
+use warc_frame::MemSource;
 use warc_index::Unfound;
 use warc_segment::Gap;
 use warc_vectors::{Row, archive_text};
@@ -117,16 +119,27 @@ fn link(alloc: Global, place: u64) -> Result<String, AllocError> {
     }
 }
 
+/// Adds the link at a place to a text, and grows an archive by it.
+fn add_link(
+    alloc: Global,
+    archive: &mut Archive<MemSource>,
+    text: &mut Vec<u8>,
+    place: u64,
+) -> Result<(), Fail> {
+    text.extend_from_slice(link(alloc, place)?.as_bytes())?;
+    match refused(archive, text.clone()?) {
+        None => Ok(()),
+        Some(fault) => Err(fault.into()),
+    }
+}
+
 /// What a replay of the last record gives in an archive that has grown, from no bytes, by a chain of so many revisits,
 /// a record at a time.
 fn chained(alloc: Global, revisits: u64) -> Result<(Vec<u8>, Option<ReplayFault>), Fail> {
     let mut archive = opened(alloc, &[])?;
     let mut text = Vec::new(alloc);
     for place in 0..=revisits {
-        text.extend_from_slice(link(alloc, place)?.as_bytes())?;
-        if let Some(fault) = refused(&mut archive, text.clone()?) {
-            return Err(fault.into());
-        }
+        add_link(alloc, &mut archive, &mut text, place)?;
     }
     let last = format!(in alloc; "http://c.example/{revisits}")?;
     replayed(alloc, &mut archive, &last)
