@@ -1,8 +1,12 @@
 //! Times archives: `bench_archive FILE COUNT`. It opens the file as a `Listing`, then as an `Archive`, and prints
 //! nanoseconds a record. Then it replays COUNT bodies in random order, whose targets are `http://a.example/` and the
-//! position of a record, and prints nanoseconds a replay. Without arguments it does nothing.
+//! position of a record, and prints nanoseconds a replay. Then it grows an archive of 1,000 of the records, and one of
+//! nearly all, by 100 records, one at a time, and prints nanoseconds a growth. Without arguments it does nothing.
 #![tactic(auto)]
 
+mod front;
+
+use crate::front::Front;
 use bench_texts::{per, scattered};
 use std::alloc::Global;
 use std::fs::File;
@@ -12,6 +16,9 @@ use std::{env, io};
 use warc::{Archive, Listing};
 use warc_frame::{Fault, FileSource, MemSink, Source};
 use warc_value::{Moment, read_date};
+
+/// By how many records an archive grows.
+const GROWTHS: usize = 100;
 
 /// The listing of a source.
 fn listed<S: Source + Drop>(alloc: Global, source: S) -> Result<Listing<S>, Fault> {
@@ -114,6 +121,57 @@ fn answer<R: Print + Clock + Files>(
     }
 }
 
+/// The bytes of a file before the record at a position of its listing.
+fn before<R: Files, S: Source>(
+    rt: &R,
+    path: &str,
+    listing: &Listing<S>,
+    position: usize,
+) -> io::Result<Front<FileSource<R::File>>> {
+    let end = listing.row(position).map_or(0, |row| row.offset);
+    Ok(Front::new(FileSource::new(File::open(rt, path)?), end))
+}
+
+/// Whether an archive grows to what a source holds.
+fn is_grown<S: Source + Drop>(archive: &mut Archive<S>, source: S) -> bool {
+    archive.grow(source).is_ok()
+}
+
+/// Grows an archive of so many records of a file, record by record, and prints what it took.
+fn grow<R: Print + Clock + Files, S: Source>(
+    rt: &R,
+    alloc: Global,
+    path: &str,
+    listing: &Listing<S>,
+    records: usize,
+) -> io::Result<()> {
+    let Ok(mut archive) = opened(alloc, before(rt, path, listing, records)?) else {
+        return Ok(());
+    };
+    let start = Instant::now(rt)?;
+    let mut grown = 0usize;
+    for more in 1..=GROWTHS {
+        let source = before(rt, path, listing, records.saturating_add(more))?;
+        if is_grown(&mut archive, source) {
+            grown = grown.saturating_add(1);
+        }
+    }
+    let each = per(start.elapsed(rt)?.as_nanos(), grown);
+    let count = archive.count();
+    println!(rt; "{count} grown in {each} ns each")
+}
+
+/// Grows archives of 1,000 records of a file and of nearly all.
+fn grow_both<R: Print + Clock + Files>(rt: &R, alloc: Global, path: &str) -> io::Result<()> {
+    let source = FileSource::new(File::open(rt, path)?);
+    let Ok(listing) = listed(alloc, source) else {
+        return Ok(());
+    };
+    grow(rt, alloc, path, &listing, 1_000)?;
+    let most = listing.count().saturating_sub(GROWTHS + 1);
+    grow(rt, alloc, path, &listing, most)
+}
+
 fn main(rt: HostRuntime) -> io::Result<()> {
     let words: Vec<String> = env::args(&rt)?.collect(rt.alloc())?;
     let (Some(path), Some(count)) = (words.get(1), words.get(2)) else {
@@ -121,5 +179,6 @@ fn main(rt: HostRuntime) -> io::Result<()> {
     };
     list(&rt, rt.alloc(), path.as_str())?;
     let count = count.parse::<usize>().unwrap_or(0);
-    answer(&rt, rt.alloc(), path.as_str(), count)
+    answer(&rt, rt.alloc(), path.as_str(), count)?;
+    grow_both(&rt, rt.alloc(), path.as_str())
 }
