@@ -1,5 +1,5 @@
 #!/usr/bin/env python3
-"""Times archives that answer: opening one beside a listing, replays from it, and the program's `replay` beside `cat`.
+"""Times archives that answer: opening one beside a listing, replays from it, growth, and the program's `replay` beside `cat`.
 
 Usage: replay.py REPOSITORY PROGRAM FOLDER
 
@@ -21,13 +21,14 @@ REPLAYS = "100000"
 
 
 def least_figures(words):
-    """For each line that the runs of a program print, the one with the least number before `ns`."""
+    """By its verb, for each line that the runs of a program print, the least numbers before `ns`, by what is counted."""
     least = {}
     for _ in range(OPENINGS):
         done = subprocess.run(words, check=True, capture_output=True, text=True)
         for line in done.stdout.splitlines():
-            _, verb, _, each, _ = line.split(maxsplit=4)
-            least[verb] = min(least.get(verb, (1e9, "")), (int(each), line))
+            count, verb, _, each, _ = line.split(maxsplit=4)
+            by_count = least.setdefault(verb, {})
+            by_count[int(count)] = min(by_count.get(int(count), 1e12), int(each))
     return least
 
 
@@ -50,9 +51,13 @@ def time_openings(crate, path):
     if built.returncode != 0:
         sys.exit(built.stdout + built.stderr)
     least = least_figures([f"{crate}/out/bench_archive", path, REPLAYS])
-    for _, line in least.values():
-        print(line)
-    print(f"an archive takes {least['opened'][0] / least['listed'][0]:.2f} of a listing")
+    for verb, by_count in least.items():
+        for count, each in by_count.items():
+            print(f"{count} {verb} in {each} ns each")
+    [listed], [opened] = least["listed"].values(), least["opened"].values()
+    print(f"an archive takes {opened / listed:.2f} of a listing")
+    few, many = (least["grown"][count] for count in sorted(least["grown"]))
+    print(f"growing by a record takes {many / few:.2f} of what it takes at 1,000")
 
 
 def time_replay(program, path):

@@ -99,6 +99,17 @@ fn replay<R: Print + Clock, S: Source + Drop>(
     println!(rt; "{given} replayed in {each} ns each")
 }
 
+/// Prints what opening an archive took.
+fn tell_opened<R: Print + Clock, S: Source>(
+    rt: &R,
+    archive: &Archive<S>,
+    start: &Instant,
+) -> io::Result<()> {
+    let records = archive.count();
+    let each = per(start.elapsed(rt)?.as_nanos(), records);
+    println!(rt; "{records} opened in {each} ns each")
+}
+
 /// Opens the file as an archive, prints what it took, and replays bodies.
 fn answer<R: Print + Clock + Files>(
     rt: &R,
@@ -108,17 +119,11 @@ fn answer<R: Print + Clock + Files>(
 ) -> io::Result<()> {
     let source = FileSource::new(File::open(rt, path)?);
     let start = Instant::now(rt)?;
-    let answer = opened(alloc, source);
-    let taken = start.elapsed(rt)?.as_nanos();
-    match answer {
-        Ok(mut archive) => {
-            let records = archive.count();
-            let each = per(taken, records);
-            println!(rt; "{records} opened in {each} ns each")?;
-            replay(rt, alloc, &mut archive, count)
-        }
-        Err(fault) => println!(rt; "{fault}"),
-    }
+    let Ok(mut archive) = opened(alloc, source) else {
+        return Ok(());
+    };
+    tell_opened(rt, &archive, &start)?;
+    replay(rt, alloc, &mut archive, count)
 }
 
 /// The bytes of a file before the record at a position of its listing.
@@ -137,7 +142,39 @@ fn is_grown<S: Source + Drop>(archive: &mut Archive<S>, source: S) -> bool {
     archive.grow(source).is_ok()
 }
 
+/// How often an archive of so many records of a file grows by the next one.
+fn grown<R: Files, S: Source>(
+    rt: &R,
+    path: &str,
+    listing: &Listing<S>,
+    archive: &mut Archive<Front<FileSource<R::File>>>,
+    records: usize,
+) -> io::Result<usize> {
+    let mut grown = 0usize;
+    for more in 1..=GROWTHS {
+        let source = before(rt, path, listing, records.saturating_add(more))?;
+        if is_grown(archive, source) {
+            grown = grown.saturating_add(1);
+        }
+    }
+    Ok(grown)
+}
+
 /// Grows an archive of so many records of a file, record by record, and prints what it took.
+fn time_growth<R: Print + Clock + Files, S: Source>(
+    rt: &R,
+    path: &str,
+    listing: &Listing<S>,
+    archive: &mut Archive<Front<FileSource<R::File>>>,
+    records: usize,
+) -> io::Result<()> {
+    let start = Instant::now(rt)?;
+    let times = grown(rt, path, listing, archive, records)?;
+    let each = per(start.elapsed(rt)?.as_nanos(), times);
+    println!(rt; "{records} grown in {each} ns each")
+}
+
+/// Opens an archive of so many records of a file, and grows it.
 fn grow<R: Print + Clock + Files, S: Source>(
     rt: &R,
     alloc: Global,
@@ -145,20 +182,11 @@ fn grow<R: Print + Clock + Files, S: Source>(
     listing: &Listing<S>,
     records: usize,
 ) -> io::Result<()> {
-    let Ok(mut archive) = opened(alloc, before(rt, path, listing, records)?) else {
-        return Ok(());
-    };
-    let start = Instant::now(rt)?;
-    let mut grown = 0usize;
-    for more in 1..=GROWTHS {
-        let source = before(rt, path, listing, records.saturating_add(more))?;
-        if is_grown(&mut archive, source) {
-            grown = grown.saturating_add(1);
-        }
+    let source = before(rt, path, listing, records)?;
+    match opened(alloc, source) {
+        Ok(mut archive) => time_growth(rt, path, listing, &mut archive, records),
+        Err(_) => Ok(()),
     }
-    let each = per(start.elapsed(rt)?.as_nanos(), grown);
-    let count = archive.count();
-    println!(rt; "{count} grown in {each} ns each")
 }
 
 /// Grows archives of 1,000 records of a file and of nearly all.
