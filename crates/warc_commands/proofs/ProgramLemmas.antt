@@ -1,5 +1,5 @@
 -- How a run ends, from what its calls answered.
-use Rattle.std.proofs.Common.{◌≡◌, ◌⊎◌, inl, inr, ℕ, List, [], ◌∷◌, length, min, Ok, Err, refl, sym, subst, ◌∙◌, arith}
+use Rattle.std.proofs.Common.{◌≡◌, ℕ, List, [], ◌∷◌, length, min, Ok, Err, refl, sym, subst, ◌∙◌, arith}
 use Rattle.std.specs.List.{flat_map}
 use Rattle.warc_frame.specs.FaultText.{out_fault_text}
 use Rattle.warc_frame.specs.Record.{Record}
@@ -105,12 +105,3 @@ told_as {line} {other} {old} {new} same told = let P : List ℕ → Type 0 = λ 
 pub status_by : (ls : List Line) → min (length ls) 1 ≡ status_of_findings ls
 status_by [] = refl
 status_by (l ∷ ls) = omega arith
-
--- a status that is told behind opening, among those of the command
-told_late : (n : ℕ) → (n ≡ 1) ⊎ (n ≡ 3) → (n ≡ 1) ⊎ ((n ≡ 2) ⊎ (n ≡ 3))
-told_late n (inl is) = inl is
-told_late n (inr is) = inr (inr is)
-
-pub told_among : (n : ℕ) → (n ≡ 0) ⊎ ((n ≡ 1) ⊎ (n ≡ 3)) → (n ≡ 0) ⊎ ((n ≡ 1) ⊎ ((n ≡ 2) ⊎ (n ≡ 3)))
-told_among n (inl is) = inl is
-told_among n (inr is) = inr (told_late n is)

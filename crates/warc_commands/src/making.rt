@@ -91,7 +91,6 @@ where
 
     // The source still holds what it held.
     ensures kept { S.holds result.1 ≡ S.holds source }
-    ensures answers { (result.0 ≡ 0) ⊎ (result.0 ≡ 3) }
 {
     let mut source = source;
     let block = match read_whole(alloc, &mut source, MAX_BLOCK + 1) {

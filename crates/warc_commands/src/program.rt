@@ -96,8 +96,6 @@ where
 
     // The source still holds what it held.
     ensures kept { S.holds result.1 ≡ S.holds source }
-    ensures refused { result.0 ≡ 2 → (W.tells out.new ≡ W.tells out.old) × (W.faults out.new ≡ W.faults out.old) }
-    ensures answers { (result.0 ≡ 0) ⊎ ((result.0 ≡ 2) ⊎ (result.0 ≡ 3)) }
 {
     let listing = match Listing::open(alloc, source) {
         Ok(listing) => listing,
@@ -125,8 +123,6 @@ where
 
     // The source still holds what it held.
     ensures kept { S.holds result.1 ≡ S.holds source }
-    ensures refused { result.0 ≡ 2 → (W.tells out.new ≡ W.tells out.old) × (W.faults out.new ≡ W.faults out.old) }
-    ensures answers { (result.0 ≡ 0) ⊎ ((result.0 ≡ 1) ⊎ ((result.0 ≡ 2) ⊎ (result.0 ≡ 3))) }
 {
     let mut listing = match Listing::open(alloc, source) {
         Ok(listing) => listing,
@@ -155,8 +151,6 @@ where
 
     // The source still holds what it held.
     ensures kept { S.holds result.1 ≡ S.holds source }
-    ensures refused { result.0 ≡ 2 → (W.tells out.new ≡ W.tells out.old) × (W.faults out.new ≡ W.faults out.old) }
-    ensures answers { (result.0 ≡ 0) ⊎ ((result.0 ≡ 2) ⊎ (result.0 ≡ 3)) }
 {
     let mut archive = match Listing::open(alloc, source) {
         Ok(archive) => archive,

@@ -43,8 +43,6 @@ where
 
     // The source still holds what it held.
     ensures kept { S.holds result.1 ≡ S.holds source }
-    ensures refused { result.0 ≡ 2 → (W.tells out.new ≡ W.tells out.old) × (W.faults out.new ≡ W.faults out.old) }
-    ensures answers { (result.0 ≡ 0) ⊎ ((result.0 ≡ 2) ⊎ (result.0 ≡ 3)) }
 {
     let Some(size) = size_of(size.as_bytes()) else {
         tell("warc: bad size\n", err);

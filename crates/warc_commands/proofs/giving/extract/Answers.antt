@@ -1,6 +1,6 @@
 use Rattle.std.proofs.Common.{inl, inr, sym, ap, ◌∙◌}
 use Rattle.warc.specs.Extracting.{extract_result}
-use Rattle.warc_commands.proofs.ProgramLemmas.{failed_as, may_have_failed_as, not_opened, told_among}
+use Rattle.warc_commands.proofs.ProgramLemmas.{failed_as, may_have_failed_as, not_opened}
 use Rattle.warc_commands.proofs.giving.extract.Goals as goal
 
 pub returns-in-Err-clause-ends : goal.returns-in-Err-clause-ends
@@ -23,6 +23,3 @@ returns-clause-ends g c = inl (record {
   told = c.tell_extract.ensures.told;
   status_is = c.tell_extract.ensures.status;
 })
-
-pub returns-clause-answers : goal.returns-clause-answers
-returns-clause-answers g c = told_among c.tell_extract.result c.tell_extract.ensures.cases

@@ -1,7 +1,7 @@
 use Rattle.std.proofs.Common.{inl, inr, sym, ap, ◌∙◌}
 use Rattle.warc_answer.specs.Replays.{out_result}
 use Rattle.warc_reading.specs.Archive.{contents}
-use Rattle.warc_commands.proofs.ProgramLemmas.{failed_as, good_records_of, may_have_failed_as, not_opened, told_among}
+use Rattle.warc_commands.proofs.ProgramLemmas.{failed_as, good_records_of, may_have_failed_as, not_opened}
 use Rattle.warc_commands.proofs.giving.replay_as_of.Goals as goal
 
 pub returns-in-Err-clause-ends : goal.returns-in-Err-clause-ends
@@ -24,6 +24,3 @@ returns-clause-ends g c = inl (record {
   told = c.tell_replay.ensures.told;
   status_is = c.tell_replay.ensures.status;
 })
-
-pub returns-clause-answers : goal.returns-clause-answers
-returns-clause-answers g c = told_among c.tell_replay.result c.tell_replay.ensures.cases

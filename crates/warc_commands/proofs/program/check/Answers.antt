@@ -1,19 +1,11 @@
 use Rattle.std.proofs.Common.{inl, inr, min, refl, sym, ap, ◌∙◌}
 use Rattle.warc_reading.specs.Archive.{contents}
 use Rattle.warc.specs.Checking.{findings_of_archive}
-use Rattle.warc_commands.proofs.ProgramLemmas.{good_records_of, has_failed, may_have_failed, status_by}
+use Rattle.warc_commands.proofs.ProgramLemmas.{good_records_of, has_failed, may_have_failed, not_opened, status_by}
 use Rattle.warc_commands.proofs.program.check.Goals as goal
 
 pub returns-in-Err-clause-ends : goal.returns-in-Err-clause-ends
-returns-in-Err-clause-ends g c = inr (inl (record {
-  fault = c.in-Err.fault;
-  is = c.in-Err.ensures.refused;
-  failed = c.in-Err.ensures.cause;
-  asked = c.in-Err.ensures.asked;
-  untouched = refl;
-  told = c.tell_refusal.ensures.told;
-  status_is = c.tell_refusal.ensures.status;
-}))
+returns-in-Err-clause-ends g c = inr (inl (not_opened _ _ _ _ _ _ c.in-Err.fault _ c.in-Err.ensures c.tell_refusal.ensures.told c.tell_refusal.ensures.status))
 
 pub returns-in-Ok-check-clause-ends : goal.returns-in-Ok-check-clause-ends
 returns-in-Ok-check-clause-ends g c = inl (record {

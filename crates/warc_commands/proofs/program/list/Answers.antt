@@ -2,19 +2,11 @@ use Rattle.std.proofs.Common.{inl, inr, refl, ap, ◌∙◌}
 use Rattle.warc_frame.specs.FaultText.{out_fault_text}
 use Rattle.warc_frame.specs.Send.{sent_of}
 use Rattle.warc_commands.specs.Program.{told_line}
-use Rattle.warc_commands.proofs.ProgramLemmas.{told_as}
+use Rattle.warc_commands.proofs.ProgramLemmas.{not_opened, told_as}
 use Rattle.warc_commands.proofs.program.list.Goals as goal
 
 pub returns-in-Err-clause-ends : goal.returns-in-Err-clause-ends
-returns-in-Err-clause-ends g c = inr (inl (record {
-  fault = c.in-Err.fault;
-  is = c.in-Err.ensures.refused;
-  failed = c.in-Err.ensures.cause;
-  asked = c.in-Err.ensures.asked;
-  untouched = refl;
-  told = c.tell_refusal.ensures.told;
-  status_is = c.tell_refusal.ensures.status;
-}))
+returns-in-Err-clause-ends g c = inr (inl (not_opened _ _ _ _ _ _ c.in-Err.fault _ c.in-Err.ensures c.tell_refusal.ensures.told c.tell_refusal.ensures.status))
 
 pub returns-in-Ok-list-clause-ends : goal.returns-in-Ok-list-clause-ends
 returns-in-Ok-list-clause-ends g c = inl (record {
