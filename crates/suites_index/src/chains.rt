@@ -52,15 +52,36 @@ fn chain(alloc: Global, length: usize) -> Result<Index, AllocError> {
     Ok(index)
 }
 
+/// The origin of the first revisit of a chain: where the last one names no record, and where it names a resource.
+fn chained(
+    alloc: Global,
+    length: usize,
+) -> Result<(Result<usize, Unfound>, Result<usize, Unfound>), AllocError> {
+    let last = resource(alloc, length)?;
+    let mut index = chain(alloc, length)?;
+    let without = index.origin(0);
+    index.add(&last)?;
+    Ok((without, index.origin(0)))
+}
+
+/// The origins of the first revisit of a chain and of the last, which names the one in the middle.
+fn looped(
+    alloc: Global,
+    length: usize,
+) -> Result<(Result<usize, Unfound>, Result<usize, Unfound>), AllocError> {
+    let last = revisit(alloc, length, length / 2)?;
+    let mut index = chain(alloc, length)?;
+    index.add(&last)?;
+    Ok((index.origin(0), index.origin(length)))
+}
+
 const LENGTHS: [usize; 10] = [1, 2, 3, 4, 15, 16, 17, 100, 999, 1000];
 
 #[test]
 fn chains_of_revisits(rt: HostRuntime) -> Result<(), Fail> {
     for length in LENGTHS {
-        let mut index = chain(rt.alloc(), length)?;
-        assert_eq!(rt; index.origin(0), Err(Unfound::Unresolved), "{length}");
-        index.add(&resource(rt.alloc(), length)?)?;
-        assert_eq!(rt; index.origin(0), Ok(length), "{length}");
+        let expected = (Err(Unfound::Unresolved), Ok(length));
+        assert_eq!(rt; chained(rt.alloc(), length)?, expected, "{length}");
     }
     Ok(())
 }
@@ -68,10 +89,8 @@ fn chains_of_revisits(rt: HostRuntime) -> Result<(), Fail> {
 #[test]
 fn loops_of_revisits(rt: HostRuntime) -> Result<(), Fail> {
     for length in LENGTHS {
-        let mut index = chain(rt.alloc(), length)?;
-        index.add(&revisit(rt.alloc(), length, length / 2)?)?;
-        assert_eq!(rt; index.origin(0), Err(Unfound::Loop), "{length}");
-        assert_eq!(rt; index.origin(length), Err(Unfound::Loop), "{length}");
+        let expected = (Err(Unfound::Loop), Err(Unfound::Loop));
+        assert_eq!(rt; looped(rt.alloc(), length)?, expected, "{length}");
     }
     Ok(())
 }

@@ -1,6 +1,6 @@
 //! Look-ups by table: the chosen capture, the first capture with an id, and the first record with one.
 
-use crate::rows::{Row, typed};
+use crate::rows::{Row, add_again, typed};
 use std::alloc::{AllocError, Allocator, Global};
 use std::test::Fail;
 use warc_index::{Index, Unfound};
@@ -54,10 +54,41 @@ fn chosen<A: Allocator + Copy>(
     Ok(index.latest(target.as_bytes(), &moment))
 }
 
+/// The chosen capture of a target by a date, among the records of the rows.
+fn chosen_of_rows(alloc: Global, target: &str, date: &str) -> Result<Result<usize, Unfound>, Fail> {
+    let mut index = Index::new(alloc);
+    add_rows(&mut index, ROWS, alloc)?;
+    chosen(&index, target, date)
+}
+
+/// The first capture and the first record with an id, among the records of the rows.
+fn found_of_rows(alloc: Global, id: &str) -> Result<(Option<usize>, Option<usize>), Fail> {
+    let key = id_key(alloc, id.as_bytes())?.ok_or("an id")?;
+    let mut index = Index::new(alloc);
+    add_rows(&mut index, ROWS, alloc)?;
+    Ok((index.by_key(&key), index.first_with(&key)))
+}
+
+/// The latest capture once all but so many records of the rows are forgotten, and how many bytes are kept.
+fn left_of_rows(alloc: Global, count: usize) -> Result<(Result<usize, Unfound>, u64), Fail> {
+    let mut index = Index::new(alloc);
+    add_rows(&mut index, ROWS, alloc)?;
+    index.forget_after(count);
+    let kept = index.kept();
+    Ok((chosen(&index, U, "2023")?, kept))
+}
+
+/// The latest capture once all records of the rows are forgotten and added again.
+fn added_again(alloc: Global) -> Result<Result<usize, Unfound>, Fail> {
+    let mut index = Index::new(alloc);
+    add_rows(&mut index, ROWS, alloc)?;
+    index.forget_after(0);
+    add_rows(&mut index, ROWS, alloc)?;
+    chosen(&index, U, "2023")
+}
+
 #[test]
 fn chosen_captures(rt: HostRuntime) -> Result<(), Fail> {
-    let mut index = Index::new(rt.alloc());
-    add_rows(&mut index, ROWS, rt.alloc())?;
     for (target, date, expected) in [
         (U, "2020-01-01", Ok(1usize)),
         (U, "2020-01-01T00:00:00.000000001Z", Ok(3)),
@@ -69,15 +100,14 @@ fn chosen_captures(rt: HostRuntime) -> Result<(), Fail> {
         ("http://b.example/", "2023", Err(Unfound::NoCapture)),
         ("", "2023", Err(Unfound::NoCapture)),
     ] {
-        assert_eq!(rt; chosen(&index, target, date)?, expected, "{target} {date}");
+        let answer = chosen_of_rows(rt.alloc(), target, date)?;
+        assert_eq!(rt; answer, expected, "{target} {date}");
     }
     Ok(())
 }
 
 #[test]
 fn records_with_an_id(rt: HostRuntime) -> Result<(), Fail> {
-    let mut index = Index::new(rt.alloc());
-    add_rows(&mut index, ROWS, rt.alloc())?;
     for (id, capture, record) in [
         (
             "urn:uuid:00000000-0000-4000-8000-00000000000A",
@@ -90,50 +120,55 @@ fn records_with_an_id(rt: HostRuntime) -> Result<(), Fail> {
         ("<e>", Some(6), Some(6)),
         ("<B>", None, None),
     ] {
-        let key = id_key(rt.alloc(), id.as_bytes())?.ok_or("an id")?;
-        assert_eq!(rt; index.by_key(&key), capture, "{id}");
-        assert_eq!(rt; index.first_with(&key), record, "{id}");
+        assert_eq!(rt; found_of_rows(rt.alloc(), id)?, (capture, record), "{id}");
     }
     Ok(())
 }
 
 #[test]
 fn records_are_forgotten(rt: HostRuntime) -> Result<(), Fail> {
-    let mut index = Index::new(rt.alloc());
-    assert_eq!(rt; index.kept(), 0);
-    add_rows(&mut index, ROWS, rt.alloc())?;
-    index.forget_after(1);
-    assert_eq!(rt; chosen(&index, U, "2023")?, Ok(0));
     // The key of a UUID has 17 bytes.
-    assert_eq!(rt; index.kept(), 17 + 18);
-    index.forget_after(0);
-    assert_eq!(rt; chosen(&index, U, "2023")?, Err(Unfound::NoCapture));
-    add_rows(&mut index, ROWS, rt.alloc())?;
-    assert_eq!(rt; chosen(&index, U, "2023")?, Ok(3));
+    assert_eq!(rt; left_of_rows(rt.alloc(), 1)?, (Ok(0), 17 + 18));
+    assert_eq!(rt; left_of_rows(rt.alloc(), 0)?, (Err(Unfound::NoCapture), 0));
+    assert_eq!(rt; added_again(rt.alloc())?, Ok(3));
     Ok(())
+}
+
+/// Adds the records of the rows, each again where it is refused, and answers how many were, or `None` where one of them
+/// left another number of bytes kept.
+fn add_rows_again<A: Allocator + Copy>(
+    index: &mut Index<A>,
+    heap: Global,
+) -> Result<Option<u64>, AllocError> {
+    let mut refused = 0u64;
+    for row in ROWS {
+        match add_again(index, &typed(heap, row, &[])?)? {
+            Some(true) => refused = refused.saturating_add(1),
+            Some(false) => return Ok(None),
+            None => {}
+        }
+    }
+    Ok(Some(refused))
+}
+
+/// How many additions are refused where the request of that number is, and the latest capture then.
+fn refused_at(alloc: Global, number: u64) -> Result<(Option<u64>, Result<usize, Unfound>), Fail> {
+    let heap = RefusingAllocator::new(alloc, number);
+    let mut index = Index::new(&heap);
+    let refused = add_rows_again(&mut index, alloc)?;
+    Ok((refused, chosen(&index, U, "2023")?))
 }
 
 #[test]
 fn refused_additions_change_nothing(rt: HostRuntime) -> Result<(), Fail> {
-    let mut refused = 0u64;
     for number in 1..100u64 {
-        let heap = RefusingAllocator::new(rt.alloc(), number);
-        let mut index = Index::new(&heap);
-        for row in ROWS {
-            let typed = typed(rt.alloc(), row, &[])?;
-            let kept = index.kept();
-            if index.add(&typed).is_err() {
-                assert!(rt; heap.has_refused());
-                assert_eq!(rt; index.kept(), kept);
-                refused = refused.saturating_add(1);
-                index.add(&typed)?;
-            }
-        }
-        assert_eq!(rt; chosen(&index, U, "2023")?, Ok(3));
-        if !heap.has_refused() {
-            assert!(rt; refused > 0);
+        let (refused, latest) = refused_at(rt.alloc(), number)?;
+        assert_eq!(rt; latest, Ok(3));
+        if refused == Some(0) {
+            assert!(rt; number > 1);
             break;
         }
+        assert_eq!(rt; refused, Some(1), "{number}");
     }
     Ok(())
 }

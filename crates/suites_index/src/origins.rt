@@ -1,6 +1,6 @@
 //! Origins by table: where revisits lead, and each reason why one leads nowhere.
 
-use crate::rows::{Field, Row, typed};
+use crate::rows::{Field, Row, add_again, typed};
 use std::alloc::{AllocError, Allocator, Global};
 use std::test::Fail;
 use warc_index::{Filling, Index, Unfound};
@@ -365,15 +365,26 @@ fn filled<A: Allocator + Copy>(
     filling.into_index()
 }
 
+/// The origin of the last record in an index to which the records are added.
+fn added_origin(alloc: Global, records: &[Record]) -> Result<Result<usize, Unfound>, AllocError> {
+    let mut index = Index::new(alloc);
+    add_all(&mut index, records, alloc)?;
+    Ok(index.origin(records.len().saturating_sub(1)))
+}
+
+/// The same in an index that is filled with them.
+fn filled_origin(alloc: Global, records: &[Record]) -> Result<Result<usize, Unfound>, AllocError> {
+    let index = filled(alloc, records, alloc)?;
+    Ok(index.origin(records.len().saturating_sub(1)))
+}
+
 /// The name of the first case whose last record has another origin, in an index that is added to or in one that is
 /// filled.
 fn first_wrong(cases: &[Case], heap: Global) -> Result<Option<&'static str>, AllocError> {
     for (name, records, expected) in cases {
-        let mut added = Index::new(heap);
-        add_all(&mut added, records, heap)?;
-        let filled = filled(heap, records, heap)?;
-        let last = records.len().saturating_sub(1);
-        if added.origin(last) != *expected || filled.origin(last) != *expected {
+        let added = added_origin(heap, records)?;
+        let filled = filled_origin(heap, records)?;
+        if added != *expected || filled != *expected {
             return Ok(Some(name));
         }
     }
@@ -464,19 +475,24 @@ fn origins_behind_revisits(rt: HostRuntime) -> Result<(), Fail> {
     Ok(())
 }
 
+/// The first record of a pair of a target and a date.
+fn by_pair(alloc: Global, target: &str, date: &str) -> Result<Option<usize>, Fail> {
+    let moment = read_date(date.as_bytes()).ok_or("a date")?;
+    let records = [REVISIT_OF_2020, RESPONSE_B, RESOURCE_A, LATER_A];
+    let index = filled(alloc, &records, alloc)?;
+    Ok(index.by_pair(target.as_bytes(), &moment))
+}
+
 #[test]
 fn pairs(rt: HostRuntime) -> Result<(), Fail> {
-    let records = [REVISIT_OF_2020, RESPONSE_B, RESOURCE_A, LATER_A];
-    let index = filled(rt.alloc(), &records, rt.alloc())?;
     for (target, date, expected) in [
         (U, "2020", Some(1usize)),
         (U, "2022-01", Some(3)),
         (U, "2021", None),
         ("http://b.example/", "2020", None),
     ] {
-        let moment = read_date(date.as_bytes()).ok_or("a date")?;
         assert_eq!(rt;
-            index.by_pair(target.as_bytes(), &moment),
+            by_pair(rt.alloc(), target, date)?,
             expected,
             "{target} {date}"
         );
@@ -484,23 +500,32 @@ fn pairs(rt: HostRuntime) -> Result<(), Fail> {
     Ok(())
 }
 
+/// A revisit, and what it names.
+const LATE: [Record; 2] = [
+    (("revisit", "<r>", "2021", U), &[PROFILE, TO_B]),
+    RESPONSE_B,
+];
+
+/// The origin of the first of the records, and how many bytes are kept, once so many are added and all but some of them
+/// are forgotten.
+fn late(
+    alloc: Global,
+    added: usize,
+    left: usize,
+) -> Result<(Result<usize, Unfound>, u64), AllocError> {
+    let mut index = Index::new(alloc);
+    add_all(&mut index, LATE.get(..added).unwrap_or(&[]), alloc)?;
+    index.forget_after(left);
+    Ok((index.origin(0), index.kept()))
+}
+
 #[test]
 fn referents_come_and_go(rt: HostRuntime) -> Result<(), Fail> {
-    let mut index = Index::new(rt.alloc());
-    add_all(
-        &mut index,
-        &[(("revisit", "<r>", "2021", U), &[PROFILE, TO_B])],
-        rt.alloc(),
-    )?;
     // The id, the target, and the id that is named.
-    assert_eq!(rt; index.kept(), 1 + 18 + 1);
-    assert_eq!(rt; index.origin(0), Err(Unfound::Unresolved));
-    add_all(&mut index, &[RESPONSE_B], rt.alloc())?;
-    assert_eq!(rt; index.kept(), 1 + 18 + 1 + 1 + 18 + 6);
-    assert_eq!(rt; index.origin(0), Ok(1));
-    index.forget_after(1);
-    assert_eq!(rt; index.kept(), 1 + 18 + 1);
-    assert_eq!(rt; index.origin(0), Err(Unfound::Unresolved));
+    let alone = (Err(Unfound::Unresolved), 1 + 18 + 1);
+    assert_eq!(rt; late(rt.alloc(), 1, 1)?, alone);
+    assert_eq!(rt; late(rt.alloc(), 2, 2)?, (Ok(1), 1 + 18 + 1 + 1 + 18 + 6));
+    assert_eq!(rt; late(rt.alloc(), 2, 1)?, alone);
     Ok(())
 }
 
@@ -516,44 +541,64 @@ const RECORDS: &[Record] = &[
     (("revisit", "<e>", "2021", U), &[PROFILE, TO_B]),
 ];
 
+/// Adds the records, each again where it is refused, and answers how many were, or `None` where one of them left
+/// another number of bytes kept.
+fn add_all_again<A: Allocator + Copy>(
+    index: &mut Index<A>,
+    heap: Global,
+) -> Result<Option<u64>, AllocError> {
+    let mut refused = 0u64;
+    for (row, more) in RECORDS {
+        match add_again(index, &typed(heap, row, more)?)? {
+            Some(true) => refused = refused.saturating_add(1),
+            Some(false) => return Ok(None),
+            None => {}
+        }
+    }
+    Ok(Some(refused))
+}
+
+/// How many additions are refused where the request of that number is, and whether all captures have their origin then.
+fn refused_at(alloc: Global, number: u64) -> Result<(Option<u64>, bool), AllocError> {
+    let heap = RefusingAllocator::new(alloc, number);
+    let mut index = Index::new(&heap);
+    let refused = add_all_again(&mut index, alloc)?;
+    let are_found = [0usize, 1, 2, 4]
+        .iter()
+        .all(|position| index.origin(*position) == Ok(0));
+    Ok((refused, are_found))
+}
+
 #[test]
 fn refused_additions_change_nothing(rt: HostRuntime) -> Result<(), Fail> {
     for number in 1..100u64 {
-        let heap = RefusingAllocator::new(rt.alloc(), number);
-        let mut index = Index::new(&heap);
-        for (row, more) in RECORDS {
-            let typed = typed(rt.alloc(), row, more)?;
-            let kept = index.kept();
-            if index.add(&typed).is_err() {
-                assert!(rt; heap.has_refused());
-                assert_eq!(rt; index.kept(), kept);
-                index.add(&typed)?;
-            }
-        }
-        for position in [0usize, 1, 2, 4] {
-            assert_eq!(rt; index.origin(position), Ok(0), "{number} {position}");
-        }
-        if !heap.has_refused() {
+        let (refused, are_found) = refused_at(rt.alloc(), number)?;
+        assert!(rt; are_found, "{number}");
+        if refused == Some(0) {
             assert!(rt; number > 10);
             break;
         }
+        assert_eq!(rt; refused, Some(1), "{number}");
     }
     Ok(())
 }
 
+/// The origin of the last record, where filling isn't refused by the request of that number.
+fn filled_at(alloc: Global, number: u64) -> Option<Result<usize, Unfound>> {
+    let heap = RefusingAllocator::new(alloc, number);
+    match filled(&heap, RECORDS, alloc) {
+        Ok(index) => Some(index.origin(4)),
+        Err(_) => None,
+    }
+}
+
 #[test]
-fn refused_fillings(rt: HostRuntime) -> Result<(), Fail> {
+fn refused_fillings(rt: HostRuntime) {
     for number in 1..100u64 {
-        let heap = RefusingAllocator::new(rt.alloc(), number);
-        match filled(&heap, RECORDS, rt.alloc()) {
-            Ok(index) => {
-                assert!(rt; !heap.has_refused());
-                assert!(rt; number > 10);
-                assert_eq!(rt; index.origin(4), Ok(0));
-                break;
-            }
-            Err(_) => assert!(rt; heap.has_refused()),
+        if let Some(origin) = filled_at(rt.alloc(), number) {
+            assert!(rt; number > 10);
+            assert_eq!(rt; origin, Ok(0));
+            break;
         }
     }
-    Ok(())
 }

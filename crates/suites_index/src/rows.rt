@@ -2,6 +2,7 @@
 
 use std::alloc::{AllocError, Allocator};
 use warc_field::{Fields, Name, Value};
+use warc_index::Index;
 use warc_record::{Typed, type_head};
 
 /// A record: its type, id, date and target, the last one empty where it has none.
@@ -38,4 +39,19 @@ pub(crate) fn typed<A: Allocator + Copy>(
         push(alloc, &mut fields, name.as_bytes(), value.as_bytes())?;
     }
     type_head(alloc, &fields).map_err(|_| AllocError)
+}
+
+/// Adds a record, and where that is refused adds it again. Whether it was refused, and then left as many bytes kept as
+/// there were.
+pub(crate) fn add_again<A: Allocator + Copy, B: Allocator>(
+    index: &mut Index<A>,
+    typed: &Typed<B>,
+) -> Result<Option<bool>, AllocError> {
+    let kept = index.kept();
+    if index.add(typed).is_ok() {
+        return Ok(None);
+    }
+    let is_same = index.kept() == kept;
+    index.add(typed)?;
+    Ok(Some(is_same))
 }
