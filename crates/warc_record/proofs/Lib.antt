@@ -1,5 +1,6 @@
 mod ByteLemmas
 mod KindLemmas
+mod KnownLemmas
 mod UuidLemmas
 mod ValueLemmas
 mod HeadLemmas

@@ -1,6 +1,7 @@
 pub mod Ids
 pub mod Keys
 pub mod Kinds
+pub mod Known
 pub mod Readings
 pub mod Texts
 pub mod Heads

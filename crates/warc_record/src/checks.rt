@@ -1,15 +1,18 @@
-ghost use Rattle.std.specs.Prelude.{◌≡◌, ◌++◌, ◌&&◌, OnOk, IfOk, map, false};
+ghost use Rattle.std.specs.Prelude.{◌≡◌, ◌++◌, ◌&&◌, not, nat_lt, OnOk, IfOk, map, false};
+ghost use Rattle.warc_field.specs.Area.{count_of};
 ghost use Rattle.std.specs.Str.{is_utf8};
 ghost use Rattle.warc_record.specs.Kinds.{is_known};
 ghost use Rattle.warc_record.specs.Readings.{reading_of};
+ghost use Rattle.warc_record.specs.Known.{known_name};
 ghost use Rattle.warc_record.specs.Seen.{said};
 ghost use Rattle.warc_record.specs.Table.{rule_seen};
 ghost use Rattle.warc_record.specs.Findings.{stands, is_broken, check_number, by_table, once, finding_seen, is_bad_number, has_bad_segment, lacks_content_type, has_unknown_profile, lacks_origin, stands_in_brackets, not_utf8, findings_of};
 
 use crate::head::Typed;
 use crate::ids::bare;
+use crate::known::{ByName, Known};
 use crate::readings::{SegmentNumber, present};
-use crate::table::{FieldRule, field_rules, is_among};
+use crate::table::{FieldRule, is_among, rows};
 use crate::types::Kind;
 use std::alloc::{AllocError, Allocator};
 use warc_field::Fields;
@@ -45,31 +48,37 @@ impl TableCheck {
 }
 
 /// Whether the field isn't absent. A target is absent too where its bare text is empty.
-fn stands<A: Allocator>(fields: &Fields<A>, name: &[u8]) -> bool
-    ensures { result ≡ stands name.now fields.now }
+fn stands<A: Allocator>(fields: &ByName<'_, A>, name: Known) -> bool
+    ensures { result ≡ stands (known_name name) fields.now }
 {
     match present(fields, name) {
-        Some(value) => {
-            !name.eq_ignore_ascii_case(b"WARC-Target-URI") || !bare(value.bytes()).is_empty()
-        }
+        Some(value) => name != Known::TargetUri || !bare(value.bytes()).is_empty(),
         None => false,
     }
+}
+
+/// Whether a field stands again that may not be repeated.
+fn stands_again<A: Allocator>(fields: &ByName<'_, A>, rule: &FieldRule) -> bool
+    requires { known_name rule.now.known ≡ rule.now.name.now }
+    ensures { result ≡ (not rule.now.repeats && nat_lt 1 (count_of rule.now.name.now fields.now)) }
+{
+    !rule.repeats && fields.repeats(rule.known)
 }
 
 /// Whether the rule of a field finds what is asked.
 fn is_broken<A: Allocator>(
     check: TableCheck,
     kind: Kind,
-    fields: &Fields<A>,
+    fields: &ByName<'_, A>,
     rule: &FieldRule,
 ) -> bool
+    requires { known_name rule.now.known ≡ rule.now.name.now }
     ensures { result ≡ is_broken check kind fields.now (rule_seen rule.now) }
 {
-    let name = rule.name.as_bytes();
     match check {
-        TableCheck::Lacks => is_among(kind, rule.required) && !stands(fields, name),
-        TableCheck::HasForbidden => is_among(kind, rule.forbidden) && stands(fields, name),
-        TableCheck::Repeats => is_known(kind) && !rule.repeats && fields.count(name) > 1,
+        TableCheck::Lacks => is_among(kind, rule.required) && !stands(fields, rule.known),
+        TableCheck::HasForbidden => stands(fields, rule.known) && is_among(kind, rule.forbidden),
+        TableCheck::Repeats => is_known(kind) && stands_again(fields, rule),
     }
 }
 
@@ -78,12 +87,12 @@ fn add_by_table<'a, A: Allocator>(
     found: &mut Vec<Finding<'a>, A>,
     check: TableCheck,
     kind: Kind,
-    fields: &Fields<A>,
+    fields: &ByName<'_, A>,
 ) -> Result<(), AllocError>
     ensures { OnOk result
         (map finding_seen found.new.items ≡ map finding_seen found.old.items ++ by_table check kind fields.now) }
 {
-    for rule in field_rules() {
+    for rule in rows() {
         if is_broken(check, kind, fields, rule) {
             found.push(Finding {
                 number: check.number(),
@@ -126,7 +135,7 @@ fn is_utf8(bytes: &[u8]) -> bool
 /// Adds a finding for each field whose value isn't UTF-8.
 fn add_not_utf8<'a, A: Allocator>(
     found: &mut Vec<Finding<'a>, A>,
-    fields: &'a Fields<A>,
+    fields: &ByName<'a, A>,
 ) -> Result<(), AllocError>
     ensures { OnOk result
         (map finding_seen found.new.items ≡ map finding_seen found.old.items ++ not_utf8 fields.now) }
@@ -164,41 +173,41 @@ fn is_bad_number(kind: Kind, number: SegmentNumber) -> bool
 }
 
 /// Whether the record's segment number or its total is bad.
-fn has_bad_segment<A: Allocator>(typed: &Typed<A>, fields: &Fields<A>) -> bool
+fn has_bad_segment<A: Allocator>(typed: &Typed<A>, fields: &ByName<'_, A>) -> bool
     ensures { result ≡ has_bad_segment (said typed.now) fields.now }
 {
     is_known(typed.kind)
         && (is_bad_number(typed.kind, typed.segment.number)
             || typed.kind == Kind::Continuation
-                && present(fields, b"WARC-Segment-Total-Length").is_some()
+                && present(fields, Known::SegmentTotalLength).is_some()
                 && typed.segment.total.is_none())
 }
 
 /// Whether the record has a block and no type of its content.
-fn lacks_content_type<A: Allocator>(kind: Kind, fields: &Fields<A>, block_len: u64) -> bool
+fn lacks_content_type<A: Allocator>(kind: Kind, fields: &ByName<'_, A>, block_len: u64) -> bool
     ensures { result ≡ lacks_content_type kind fields.now block_len }
 {
     is_known(kind)
         && kind != Kind::Continuation
         && block_len != 0
-        && present(fields, b"Content-Type").is_none()
+        && present(fields, Known::ContentType).is_none()
 }
 
 /// Whether the record is a revisit of a profile that isn't known.
-fn has_unknown_profile<A: Allocator>(typed: &Typed<A>, fields: &Fields<A>) -> bool
+fn has_unknown_profile<A: Allocator>(typed: &Typed<A>, fields: &ByName<'_, A>) -> bool
     ensures { result ≡ has_unknown_profile (said typed.now) fields.now }
 {
     typed.kind == Kind::Revisit
-        && present(fields, b"WARC-Profile").is_some()
+        && present(fields, Known::Profile).is_some()
         && !typed.reference.known_profile
 }
 
 /// Whether the record is a continuation of no id.
-fn lacks_origin<A: Allocator>(typed: &Typed<A>, fields: &Fields<A>) -> bool
+fn lacks_origin<A: Allocator>(typed: &Typed<A>, fields: &ByName<'_, A>) -> bool
     ensures { result ≡ lacks_origin (said typed.now) fields.now }
 {
     typed.kind == Kind::Continuation
-        && present(fields, b"WARC-Segment-Origin-ID").is_some()
+        && present(fields, Known::SegmentOriginId).is_some()
         && typed.segment.origin.is_none()
 }
 
@@ -226,11 +235,10 @@ fn has_bad_digest(kind: Kind, facts: ArchiveFacts) -> bool
     is_known(kind) && facts.bad_digest
 }
 
-/// The findings N1 to N11 of a record, in their order. `typed` is what these fields say,
-/// `block_len` the length of the block in bytes.
-pub fn all_findings<'a, A: Allocator + Copy>(
+/// The findings N1 to N11 of a record with these fields, in their order.
+fn findings_in<'a, A: Allocator + Copy>(
     alloc: A,
-    fields: &'a Fields<A>,
+    fields: &ByName<'a, A>,
     typed: &Typed<A>,
     block_len: u64,
     facts: ArchiveFacts,
@@ -256,6 +264,22 @@ pub fn all_findings<'a, A: Allocator + Copy>(
     add_once(&mut found, 10, !stands_in_brackets(typed.id_text.bytes()))?;
     add_once(&mut found, 11, lacks_origin(typed, fields))?;
     Ok(found)
+}
+
+/// The findings N1 to N11 of a record, in their order. `typed` is what these fields say,
+/// `block_len` the length of the block in bytes.
+pub fn all_findings<'a, A: Allocator + Copy>(
+    alloc: A,
+    fields: &'a Fields<A>,
+    typed: &Typed<A>,
+    block_len: u64,
+    facts: ArchiveFacts,
+) -> Result<Vec<Finding<'a>, A>, AllocError>
+    ensures { said typed.now ≡ reading_of fields.now
+        → IfOk result (λ found. map finding_seen found.items
+        ≡ findings_of fields.now block_len facts.bad_digest facts.used_id) }
+{
+    findings_in(alloc, &ByName::new(fields), typed, block_len, facts)
 }
 
 /// The findings that the record alone tells: all but N4, N6 and N12.

@@ -4,10 +4,12 @@ ghost use Rattle.warc_value.specs.Dates.{instant_of};
 ghost use Rattle.warc_frame.specs.FaultText.{name_of};
 ghost use Rattle.warc_record.specs.Ids.{is_id};
 ghost use Rattle.warc_record.specs.Readings.{both, present_bare, instant_in, reference_of, segment_of, digest_wanted, reading_of, target_of};
+ghost use Rattle.warc_record.specs.Known.{known_name};
 ghost use Rattle.warc_record.specs.Heads.{count_fault, type_fault, id_fault, head_fault};
 ghost use Rattle.warc_record.specs.Seen.{pair_said, reference_said, segment_said, said, RefusesFor};
 
 use crate::ids::{IdKey, bare, id_key, is_bare_id};
+use crate::known::{ByName, Known};
 use crate::readings::{
     SegmentNumber, bare_in, is_known_profile, key_in, number_in, present, segment_number, text_in,
 };
@@ -79,8 +81,8 @@ pub struct Typed<A: Allocator = Global> {
 }
 
 /// The date that the first field's value is.
-fn instant_in<A: Allocator>(fields: &Fields<A>, name: &[u8]) -> Option<Moment>
-    ensures { result ≡ instant_in name.now fields.now }
+fn instant_in<A: Allocator>(fields: &ByName<'_, A>, name: Known) -> Option<Moment>
+    ensures { result ≡ instant_in (known_name name) fields.now }
 {
     read_date(present(fields, name)?.bytes())
 }
@@ -88,16 +90,16 @@ fn instant_in<A: Allocator>(fields: &Fields<A>, name: &[u8]) -> Option<Moment>
 /// The target and the instant that the head names.
 fn named_pair<A: Allocator + Copy>(
     alloc: A,
-    fields: &Fields<A>,
+    fields: &ByName<'_, A>,
 ) -> Result<Option<NamedPair<A>>, AllocError>
     ensures { IfOk result (λ pair. option_map pair_said pair
         ≡ both (present_bare (codes "WARC-Refers-To-Target-URI") fields.now)
         (instant_in (codes "WARC-Refers-To-Date") fields.now)) }
 {
-    let Some(target) = bare_in(alloc, fields, b"WARC-Refers-To-Target-URI")? else {
+    let Some(target) = bare_in(alloc, fields, Known::RefersToTargetUri)? else {
         return Ok(None);
     };
-    match instant_in(fields, b"WARC-Refers-To-Date") {
+    match instant_in(fields, Known::RefersToDate) {
         Some(moment) => Ok(Some(NamedPair { target, moment })),
         None => Ok(None),
     }
@@ -106,29 +108,32 @@ fn named_pair<A: Allocator + Copy>(
 /// What the head refers to.
 fn read_reference<A: Allocator + Copy>(
     alloc: A,
-    fields: &Fields<A>,
+    fields: &ByName<'_, A>,
 ) -> Result<Reference<A>, AllocError>
     ensures { IfOk result (λ reference. reference_said reference ≡ reference_of fields.now) }
 {
-    let known_profile = match present(fields, b"WARC-Profile") {
+    let known_profile = match present(fields, Known::Profile) {
         Some(value) => is_known_profile(value.bytes()),
         None => false,
     };
     Ok(Reference {
         known_profile,
-        named_id: key_in(alloc, fields, b"WARC-Refers-To")?,
+        named_id: key_in(alloc, fields, Known::RefersTo)?,
         named_pair: named_pair(alloc, fields)?,
     })
 }
 
 /// Which segment the head says that the record is.
-fn read_segment<A: Allocator + Copy>(alloc: A, fields: &Fields<A>) -> Result<Segment<A>, AllocError>
+fn read_segment<A: Allocator + Copy>(
+    alloc: A,
+    fields: &ByName<'_, A>,
+) -> Result<Segment<A>, AllocError>
     ensures { IfOk result (λ segment. segment_said segment ≡ segment_of fields.now) }
 {
     Ok(Segment {
         number: segment_number(fields),
-        origin: key_in(alloc, fields, b"WARC-Segment-Origin-ID")?,
-        total: number_in(fields, b"WARC-Segment-Total-Length"),
+        origin: key_in(alloc, fields, Known::SegmentOriginId)?,
+        total: number_in(fields, Known::SegmentTotalLength),
     })
 }
 
@@ -136,23 +141,34 @@ fn read_segment<A: Allocator + Copy>(alloc: A, fields: &Fields<A>) -> Result<Seg
 pub fn wanted<A: Allocator>(fields: &Fields<A>) -> Wanted
     ensures { result ≡ digest_wanted fields.now }
 {
-    match present(fields, b"WARC-Block-Digest") {
+    wanted_in(&ByName::new(fields))
+}
+
+/// The same, of fields by their names.
+fn wanted_in<A: Allocator>(fields: &ByName<'_, A>) -> Wanted
+    ensures { result ≡ digest_wanted fields.now }
+{
+    match present(fields, Known::BlockDigest) {
         Some(value) => Wanted::of(value),
         None => Wanted::Unchecked,
     }
 }
 
 /// The value of a field that must stand exactly once.
-fn only<A: Allocator>(fields: &Fields<A>, field: Mandatory) -> Result<&Value<A>, FaultKind>
+fn only<'a, A: Allocator>(
+    fields: &ByName<'a, A>,
+    name: Known,
+    field: Mandatory,
+) -> Result<&'a Value<A>, FaultKind>
+    requires { known_name name ≡ name_of field }
     ensures { MatchResult result
         (λ value. (count_fault field fields.now ≡ None) × (first_value (name_of field) fields.now ≡ Some value.now))
         (λ fault. count_fault field fields.now ≡ Some fault) }
 {
-    let name = field.name().as_bytes();
     let Some(value) = fields.first(name) else {
         return Err(FaultKind::Missing(field));
     };
-    if fields.count(name) > 1 {
+    if fields.repeats(name) {
         Err(FaultKind::Repeated(field))
     } else {
         Ok(value)
@@ -160,12 +176,12 @@ fn only<A: Allocator>(fields: &Fields<A>, field: Mandatory) -> Result<&Value<A>,
 }
 
 /// The value of the head's type.
-fn type_text<A: Allocator>(fields: &Fields<A>) -> Result<&Value<A>, FaultKind>
+fn type_text<'a, A: Allocator>(fields: &ByName<'a, A>) -> Result<&'a Value<A>, FaultKind>
     ensures { MatchResult result
         (λ value. (type_fault fields.now ≡ None) × (first_value (codes "WARC-Type") fields.now ≡ Some value.now))
         (λ fault. type_fault fields.now ≡ Some fault) }
 {
-    let value = only(fields, Mandatory::Type)?;
+    let value = only(fields, Known::Type, Mandatory::Type)?;
     if is_name(value.bytes()) {
         Ok(value)
     } else {
@@ -174,13 +190,13 @@ fn type_text<A: Allocator>(fields: &Fields<A>) -> Result<&Value<A>, FaultKind>
 }
 
 /// The value of the head's id.
-fn id_text<A: Allocator>(fields: &Fields<A>) -> Result<&Value<A>, FaultKind>
+fn id_text<'a, A: Allocator>(fields: &ByName<'a, A>) -> Result<&'a Value<A>, FaultKind>
     ensures { MatchResult result
         (λ value. (id_fault fields.now ≡ None) × (first_value (codes "WARC-Record-ID") fields.now ≡ Some value.now)
         × (is_id value.now ≡ true))
         (λ fault. id_fault fields.now ≡ Some fault) }
 {
-    let value = only(fields, Mandatory::RecordId)?;
+    let value = only(fields, Known::RecordId, Mandatory::RecordId)?;
     if is_bare_id(bare(value.bytes())) {
         Ok(value)
     } else {
@@ -191,7 +207,7 @@ fn id_text<A: Allocator>(fields: &Fields<A>) -> Result<&Value<A>, FaultKind>
 /// What a head of these mandatory fields says.
 fn read_typed<A: Allocator + Copy>(
     alloc: A,
-    fields: &Fields<A>,
+    fields: &ByName<'_, A>,
     type_text: &Value<A>,
     id_text: &Value<A>,
     date_text: &Value<A>,
@@ -214,12 +230,12 @@ fn read_typed<A: Allocator + Copy>(
         date_text: Value::from_checked(alloc, date_text.bytes())?,
         id,
         moment,
-        target: bare_in(alloc, fields, b"WARC-Target-URI")?,
+        target: bare_in(alloc, fields, Known::TargetUri)?,
         reference: read_reference(alloc, fields)?,
         segment: read_segment(alloc, fields)?,
-        wanted: wanted(fields),
-        payload_digest: text_in(alloc, fields, b"WARC-Payload-Digest")?,
-        truncated: present(fields, b"WARC-Truncated").is_some(),
+        wanted: wanted_in(fields),
+        payload_digest: text_in(alloc, fields, Known::PayloadDigest)?,
+        truncated: present(fields, Known::Truncated).is_some(),
     })
 }
 
@@ -231,9 +247,10 @@ pub fn type_head<A: Allocator + Copy>(alloc: A, fields: &Fields<A>) -> Result<Ty
     ensures reading { IfOk result (λ typed. said typed ≡ reading_of fields.now) }
     ensures fault { RefusesFor result (head_fault fields.now) }
 {
+    let fields = &ByName::new(fields);
     let type_text = type_text(fields)?;
     let id_text = id_text(fields)?;
-    let date_text = only(fields, Mandatory::Date)?;
+    let date_text = only(fields, Known::Date, Mandatory::Date)?;
     let Some(moment) = read_date(date_text.bytes()) else {
         return Err(FaultKind::Date);
     };
@@ -251,11 +268,12 @@ pub fn judge_head<A: Allocator>(fields: &Fields<A>) -> Result<Wanted, FaultKind>
         (λ wanted. (head_fault fields.now ≡ None) × (wanted ≡ digest_wanted fields.now))
         (λ fault. head_fault fields.now ≡ Some fault) }
 {
+    let fields = &ByName::new(fields);
     type_text(fields)?;
     id_text(fields)?;
-    let date_text = only(fields, Mandatory::Date)?;
+    let date_text = only(fields, Known::Date, Mandatory::Date)?;
     match read_date(date_text.bytes()) {
-        Some(_) => Ok(wanted(fields)),
+        Some(_) => Ok(wanted_in(fields)),
         None => Err(FaultKind::Date),
     }
 }
@@ -271,8 +289,8 @@ pub struct HeadTexts<'a> {
 }
 
 /// The value of the first field of the name, empty where there is none.
-fn first_or_empty<'a, A: Allocator>(fields: &'a Fields<A>, name: &[u8]) -> &'a [u8]
-    ensures { result.now ≡ unwrap_or (first_value name.now fields.now) [] }
+fn first_or_empty<'a, A: Allocator>(fields: &ByName<'a, A>, name: Known) -> &'a [u8]
+    ensures { result.now ≡ unwrap_or (first_value (known_name name) fields.now) [] }
 {
     match fields.first(name) {
         Some(value) => value.bytes(),
@@ -281,10 +299,10 @@ fn first_or_empty<'a, A: Allocator>(fields: &'a Fields<A>, name: &[u8]) -> &'a [
 }
 
 /// The bare text of the head's target, empty where it is absent.
-fn bare_target<A: Allocator>(fields: &Fields<A>) -> &[u8]
+fn bare_target<'a, A: Allocator>(fields: &ByName<'a, A>) -> &'a [u8]
     ensures { result.now ≡ unwrap_or (target_of fields.now) [] }
 {
-    match present(fields, b"WARC-Target-URI") {
+    match present(fields, Known::TargetUri) {
         Some(value) => bare(value.bytes()),
         None => b"",
     }
@@ -298,11 +316,12 @@ pub fn head_texts<A: Allocator>(fields: &Fields<A>) -> HeadTexts<'_>
     ensures target { result.target.now ≡ unwrap_or (reading_of fields.now).target [] }
     ensures truncated { result.is_truncated ≡ (reading_of fields.now).truncated }
 {
+    let fields = &ByName::new(fields);
     HeadTexts {
-        kind: first_or_empty(fields, b"WARC-Type"),
-        date: first_or_empty(fields, b"WARC-Date"),
-        id: first_or_empty(fields, b"WARC-Record-ID"),
+        kind: first_or_empty(fields, Known::Type),
+        date: first_or_empty(fields, Known::Date),
+        id: first_or_empty(fields, Known::RecordId),
         target: bare_target(fields),
-        is_truncated: present(fields, b"WARC-Truncated").is_some(),
+        is_truncated: present(fields, Known::Truncated).is_some(),
     }
 }

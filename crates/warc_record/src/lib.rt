@@ -5,6 +5,7 @@
 mod checks;
 mod head;
 mod ids;
+mod known;
 pub mod laws;
 mod readings;
 mod table;

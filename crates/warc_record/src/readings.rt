@@ -1,10 +1,12 @@
 ghost use Rattle.std.specs.Prelude.{◌≡◌, IfOk, Some};
 ghost use Rattle.std.specs.Option.{option_copied};
+ghost use Rattle.warc_record.specs.Known.{known_name};
 ghost use Rattle.warc_record.specs.Readings.{present_value, present_bare, key_in, number_in, is_known_profile, segment_number};
 
 use crate::ids::{IdKey, bare, id_key};
+use crate::known::{ByName, Known};
 use std::alloc::{AllocError, Allocator};
-use warc_field::{Fields, Value, decimal};
+use warc_field::{Value, decimal};
 
 /// The segment number that a head states.
 #[derive(Clone, Copy, Debug, PartialEq, Eq)]
@@ -20,8 +22,8 @@ pub enum SegmentNumber {
 }
 
 /// The value of the first field of the name, where it isn't empty.
-pub(crate) fn present<'a, A: Allocator>(fields: &'a Fields<A>, name: &[u8]) -> Option<&'a Value<A>>
-    ensures { option_copied result ≡ present_value name.now fields.now }
+pub(crate) fn present<'a, A: Allocator>(fields: &ByName<'a, A>, name: Known) -> Option<&'a Value<A>>
+    ensures { option_copied result ≡ present_value (known_name name) fields.now }
 {
     let value = fields.first(name)?;
     if value.bytes().is_empty() {
@@ -34,10 +36,10 @@ pub(crate) fn present<'a, A: Allocator>(fields: &'a Fields<A>, name: &[u8]) -> O
 /// A copy of the first field's value, where it isn't empty.
 pub(crate) fn text_in<A: Allocator + Copy>(
     alloc: A,
-    fields: &Fields<A>,
-    name: &[u8],
+    fields: &ByName<'_, A>,
+    name: Known,
 ) -> Result<Option<Value<A>>, AllocError>
-    ensures { IfOk result (λ value. value ≡ present_value name.now fields.now) }
+    ensures { IfOk result (λ value. value ≡ present_value (known_name name) fields.now) }
 {
     match present(fields, name) {
         Some(value) => Ok(Some(Value::from_checked(alloc, value.bytes())?)),
@@ -49,10 +51,10 @@ pub(crate) fn text_in<A: Allocator + Copy>(
 #[tactic(auto, using(crate::proofs::ValueLemmas::bare_is_value))]
 pub(crate) fn bare_in<A: Allocator + Copy>(
     alloc: A,
-    fields: &Fields<A>,
-    name: &[u8],
+    fields: &ByName<'_, A>,
+    name: Known,
 ) -> Result<Option<Value<A>>, AllocError>
-    ensures { IfOk result (λ text. text ≡ present_bare name.now fields.now) }
+    ensures { IfOk result (λ text. text ≡ present_bare (known_name name) fields.now) }
 {
     let Some(value) = present(fields, name) else {
         return Ok(None);
@@ -68,10 +70,10 @@ pub(crate) fn bare_in<A: Allocator + Copy>(
 /// The key of the id that the first field's value holds.
 pub(crate) fn key_in<A: Allocator + Copy>(
     alloc: A,
-    fields: &Fields<A>,
-    name: &[u8],
+    fields: &ByName<'_, A>,
+    name: Known,
 ) -> Result<Option<IdKey<A>>, AllocError>
-    ensures { IfOk result (λ key. key ≡ key_in name.now fields.now) }
+    ensures { IfOk result (λ key. key ≡ key_in (known_name name) fields.now) }
 {
     match present(fields, name) {
         Some(value) => id_key(alloc, value.bytes()),
@@ -80,17 +82,17 @@ pub(crate) fn key_in<A: Allocator + Copy>(
 }
 
 /// The number that the first field's value is.
-pub(crate) fn number_in<A: Allocator>(fields: &Fields<A>, name: &[u8]) -> Option<u64>
-    ensures { result ≡ number_in name.now fields.now }
+pub(crate) fn number_in<A: Allocator>(fields: &ByName<'_, A>, name: Known) -> Option<u64>
+    ensures { result ≡ number_in (known_name name) fields.now }
 {
     decimal(present(fields, name)?.bytes())
 }
 
 /// The segment number that the head states.
-pub(crate) fn segment_number<A: Allocator>(fields: &Fields<A>) -> SegmentNumber
+pub(crate) fn segment_number<A: Allocator>(fields: &ByName<'_, A>) -> SegmentNumber
     ensures { result ≡ segment_number fields.now }
 {
-    match present(fields, b"WARC-Segment-Number") {
+    match present(fields, Known::SegmentNumber) {
         None => SegmentNumber::Absent,
         Some(value) => match decimal(value.bytes()) {
             Some(number) => SegmentNumber::Number(number),

@@ -1,6 +1,8 @@
 ghost use Rattle.std.specs.Prelude.{◌≡◌, map};
+ghost use Rattle.warc_record.specs.Known.{known_name};
 ghost use Rattle.warc_record.specs.Table.{rules, rule_seen, place_of, is_among};
 
+use crate::known::Known;
 use crate::types::Kind;
 
 /// A row of the field table.
@@ -15,6 +17,9 @@ pub struct FieldRule {
 
     /// Whether it may stand more than once.
     pub repeats: bool,
+
+    /// Its name, as heads are read by it.
+    pub(crate) known: Known,
 }
 
 const ALL_BUT_REVISIT: &[Kind] = &[
@@ -60,18 +65,21 @@ static FIELD_RULES: [FieldRule; 17] = [
         ],
         forbidden: &[Kind::Warcinfo],
         repeats: false,
+        known: Known::TargetUri,
     },
     FieldRule {
         name: "WARC-Concurrent-To",
         required: &[],
         forbidden: &[Kind::Warcinfo, Kind::Conversion, Kind::Continuation],
         repeats: true,
+        known: Known::ConcurrentTo,
     },
     FieldRule {
         name: "WARC-IP-Address",
         required: &[],
         forbidden: &[Kind::Warcinfo, Kind::Conversion, Kind::Continuation],
         repeats: false,
+        known: Known::IpAddress,
     },
     FieldRule {
         name: "WARC-Refers-To",
@@ -84,92 +92,114 @@ static FIELD_RULES: [FieldRule; 17] = [
             Kind::Continuation,
         ],
         repeats: false,
+        known: Known::RefersTo,
     },
     FieldRule {
         name: "WARC-Refers-To-Target-URI",
         required: &[],
         forbidden: ALL_BUT_REVISIT,
         repeats: false,
+        known: Known::RefersToTargetUri,
     },
     FieldRule {
         name: "WARC-Refers-To-Date",
         required: &[],
         forbidden: ALL_BUT_REVISIT,
         repeats: false,
+        known: Known::RefersToDate,
     },
     FieldRule {
         name: "WARC-Filename",
         required: &[],
         forbidden: ALL_BUT_WARCINFO,
         repeats: false,
+        known: Known::Filename,
     },
     FieldRule {
         name: "WARC-Profile",
         required: &[Kind::Revisit],
         forbidden: &[],
         repeats: false,
+        known: Known::Profile,
     },
     FieldRule {
         name: "WARC-Warcinfo-ID",
         required: &[],
         forbidden: &[Kind::Warcinfo],
         repeats: false,
+        known: Known::WarcinfoId,
     },
     FieldRule {
         name: "WARC-Segment-Number",
         required: &[Kind::Continuation],
         forbidden: &[],
         repeats: false,
+        known: Known::SegmentNumber,
     },
     FieldRule {
         name: "WARC-Segment-Origin-ID",
         required: &[Kind::Continuation],
         forbidden: ALL_BUT_CONTINUATION,
         repeats: false,
+        known: Known::SegmentOriginId,
     },
     FieldRule {
         name: "WARC-Segment-Total-Length",
         required: &[],
         forbidden: ALL_BUT_CONTINUATION,
         repeats: false,
+        known: Known::SegmentTotalLength,
     },
     FieldRule {
         name: "WARC-Block-Digest",
         required: &[],
         forbidden: &[],
         repeats: false,
+        known: Known::BlockDigest,
     },
     FieldRule {
         name: "WARC-Payload-Digest",
         required: &[],
         forbidden: &[],
         repeats: false,
+        known: Known::PayloadDigest,
     },
     FieldRule {
         name: "WARC-Truncated",
         required: &[],
         forbidden: &[],
         repeats: false,
+        known: Known::Truncated,
     },
     FieldRule {
         name: "WARC-Identified-Payload-Type",
         required: &[],
         forbidden: &[],
         repeats: false,
+        known: Known::IdentifiedPayloadType,
     },
     FieldRule {
         name: "Content-Type",
         required: &[],
         forbidden: &[],
         repeats: false,
+        known: Known::ContentType,
     },
 ];
+
+/// The rows of the field table, in their order.
+pub(crate) fn rows() -> &'static [FieldRule]
+    ensures rules { map rule_seen result.now ≡ rules }
+    ensures names { map (λ row. known_name row.known) result.now ≡ map (λ row. row.name.now) result.now }
+{
+    &FIELD_RULES
+}
 
 /// The field table, in its order.
 pub fn field_rules() -> &'static [FieldRule]
     ensures { map rule_seen result.now ≡ rules }
 {
-    &FIELD_RULES
+    rows()
 }
 
 /// The place of a kind in the standard's order.

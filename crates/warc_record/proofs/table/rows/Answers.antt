@@ -1,7 +1,7 @@
 use Rattle.std.proofs.Common.{refl}
 use Rattle.warc_record.specs.Table.{rules}
-use Rattle.warc_record.proofs.table.field_rules.Goals as goal
+use Rattle.warc_record.proofs.table.rows.Goals as goal
 
 pub returns : goal.returns
 unfolding rules
-returns c = refl
+returns c = record { rules = refl; names = refl }

@@ -2,7 +2,7 @@ use Rattle.std.proofs.Common.{not, ap, ◌∙◌, map}
 use Rattle.warc_record.specs.Seen.{said}
 use Rattle.warc_record.specs.Findings.{finding_seen, stands_in_brackets}
 use Rattle.warc_record.proofs.FindingLemmas.{assembled, of_fields}
-use Rattle.warc_record.proofs.checks.all_findings.Goals as goal
+use Rattle.warc_record.proofs.checks.findings_in.Goals as goal
 
 pub returns : goal.returns
 returns g c = λ typed_is.
