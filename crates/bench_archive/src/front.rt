@@ -17,17 +17,14 @@ impl<S: Source> Front<S> {
 }
 
 impl<S: Source> Source for Front<S> {
-    ghost holds = { λ _. None };
-
-    ghost faults = { λ s. S.faults s.source };
-
-    ghost reads = { λ s. S.reads s.source };
-
-    ghost asked = { λ s. S.asked s.source };
-
-    ghost watches = { λ s. S.watches s.source };
-
-    ghost strays = { λ s. S.strays s.source };
+    ghost tapped = { λ s. record {
+      holds = None;
+      faults = (S.tapped s.source).faults;
+      reads = (S.tapped s.source).reads;
+      asked = (S.tapped s.source).asked;
+      watches = (S.tapped s.source).watches;
+      strays = (S.tapped s.source).strays;
+    } };
 
     fn read_at(&mut self, at: u64, buf: &mut [u8]) -> Result<usize, ReadFault> {
         match self.source.read_at(at, buf) {

@@ -95,7 +95,7 @@ fn filled<R: Clock>(
         taken = taken.saturating_add(start.elapsed(rt)?.as_nanos());
     }
     let start = Instant::now(rt)?;
-    let index = filling.into_index()?;
+    let index = filling.into_index();
     Ok((index, taken.saturating_add(start.elapsed(rt)?.as_nanos())))
 }
 

@@ -46,7 +46,7 @@ fn filled(alloc: Global, count: usize, is_equal: bool) -> Result<Order, AllocErr
         write_text(i as u64, is_equal, &mut text)?;
         entries.push(&text, mark_of(i as u64), i)?;
     }
-    entries.into_order()
+    Ok(entries.into_order())
 }
 
 fn added(alloc: Global, count: usize, is_equal: bool) -> Result<Order, AllocError> {
@@ -105,7 +105,8 @@ fn measure<R: Print + Clock>(
     let forgetting = start.elapsed(rt)?.as_nanos() / 1000;
     println!(rt; "{count} texts {texts} ns (check {length}), filling {filling}, adding {adding}")?;
     println!(rt;
-        "found {found} in {eager} ns each after adding, {again} in {looking} after filling; forgetting half {forgetting} us"
+        "found {found} in {eager} ns each after adding, {again} in {looking} after filling; \
+         forgetting half {forgetting} us"
     )
 }
 

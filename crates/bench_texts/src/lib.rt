@@ -1,6 +1,8 @@
 //! What the programs that measure share: numbers and texts that look random, and texts that all have one hash.
 #![tactic(auto)]
 
+ghost use Rattle.std.specs.Prelude.{◌≡◌, ℕ, ◌++◌, List, length, OnOk};
+
 use std::alloc::AllocError;
 
 /// Pairs of words: whichever of a pair stands at its place, the FNV-1a hash of 32 bits is the same. Found by trying.
@@ -42,7 +44,9 @@ pub fn scattered(seed: u64) -> u64 {
 }
 
 /// Appends ten digits of a number that looks random.
-pub fn write_digits(seed: u64, text: &mut Vec<u8>) -> Result<(), AllocError> {
+pub fn write_digits(seed: u64, text: &mut Vec<u8>) -> Result<(), AllocError>
+    ensures { OnOk result ((digits : List ℕ) × (length digits ≡ 10) × (text.new.items ≡ text.old.items ++ digits)) }
+{
     let mut number = scattered(seed);
     let mut digits = [b'0'; 10];
     for digit in &mut digits {
@@ -53,7 +57,9 @@ pub fn write_digits(seed: u64, text: &mut Vec<u8>) -> Result<(), AllocError> {
 }
 
 /// Appends a URI of 51 bytes with ten digits.
-pub fn write_uri(seed: u64, text: &mut Vec<u8>) -> Result<(), AllocError> {
+pub fn write_uri(seed: u64, text: &mut Vec<u8>) -> Result<(), AllocError>
+    ensures { OnOk result ((uri : List ℕ) × (length uri ≡ 51) × (text.new.items ≡ text.old.items ++ uri)) }
+{
     text.extend_from_slice(b"http://www.example.org/archive/")?;
     write_digits(seed, text)?;
     text.extend_from_slice(b"/page.html")

@@ -1,10 +1,10 @@
 //! Replays by table: what is answered and what goes out, and what where a read or a write fails.
 
-use std::alloc::{Allocator, Global};
+use std::alloc::Global;
 use std::test::Fail;
 use warc_answer::{Answer, Path, Reason, ReplayFault, replay_joined};
 use warc_field::{Fields, Name, Value};
-use warc_frame::{MemSink, MemSource, OutFault};
+use warc_frame::{MemSink, MemSource, OutFault, Sink, Source};
 use warc_index::Unfound;
 use warc_record::{Typed, type_head};
 use warc_segment::{Gap, Place};
@@ -31,7 +31,8 @@ const TARGET: &str = "http://a.example/x";
 /// 33 bytes, of which the head has 30.
 const RESPONSE: &str = "HTTP/1.1 200 OK\r\nServer: a\r\n\r\nabc";
 
-const CASES: &[Case] = &[
+/// Resources, whose blocks are given.
+const RESOURCES: &[Case] = &[
     (
         "a resource",
         "resource",
@@ -54,6 +55,10 @@ const CASES: &[Case] = &[
         &[RESPONSE],
         Ok((None, RESPONSE)),
     ),
+];
+
+/// Responses, and what they give by their target and their status.
+const RESPONSES: &[Case] = &[
     (
         "a response",
         "response",
@@ -82,6 +87,10 @@ const CASES: &[Case] = &[
         &["HTTP/1.0 007\r\n\r\n"],
         Ok((Some(7), "")),
     ),
+];
+
+/// Heads in one block or two, and fields that change nothing.
+const HEADS: &[Case] = &[
     (
         "a head that is cut between two blocks",
         "response",
@@ -110,6 +119,10 @@ const CASES: &[Case] = &[
         &["HTTP/1.1 200 OK\r\nTransfer-Encoding: identity\r\n\r\nabc"],
         Ok((Some(200), "abc")),
     ),
+];
+
+/// Coded bodies, and blocks without a head.
+const REASONS: &[Case] = &[
     (
         "a transfer coding",
         "response",
@@ -205,24 +218,120 @@ fn answered(status: Option<u16>, truncated: bool, length: u64) -> Result<Answer,
     })
 }
 
-#[test]
-fn what_goes_out(rt: HostRuntime) -> Result<(), Fail> {
-    for (name, kind, target, blocks, wanted) in CASES {
-        let origin = head_of(rt.alloc(), kind, target)?;
-        let (bytes, places) = stored_texts(rt.alloc(), blocks)?;
-        let (answer, body) = match *wanted {
-            Ok((status, body)) => (answered(status, false, body.len() as u64), body),
-            Err(reason) => (Err(ReplayFault::Reason(reason)), ""),
-        };
-        for most in [1, 7, usize::MAX] {
-            let mut source = MemSource::new(bytes.to_vec(rt.alloc())?, most);
-            let mut sink = MemSink::new(b"before ".to_vec(rt.alloc())?);
-            let told = replay_joined(&mut source, PATH, &origin, &places, &mut sink);
-            assert_eq!(rt; told, answer, "{name}");
-            let went_out = sink.bytes().strip_prefix(b"before ");
-            assert_eq!(rt; went_out, Some(body.as_bytes()), "{name}");
+/// What is answered over a source to a sink.
+fn told_to<S: Source, W: Sink>(
+    source: &mut S,
+    origin: &Typed,
+    places: &[Place],
+    sink: &mut W,
+) -> Result<Answer, ReplayFault> {
+    replay_joined(source, PATH, origin, places, sink)
+}
+
+/// What is answered over a source, and what goes out behind these bytes.
+fn replayed<S: Source>(
+    source: &mut S,
+    origin: &Typed,
+    places: &[Place],
+    before: Vec<u8>,
+) -> (Result<Answer, ReplayFault>, Vec<u8>) {
+    let mut sink = MemSink::new(before);
+    let told = told_to(source, origin, places, &mut sink);
+    (told, sink.into_inner())
+}
+
+/// The same over these bytes in memory, read at once, to an empty sink.
+fn replayed_of(
+    alloc: Global,
+    bytes: Vec<u8>,
+    origin: &Typed,
+    places: &[Place],
+) -> (Result<Answer, ReplayFault>, Vec<u8>) {
+    let mut source = MemSource::new(bytes, usize::MAX);
+    replayed(&mut source, origin, places, Vec::new(alloc))
+}
+
+/// The same where the read of a number fails, each being of so many bytes at most.
+fn replayed_broken(
+    alloc: Global,
+    bytes: Vec<u8>,
+    most: usize,
+    number: u64,
+    origin: &Typed,
+    places: &[Place],
+) -> (Result<Answer, ReplayFault>, Vec<u8>) {
+    let mut source = BrokenSource::new(bytes, most.max(1), number);
+    replayed(&mut source, origin, places, Vec::new(alloc))
+}
+
+/// What is answered, and what goes out.
+fn wanted_of(
+    wanted: Result<(Option<u16>, &'static str), Reason>,
+) -> (Result<Answer, ReplayFault>, &'static str) {
+    match wanted {
+        Ok((status, body)) => (answered(status, false, body.len() as u64), body),
+        Err(reason) => (Err(ReplayFault::Reason(reason)), ""),
+    }
+}
+
+/// Whether blocks are answered so where so many bytes are read at a time, and nothing but the body goes out.
+fn is_answered(
+    alloc: Global,
+    origin: &Typed,
+    blocks: &[&str],
+    most: usize,
+    wanted: Result<(Option<u16>, &'static str), Reason>,
+) -> Result<bool, Fail> {
+    let (answer, body) = wanted_of(wanted);
+    let (bytes, places) = stored_texts(alloc, blocks)?;
+    let before = b"before ".to_vec(alloc)?;
+    let mut source = MemSource::new(bytes, most.max(1));
+    let (told, sent) = replayed(&mut source, origin, &places, before);
+    Ok(told == answer && sent.strip_prefix(b"before ") == Some(body.as_bytes()))
+}
+
+/// The name of the first case that isn't answered as it is wanted, where so many bytes are read at a time.
+fn first_wrong(alloc: Global, cases: &[Case], most: usize) -> Result<Option<&'static str>, Fail> {
+    for (name, kind, target, blocks, wanted) in cases {
+        let origin = head_of(alloc, kind, target)?;
+        if !is_answered(alloc, &origin, blocks, most, *wanted)? {
+            return Ok(Some(name));
         }
     }
+    Ok(None)
+}
+
+/// The same with reads of 1 byte, of 7 bytes and of all.
+fn first_wrong_of_all(alloc: Global, cases: &[Case]) -> Result<Option<&'static str>, Fail> {
+    for most in [1, 7, usize::MAX] {
+        if let Some(name) = first_wrong(alloc, cases, most)? {
+            return Ok(Some(name));
+        }
+    }
+    Ok(None)
+}
+
+#[test]
+fn what_goes_out_of_resources(rt: HostRuntime) -> Result<(), Fail> {
+    assert_eq!(rt; first_wrong_of_all(rt.alloc(), RESOURCES)?, None);
+    Ok(())
+}
+
+#[test]
+fn what_goes_out_of_responses(rt: HostRuntime) -> Result<(), Fail> {
+    assert_eq!(rt; first_wrong_of_all(rt.alloc(), RESPONSES)?, None);
+    Ok(())
+}
+
+#[test]
+fn what_goes_out_behind_heads(rt: HostRuntime) -> Result<(), Fail> {
+    assert_eq!(rt; first_wrong_of_all(rt.alloc(), HEADS)?, None);
+    Ok(())
+}
+
+#[test]
+fn reasons_for_no_body(rt: HostRuntime) -> Result<(), Fail> {
+    assert_eq!(rt; first_wrong_of_all(rt.alloc(), REASONS)?, None);
     Ok(())
 }
 
@@ -236,75 +345,136 @@ fn long_response(alloc: Global, head_len: usize) -> Result<Vec<u8>, Fail> {
     Ok(bytes)
 }
 
+/// What is answered of a response whose head has so many bytes, cut in two blocks, and what goes out.
+fn replayed_long(
+    alloc: Global,
+    head_len: usize,
+    cut: usize,
+) -> Result<(Result<Answer, ReplayFault>, Vec<u8>), Fail> {
+    let origin = head_of(alloc, "response", TARGET)?;
+    let block = long_response(alloc, head_len)?;
+    let (front, back) = block.split_at(cut.min(block.len()));
+    let (bytes, places) = stored(alloc, &[front, back])?;
+    Ok(replayed_of(alloc, bytes, &origin, &places))
+}
+
 #[test]
 fn the_longest_head(rt: HostRuntime) -> Result<(), Fail> {
-    let origin = head_of(rt.alloc(), "response", TARGET)?;
     for (head_len, answer, body) in [
         (65_535, answered(Some(200), false, 3), "abc"),
         (65_536, answered(Some(200), false, 3), "abc"),
         (65_537, Err(ReplayFault::Reason(Reason::BadHead)), ""),
     ] {
-        let block = long_response(rt.alloc(), head_len)?;
-        assert_eq!(rt; block.len(), head_len.saturating_add(3));
+        assert_eq!(rt;
+            long_response(rt.alloc(), head_len)?.len(),
+            head_len.saturating_add(3)
+        );
         for cut in [0, 100, 65_000usize] {
-            let (front, back) = block.split_at(cut.min(block.len()));
-            let (bytes, places) = stored(rt.alloc(), &[front, back])?;
-            let mut source = MemSource::new(bytes, usize::MAX);
-            let mut sink = MemSink::new(Vec::new(rt.alloc()));
-            let told = replay_joined(&mut source, PATH, &origin, &places, &mut sink);
-            assert_eq!(rt; told, answer);
-            assert_eq!(rt; sink.bytes(), body.as_bytes());
+            let (told, sent) = replayed_long(rt.alloc(), head_len, cut)?;
+            assert_eq!(rt; (told, sent.as_slice()), (answer, body.as_bytes()));
         }
     }
     Ok(())
+}
+
+/// Gives a place a verdict and a mark.
+fn mark(places: &mut [Place], index: usize, verdict: Verdict, truncated: bool) {
+    if let Some(place) = places.get_mut(index) {
+        place.verdict = verdict;
+        place.truncated = truncated;
+    }
+}
+
+/// What is answered of a response in two blocks with these verdicts and marks, and what goes out.
+fn replayed_marked(
+    alloc: Global,
+    verdicts: [Verdict; 2],
+    marks: [bool; 2],
+) -> Result<(Result<Answer, ReplayFault>, Vec<u8>), Fail> {
+    let origin = head_of(alloc, "response", TARGET)?;
+    let (bytes, mut places) = stored_texts(alloc, &["HTTP/1.1 200 OK\r\n", "\r\nabc"])?;
+    mark(&mut places, 0, verdicts[0], marks[0]);
+    mark(&mut places, 1, verdicts[1], marks[1]);
+    Ok(replayed_of(alloc, bytes, &origin, &places))
+}
+
+/// Whether such a response is answered so, and this body goes out.
+fn is_marked(
+    alloc: Global,
+    verdicts: [Verdict; 2],
+    marks: [bool; 2],
+    answer: Result<Answer, ReplayFault>,
+    body: &str,
+) -> Result<bool, Fail> {
+    let (told, sent) = replayed_marked(alloc, verdicts, marks)?;
+    Ok(told == answer && sent.as_slice() == body.as_bytes())
 }
 
 #[test]
 fn marks_and_digests(rt: HostRuntime) -> Result<(), Fail> {
-    let origin = head_of(rt.alloc(), "response", TARGET)?;
     let bad = Err(ReplayFault::Reason(Reason::BadDigest));
-    let whole = |truncated| answered(Some(200), truncated, 3);
+    let (whole, cut) = (answered(Some(200), false, 3), answered(Some(200), true, 3));
     let (good, none) = (Verdict::Good, Verdict::Unchecked);
     for (verdicts, marks, answer, body) in [
-        ([good, good], [false, false], whole(false), "abc"),
-        ([none, good], [true, false], whole(true), "abc"),
-        ([good, none], [false, true], whole(true), "abc"),
-        ([none, none], [true, true], whole(true), "abc"),
+        ([good, good], [false, false], whole, "abc"),
+        ([none, good], [true, false], cut, "abc"),
+        ([good, none], [false, true], cut, "abc"),
+        ([none, none], [true, true], cut, "abc"),
         ([Verdict::Bad, good], [false, false], bad, ""),
         ([none, Verdict::Bad], [false, true], bad, ""),
     ] {
-        let (bytes, mut places) = stored_texts(rt.alloc(), &["HTTP/1.1 200 OK\r\n", "\r\nabc"])?;
-        for (place, (verdict, mark)) in places.iter_mut().zip(verdicts.iter().zip(&marks)) {
-            place.verdict = *verdict;
-            place.truncated = *mark;
-        }
-        let mut source = MemSource::new(bytes, usize::MAX);
-        let mut sink = MemSink::new(Vec::new(rt.alloc()));
-        let told = replay_joined(&mut source, PATH, &origin, &places, &mut sink);
-        assert_eq!(rt; told, answer);
-        assert_eq!(rt; sink.bytes(), body.as_bytes());
+        assert!(rt;
+            is_marked(rt.alloc(), verdicts, marks, answer, body)?,
+            "{body}"
+        );
     }
     Ok(())
+}
+
+/// What is answered of a block without a head whose digest is wrong, and what goes out.
+fn replayed_wrong(alloc: Global) -> Result<(Result<Answer, ReplayFault>, Vec<u8>), Fail> {
+    let origin = head_of(alloc, "response", TARGET)?;
+    let (bytes, mut places) = stored_texts(alloc, &["hello"])?;
+    mark(&mut places, 0, Verdict::Bad, false);
+    Ok(replayed_of(alloc, bytes, &origin, &places))
 }
 
 #[test]
 fn a_bad_digest_comes_before_a_bad_head(rt: HostRuntime) -> Result<(), Fail> {
-    let origin = head_of(rt.alloc(), "response", TARGET)?;
-    let (bytes, mut places) = stored_texts(rt.alloc(), &["hello"])?;
-    for place in places.iter_mut() {
-        place.verdict = Verdict::Bad;
-    }
-    let mut source = MemSource::new(bytes, usize::MAX);
-    let mut sink = MemSink::new(Vec::new(rt.alloc()));
-    let told = replay_joined(&mut source, PATH, &origin, &places, &mut sink);
+    let (told, sent) = replayed_wrong(rt.alloc())?;
     assert_eq!(rt; told, Err(ReplayFault::Reason(Reason::BadDigest)));
+    assert!(rt; sent.is_empty());
     Ok(())
+}
+
+/// What is answered where a write of one byte breaks, and what goes out.
+fn replayed_cut(
+    alloc: Global,
+    number: u64,
+    how: Break,
+) -> Result<(Result<Answer, ReplayFault>, Vec<u8>), Fail> {
+    let origin = head_of(alloc, "response", TARGET)?;
+    let (bytes, places) = stored_texts(alloc, &[RESPONSE])?;
+    let mut source = MemSource::new(bytes, usize::MAX);
+    let mut writer = BrokenWriter::new(alloc, number, how).taking(1);
+    let told = told_to(&mut source, &origin, &places, &mut writer);
+    Ok((told, writer.bytes().to_vec(alloc)?))
+}
+
+/// Whether it is answered so where that write breaks, and this body goes out.
+fn is_cut(
+    alloc: Global,
+    number: u64,
+    how: Break,
+    answer: Result<Answer, ReplayFault>,
+    body: &str,
+) -> Result<bool, Fail> {
+    let (told, sent) = replayed_cut(alloc, number, how)?;
+    Ok(told == answer && sent.as_slice() == body.as_bytes())
 }
 
 #[test]
 fn one_failing_write(rt: HostRuntime) -> Result<(), Fail> {
-    let origin = head_of(rt.alloc(), "response", TARGET)?;
-    let (bytes, places) = stored_texts(rt.alloc(), &[RESPONSE])?;
     for (number, answer, body) in [
         (1, Err(ReplayFault::Out(OutFault::Write(0))), ""),
         (2, Err(ReplayFault::Out(OutFault::Write(1))), "a"),
@@ -312,76 +482,98 @@ fn one_failing_write(rt: HostRuntime) -> Result<(), Fail> {
         (4, answered(Some(200), false, 3), "abc"),
     ] {
         for how in [Break::Fails, Break::Takes(0)] {
-            let mut source = MemSource::new(bytes.to_vec(rt.alloc())?, usize::MAX);
-            let mut writer = BrokenWriter::new(rt.alloc(), number, how).taking(1);
-            let told = replay_joined(&mut source, PATH, &origin, &places, &mut writer);
-            assert_eq!(rt; told, answer);
-            assert_eq!(rt; writer.bytes(), body.as_bytes());
+            assert!(rt; is_cut(rt.alloc(), number, how, answer, body)?, "{number}");
         }
     }
     Ok(())
+}
+
+/// What is answered where a read of one byte fails, and what goes out.
+fn replayed_unread(
+    alloc: Global,
+    number: u64,
+) -> Result<(Result<Answer, ReplayFault>, Vec<u8>), Fail> {
+    let origin = head_of(alloc, "response", TARGET)?;
+    let (bytes, places) = stored_texts(alloc, &["HTTP/1.1 200 OK\r\n", "\r\nabc"])?;
+    Ok(replayed_broken(alloc, bytes, 1, number, &origin, &places))
 }
 
 #[test]
 fn one_failing_read(rt: HostRuntime) -> Result<(), Fail> {
-    let origin = head_of(rt.alloc(), "response", TARGET)?;
-    let (bytes, places) = stored_texts(rt.alloc(), &["HTTP/1.1 200 OK\r\n", "\r\nabc"])?;
     // 22 reads for the head, and three for the body.
     for number in 1..27u64 {
-        let mut source = BrokenSource::new(bytes.to_vec(rt.alloc())?, 1, number);
-        let mut sink = MemSink::new(Vec::new(rt.alloc()));
-        let told = replay_joined(&mut source, PATH, &origin, &places, &mut sink);
+        let (told, sent) = replayed_unread(rt.alloc(), number)?;
         if number <= 25 {
             assert_eq!(rt; told, Err(ReplayFault::Out(OutFault::Read(0))));
-            assert_eq!(rt; sink.bytes(), b"".as_slice());
+            assert_eq!(rt; sent.as_slice(), b"".as_slice());
         } else {
             assert_eq!(rt; told, answered(Some(200), false, 3));
-            assert_eq!(rt; sink.bytes(), b"abc".as_slice());
+            assert_eq!(rt; sent.as_slice(), b"abc".as_slice());
         }
     }
     Ok(())
 }
 
+/// What is answered over a long block where the read of a number fails, and whether the block's first bytes go out, of
+/// that number.
+fn replayed_behind(
+    alloc: Global,
+    number: u64,
+    sent: usize,
+) -> Result<(Result<Answer, ReplayFault>, bool), Fail> {
+    let origin = head_of(alloc, "resource", TARGET)?;
+    let block = long_response(alloc, 20_000)?;
+    let (bytes, places) = stored(alloc, &[&block])?;
+    let (told, out) = replayed_broken(alloc, bytes, usize::MAX, number, &origin, &places);
+    Ok((told, Some(out.as_slice()) == block.get(..sent)))
+}
+
 #[test]
 fn a_read_that_fails_behind_a_piece(rt: HostRuntime) -> Result<(), Fail> {
-    let origin = head_of(rt.alloc(), "resource", TARGET)?;
-    let block = long_response(rt.alloc(), 20_000)?;
-    let (bytes, places) = stored(rt.alloc(), &[&block])?;
     for (number, answer, sent) in [
         (1, Err(ReplayFault::Out(OutFault::Read(0))), 0usize),
         (2, Err(ReplayFault::Out(OutFault::Read(8_192))), 8_192),
         (3, Err(ReplayFault::Out(OutFault::Read(16_384))), 16_384),
         (4, answered(None, false, 20_003), 20_003),
     ] {
-        let mut source = BrokenSource::new(bytes.to_vec(rt.alloc())?, usize::MAX, number);
-        let mut sink = MemSink::new(Vec::new(rt.alloc()));
-        let told = replay_joined(&mut source, PATH, &origin, &places, &mut sink);
-        assert_eq!(rt; told, answer);
-        assert_eq!(rt; Some(sink.bytes()), block.get(..sent));
+        let told = replayed_behind(rt.alloc(), number, sent)?;
+        assert_eq!(rt; told, (answer, true));
     }
     Ok(())
 }
 
+/// What is answered of a place that begins there and has so many bytes, in a source of three; and what goes out.
+fn replayed_at(
+    alloc: Global,
+    kind: &str,
+    start: u64,
+    len: u64,
+) -> Result<(Result<Answer, ReplayFault>, Vec<u8>), Fail> {
+    let origin = head_of(alloc, kind, TARGET)?;
+    let places = [Place {
+        start,
+        len,
+        verdict: Verdict::Unchecked,
+        truncated: false,
+    }];
+    Ok(replayed_of(alloc, b"abc".to_vec(alloc)?, &origin, &places))
+}
+
 #[test]
 fn places_that_the_source_lacks(rt: HostRuntime) -> Result<(), Fail> {
-    let read = Err(ReplayFault::Out(OutFault::Read(0)));
     for kind in ["resource", "response"] {
-        let origin = head_of(rt.alloc(), kind, TARGET)?;
         for (start, len) in [(0, 4), (3, 1), (1_000_000, 1), (u64::MAX, 5), (5, u64::MAX)] {
-            let places = [Place {
-                start,
-                len,
-                verdict: Verdict::Unchecked,
-                truncated: false,
-            }];
-            let mut source = MemSource::new(b"abc".to_vec(rt.alloc())?, usize::MAX);
-            let mut sink = MemSink::new(Vec::new(rt.alloc()));
-            let told = replay_joined(&mut source, PATH, &origin, &places, &mut sink);
-            assert_eq!(rt; told, read);
-            assert_eq!(rt; sink.bytes(), b"".as_slice());
+            let (told, sent) = replayed_at(rt.alloc(), kind, start, len)?;
+            assert_eq!(rt; told, Err(ReplayFault::Out(OutFault::Read(0))));
+            assert!(rt; sent.is_empty());
         }
     }
     Ok(())
+}
+
+/// Whether a fault shows itself so.
+fn shows(alloc: Global, fault: ReplayFault, text: &str) -> Result<bool, Fail> {
+    Ok(fault.to_string(alloc)?.as_str() == text)
 }
 
 #[test]
@@ -400,8 +592,7 @@ fn texts_of_reasons(rt: HostRuntime) -> Result<(), Fail> {
         (ReplayFault::Reason(Reason::Coded), "P10 Coded"),
         (ReplayFault::Out(OutFault::Read(3)), "read failed after 3"),
     ] {
-        let shown = format!(in rt.alloc(); "{fault}")?;
-        assert_eq!(rt; shown.as_str(), text);
+        assert!(rt; shows(rt.alloc(), fault, text)?, "{text}");
     }
     Ok(())
 }

@@ -6,11 +6,15 @@ use warc_frame::{Fault, read_one};
 use warc_vectors::{ONE_RESOURCE, Row, archive_text};
 
 /// The text of the one resource record, written out.
-const ONE_RESOURCE_TEXT: &[u8] =
-    b"WARC/1.1\r\nWARC-Type: resource\r\nWARC-Record-ID: <urn:uuid:00000000-0000-4000-8000-000000000001>\r\nWARC-Date: 2020-01-01T00:00:00Z\r\nWARC-Target-URI: http://a.example/x\r\nContent-Type: text/plain\r\nWARC-Block-Digest: sha1:VGMT4NSHA2AWVOR6EVYXQUGCNSONBWE5\r\nContent-Length: 3\r\n\r\nabc\r\n\r\n";
+const ONE_RESOURCE_TEXT: &[u8] = b"WARC/1.1\r\nWARC-Type: resource\r\n\
+      WARC-Record-ID: <urn:uuid:00000000-0000-4000-8000-000000000001>\r\n\
+      WARC-Date: 2020-01-01T00:00:00Z\r\nWARC-Target-URI: http://a.example/x\r\n\
+      Content-Type: text/plain\r\nWARC-Block-Digest: sha1:VGMT4NSHA2AWVOR6EVYXQUGCNSONBWE5\r\n\
+      Content-Length: 3\r\n\r\nabc\r\n\r\n";
 
-const EMPTY_TEXT: &[u8] =
-    b"WARC/1.0\r\nWARC-Type: metadata\r\nWARC-Record-ID: <urn:uuid:00000000-0000-4000-8000-00000000000f>\r\nWARC-Date: 2021\r\nWARC-Target-URI: <x>\r\nContent-Length: 0\r\n\r\n\r\n\r\n";
+const EMPTY_TEXT: &[u8] = b"WARC/1.0\r\nWARC-Type: metadata\r\n\
+      WARC-Record-ID: <urn:uuid:00000000-0000-4000-8000-00000000000f>\r\nWARC-Date: 2021\r\n\
+      WARC-Target-URI: <x>\r\nContent-Length: 0\r\n\r\n\r\n\r\n";
 
 /// How many records a text is, or where it is none, counted from its front.
 pub(crate) fn read_all(alloc: Global, text: &[u8]) -> Result<usize, Fault> {

@@ -1,10 +1,11 @@
 //! Growth where a read or a growth of the memory fails, and then where none does.
 
-use crate::runs::{FIRST, SECOND, lengths};
+use crate::runs::lengths;
 use std::alloc::{Allocator, Global};
 use std::test::Fail;
 use warc::Archive;
 use warc_frame::{Fault, FaultKind, MemSource, Source};
+use warc_vectors::growing::{FIRST, TWO};
 use warc_vectors::{BrokenSource, RefusingAllocator, archive_text};
 
 /// Why an archive doesn't grow by a source, if it doesn't, and how many records there are then, and once it has grown,
@@ -28,7 +29,7 @@ fn grown_twice<S: Source + Drop, A: Allocator + Copy>(
 /// The same where the read of a number fails, each being of one byte.
 fn unread(alloc: Global, number: u64) -> Result<(Option<Fault>, usize, usize), Fail> {
     let old = archive_text(alloc, &[FIRST])?;
-    let new = archive_text(alloc, &[FIRST, SECOND])?;
+    let new = archive_text(alloc, TWO)?;
     let again = BrokenSource::new(new.clone()?, 1, 0);
     match Archive::open(alloc, BrokenSource::new(old, 1, 0)) {
         Ok(mut archive) => grown_twice(&mut archive, BrokenSource::new(new, 1, number), again),
@@ -58,7 +59,7 @@ fn each_read_fails_in_turn(rt: HostRuntime) -> Result<(), Fail> {
 fn unkept(alloc: Global, number: u64) -> Result<Option<(Option<Fault>, usize, usize)>, Fail> {
     let heap = RefusingAllocator::new(alloc, number);
     let old = archive_text(alloc, &[FIRST])?;
-    let new = archive_text(alloc, &[FIRST, SECOND])?;
+    let new = archive_text(alloc, TWO)?;
     let again = MemSource::new(new.clone()?, usize::MAX);
     match Archive::open(&heap, MemSource::new(old, usize::MAX)) {
         Ok(mut archive) => {

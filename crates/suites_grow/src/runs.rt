@@ -1,4 +1,4 @@
-//! Archives in memory that grow, read one byte at a time, and the records that they are grown by.
+//! Archives in memory that grow, read one byte at a time.
 
 use std::alloc::Global;
 use std::test::Fail;
@@ -6,23 +6,8 @@ use warc::Archive;
 use warc_answer::ReplayFault;
 use warc_frame::{Fault, MemSink, MemSource};
 use warc_value::read_date;
+use warc_vectors::growing::{FIRST, TWO};
 use warc_vectors::{Row, archive_text};
-
-pub(crate) const FIRST: Row<'static> = Row {
-    version: "1.1",
-    kind: "resource",
-    number: '1',
-    date: "2020-01-01T00:00:00Z",
-    target: "http://a.example/x",
-    extras: &["Content-Type: text/plain"],
-    block: b"abc",
-};
-
-pub(crate) const SECOND: Row<'static> = Row {
-    number: '2',
-    block: b"abcd",
-    ..FIRST
-};
 
 /// An archive of these records.
 pub(crate) fn opened(alloc: Global, rows: &[Row<'_>]) -> Result<Archive<MemSource>, Fail> {
@@ -55,6 +40,6 @@ pub(crate) fn replayed(
 /// How many bytes the first record has, and both.
 pub(crate) fn lengths(alloc: Global) -> Result<(usize, usize), Fail> {
     let one = archive_text(alloc, &[FIRST])?.len();
-    let both = archive_text(alloc, &[FIRST, SECOND])?.len();
+    let both = archive_text(alloc, TWO)?.len();
     Ok((one, both))
 }

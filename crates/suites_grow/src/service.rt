@@ -1,11 +1,11 @@
 //! What README.md shows of an archive that a service keeps open.
 
-use crate::runs::{FIRST, SECOND};
 use std::alloc::Global;
 use std::test::Fail;
 use warc::Archive;
 use warc_frame::{MemSink, MemSource};
 use warc_vectors::archive_text;
+use warc_vectors::growing::{FIRST, TWO};
 
 /// The lengths of the block with an id in an archive, before it grows and after.
 fn lengths(
@@ -30,7 +30,7 @@ fn lengths(
 fn a_later_record_is_found(rt: HostRuntime) -> Result<(), Fail> {
     let alloc = rt.alloc();
     let old = archive_text(alloc, &[FIRST])?;
-    let new = archive_text(alloc, &[FIRST, SECOND])?;
+    let new = archive_text(alloc, TWO)?;
     let id = b"<urn:uuid:00000000-0000-4000-8000-000000000002>".as_slice();
     assert_eq!(rt; lengths(alloc, old, new, id)?, (None, Some(4)));
     Ok(())

@@ -1,8 +1,6 @@
 //! Archives that are written anew in memory and opened again: conversion changes no answer, and records come back.
 #![tactic(auto)]
 
-#[cfg(test)]
-mod asked;
 pub mod migration;
 mod opening;
 #[cfg(test)]

@@ -136,14 +136,57 @@ fn added<A: Allocator + Copy>(alloc: A, rows: &[Row]) -> Result<Order<A>, AllocE
     Ok(order)
 }
 
+/// Adds the same entry to those that wait to be put in order.
+fn push_row<A: Allocator + Copy>(
+    entries: &mut Unordered<A>,
+    row: &Row,
+    i: usize,
+) -> Result<(), AllocError>
+    requires few { i < 1000000 }
+    requires rise { All (λ e. e.position < 3 * i) entries.old }
+    ensures ok { OnOk result (All (λ e. e.position < 3 * (i + 1)) entries.new) }
+    ensures err { OnErr result (entries.new ≡ entries.old) }
+{
+    entries.push(text_of(row), row.mark, 3 * i + 1)
+}
+
 /// The same entries put in order at once.
 fn filled<A: Allocator + Copy>(alloc: A, rows: &[Row]) -> Result<Order<A>, AllocError> {
     let mut entries = Unordered::new(alloc);
     for i in 0..rows.len().min(COUNT) {
-        let row = &rows[i];
-        entries.push(text_of(row), row.mark, 3 * i + 1)?;
+        push_row(&mut entries, &rows[i], i)?;
     }
-    entries.into_order()
+    Ok(entries.into_order())
+}
+
+/// The same, where an entry that is refused is added again; and whether one was.
+fn filled_again<A: Allocator + Copy>(
+    alloc: A,
+    rows: &[Row],
+) -> Result<(Order<A>, bool), AllocError> {
+    let mut entries = Unordered::new(alloc);
+    let mut is_refused = false;
+    for i in 0..rows.len().min(COUNT) {
+        if push_row(&mut entries, &rows[i], i).is_err() {
+            is_refused = true;
+            push_row(&mut entries, &rows[i], i)?;
+        }
+    }
+    Ok((entries.into_order(), is_refused))
+}
+
+/// The first so many entries put in order at once, after the others were added and forgotten.
+fn filled_front<A: Allocator + Copy>(
+    alloc: A,
+    rows: &[Row],
+    kept: usize,
+) -> Result<Order<A>, AllocError> {
+    let mut entries = Unordered::new(alloc);
+    for i in 0..rows.len().min(COUNT) {
+        push_row(&mut entries, &rows[i], i)?;
+    }
+    entries.forget_after(kept.saturating_mul(3));
+    Ok(entries.into_order())
 }
 
 /// Whether what was found is an entry.
@@ -301,6 +344,35 @@ fn filling_is_refused_with_want_of_memory(rt: HostRuntime) -> Result<(), Fail> {
             assert_eq!(rt; order.len(), COUNT);
             break;
         }
+    }
+    Ok(())
+}
+
+/// Putting in order takes no memory: what is refused is an addition, and it changes nothing.
+#[test]
+fn a_refused_entry_can_be_added_again(rt: HostRuntime) -> Result<(), Fail> {
+    let rows = rows(rt.alloc())?;
+    for number in 1..200u64 {
+        let heap = RefusingAllocator::new(rt.alloc(), number);
+        let (order, is_refused) = filled_again(&heap, &rows)?;
+        assert_eq!(rt; is_refused, heap.has_refused());
+        assert!(rt; finds_all(&order, &rows));
+        if !is_refused {
+            assert!(rt; number > 5);
+            break;
+        }
+    }
+    Ok(())
+}
+
+/// Entries that are forgotten while they wait leave those before them.
+#[test]
+fn waiting_entries_are_forgotten(rt: HostRuntime) -> Result<(), Fail> {
+    let rows = rows(rt.alloc())?;
+    for kept in [0usize, 1, 2, 511, 512, 700, COUNT] {
+        let order = filled_front(rt.alloc(), &rows, kept)?;
+        assert_eq!(rt; order.len(), kept);
+        assert!(rt; finds_all(&order, rows.get(..kept).unwrap_or(&[])));
     }
     Ok(())
 }

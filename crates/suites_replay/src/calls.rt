@@ -1,6 +1,6 @@
 //! What an archive gives by calls.
 
-use crate::runs::{PLAIN, RESPONSE, U};
+use crate::runs::U;
 use std::alloc::Global;
 use std::test::Fail;
 use warc::{Archive, ExtractFault, TakeFault};
@@ -9,10 +9,11 @@ use warc_frame::{Framed, MemSink, MemSource};
 use warc_index::Unfound;
 use warc_value::{Moment, read_date};
 use warc_vectors::archive_text;
+use warc_vectors::captures::{BOTH, RESPONSE};
 
 /// An archive of a resource of 2020 and of a response of the same moment, read so many bytes at a time.
 fn opened(alloc: Global, most: usize) -> Result<Archive<MemSource>, Fail> {
-    let text = archive_text(alloc, &[PLAIN, RESPONSE])?;
+    let text = archive_text(alloc, BOTH)?;
     match Archive::open(alloc, MemSource::new(text, most.max(1))) {
         Ok(archive) => Ok(archive),
         Err((fault, _)) => Err(fault.into()),
@@ -25,8 +26,8 @@ fn replayed(
     most: usize,
     moment: &Moment,
 ) -> Result<(Result<Answer, ReplayFault>, MemSink), Fail> {
-    let mut archive = opened(alloc, most)?;
     let mut out = MemSink::new(b"before ".to_vec(alloc)?);
+    let mut archive = opened(alloc, most)?;
     let answer = archive.replay(U.as_bytes(), moment, &mut out);
     Ok((answer, out))
 }
@@ -37,8 +38,8 @@ fn extracted(
     most: usize,
     id: &[u8],
 ) -> Result<(Result<u64, ExtractFault>, MemSink), Fail> {
-    let mut archive = opened(alloc, most)?;
     let mut out = MemSink::new(Vec::new(alloc));
+    let mut archive = opened(alloc, most)?;
     let answer = archive.extract(id, &mut out);
     Ok((answer, out))
 }

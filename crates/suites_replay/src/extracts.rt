@@ -4,7 +4,8 @@ use crate::runs::ends;
 use std::alloc::Global;
 use std::test::Fail;
 use warc_commands::Command;
-use warc_vectors::{ONE_RESOURCE, Row, archive_text};
+use warc_vectors::captures::{ALONE, NO_RECORDS};
+use warc_vectors::{Row, archive_text};
 
 /// Whether extracting by a text from these records writes this block.
 fn extracts(alloc: Global, rows: &[Row<'_>], id: &str, block: &[u8]) -> Result<bool, Fail> {
@@ -42,7 +43,7 @@ fn an_id_in_brackets_or_without(rt: HostRuntime) -> Result<(), Fail> {
         "urn:uuid:00000000-0000-4000-8000-000000000001",
         "URN:UUID:00000000-0000-4000-8000-000000000001",
     ] {
-        assert!(rt; extracts(rt.alloc(), &[ONE_RESOURCE], id, b"abc")?, "{id}");
+        assert!(rt; extracts(rt.alloc(), ALONE, id, b"abc")?, "{id}");
     }
     Ok(())
 }
@@ -50,16 +51,16 @@ fn an_id_in_brackets_or_without(rt: HostRuntime) -> Result<(), Fail> {
 #[test]
 fn texts_that_no_record_has(rt: HostRuntime) -> Result<(), Fail> {
     for id in ["urn:uuid:00000000-0000-4000-8000-000000000002", "<>", ""] {
-        assert!(rt; finds_none(rt.alloc(), &[ONE_RESOURCE], id)?, "{id}");
+        assert!(rt; finds_none(rt.alloc(), ALONE, id)?, "{id}");
     }
-    assert!(rt; finds_none(rt.alloc(), &[], "urn:a")?);
+    assert!(rt; finds_none(rt.alloc(), NO_RECORDS, "urn:a")?);
     Ok(())
 }
 
 #[test]
 fn a_refused_archive_gives_nothing(rt: HostRuntime) -> Result<(), Fail> {
     let alloc = rt.alloc();
-    let text = ONE_RESOURCE.text(alloc)?;
+    let text = archive_text(alloc, ALONE)?;
     let cut = &text[..text.len().saturating_sub(1)];
     let (archive, id) = ("a.warc", "urn:uuid:00000000-0000-4000-8000-000000000001");
     let line = "warc: F11 Truncated at 277\n";

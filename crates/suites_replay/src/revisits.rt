@@ -1,242 +1,33 @@
-//! Where revisits lead, and each reason why one leads nowhere.
+//! Replays of revisits, and each reason why one leads nowhere.
 
-use crate::runs::{OF_NOTHING, PLAIN, RESPONSE, asked, gives, lacks};
+use crate::runs::{asked, first_not_given, first_not_lacking};
 use std::test::Fail;
-use warc_vectors::Row;
-
-const B: &str = "http://b.example/";
-
-const PROFILE: &str =
-    "WARC-Profile: http://netpreserve.org/warc/1.1/revisit/identical-payload-digest";
-
-const TO_RESPONSE: &str = "WARC-Refers-To: <URN:UUID:00000000-0000-4000-8000-00000000000A>";
-
-const TO_REVISIT: &str = "WARC-Refers-To: <urn:uuid:00000000-0000-4000-8000-000000000002>";
-
-const TO_THREE: &str = "WARC-Refers-To: <urn:uuid:00000000-0000-4000-8000-000000000003>";
-
-const TO_TARGET: &str = "WARC-Refers-To-Target-URI: http://a.example/x";
-
-const TO_DATE: &str = "WARC-Refers-To-Date: 2020-01-01";
-
-const PAYLOAD: &str = "WARC-Payload-Digest: sha1:VGMT4NSHA2AWVOR6EVYXQUGCNSONBWE5";
-
-const REVISIT: Row<'static> = Row {
-    kind: "revisit",
-    number: '2',
-    date: "2021",
-    target: B,
-    extras: &[PROFILE, TO_RESPONSE],
-    block: b"",
-    ..RESPONSE
-};
-
-const BY_PAIR: Row<'static> = Row {
-    extras: &[PROFILE, TO_TARGET, TO_DATE],
-    ..REVISIT
-};
-
-const BY_ABSENT_ID_AND_PAIR: Row<'static> = Row {
-    extras: &[PROFILE, TO_THREE, TO_TARGET, TO_DATE],
-    ..REVISIT
-};
-
-const BY_PAYLOAD: Row<'static> = Row {
-    extras: &[PROFILE, PAYLOAD],
-    ..REVISIT
-};
-
-/// A block of its own, which isn't what its digest is of.
-const WITH_BLOCK: Row<'static> = Row {
-    extras: &[PROFILE, TO_RESPONSE, OF_NOTHING],
-    block: b"HTTP/1.1 304 Not Modified\r\n\r\n",
-    ..REVISIT
-};
-
-/// A revisit of a later moment that leads to the other one.
-const OF_REVISIT: Row<'static> = Row {
-    number: '4',
-    date: "2022",
-    extras: &[PROFILE, TO_REVISIT],
-    ..REVISIT
-};
-
-/// The response with the same target and payload digest as the revisits.
-const SAME_PAYLOAD: Row<'static> = Row {
-    target: B,
-    extras: &[PAYLOAD],
-    ..RESPONSE
-};
-
-/// Records, and what is said of the body.
-const LEADING: &[(&[Row<'static>], &str)] = &[
-    (
-        &[RESPONSE, REVISIT],
-        "chosen 1 given 0 status 200 truncated no",
-    ),
-    (
-        &[RESPONSE, WITH_BLOCK],
-        "chosen 1 given 0 status 200 truncated no",
-    ),
-    (
-        &[BY_PAIR, RESPONSE],
-        "chosen 0 given 1 status 200 truncated no",
-    ),
-    (
-        &[RESPONSE, BY_ABSENT_ID_AND_PAIR],
-        "chosen 1 given 0 status 200 truncated no",
-    ),
-    (
-        &[BY_PAYLOAD, SAME_PAYLOAD],
-        "chosen 0 given 1 status 200 truncated no",
-    ),
-    (
-        &[OF_REVISIT, REVISIT, RESPONSE],
-        "chosen 0 given 2 status 200 truncated no",
-    ),
-];
+use warc_vectors::revisits::{ASTRAY, LEADING, NOWHERE, REVISITED, UNLIKE};
 
 #[test]
 fn revisits_that_lead_to_a_body(rt: HostRuntime) -> Result<(), Fail> {
-    for (rows, said) in LEADING {
-        assert!(rt;
-            gives(rt.alloc(), rows, &asked(B, "2022"), b"abc", said)?,
-            "{said}"
-        );
-    }
+    let wrong = first_not_given(rt.alloc(), LEADING, &asked(REVISITED, "2022"), b"abc")?;
+    assert_eq!(rt; wrong, None);
     Ok(())
 }
-
-/// Records of which no response or resource has a revisit's payload.
-const UNLIKE: &[&[Row<'static>]] = &[
-    &[
-        Row {
-            target: "http://a.example/x",
-            ..SAME_PAYLOAD
-        },
-        BY_PAYLOAD,
-    ],
-    &[
-        Row {
-            date: "2021-01-02",
-            ..SAME_PAYLOAD
-        },
-        BY_PAYLOAD,
-    ],
-    &[
-        Row {
-            extras: &["WARC-Payload-Digest: sha1:vgmt4nsha2awvor6evyxqugcnsonbwe5"],
-            ..SAME_PAYLOAD
-        },
-        BY_PAYLOAD,
-    ],
-    &[
-        Row {
-            kind: "request",
-            ..SAME_PAYLOAD
-        },
-        BY_PAYLOAD,
-    ],
-];
 
 #[test]
 fn payloads_that_no_record_has(rt: HostRuntime) -> Result<(), Fail> {
-    for rows in UNLIKE {
-        assert!(rt; lacks(rt.alloc(), rows, &asked(B, "2021"), "P4 NoReference")?);
-    }
+    let wrong = first_not_lacking(rt.alloc(), UNLIKE, &asked(REVISITED, "2021"))?;
+    assert_eq!(rt; wrong, None);
     Ok(())
 }
 
-/// Records whose revisit isn't given, and the reason.
-const ASTRAY: &[(&[Row<'static>], &str)] = &[
-    (
-        &[Row {
-            extras: &[PROFILE, TO_REVISIT],
-            ..REVISIT
-        }],
-        "P6 Loop",
-    ),
-    (
-        &[
-            OF_REVISIT,
-            RESPONSE,
-            Row {
-                extras: &[
-                    PROFILE,
-                    "WARC-Refers-To: <urn:uuid:00000000-0000-4000-8000-000000000004>",
-                ],
-                ..REVISIT
-            },
-        ],
-        "P6 Loop",
-    ),
-    (
-        &[
-            OF_REVISIT,
-            RESPONSE,
-            Row {
-                extras: &[TO_RESPONSE],
-                ..REVISIT
-            },
-        ],
-        "P3 UnknownProfile",
-    ),
-    (
-        &[
-            BY_PAIR,
-            Row {
-                date: "2020-01-02",
-                ..PLAIN
-            },
-        ],
-        "P5 Unresolved",
-    ),
-    (
-        &[
-            REVISIT,
-            Row {
-                extras: &[OF_NOTHING],
-                ..RESPONSE
-            },
-        ],
-        "P8 BadDigest",
-    ),
-];
-
 #[test]
 fn revisits_that_go_astray(rt: HostRuntime) -> Result<(), Fail> {
-    for (rows, reason) in ASTRAY {
-        assert!(rt;
-            lacks(rt.alloc(), rows, &asked(B, "2022"), reason)?,
-            "{reason}"
-        );
-    }
+    let wrong = first_not_lacking(rt.alloc(), ASTRAY, &asked(REVISITED, "2022"))?;
+    assert_eq!(rt; wrong, None);
     Ok(())
 }
 
 #[test]
 fn revisits_that_lead_nowhere(rt: HostRuntime) -> Result<(), Fail> {
-    let alloc = rt.alloc();
-    for (extras, reason) in [
-        ([PROFILE].as_slice(), "P4 NoReference"),
-        (&[PROFILE, TO_THREE], "P5 Unresolved"),
-        (&[TO_RESPONSE], "P3 UnknownProfile"),
-        (&["WARC-Profile: x", TO_RESPONSE], "P3 UnknownProfile"),
-    ] {
-        let rows = [RESPONSE, Row { extras, ..REVISIT }];
-        assert!(rt; lacks(alloc, &rows, &asked(B, "2021"), reason)?, "{reason}");
-    }
-    let request = Row {
-        kind: "request",
-        ..RESPONSE
-    };
-    assert!(rt;
-        lacks(
-            alloc,
-            &[request, REVISIT],
-            &asked(B, "2021"),
-            "P5 Unresolved"
-        )?
-    );
+    let wrong = first_not_lacking(rt.alloc(), NOWHERE, &asked(REVISITED, "2021"))?;
+    assert_eq!(rt; wrong, None);
     Ok(())
 }

@@ -1,32 +1,13 @@
-//! Runs of `replay` and `extract` over archives in memory, and the records that they are run over.
+//! Runs of `replay` and `extract` over archives in memory.
 
 use std::alloc::{Allocator, Global};
 use std::test::Fail;
 use warc_commands::{Command, perform};
 use warc_frame::{MemSink, MemSource, Sink, Source};
-use warc_vectors::{ONE_RESOURCE, Row, archive_text};
+use warc_vectors::{Case, Row, archive_text};
 
 /// The target of the one resource record.
 pub(crate) const U: &str = "http://a.example/x";
-
-/// The line of a digest, that of a block of no bytes.
-pub(crate) const OF_NOTHING: &str = "WARC-Block-Digest: sha1:3I42H3S6NNFQ2MSVX7XZKYAYSCX5QBYJ";
-
-/// A resource of the year 2020 whose head states no digest.
-pub(crate) const PLAIN: Row<'static> = Row {
-    date: "2020",
-    extras: &["Content-Type: text/plain"],
-    ..ONE_RESOURCE
-};
-
-/// An HTTP response of 33 bytes, of which its head has 30.
-pub(crate) const RESPONSE: Row<'static> = Row {
-    kind: "response",
-    number: 'a',
-    extras: &["Content-Type: application/http; msgtype=response"],
-    block: b"HTTP/1.1 200 OK\r\nServer: a\r\n\r\nabc",
-    ..ONE_RESOURCE
-};
 
 /// The line and the status of a run whose output goes to a sink.
 pub(crate) fn told<S: Source + Drop, A: Allocator + Copy, W: Sink>(
@@ -93,4 +74,34 @@ pub(crate) fn lacks(
     let text = archive_text(alloc, rows)?;
     let line = format!(in alloc; "warc: {reason}\n")?;
     ends(alloc, command, &text, b"", &line, 1)
+}
+
+/// What is said of the first of these archives that doesn't give the body to a replay, or of which something else is
+/// said.
+pub(crate) fn first_not_given(
+    alloc: Global,
+    cases: &[Case],
+    command: &Command<'_>,
+    body: &[u8],
+) -> Result<Option<&'static str>, Fail> {
+    for (rows, said) in cases {
+        if !gives(alloc, rows, command, body, said)? {
+            return Ok(Some(said));
+        }
+    }
+    Ok(None)
+}
+
+/// The reason of the first of these archives that doesn't lack a body for it.
+pub(crate) fn first_not_lacking(
+    alloc: Global,
+    cases: &[Case],
+    command: &Command<'_>,
+) -> Result<Option<&'static str>, Fail> {
+    for (rows, reason) in cases {
+        if !lacks(alloc, rows, command, reason)? {
+            return Ok(Some(reason));
+        }
+    }
+    Ok(None)
 }

@@ -1,123 +1,22 @@
 //! Replays of records in segments, and each gap.
 
-use crate::runs::{OF_NOTHING, PLAIN, RESPONSE, U, asked, gives, lacks};
+use crate::runs::{U, asked, first_not_given, first_not_lacking, gives};
 use std::test::Fail;
-use warc_vectors::Row;
-
-const ORIGIN: &str = "WARC-Segment-Origin-ID: <urn:uuid:00000000-0000-4000-8000-000000000001>";
-
-const TOTAL: &str = "WARC-Segment-Total-Length: 3";
-
-const FIRST: Row<'static> = Row {
-    extras: &["Content-Type: text/plain", "WARC-Segment-Number: 1"],
-    block: b"a",
-    ..PLAIN
-};
-
-const SECOND: Row<'static> = Row {
-    kind: "continuation",
-    number: '2',
-    extras: &[ORIGIN, "WARC-Segment-Number: 2"],
-    block: b"b",
-    ..PLAIN
-};
-
-const THIRD: Row<'static> = Row {
-    number: '3',
-    extras: &[ORIGIN, "WARC-Segment-Number: 3", TOTAL],
-    block: b"c",
-    ..SECOND
-};
-
-const BEYOND: Row<'static> = Row {
-    number: '4',
-    extras: &[ORIGIN, "WARC-Segment-Number: 4"],
-    block: b"d",
-    ..SECOND
-};
-
-const TRUNCATED: Row<'static> = Row {
-    extras: &[
-        ORIGIN,
-        "WARC-Segment-Number: 2",
-        "WARC-Truncated: disconnect",
-    ],
-    ..SECOND
-};
-
-const WRONG: Row<'static> = Row {
-    extras: &[ORIGIN, "WARC-Segment-Number: 2", OF_NOTHING],
-    ..SECOND
-};
-
-/// Orders of the three segments, and what is said of the body.
-const ORDERS: &[(&[Row<'static>], &str)] = &[
-    (
-        &[FIRST, SECOND, THIRD],
-        "chosen 0 given 0 status - truncated no",
-    ),
-    (
-        &[THIRD, FIRST, SECOND],
-        "chosen 1 given 1 status - truncated no",
-    ),
-    (
-        &[THIRD, SECOND, FIRST],
-        "chosen 2 given 2 status - truncated no",
-    ),
-    (
-        &[TRUNCATED, FIRST, THIRD],
-        "chosen 1 given 1 status - truncated yes",
-    ),
-];
+use warc_vectors::segments::{BROKEN, CUT, ORDERS, UNJOINED};
 
 #[test]
 fn segments_out_of_order(rt: HostRuntime) -> Result<(), Fail> {
-    for (rows, said) in ORDERS {
-        assert!(rt;
-            gives(rt.alloc(), rows, &asked(U, "2020"), b"abc", said)?,
-            "{said}"
-        );
-    }
+    let wrong = first_not_given(rt.alloc(), ORDERS, &asked(U, "2020"), b"abc")?;
+    assert_eq!(rt; wrong, None);
     Ok(())
 }
-
-/// Records whose segments don't give a body, and the reason.
-const BROKEN: &[(&[Row<'static>], &str)] = &[
-    (&[FIRST, SECOND, THIRD, SECOND], "P7 Segment G1 Repeated 2"),
-    (&[BEYOND, THIRD, SECOND, FIRST], "P7 Segment G3 AfterEnd 4"),
-    (&[THIRD, FIRST], "P7 Segment G4 Absent 2"),
-    (&[THIRD, FIRST, WRONG], "P8 BadDigest"),
-];
 
 #[test]
 fn segments_that_give_no_body(rt: HostRuntime) -> Result<(), Fail> {
-    for (rows, reason) in BROKEN {
-        assert!(rt;
-            lacks(rt.alloc(), rows, &asked(U, "2020"), reason)?,
-            "{reason}"
-        );
-    }
+    let wrong = first_not_lacking(rt.alloc(), BROKEN, &asked(U, "2020"))?;
+    assert_eq!(rt; wrong, None);
     Ok(())
 }
-
-/// A response whose head is cut behind the first bytes of its second line.
-const CUT: &[Row<'static>] = &[
-    Row {
-        extras: &[
-            ORIGIN,
-            "WARC-Segment-Number: 2",
-            "WARC-Segment-Total-Length: 33",
-        ],
-        block: b"ver: a\r\n\r\nabc",
-        ..SECOND
-    },
-    Row {
-        number: '1',
-        extras: &["WARC-Segment-Number: 1"],
-        block: b"HTTP/1.1 200 OK\r\nSer",
-        ..RESPONSE
-    },
-];
 
 #[test]
 fn a_head_in_two_segments(rt: HostRuntime) -> Result<(), Fail> {
@@ -128,25 +27,7 @@ fn a_head_in_two_segments(rt: HostRuntime) -> Result<(), Fail> {
 
 #[test]
 fn totals_that_do_not_join(rt: HostRuntime) -> Result<(), Fail> {
-    let longer = Row {
-        extras: &[
-            ORIGIN,
-            "WARC-Segment-Number: 3",
-            "WARC-Segment-Total-Length: 4",
-        ],
-        ..THIRD
-    };
-    let numbered = Row {
-        extras: &["WARC-Segment-Number: 2"],
-        ..FIRST
-    };
-    let command = asked(U, "2020");
-    for (rows, reason) in [
-        ([longer, FIRST, SECOND].as_slice(), "P7 Segment G5 Total"),
-        (&[FIRST, SECOND], "P7 Segment G2 Unfinished"),
-        (&[THIRD, numbered, SECOND], "P7 Segment G6 Number"),
-    ] {
-        assert!(rt; lacks(rt.alloc(), rows, &command, reason)?, "{reason}");
-    }
+    let wrong = first_not_lacking(rt.alloc(), UNJOINED, &asked(U, "2020"))?;
+    assert_eq!(rt; wrong, None);
     Ok(())
 }

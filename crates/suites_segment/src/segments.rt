@@ -1,7 +1,6 @@
 //! Series by table: which places are joined to a record, and what is missing where none are.
 
-use std::alloc::{AllocError, Allocator};
-use std::process::Abort;
+use std::alloc::{AllocError, Allocator, Global};
 use std::test::Fail;
 use warc_field::{Fields, Name, Value};
 use warc_record::{SegmentNumber, Typed, type_head};
@@ -44,8 +43,8 @@ const OPEN_THREE: Row = (b"continuation", OTHER, ID, b"3", b"", 100);
 
 const FOUR: Row = (b"continuation", OTHER, ID, b"4", b"1111", 1000);
 
-/// A place begins at a thousand times its record's position and one more.
-const CASES: &[Case] = &[
+/// Series that are whole. A place begins at a thousand times its record's position and one more.
+const JOINED: &[Case] = &[
     ("in order", &[ONE, TWO, THREE], 0, Ok(&[1000, 2000, 3000])),
     (
         "out of order",
@@ -60,6 +59,16 @@ const CASES: &[Case] = &[
         Ok(&[1000]),
     ),
     (
+        "an empty segment",
+        &[ONE, (b"continuation", OTHER, ID, b"2", b"1", 0)],
+        0,
+        Ok(&[1000, 2000]),
+    ),
+];
+
+/// Series with a number that is repeated, and series that don't end.
+const REPEATED_OR_OPEN: &[Case] = &[
+    (
         "G1",
         &[ONE, TWO, THREE, THREE, TWO],
         0,
@@ -73,6 +82,10 @@ const CASES: &[Case] = &[
     ),
     ("G2", &[ONE, TWO, OPEN_THREE], 0, Err(Gap::Unfinished)),
     ("G2, no continuation", &[ONE], 0, Err(Gap::Unfinished)),
+];
+
+/// Series with a number behind the end, or without a number.
+const BEYOND_OR_ABSENT: &[Case] = &[
     ("G3", &[ONE, FOUR, TWO, THREE], 0, Err(Gap::AfterEnd(4))),
     (
         "G3, before an absent one",
@@ -97,6 +110,10 @@ const CASES: &[Case] = &[
         0,
         Err(Gap::Absent(3)),
     ),
+];
+
+/// Series with another total, and records with another number.
+const TOTALS_AND_NUMBERS: &[Case] = &[
     (
         "G5, too much",
         &[ONE, TWO, (b"continuation", OTHER, ID, b"3", b"112", 100)],
@@ -127,6 +144,10 @@ const CASES: &[Case] = &[
         0,
         Err(Gap::Number),
     ),
+];
+
+/// Records that are no segments.
+const OTHER_RECORDS: &[Case] = &[
     (
         "a total on a record that is no continuation",
         &[(b"resource", ID, b"", b"1", b"11", 1), TWO],
@@ -153,6 +174,10 @@ const CASES: &[Case] = &[
         0,
         Err(Gap::Absent(2)),
     ),
+];
+
+/// Records and origins with ids in other letters.
+const IDS: &[Case] = &[
     (
         "two records of one id",
         &[
@@ -187,12 +212,6 @@ const CASES: &[Case] = &[
         &[ONE, (b"continuation", OTHER, OTHER, b"2", b"11", 10)],
         0,
         Err(Gap::Unfinished),
-    ),
-    (
-        "an empty segment",
-        &[ONE, (b"continuation", OTHER, ID, b"2", b"1", 0)],
-        0,
-        Ok(&[1000, 2000]),
     ),
 ];
 
@@ -232,177 +251,347 @@ fn add_rows<A: Allocator + Copy>(
     parts: &mut Parts<A>,
     rows: &[Row],
     first: u64,
-) -> Result<(), Fail> {
+) -> Result<(), AllocError> {
     let mut position = first;
     for row in rows {
-        let typed = typed_of(alloc, row)?;
-        parts.add(&typed, place_at(position, row.5))?;
+        parts.add(&typed_of(alloc, row)?, place_at(position, row.5))?;
         position = position.saturating_add(1);
     }
     Ok(())
 }
 
-/// Fails unless exactly the places are told that begin so, or the gap.
-fn expect<A: Allocator>(
-    rt: &impl Abort,
-    name: &str,
+/// Whether the places begin so.
+fn begin_at(places: &[Place], starts: &[u64]) -> bool {
+    for (place, start) in places.iter().zip(starts) {
+        if place.start != *start {
+            return false;
+        }
+    }
+    places.len() == starts.len()
+}
+
+/// Whether exactly the places are told that begin so, or the gap.
+fn is_wanted<A: Allocator>(
     told: Result<Vec<Place, A>, JoinFault>,
     wanted: Result<&[u64], Gap>,
-) {
+) -> bool {
     match (told, wanted) {
-        (Ok(places), Ok(starts)) => {
-            assert_eq!(rt; places.len(), starts.len(), "{name}");
-            for (place, start) in places.iter().zip(starts) {
-                assert_eq!(rt; place.start, *start, "{name}");
-            }
-        }
-        (Err(JoinFault::Gap(gap)), Err(wanted)) => assert_eq!(rt; gap, wanted, "{name}"),
-        _ => panic!(rt; "{name}"),
+        (Ok(places), Ok(starts)) => begin_at(&places, starts),
+        (Err(JoinFault::Gap(gap)), Err(wanted)) => gap == wanted,
+        _ => false,
     }
 }
 
-#[test]
-fn series_by_table(rt: HostRuntime) -> Result<(), Fail> {
-    for (name, rows, own, wanted) in CASES {
-        let mut parts = Parts::new(rt.alloc());
-        add_rows(rt.alloc(), &mut parts, rows, 0)?;
-        let Some(row) = rows.get(*own) else {
-            panic!(rt; "{name}");
-        };
-        let typed = typed_of(rt.alloc(), row)?;
-        let told = parts.join(&typed, place_at(*own as u64, row.5));
-        expect(&rt, name, told, *wanted);
+/// Whether the record of a row, at a position, is joined as it is wanted.
+fn is_joined<A: Allocator + Copy>(
+    alloc: A,
+    parts: &Parts<A>,
+    row: &Row,
+    position: u64,
+    wanted: Result<&[u64], Gap>,
+) -> Result<bool, AllocError> {
+    let typed = typed_of(alloc, row)?;
+    Ok(is_wanted(parts.join(&typed, place_at(position, row.5)), wanted))
+}
+
+/// Whether the record at a position of an archive is joined as it is wanted.
+fn is_joined_of(
+    alloc: Global,
+    rows: &[Row],
+    own: usize,
+    wanted: Result<&[u64], Gap>,
+) -> Result<bool, Fail> {
+    let row = rows.get(own).ok_or("a record")?;
+    let mut parts = Parts::new(alloc);
+    add_rows(alloc, &mut parts, rows, 0)?;
+    Ok(is_joined(alloc, &parts, row, own as u64, wanted)?)
+}
+
+/// The name of the first case whose record isn't joined as it is wanted.
+fn first_wrong(alloc: Global, cases: &[Case]) -> Result<Option<&'static str>, Fail> {
+    for (name, rows, own, wanted) in cases {
+        if !is_joined_of(alloc, rows, *own, *wanted)? {
+            return Ok(Some(name));
+        }
     }
+    Ok(None)
+}
+
+#[test]
+fn joined_series(rt: HostRuntime) -> Result<(), Fail> {
+    assert_eq!(rt; first_wrong(rt.alloc(), JOINED)?, None);
     Ok(())
+}
+
+#[test]
+fn repeated_numbers_and_open_ends(rt: HostRuntime) -> Result<(), Fail> {
+    assert_eq!(rt; first_wrong(rt.alloc(), REPEATED_OR_OPEN)?, None);
+    Ok(())
+}
+
+#[test]
+fn numbers_behind_the_end_or_absent(rt: HostRuntime) -> Result<(), Fail> {
+    assert_eq!(rt; first_wrong(rt.alloc(), BEYOND_OR_ABSENT)?, None);
+    Ok(())
+}
+
+#[test]
+fn totals_and_own_numbers(rt: HostRuntime) -> Result<(), Fail> {
+    assert_eq!(rt; first_wrong(rt.alloc(), TOTALS_AND_NUMBERS)?, None);
+    Ok(())
+}
+
+#[test]
+fn records_that_are_no_segments(rt: HostRuntime) -> Result<(), Fail> {
+    assert_eq!(rt; first_wrong(rt.alloc(), OTHER_RECORDS)?, None);
+    Ok(())
+}
+
+#[test]
+fn ids_and_origins(rt: HostRuntime) -> Result<(), Fail> {
+    assert_eq!(rt; first_wrong(rt.alloc(), IDS)?, None);
+    Ok(())
+}
+
+const WORDS: &[(Gap, &str)] = &[
+    (Gap::Repeated(2), "G1 Repeated 2"),
+    (Gap::Unfinished, "G2 Unfinished"),
+    (Gap::AfterEnd(10), "G3 AfterEnd 10"),
+    (
+        Gap::Absent(281_474_976_710_656),
+        "G4 Absent 281474976710656",
+    ),
+    (Gap::Total, "G5 Total"),
+    (Gap::Number, "G6 Number"),
+];
+
+/// Whether a gap shows itself so.
+fn shows(alloc: Global, gap: Gap, text: &str) -> Result<bool, AllocError> {
+    Ok(gap.to_string(alloc)?.as_str() == text)
+}
+
+/// Whether a fault of joining does.
+fn fault_shows(alloc: Global, fault: JoinFault, text: &str) -> Result<bool, AllocError> {
+    Ok(fault.to_string(alloc)?.as_str() == text)
 }
 
 #[test]
 fn gaps_in_words(rt: HostRuntime) -> Result<(), Fail> {
-    let words = [
-        (Gap::Repeated(2), "G1 Repeated 2"),
-        (Gap::Unfinished, "G2 Unfinished"),
-        (Gap::AfterEnd(10), "G3 AfterEnd 10"),
-        (
-            Gap::Absent(281_474_976_710_656),
-            "G4 Absent 281474976710656",
-        ),
-        (Gap::Total, "G5 Total"),
-        (Gap::Number, "G6 Number"),
-    ];
-    for (gap, text) in words {
-        assert_eq!(rt; gap.to_string(rt.alloc())?.as_str(), text);
-        assert_eq!(rt; JoinFault::Gap(gap).to_string(rt.alloc())?.as_str(), text);
+    for (gap, text) in WORDS {
+        assert!(rt; shows(rt.alloc(), *gap, text)?, "{text}");
+        assert!(rt;
+            fault_shows(rt.alloc(), JoinFault::Gap(*gap), text)?,
+            "{text}"
+        );
     }
-    assert_eq!(rt;
-        JoinFault::Memory.to_string(rt.alloc())?.as_str(),
-        "out of memory"
-    );
+    assert!(rt; fault_shows(rt.alloc(), JoinFault::Memory, "out of memory")?);
     Ok(())
+}
+
+/// The places of the first record of a series and of its second, which has this place.
+fn joined_to(alloc: Global, own: Place, place: Place) -> Result<Vec<Place>, Fail> {
+    let one = typed_of(alloc, &ONE)?;
+    let two = typed_of(alloc, &(b"continuation", OTHER, ID, b"2", b"3", 2))?;
+    let mut parts = Parts::new(alloc);
+    parts.add(&two, place)?;
+    Ok(parts.join(&one, own)?)
 }
 
 #[test]
 fn places_are_whole(rt: HostRuntime) -> Result<(), Fail> {
-    let mut parts = Parts::new(rt.alloc());
     let place = Place {
         start: 7,
         len: 2,
         verdict: Verdict::Bad,
         truncated: true,
     };
-    let row: Row = (b"continuation", OTHER, ID, b"2", b"3", 2);
-    parts.add(&typed_of(rt.alloc(), &row)?, place)?;
     let own = place_at(0, 1);
-    let joined = parts.join(&typed_of(rt.alloc(), &ONE)?, own)?;
+    let joined = joined_to(rt.alloc(), own, place)?;
     assert_eq!(rt; joined.as_slice(), [own, place].as_slice());
     Ok(())
 }
 
+/// How many records are kept, which records are added then, and what joins to the first record after that, and how
+/// many bytes of keys are kept. A UUID's key has 17 bytes, and a record without an origin has none.
+type Step = (
+    &'static str,
+    usize,
+    &'static [Row],
+    Result<&'static [u64], Gap>,
+    u64,
+);
+
+const STEPS: &[Step] = &[
+    ("all", 0, &[ONE, TWO, THREE], Ok(&[1000, 2000, 3000]), 34),
+    ("more than there are", 5, &[], Ok(&[1000, 2000, 3000]), 34),
+    ("the first two", 2, &[], Err(Gap::Unfinished), 17),
+    ("another one", 2, &[FOUR], Err(Gap::Absent(3)), 34),
+    (
+        "a late one",
+        3,
+        &[OPEN_THREE],
+        Ok(&[1000, 2000, 4000, 3000]),
+        51,
+    ),
+    ("none", 0, &[], Err(Gap::Unfinished), 0),
+];
+
+/// Keeps the first records, and adds others.
+fn take_step(
+    alloc: Global,
+    parts: &mut Parts<Global>,
+    count: usize,
+    rows: &[Row],
+) -> Result<(), AllocError> {
+    parts.forget_after(count);
+    add_rows(alloc, parts, rows, count as u64)
+}
+
+/// The name of the first step after which something else is joined or kept.
+fn first_wrong_step(
+    alloc: Global,
+    parts: &mut Parts<Global>,
+) -> Result<Option<&'static str>, AllocError> {
+    for (name, count, rows, wanted, kept) in STEPS {
+        take_step(alloc, parts, *count, rows)?;
+        if !is_joined(alloc, parts, &ONE, 0, *wanted)? || parts.kept() != *kept {
+            return Ok(Some(name));
+        }
+    }
+    Ok(None)
+}
+
 #[test]
 fn first_records_are_kept(rt: HostRuntime) -> Result<(), Fail> {
-    let alloc = rt.alloc();
-    let one = typed_of(alloc, &ONE)?;
-    let own = place_at(0, 1);
-    let mut parts = Parts::new(alloc);
-    add_rows(alloc, &mut parts, &[ONE, TWO, THREE], 0)?;
-    expect(&rt, "all", parts.join(&one, own), Ok(&[1000, 2000, 3000]));
-    // A UUID's key has 17 bytes, and a record without an origin has none.
-    assert_eq!(rt; parts.kept(), 34);
-
-    parts.forget_after(5);
-    expect(
-        &rt,
-        "more than there are",
-        parts.join(&one, own),
-        Ok(&[1000, 2000, 3000]),
-    );
-    parts.forget_after(2);
-    expect(
-        &rt,
-        "the first two",
-        parts.join(&one, own),
-        Err(Gap::Unfinished),
-    );
-    assert_eq!(rt; parts.kept(), 17);
-
-    add_rows(alloc, &mut parts, &[FOUR], 2)?;
-    expect(
-        &rt,
-        "another one",
-        parts.join(&one, own),
-        Err(Gap::Absent(3)),
-    );
-    add_rows(alloc, &mut parts, &[OPEN_THREE], 3)?;
-    expect(
-        &rt,
-        "a late one",
-        parts.join(&one, own),
-        Ok(&[1000, 2000, 4000, 3000]),
-    );
-
-    parts.forget_after(0);
-    expect(&rt, "none", parts.join(&one, own), Err(Gap::Unfinished));
-    assert_eq!(rt; parts.kept(), 0);
+    let mut parts = Parts::new(rt.alloc());
+    assert_eq!(rt; first_wrong_step(rt.alloc(), &mut parts)?, None);
     Ok(())
 }
 
 /// How many segments the long series has.
 const MANY: u64 = 2000;
 
-#[test]
-fn long_series(rt: HostRuntime) -> Result<(), Fail> {
-    let mut parts = Parts::new(rt.alloc());
-    let mut typed = typed_of(rt.alloc(), &TWO)?;
-    // Number MANY comes first, and it alone states the total.
+/// Adds the segment with a number to the long series. The last one alone states the total.
+fn add_number(
+    parts: &mut Parts<Global>,
+    typed: &mut Typed<Global>,
+    number: u64,
+) -> Result<(), AllocError> {
+    typed.segment.number = SegmentNumber::Number(number);
+    typed.segment.total = if number == MANY { Some(MANY) } else { None };
+    parts.add(typed, place_at(number, 1))
+}
+
+/// Adds all segments of the long series but the first, the last one first.
+fn add_many(parts: &mut Parts<Global>, typed: &mut Typed<Global>) -> Result<(), AllocError> {
     for number in (2..=MANY).rev() {
-        typed.segment.number = SegmentNumber::Number(number);
-        typed.segment.total = if number == MANY { Some(MANY) } else { None };
-        parts.add(&typed, place_at(number, 1))?;
-    }
-    let joined = parts.join(&typed_of(rt.alloc(), &ONE)?, place_at(1, 1))?;
-    assert_eq!(rt; joined.len() as u64, MANY);
-    let mut start = 2000;
-    for place in &joined {
-        assert_eq!(rt; place.start, start);
-        start = place.start.saturating_add(1000);
+        add_number(parts, typed, number)?;
     }
     Ok(())
 }
 
-/// Adds a record. Where memory was refused, nothing has changed, and the record is added again.
-fn add_twice<A: Allocator + Copy>(
-    rt: &impl Abort,
+/// The places of the long series.
+fn many_joined(alloc: Global) -> Result<Vec<Place>, Fail> {
+    let one = typed_of(alloc, &ONE)?;
+    let mut two = typed_of(alloc, &TWO)?;
+    let mut parts = Parts::new(alloc);
+    add_many(&mut parts, &mut two)?;
+    Ok(parts.join(&one, place_at(1, 1))?)
+}
+
+/// Whether the places begin a thousand bytes behind one another.
+fn follow(places: &[Place]) -> bool {
+    let mut start = 2000;
+    for place in places {
+        if place.start != start {
+            return false;
+        }
+        start = place.start.saturating_add(1000);
+    }
+    true
+}
+
+#[test]
+fn long_series(rt: HostRuntime) -> Result<(), Fail> {
+    let places = many_joined(rt.alloc())?;
+    assert_eq!(rt; places.len() as u64, MANY);
+    assert!(rt; follow(&places));
+    Ok(())
+}
+
+/// Adds a record, again where memory was refused. Whether it was refused, and then left as many bytes kept as there
+/// were.
+fn add_again<A: Allocator + Copy>(
     parts: &mut Parts<A>,
     typed: &Typed<A>,
     place: Place,
-) -> Result<bool, AllocError> {
+) -> Result<Option<bool>, AllocError> {
     let kept = parts.kept();
-    match parts.add(typed, place) {
-        Ok(()) => Ok(false),
-        Err(_) => {
-            assert_eq!(rt; parts.kept(), kept);
-            parts.add(typed, place)?;
-            Ok(true)
+    if parts.add(typed, place).is_ok() {
+        return Ok(None);
+    }
+    let is_same = parts.kept() == kept;
+    parts.add(typed, place)?;
+    Ok(Some(is_same))
+}
+
+/// The last segment, the first and the second.
+type Heads<A> = (Typed<A>, Typed<A>, Typed<A>);
+
+/// What the heads of the three segments say.
+fn heads<A: Allocator + Copy>(alloc: A) -> Result<Heads<A>, AllocError> {
+    let three = typed_of(alloc, &THREE)?;
+    let one = typed_of(alloc, &ONE)?;
+    let two = typed_of(alloc, &TWO)?;
+    Ok((three, one, two))
+}
+
+/// Adds the three segments, and answers whether one was refused, or `None` where one of them left another number of
+/// bytes kept.
+fn add_three<A: Allocator + Copy>(
+    parts: &mut Parts<A>,
+    heads: &Heads<A>,
+) -> Result<Option<bool>, AllocError> {
+    let (three, one, two) = heads;
+    let last = add_again(parts, three, place_at(0, 100))?;
+    let first = add_again(parts, one, place_at(1, 1))?;
+    let second = add_again(parts, two, place_at(2, 10))?;
+    if last == Some(false) || first == Some(false) || second == Some(false) {
+        return Ok(None);
+    }
+    Ok(Some(last.is_some() || first.is_some() || second.is_some()))
+}
+
+/// Whether memory is refused to the joining of the first record; `None` where something else is told than the three
+/// places.
+fn is_join_refused<A: Allocator + Copy>(parts: &Parts<A>, one: &Typed<A>) -> Option<bool> {
+    match parts.join(one, place_at(1, 1)) {
+        Err(JoinFault::Memory) => Some(true),
+        told => is_wanted(told, Ok(&[2000, 3000, 1000])).then_some(false),
+    }
+}
+
+/// Whether an addition is refused, and whether the joining is.
+fn refused_in<A: Allocator + Copy>(
+    parts: &mut Parts<A>,
+    heads: &Heads<A>,
+) -> Result<(Option<bool>, Option<bool>), AllocError> {
+    let added = add_three(parts, heads)?;
+    Ok((added, is_join_refused(parts, &heads.1)))
+}
+
+/// The same where the request of that number is refused; `None` where that is one of a head.
+fn refused_at(
+    alloc: Global,
+    number: u64,
+) -> Result<Option<(Option<bool>, Option<bool>)>, AllocError> {
+    let heap = RefusingAllocator::new(alloc, number);
+    match heads(&heap) {
+        Ok(heads) => {
+            let mut parts = Parts::new(&heap);
+            Ok(Some(refused_in(&mut parts, &heads)?))
         }
+        Err(_) => Ok(None),
     }
 }
 
@@ -411,23 +600,13 @@ fn refused_memory(rt: HostRuntime) -> Result<(), Fail> {
     let mut additions = 0u32;
     let mut joins = 0u32;
     for number in 1..64 {
-        let heap = RefusingAllocator::new(rt.alloc(), number);
-        let (Ok(one), Ok(two), Ok(three)) = (
-            typed_of(&heap, &ONE),
-            typed_of(&heap, &TWO),
-            typed_of(&heap, &THREE),
-        ) else {
-            continue;
-        };
-        let mut parts = Parts::new(&heap);
-        let mut refused = false;
-        for (typed, position, len) in [(&three, 0, 100), (&one, 1, 1), (&two, 2, 10)] {
-            refused |= add_twice(&rt, &mut parts, typed, place_at(position, len))?;
-        }
-        additions = additions.saturating_add(u32::from(refused));
-        match parts.join(&one, place_at(1, 1)) {
-            Err(JoinFault::Memory) => joins = joins.saturating_add(1),
-            told => expect(&rt, "joined", told, Ok(&[2000, 3000, 1000])),
+        match refused_at(rt.alloc(), number)? {
+            None => {}
+            Some((Some(addition), Some(join))) => {
+                additions = additions.saturating_add(u32::from(addition));
+                joins = joins.saturating_add(u32::from(join));
+            }
+            Some(_) => return Err("something else is kept or told".into()),
         }
     }
     assert!(rt; additions > 0 && joins > 0);

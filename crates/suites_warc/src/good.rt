@@ -4,7 +4,8 @@ use crate::runs::{LIST, ends, opens_as_read};
 use std::alloc::Global;
 use std::test::Fail;
 use warc::Archive;
-use warc_frame::{FaultKind, MemSource};
+use warc_frame::{Fault, FaultKind, MemSource};
+use warc_vectors::listed::{BOTH_VERSIONS, DATES, SPELLINGS};
 use warc_vectors::{CHANGES, ONE_RESOURCE, ONE_RESOURCE_LINE, Row, archive_text, changed};
 
 /// Whether the one resource record with a text in it replaced by another is refused with this line.
@@ -108,25 +109,19 @@ fn dates_that_are_refused(rt: HostRuntime) -> Result<(), Fail> {
     Ok(())
 }
 
+/// Whether `list` writes a line of the one resource record with this date.
+fn is_accepted(alloc: Global, rows: &[Row<'_>], date: &str) -> Result<bool, Fail> {
+    let text = archive_text(alloc, rows)?;
+    let line = format!(in alloc;
+        "0\t0\t3\tresource\t{date}\t<urn:uuid:00000000-0000-4000-8000-000000000001>\thttp://a.example/x\n"
+    )?;
+    ends(alloc, &LIST, &text, &line, "", 0)
+}
+
 #[test]
 fn dates_that_are_accepted(rt: HostRuntime) -> Result<(), Fail> {
-    let alloc = rt.alloc();
-    for date in [
-        "0000",
-        "2020-02",
-        "2020-02-29",
-        "2020-01-01T00:00Z",
-        "9999-12-31T23:59:59.999999999Z",
-    ] {
-        let text = Row {
-            date,
-            ..ONE_RESOURCE
-        }
-        .text(alloc)?;
-        let line = format!(in alloc;
-            "0\t0\t3\tresource\t{date}\t<urn:uuid:00000000-0000-4000-8000-000000000001>\thttp://a.example/x\n"
-        )?;
-        assert!(rt; ends(alloc, &LIST, &text, &line, "", 0)?, "{date}");
+    for (rows, date) in DATES {
+        assert!(rt; is_accepted(rt.alloc(), rows, date)?, "{date}");
     }
     Ok(())
 }
@@ -159,7 +154,23 @@ fn the_first_refusal_is_told(rt: HostRuntime) -> Result<(), Fail> {
     Ok(())
 }
 
-/// A refusal hands the source back as it was given.
+/// The fault of an archive that is refused, and the bytes of the source that is handed back.
+fn refused(alloc: Global, text: Vec<u8>) -> Result<(Fault, Vec<u8>), Fail> {
+    match Archive::open(alloc, MemSource::new(text, 7)) {
+        Ok(_) => Err("it is opened".into()),
+        Err((fault, source)) => Ok((fault, source.into_inner())),
+    }
+}
+
+/// The bytes of the source that an archive gives back.
+fn given_back(alloc: Global, text: Vec<u8>) -> Result<Vec<u8>, Fail> {
+    match Archive::open(alloc, MemSource::new(text, 7)) {
+        Ok(archive) => Ok(archive.into_source().into_inner()),
+        Err((fault, _)) => Err(fault.into()),
+    }
+}
+
+/// A refusal hands the source back as it was given, and an archive gives it back too.
 #[test]
 fn a_refused_source_is_handed_back(rt: HostRuntime) -> Result<(), Fail> {
     let alloc = rt.alloc();
@@ -168,19 +179,12 @@ fn a_refused_source_is_handed_back(rt: HostRuntime) -> Result<(), Fail> {
         ..ONE_RESOURCE
     }
     .text(alloc)?;
-    let source = MemSource::new(text.to_vec(alloc)?, 7);
-    let (fault, source) = Archive::open(alloc, source).err().ok_or("a refusal")?;
+    let (fault, source) = refused(alloc, text.clone()?)?;
     assert_eq!(rt; (fault.kind, fault.offset), (FaultKind::Date, 0));
-    assert_eq!(rt; source.into_inner().as_slice(), text.as_slice());
-
-    // An archive gives it back too.
+    assert_eq!(rt; source.as_slice(), text.as_slice());
     let text = ONE_RESOURCE.text(alloc)?;
-    let source = MemSource::new(text.to_vec(alloc)?, 7);
-    let archive = Archive::open(alloc, source).ok().ok_or("an archive")?;
-    assert_eq!(rt;
-        archive.into_source().into_inner().as_slice(),
-        text.as_slice()
-    );
+    let source = given_back(alloc, text.clone()?)?;
+    assert_eq!(rt; source.as_slice(), text.as_slice());
     Ok(())
 }
 
@@ -216,48 +220,29 @@ fn the_first_bad_record_is_told(rt: HostRuntime) -> Result<(), Fail> {
     Ok(())
 }
 
+/// Whether the one resource record is listed as such with a text in it replaced by another.
+fn is_same_record(alloc: Global, old: &str, new: &str) -> Result<bool, Fail> {
+    let changed = changed(alloc, &ONE_RESOURCE.text(alloc)?, old, new)?;
+    ends(alloc, &LIST, &changed, ONE_RESOURCE_LINE, "", 0)
+}
+
 /// A folded target, a length without a space, blanks about an id: the values are what is listed.
 #[test]
 fn spellings_of_one_record(rt: HostRuntime) -> Result<(), Fail> {
-    let alloc = rt.alloc();
-    let text = ONE_RESOURCE.text(alloc)?;
-    for (old, new) in [
-        ("Target-URI: ", "Target-URI:\r\n \t"),
-        ("Length: 3", "Length:3"),
-        (
-            "Target-URI: http://a.example/x",
-            "Target-URI: < http://a.example/x >",
-        ),
-        ("WARC-Record-ID: ", "warc-record-id:\t \r\n\t"),
-        ("Content-Length: 3", "Content-Length: 0003"),
-    ] {
-        let changed = changed(alloc, &text, old, new)?;
-        assert!(rt;
-            ends(alloc, &LIST, &changed, ONE_RESOURCE_LINE, "", 0)?,
-            "{new}"
-        );
+    for (old, new) in SPELLINGS {
+        assert!(rt; is_same_record(rt.alloc(), old, new)?, "{new}");
     }
     Ok(())
 }
 
 #[test]
 fn both_versions_in_one_archive(rt: HostRuntime) -> Result<(), Fail> {
-    let alloc = rt.alloc();
-    let other = Row {
-        version: "1.0",
-        kind: "Screenshot",
-        number: 'F',
-        date: "2021",
-        target: "<>",
-        extras: &[],
-        block: b"\r\n\r\nWARC/1.1\r\n",
-    };
-    let text = archive_text(alloc, &[ONE_RESOURCE, other, ONE_RESOURCE])?;
+    let text = archive_text(rt.alloc(), BOTH_VERSIONS)?;
     let lines =
         "0\t0\t3\tresource\t2020-01-01T00:00:00Z\t<urn:uuid:00000000-0000-4000-8000-000000000001>\thttp://a.example/x\n\
          1\t278\t14\tScreenshot\t2021\t<urn:uuid:00000000-0000-4000-8000-00000000000F>\t-\n\
          2\t454\t3\tresource\t2020-01-01T00:00:00Z\t<urn:uuid:00000000-0000-4000-8000-000000000001>\thttp://a.example/x\n";
-    assert!(rt; ends(alloc, &LIST, &text, lines, "", 0)?);
+    assert!(rt; ends(rt.alloc(), &LIST, &text, lines, "", 0)?);
     Ok(())
 }
 

@@ -4,17 +4,8 @@ use std::alloc::Global;
 use std::test::Fail;
 use warc::Archive;
 use warc_frame::{Decoder, Event, Fault, MemSink, MemSource};
-use warc_vectors::{Row, archive_text};
-
-const RECORD: Row<'static> = Row {
-    version: "1.1",
-    kind: "resource",
-    number: '1',
-    date: "2020-01-01T00:00:00Z",
-    target: "http://a.example/x",
-    extras: &["Content-Type: text/plain", "WARC-Filename: a.warc"],
-    block: b"abc",
-};
+use warc_vectors::archive_text;
+use warc_vectors::listed::DESCRIBED;
 
 /// How many records an archive has, and what `warc list` and `warc check` write of it.
 fn describe(alloc: Global, bytes: Vec<u8>) -> Result<(usize, Vec<u8>, Vec<u8>), Fail> {
@@ -56,7 +47,7 @@ fn block_bytes(alloc: Global, pieces: &[&[u8]]) -> Result<u64, Fault> {
 #[test]
 fn an_archive_is_described(rt: HostRuntime) -> Result<(), Fail> {
     let alloc = rt.alloc();
-    let (count, lines, findings) = describe(alloc, archive_text(alloc, &[RECORD])?)?;
+    let (count, lines, findings) = describe(alloc, archive_text(alloc, &[DESCRIBED])?)?;
     assert_eq!(rt; count, 1);
     assert_eq!(rt;
         lines.as_slice(),
@@ -69,7 +60,7 @@ fn an_archive_is_described(rt: HostRuntime) -> Result<(), Fail> {
 #[test]
 fn blocks_are_counted_in_pieces(rt: HostRuntime) -> Result<(), Fail> {
     let alloc = rt.alloc();
-    let text = archive_text(alloc, &[RECORD, RECORD])?;
+    let text = archive_text(alloc, &[DESCRIBED, DESCRIBED])?;
     let (front, back) = text.split_at(text.len().saturating_sub(6));
     assert_eq!(rt; block_bytes(alloc, &[front, back]), Ok(6));
     assert!(rt; block_bytes(alloc, &[front]).is_err());

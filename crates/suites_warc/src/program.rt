@@ -1,46 +1,27 @@
 //! The suite of `warc`: what `list` writes over an archive, and the status that it ends with.
 
-use crate::runs::{LIST, ends, run};
+use crate::runs::{LIST, ends, run_broken, run_cut, run_refused};
+use std::alloc::Global;
 use std::test::Fail;
-use warc_commands::perform;
-use warc_frame::{MemSink, MemSource};
-use warc_vectors::{
-    Break, BrokenSource, BrokenWriter, ONE_RESOURCE, ONE_RESOURCE_LINE, RefusingAllocator, Row,
-    archive_text, changed,
-};
+use warc_vectors::listed::{UNKNOWN, nested};
+use warc_vectors::{Break, ONE_RESOURCE, ONE_RESOURCE_LINE, changed};
+
+/// Whether `list` writes a line of a record of an unknown kind whose block has so many bytes.
+fn lists_unknown(alloc: Global, text: &[u8], len: usize) -> Result<bool, Fail> {
+    let line = format!(in alloc;
+        "0\t0\t{len}\tscreenshot\t2021\t<urn:uuid:00000000-0000-4000-8000-000000000002>\t-\n"
+    )?;
+    ends(alloc, &LIST, text, &line, "", 0)
+}
 
 #[test]
 fn archives_are_listed(rt: HostRuntime) -> Result<(), Fail> {
     let alloc = rt.alloc();
-    let unknown = Row {
-        version: "1.0",
-        kind: "screenshot",
-        number: '2',
-        date: "2021",
-        target: "<>",
-        extras: &[],
-        block: b"",
-    };
-    let inner = ONE_RESOURCE.text(alloc)?;
-    let outer = Row {
-        block: &inner,
-        ..unknown
-    };
-    for (rows, lines) in [
-        ([].as_slice(), ""),
-        (&[ONE_RESOURCE], ONE_RESOURCE_LINE),
-        (
-            &[unknown],
-            "0\t0\t0\tscreenshot\t2021\t<urn:uuid:00000000-0000-4000-8000-000000000002>\t-\n",
-        ),
-        (
-            &[outer],
-            "0\t0\t278\tscreenshot\t2021\t<urn:uuid:00000000-0000-4000-8000-000000000002>\t-\n",
-        ),
-    ] {
-        let text = archive_text(alloc, rows)?;
-        assert!(rt; ends(alloc, &LIST, &text, lines, "", 0)?, "{lines}");
-    }
+    assert!(rt; ends(alloc, &LIST, b"", "", "", 0)?);
+    let one = ONE_RESOURCE.text(alloc)?;
+    assert!(rt; ends(alloc, &LIST, &one, ONE_RESOURCE_LINE, "", 0)?);
+    assert!(rt; lists_unknown(alloc, &UNKNOWN.text(alloc)?, 0)?);
+    assert!(rt; lists_unknown(alloc, &nested(alloc)?, 278)?);
     let bare = b"WARC/1.1\r\nContent-Length:0\r\n\r\n\r\n\r\n";
     let line = "warc: F4 Missing WARC-Type at 0\n";
     assert!(rt; ends(alloc, &LIST, bare, "", line, 2)?);
@@ -83,24 +64,28 @@ fn archives_are_refused(rt: HostRuntime) -> Result<(), Fail> {
 }
 
 #[test]
-fn a_failed_read_and_a_refused_growth_are_told(rt: HostRuntime) -> Result<(), Fail> {
+fn a_failed_read_is_told(rt: HostRuntime) -> Result<(), Fail> {
     let alloc = rt.alloc();
     let text = ONE_RESOURCE.text(alloc)?;
-    for (number, line) in [
-        (1, "warc: F13 Read at 0\n"),
-        (2, "warc: F13 Read at 1\n"),
-        (279, "warc: F13 Read at 278\n"),
+    for (number, out, err, status) in [
+        (1, "", "warc: F13 Read at 0\n", 3),
+        (2, "", "warc: F13 Read at 1\n", 3),
+        (279, "", "warc: F13 Read at 278\n", 3),
+        (280, ONE_RESOURCE_LINE, "", 0),
     ] {
-        let source = BrokenSource::new(text.to_vec(alloc)?, 1, number);
-        assert!(rt; run(alloc, alloc, &LIST, source).is("", line, 3), "{line}");
+        let told = run_broken(alloc, &LIST, &text, 1, number)?;
+        assert!(rt; told.is(out, err, status), "{number}");
     }
-    let source = BrokenSource::new(text.to_vec(alloc)?, 1, 280);
-    assert!(rt; run(alloc, alloc, &LIST, source).is(ONE_RESOURCE_LINE, "", 0));
+    Ok(())
+}
+
+#[test]
+fn a_refused_growth_is_told(rt: HostRuntime) -> Result<(), Fail> {
+    let alloc = rt.alloc();
+    let text = ONE_RESOURCE.text(alloc)?;
     for number in 1..1000u64 {
-        let heap = RefusingAllocator::new(alloc, number);
-        let source = MemSource::new(text.to_vec(alloc)?, usize::MAX);
-        let told = run(&heap, alloc, &LIST, source);
-        if !heap.has_refused() {
+        let (told, has_refused) = run_refused(alloc, &LIST, &text, number)?;
+        if !has_refused {
             assert!(rt; told.is(ONE_RESOURCE_LINE, "", 0));
             break;
         }
@@ -119,15 +104,9 @@ fn a_failed_write_is_told(rt: HostRuntime) -> Result<(), Fail> {
         (1, Break::Takes(0), "", "warc: write failed after 0\n", 3),
         (1, Break::Takes(1), ONE_RESOURCE_LINE, "", 0),
     ] {
-        let mut out = BrokenWriter::new(alloc, number, how).taking(1);
-        let mut err = MemSink::new(Vec::new(alloc));
-        let source = MemSource::new(text.to_vec(alloc)?, usize::MAX);
-        let (answer, source) = perform(alloc, &LIST, source, &mut out, &mut err);
-        assert_eq!(rt; source.into_inner().as_slice(), text.as_slice());
-        assert_eq!(rt;
-            (out.bytes(), err.bytes(), answer),
-            (written.as_bytes(), line.as_bytes(), status)
-        );
+        let (told, source) = run_cut(alloc, &LIST, &text, number, how)?;
+        assert!(rt; told.is(written, line, status), "{number}");
+        assert_eq!(rt; source.as_slice(), text.as_slice());
     }
     Ok(())
 }

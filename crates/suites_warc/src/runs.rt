@@ -5,7 +5,8 @@ use std::alloc::{Allocator, Global};
 use std::test::Fail;
 use warc::Archive;
 use warc_commands::{Command, perform};
-use warc_frame::{Fault, MemSink, MemSource, Source};
+use warc_frame::{Fault, MemSink, MemSource, Sink, Source};
+use warc_vectors::{Break, BrokenSource, BrokenWriter, RefusingAllocator};
 
 pub(crate) const LIST: Command<'static> = Command::List { archive: "a.warc" };
 
@@ -42,6 +43,59 @@ pub(crate) fn run<S: Source + Drop, A: Allocator + Copy>(
         err: err.into_inner(),
         status,
     }
+}
+
+/// The run of a command over these bytes where the read of a number fails, each being of so many bytes at most.
+pub(crate) fn run_broken(
+    alloc: Global,
+    command: &Command<'_>,
+    bytes: &[u8],
+    most: usize,
+    number: u64,
+) -> Result<Ended, Fail> {
+    let source = BrokenSource::new(bytes.to_vec(alloc)?, most.max(1), number);
+    Ok(run(alloc, alloc, command, source))
+}
+
+/// The run of a command over these bytes where the request for memory of a number is refused, and whether it came.
+pub(crate) fn run_refused(
+    alloc: Global,
+    command: &Command<'_>,
+    bytes: &[u8],
+    number: u64,
+) -> Result<(Ended, bool), Fail> {
+    let heap = RefusingAllocator::new(alloc, number);
+    let source = MemSource::new(bytes.to_vec(alloc)?, usize::MAX);
+    let ended = run(&heap, alloc, command, source);
+    Ok((ended, heap.has_refused()))
+}
+
+/// The line and the status of a run of a command over these bytes to a sink, and the bytes of its source then.
+fn told_to<W: Sink>(
+    alloc: Global,
+    command: &Command<'_>,
+    bytes: Vec<u8>,
+    out: &mut W,
+) -> (Vec<u8>, u8, Vec<u8>) {
+    let mut err = MemSink::new(Vec::new(alloc));
+    let source = MemSource::new(bytes, usize::MAX);
+    let (status, source) = perform(alloc, command, source, out, &mut err);
+    (err.into_inner(), status, source.into_inner())
+}
+
+/// The run of a command over these bytes where the write of a number breaks, each being of one byte; and the bytes of
+/// its source then.
+pub(crate) fn run_cut(
+    alloc: Global,
+    command: &Command<'_>,
+    bytes: &[u8],
+    number: u64,
+    how: Break,
+) -> Result<(Ended, Vec<u8>), Fail> {
+    let mut out = BrokenWriter::new(alloc, number, how).taking(1);
+    let (err, status, source) = told_to(alloc, command, bytes.to_vec(alloc)?, &mut out);
+    let out = out.bytes().to_vec(alloc)?;
+    Ok((Ended { out, err, status }, source))
 }
 
 /// How many records an archive has, or why it isn't opened.

@@ -291,7 +291,8 @@ fn refused_splits(rt: HostRuntime) -> Result<(), Fail> {
 #[test]
 fn ids_that_are_no_uuids(rt: HostRuntime) -> Result<(), Fail> {
     let text = b"WARC/1.1\r\nWARC-Type: resource\r\nWARC-Record-ID: <a:b>\r\nWARC-Date: 2020\r\n\
-        WARC-Target-URI: x\r\nWARC-Block-Digest: sha1:VGMT4NSHA2AWVOR6EVYXQUGCNSONBWE6\r\nContent-Length: 3\r\n\r\nabc\r\n\r\n";
+        WARC-Target-URI: x\r\nWARC-Block-Digest: sha1:VGMT4NSHA2AWVOR6EVYXQUGCNSONBWE6\r\n\
+        Content-Length: 3\r\n\r\nabc\r\n\r\n";
     let framed = record(rt.alloc(), text)?;
     assert!(rt; matches!(split(rt.alloc(), &framed, 2), Err(SplitFault::NotUuid)));
     assert!(rt;

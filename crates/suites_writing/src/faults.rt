@@ -1,10 +1,12 @@
 //! How `rewrite`, `convert` and `split` end where the archive is refused, and where a read, a write or memory fails.
 
-use crate::runs::{CONVERT, REWRITE, both_rewritten, both_versions, ends, folded, split_at, told};
+use crate::runs::{
+    CONVERT, REWRITE, both_rewritten, both_versions, ends, folded, split_at, told, writes_that_fail,
+};
 use std::test::Fail;
 use warc_frame::{MemSink, MemSource};
 use warc_vectors::{
-    Break, BrokenSource, BrokenWriter, ChangingSource, ONE_RESOURCE, RefusingAllocator, changed,
+    BrokenSource, ChangingSource, ONE_RESOURCE, RefusingAllocator, archive_text, changed,
 };
 
 /// Nothing is written, also where the first record is good.
@@ -36,27 +38,16 @@ fn refused_archives_are_not_written(rt: HostRuntime) -> Result<(), Fail> {
 fn each_write_fails_in_turn(rt: HostRuntime) -> Result<(), Fail> {
     let alloc = rt.alloc();
     let text = both_versions(alloc)?;
-    let whole = both_rewritten(alloc)?;
-    let mut writes = 0;
-    for number in 1..200u64 {
-        let mut out = BrokenWriter::new(alloc, number, Break::Fails).taking(7);
-        let source = MemSource::new(text.to_vec(alloc)?, usize::MAX);
-        let (err, status) = told(alloc, alloc, &REWRITE, source, &mut out);
-        if status == 0 {
-            assert_eq!(rt;
-                (out.bytes(), err.as_slice()),
-                (whole.as_slice(), b"".as_slice())
-            );
-            writes = number;
-            break;
-        }
-        let sent = 7 * (number - 1);
-        let line = format!(in alloc; "warc: write failed after {sent}\n")?;
-        assert_eq!(rt; (err.as_slice(), status), (line.as_bytes(), 3));
-        assert_eq!(rt; out.bytes().len() as u64, sent);
-        assert!(rt; whole.starts_with(out.bytes()));
-    }
-    assert!(rt; writes > 80);
+    let rewritten = both_rewritten(alloc)?;
+    let converted = archive_text(alloc, &[ONE_RESOURCE, ONE_RESOURCE])?;
+    assert_eq!(rt;
+        writes_that_fail(alloc, &REWRITE, &text, &rewritten)?,
+        Some(80)
+    );
+    assert_eq!(rt;
+        writes_that_fail(alloc, &CONVERT, &text, &converted)?,
+        Some(80)
+    );
     Ok(())
 }
 

@@ -2,6 +2,8 @@
 #![tactic(auto)]
 
 #[cfg(test)]
+mod endless;
+#[cfg(test)]
 mod faults;
 #[cfg(test)]
 mod forms;

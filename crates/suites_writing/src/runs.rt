@@ -4,7 +4,9 @@ use std::alloc::{Allocator, Global};
 use std::test::Fail;
 use warc_commands::{Command, perform};
 use warc_frame::{MemSink, MemSource, Sink, Source};
-use warc_vectors::{ONE_RESOURCE, Row, archive_text, changed};
+use warc_vectors::listed::THEN_OLDER;
+pub(crate) use warc_vectors::listed::{both_versions, folded};
+use warc_vectors::{Break, BrokenWriter, archive_text};
 
 pub(crate) const REWRITE: Command<'static> = Command::Rewrite { archive: "a.warc" };
 
@@ -18,35 +20,9 @@ pub(crate) const fn split_at(size: &str) -> Command<'_> {
     }
 }
 
-/// The one resource record as a record of WARC 1.0, whose target stands in brackets.
-pub(crate) const OLDER: Row<'static> = Row {
-    version: "1.0",
-    target: "<http://a.example/x>",
-    ..ONE_RESOURCE
-};
-
-/// The one resource record with a folded target and no blank before its length.
-pub(crate) fn folded(alloc: Global) -> Result<Vec<u8>, Fail> {
-    let target = "WARC-Target-URI: http://a.example/x";
-    let text = changed(
-        alloc,
-        &ONE_RESOURCE.text(alloc)?,
-        target,
-        "WARC-Target-URI:\r\n \thttp://a.example/x",
-    )?;
-    changed(alloc, &text, "Content-Length: 3", "Content-Length:3")
-}
-
-/// A folded record of WARC 1.1, and one of WARC 1.0.
-pub(crate) fn both_versions(alloc: Global) -> Result<Vec<u8>, Fail> {
-    let mut text = folded(alloc)?;
-    text.extend_from_slice(&OLDER.text(alloc)?)?;
-    Ok(text)
-}
-
-/// What is written of them in canonical form.
+/// What is written of the records of both versions in canonical form.
 pub(crate) fn both_rewritten(alloc: Global) -> Result<Vec<u8>, Fail> {
-    Ok(archive_text(alloc, &[ONE_RESOURCE, OLDER])?)
+    Ok(archive_text(alloc, THEN_OLDER)?)
 }
 
 /// The line and the status of a run whose output goes to a sink.
@@ -80,4 +56,44 @@ pub(crate) fn ends(
         }
     }
     Ok(true)
+}
+
+/// The most bytes of one write to a sink that fails.
+const WRITTEN: u64 = 7;
+
+/// The line and the status of a run whose write of that number fails, counted from 1, and what went out.
+fn cut_at(
+    alloc: Global,
+    command: &Command<'_>,
+    bytes: &[u8],
+    number: u64,
+) -> Result<(Vec<u8>, u8, Vec<u8>), Fail> {
+    let source = MemSource::new(bytes.to_vec(alloc)?, usize::MAX);
+    let mut out = BrokenWriter::new(alloc, number, Break::Fails).taking(WRITTEN as usize);
+    let (err, status) = told(alloc, alloc, command, source, &mut out);
+    Ok((err, status, out.bytes().to_vec(alloc)?))
+}
+
+/// How many writes a run makes, of which each fails in turn, until none fails and the whole output goes out. Before a
+/// failed write exactly the bytes went out whose number is told, and they are the front of the whole. Nothing where a
+/// run ends otherwise.
+pub(crate) fn writes_that_fail(
+    alloc: Global,
+    command: &Command<'_>,
+    bytes: &[u8],
+    whole: &[u8],
+) -> Result<Option<u64>, Fail> {
+    for sent in 0..200u64 {
+        let (err, status, out) = cut_at(alloc, command, bytes, sent + 1)?;
+        if status == 0 {
+            let is_whole = out.as_slice() == whole && err.is_empty();
+            return Ok(if is_whole { Some(sent) } else { None });
+        }
+        let line = format!(in alloc; "warc: write failed after {}\n", WRITTEN * sent)?;
+        let is_told = err.as_slice() == line.as_bytes() && status == 3;
+        if !is_told || out.len() as u64 != WRITTEN * sent || !whole.starts_with(&out) {
+            return Ok(None);
+        }
+    }
+    Ok(None)
 }

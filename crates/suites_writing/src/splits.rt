@@ -1,41 +1,12 @@
 //! What `split` writes, and how it ends.
 
-use crate::runs::{ends, split_at, told};
+use crate::runs::{ends, split_at, told, writes_that_fail};
 use std::alloc::Global;
 use std::test::Fail;
 use warc_commands::Command;
-use warc_frame::{MemSink, MemSource};
-use warc_vectors::{
-    Break, BrokenSource, BrokenWriter, ONE_RESOURCE, ONE_RESOURCE_SPLIT, Row, archive_text,
-};
-
-/// Records that aren't split: of a kind that holds no capture, without a target, with a segment's field, of an id that
-/// is no UUID, and with the digest of another block.
-const REFUSED: [Row<'static>; 5] = [
-    Row {
-        kind: "warcinfo",
-        extras: &[],
-        ..ONE_RESOURCE
-    },
-    Row {
-        target: "<>",
-        extras: &[],
-        ..ONE_RESOURCE
-    },
-    Row {
-        extras: &["WARC-Segment-Number: 1"],
-        ..ONE_RESOURCE
-    },
-    Row {
-        number: 'g',
-        extras: &[],
-        ..ONE_RESOURCE
-    },
-    Row {
-        block: b"abd",
-        ..ONE_RESOURCE
-    },
-];
+use warc_frame::MemSink;
+use warc_vectors::unsplit::{UNSPLIT, with_head};
+use warc_vectors::{BrokenSource, ONE_RESOURCE, ONE_RESOURCE_SPLIT, archive_text};
 
 #[test]
 fn a_record_is_split_in_two(rt: HostRuntime) -> Result<(), Fail> {
@@ -72,8 +43,26 @@ fn records_that_are_short_stay(rt: HostRuntime) -> Result<(), Fail> {
 #[test]
 fn records_that_cant_be_split_stay(rt: HostRuntime) -> Result<(), Fail> {
     let alloc = rt.alloc();
-    let text = archive_text(alloc, &REFUSED)?;
-    assert!(rt; ends(alloc, &split_at("1"), &text, &text, "", 0)?);
+    for (rows, refusals) in UNSPLIT {
+        let text = archive_text(alloc, rows)?;
+        assert!(rt;
+            ends(alloc, &split_at("1"), &text, &text, "", 0)?,
+            "{refusals}"
+        );
+    }
+    Ok(())
+}
+
+/// By S6: the first segment has a number and a digest more, which is 82 bytes.
+#[test]
+fn a_record_of_a_long_head_stays(rt: HostRuntime) -> Result<(), Fail> {
+    let alloc = rt.alloc();
+    let fits = with_head(alloc, 65_454)?;
+    assert!(rt; !ends(alloc, &split_at("2"), &fits, &fits, "", 0)?);
+    for head in [65_455usize, 65_536] {
+        let text = with_head(alloc, head)?;
+        assert!(rt; ends(alloc, &split_at("1"), &text, &text, "", 0)?);
+    }
     Ok(())
 }
 
@@ -94,22 +83,14 @@ fn sizes_are_numbers_from_1_to_2_to_the_40(rt: HostRuntime) -> Result<(), Fail> 
     Ok(())
 }
 
-/// The line and the status where a write of 7 bytes fails, and what went out before.
-fn cut_at(alloc: Global, number: u64) -> Result<(Vec<u8>, u8, Vec<u8>), Fail> {
-    let source = MemSource::new(ONE_RESOURCE.text(alloc)?, usize::MAX);
-    let mut out = BrokenWriter::new(alloc, number, Break::Fails).taking(7);
-    let (err, status) = told(alloc, alloc, &split_at("2"), source, &mut out);
-    Ok((err, status, out.bytes().to_vec(alloc)?))
-}
-
 #[test]
-fn the_third_write_fails(rt: HostRuntime) -> Result<(), Fail> {
-    let (err, status, out) = cut_at(rt.alloc(), 3)?;
+fn each_write_fails_in_turn(rt: HostRuntime) -> Result<(), Fail> {
+    let alloc = rt.alloc();
+    let one = ONE_RESOURCE.text(alloc)?;
     assert_eq!(rt;
-        (err.as_slice(), status),
-        (b"warc: write failed after 14\n".as_slice(), 3)
+        writes_that_fail(alloc, &split_at("2"), &one, ONE_RESOURCE_SPLIT)?,
+        Some(98)
     );
-    assert!(rt; out.len() == 14 && ONE_RESOURCE_SPLIT.starts_with(&out));
     Ok(())
 }
 

@@ -22,7 +22,7 @@ use Rattle.warc_segment.specs.declared.place.Place.{Place}
 use Rattle.warc_answer.specs.Answers.{index_of, path_of}
 use Rattle.warc_answer.specs.Laws.{IsFound, PlacesAreAsLong}
 use Rattle.warc_answer.specs.Payloads.{read_record}
-use Rattle.warc_answer.specs.Places.{IsAt, len_of}
+use Rattle.warc_answer.specs.Places.{IsInOne, len_of}
 use Rattle.warc_answer.specs.declared.answer.Path.{Path}
 use Rattle.warc_reading.specs.Archive.{contents}
 use Rattle.warc.specs.Heads.{IsInHead, ReadsHeads, heads_len}
@@ -178,13 +178,13 @@ Asks These watches old new = ((at : ℕ) → These at → watches at ≡ false) 
 
 -- the bytes at the joined places are those of the blocks that are joined to the origin
 pub near_joined : (records : List Placed) (p : Placed) (q : PlacedRecord) (places items : List Place) (watches : ℕ → Bool) (old new : ℕ) → q.head ≡ reading_of p.content.fields → q.place ≡ place_of p
-    → joined_places (map placed_record records) q ≡ Ok items → places ≡ items → Asks (IsAt places) watches old new
+    → joined_places (map placed_record records) q ≡ Ok items → places ≡ items → Asks (IsInOne places) watches old new
     → Asks (IsJoined (joined_places (map placed_record records) (placed_record p))) watches old new
 near_joined records p q places items watches old new head place is same near =
     let by_head : ◌≡◌ {A = PlacedRecord} q (record { head = reading_of p.content.fields; place = q.place }) = ap (λ h. let x : PlacedRecord = record { head = h; place = q.place } in x) head in
     let by_place : ◌≡◌ {A = PlacedRecord} (record { head = reading_of p.content.fields; place = q.place }) (placed_record p) = ap (λ y. let x : PlacedRecord = record { head = reading_of p.content.fields; place = y } in x) place in
     let whole : joined_places (map placed_record records) (placed_record p) ≡ Ok items = ap (joined_places (map placed_record records)) (sym (by_head ∙ by_place)) ∙ is in
-    λ off. near (λ at in_. off at (subst (λ r. IsJoined r at) (sym whole) (subst (λ (l : List Place). IsAt l at) same in_)))
+    λ off. near (λ at in_. off at (subst (λ r. IsJoined r at) (sym whole) (subst (λ (l : List Place). IsInOne l at) same in_)))
 
 in_own_head : (p : Placed) (row : Row) (at : ℕ) → row ≡ row_of p → IsInHead (row ∷ []) at → (p.offset ≤ at) × (at < p.block_start)
 in_own_head p row at same in_ =

@@ -9,7 +9,7 @@ use Rattle.warc_segment.specs.declared.gap.Gap.{Gap}
 use Rattle.warc_segment.specs.declared.place.Place.{Place}
 use Rattle.warc_answer.specs.Answers.{path_of}
 use Rattle.warc_answer.specs.Payloads.{read_record, whole_block}
-use Rattle.warc_answer.specs.Places.{IsAt}
+use Rattle.warc_answer.specs.Places.{IsInOne}
 use Rattle.warc_answer.specs.Replays.{IsReplay, IsSilent, out_result}
 use Rattle.warc_answer.specs.declared.answer.Answer.{Answer}
 use Rattle.warc_answer.specs.declared.answer.Path.{Path}
@@ -42,7 +42,7 @@ most_reads all uri moment = path_reads all (path_of (map indexed_record all) uri
 
 -- the offset of a byte of a block that is joined, of none where they don't join
 abbrev pub IsJoined : Result (List Place) Gap → ℕ → Type 0
-IsJoined (Ok places) at = IsAt places at
+IsJoined (Ok places) at = IsInOne places at
 IsJoined (Err gap) at = ⊥
 
 -- the offset of a byte of an origin's head, or of a block that is joined to its own

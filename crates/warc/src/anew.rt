@@ -4,7 +4,6 @@ ghost use Rattle.std.specs.Io.KnownBytes.{append_known};
 ghost use Rattle.std.specs.List.{sum_by};
 ghost use Rattle.warc_frame.specs.Failing.{HasFailedBy, MayHaveFailedBy, failed_by};
 ghost use Rattle.warc_frame.specs.Record.{max_head};
-ghost use Rattle.warc_frame.specs.Seen.{seen, tapped};
 ghost use Rattle.warc_frame.specs.Send.{WentOut, sent_of};
 ghost use Rattle.warc.specs.Copied.{AreTextsOf, IsTextOf, len_by, text_by};
 ghost use Rattle.warc.specs.Emitting.{Emits};
@@ -39,18 +38,9 @@ fn put_record<S: Source, A: Allocator + Copy, W: Sink>(
     out: &mut W,
 ) -> Result<(), OutFault>
     requires { max_head ≤ length scratch.old }
-    ensures emits { Emits (IsTextOf (text_by manner) row.now)
-        (tapped (S.holds source.old) (S.faults source.old) (S.reads source.old) (S.asked source.old)
-        (S.watches source.old) (S.strays source.old))
-        (tapped (S.holds source.new) (S.faults source.new) (S.reads source.new) (S.asked source.new)
-        (S.watches source.new) (S.strays source.new))
-        (seen (W.tells out.old) (W.faults out.old)) (seen (W.tells out.new) (W.faults out.new))
-        buffer.old buffer.new result }
-    ensures reads { ReadsOnly (IsInRow row.now) (len_by manner row.now)
-        (tapped (S.holds source.old) (S.faults source.old) (S.reads source.old) (S.asked source.old)
-        (S.watches source.old) (S.strays source.old))
-        (tapped (S.holds source.new) (S.faults source.new) (S.reads source.new) (S.asked source.new)
-        (S.watches source.new) (S.strays source.new)) }
+    ensures emits { Emits (IsTextOf (text_by manner) row.now) (S.tapped source.old) (S.tapped source.new)
+        (W.seen out.old) (W.seen out.new) buffer.old buffer.new result }
+    ensures reads { ReadsOnly (IsInRow row.now) (len_by manner row.now) (S.tapped source.old) (S.tapped source.new) }
 {
     let head = match reread_head(alloc, source, row, scratch) {
         Ok(head) => head,
@@ -73,18 +63,10 @@ fn put_records<S: Source, A: Allocator + Copy, W: Sink>(
     out: &mut W,
 ) -> Result<(), OutFault>
     requires { max_head ≤ length scratch.old }
-    ensures emits { Emits (AreTextsOf (text_by manner) rows.now)
-        (tapped (S.holds source.old) (S.faults source.old) (S.reads source.old) (S.asked source.old)
-        (S.watches source.old) (S.strays source.old))
-        (tapped (S.holds source.new) (S.faults source.new) (S.reads source.new) (S.asked source.new)
-        (S.watches source.new) (S.strays source.new))
-        (seen (W.tells out.old) (W.faults out.old)) (seen (W.tells out.new) (W.faults out.new))
-        buffer.old buffer.new result }
-    ensures reads { ReadsOnly (IsInRecord rows.now) (sum_by (len_by manner) rows.now)
-        (tapped (S.holds source.old) (S.faults source.old) (S.reads source.old) (S.asked source.old)
-        (S.watches source.old) (S.strays source.old))
-        (tapped (S.holds source.new) (S.faults source.new) (S.reads source.new) (S.asked source.new)
-        (S.watches source.new) (S.strays source.new)) }
+    ensures emits { Emits (AreTextsOf (text_by manner) rows.now) (S.tapped source.old) (S.tapped source.new)
+        (W.seen out.old) (W.seen out.new) buffer.old buffer.new result }
+    ensures reads { ReadsOnly (IsInRecord rows.now) (sum_by (len_by manner) rows.now) (S.tapped source.old)
+        (S.tapped source.new) }
 {
     'writing: for position in 0..rows.len() {
         let Some(row) = rows.get(position) else {
@@ -107,23 +89,18 @@ pub(crate) fn write_rows<S: Source, A: Allocator + Copy, W: Sink>(
     rows: &Rows<A>,
     out: &mut W,
 ) -> Result<(), OutFault>
-    ensures told { (bytes text : List ℕ) → S.holds source.old ≡ Some bytes →
-        AreTextsOf (text_by manner) rows.now bytes text →
-        OnOk result (W.tells out.new ≡ append_known (W.tells out.old) text) }
-    ensures cut { (bytes text : List ℕ) → S.holds source.old ≡ Some bytes →
-        AreTextsOf (text_by manner) rows.now bytes text →
-        IfErr result (λ e. WentOut (W.tells out.old) text (W.tells out.new) (sent_of e)) }
-    ensures cause { W.faults out.new ≡ failed_by result (W.faults out.old) }
-    ensures kept { S.holds source.new ≡ S.holds source.old }
-    ensures may { MayHaveFailedBy result (S.faults source.old) (S.faults source.new) }
-    ensures failed { (bytes text : List ℕ) → S.holds source.old ≡ Some bytes →
-        AreTextsOf (text_by manner) rows.now bytes text →
-        HasFailedBy result (S.faults source.old) (S.faults source.new) }
-    ensures reads { ReadsOnly (IsInRecord rows.now) (sum_by (len_by manner) rows.now)
-        (tapped (S.holds source.old) (S.faults source.old) (S.reads source.old) (S.asked source.old)
-        (S.watches source.old) (S.strays source.old))
-        (tapped (S.holds source.new) (S.faults source.new) (S.reads source.new) (S.asked source.new)
-        (S.watches source.new) (S.strays source.new)) }
+    ensures told { (bytes text : List ℕ) → (S.tapped source.old).holds ≡ Some bytes → AreTextsOf (text_by manner)
+        rows.now bytes text → OnOk result ((W.seen out.new).tells ≡ append_known (W.seen out.old).tells text) }
+    ensures cut { (bytes text : List ℕ) → (S.tapped source.old).holds ≡ Some bytes → AreTextsOf (text_by manner)
+        rows.now bytes text → IfErr result (λ e. WentOut (W.seen out.old).tells text (W.seen out.new).tells
+        (sent_of e)) }
+    ensures cause { (W.seen out.new).faults ≡ failed_by result (W.seen out.old).faults }
+    ensures kept { (S.tapped source.new).holds ≡ (S.tapped source.old).holds }
+    ensures may { MayHaveFailedBy result (S.tapped source.old).faults (S.tapped source.new).faults }
+    ensures failed { (bytes text : List ℕ) → (S.tapped source.old).holds ≡ Some bytes → AreTextsOf (text_by manner)
+        rows.now bytes text → HasFailedBy result (S.tapped source.old).faults (S.tapped source.new).faults }
+    ensures reads { ReadsOnly (IsInRecord rows.now) (sum_by (len_by manner) rows.now) (S.tapped source.old)
+        (S.tapped source.new) }
 {
     let Ok(mut scratch) = head_buffer(alloc) else {
         return Err(OutFault::Memory(0));

@@ -2,7 +2,6 @@
 ghost use Rattle.std.specs.Prelude.{◌≡◌, ℕ, List, length, IfErr, IfOk, OnErr, OnOk, is_err, min, slice_get, if◌then◌else◌};
 ghost use Rattle.std.specs.Io.KnownBytes.{append_known};
 ghost use Rattle.warc_frame.specs.Count.{raised};
-ghost use Rattle.warc_frame.specs.Seen.{seen, tapped};
 ghost use Rattle.warc_frame.specs.Send.{WentOut, sent_of};
 ghost use Rattle.warc.specs.Bounds.{IsKeptCount};
 ghost use Rattle.warc.specs.Checks.{Checks};
@@ -23,7 +22,7 @@ use std::marker::Model;
 use std::mem;
 use warc_answer::{Answer, ReplayFault};
 use warc_frame::{Fault, Framed, OutFault, Sink, Source};
-use warc_reading::{Lookup, Row, Rows, read_on};
+use warc_reading::{Gathering, Lookup, Row, Rows, read_on};
 use warc_record::id_key;
 use warc_value::Moment;
 
@@ -67,35 +66,32 @@ impl<S: Source, A: Allocator> Archive<S, A> {
 
     /// Writes a line for each record, as a listing does.
     pub fn list<W: Sink>(&self, out: &mut W) -> Result<(), OutFault>
-        ensures told { OnOk result
-            (W.tells out.new ≡ append_known (W.tells out.old) (listing self.now.listing.rows)) }
-        ensures cut { IfErr result (λ e.
-            WentOut (W.tells out.old) (listing self.now.listing.rows) (W.tells out.new) (sent_of e)) }
+        ensures told { OnOk result ((W.seen out.new).tells ≡ append_known (W.seen out.old).tells
+            (listing self.now.listing.rows)) }
+        ensures cut { IfErr result (λ e. WentOut (W.seen out.old).tells (listing self.now.listing.rows)
+            (W.seen out.new).tells (sent_of e)) }
         ensures write { IfErr result (λ e. e ≡ OutFault.Write (sent_of e)) }
-        ensures cause { W.faults out.new ≡ (if is_err result then raised (W.faults out.old) else W.faults out.old) }
+        ensures cause { (W.seen out.new).faults ≡ (if is_err result then raised (W.seen out.old).faults else
+            (W.seen out.old).faults) }
     {
         self.listing.list(out)
     }
 }
 
 impl<S: Source, A: Allocator + Copy> Archive<S, A> {
-    /// Reads the source as a listing is read, and keeps beside the rows what finds the records and what joins them.
+    /// Reads the source as a listing is read, and keeps beside the rows what finds the records and what joins them. It
+    /// is put in order when all is read, which takes no memory.
     pub fn open(alloc: A, source: S) -> Result<Archive<S, A>, (Fault, S)>
-        ensures { Opens IsIndexed
-            (tapped (S.holds source) (S.faults source) (S.reads source) (S.asked source) (S.watches source)
-            (S.strays source))
-            (tapped (S.holds (source_left result)) (S.faults (source_left result)) (S.reads (source_left result))
-            (S.asked (source_left result)) (S.watches (source_left result)) (S.strays (source_left result)))
-            (archive_of result) }
+        ensures { Opens IsIndexed (S.tapped source) (S.tapped (source_left result)) (archive_of result) }
     {
         let mut source = source;
-        let lookup = Lookup::new(alloc);
-        let (answer, rows, lookup) = read_on(alloc, &mut source, Rows::new(alloc), lookup);
+        let gathering = Gathering::new(alloc);
+        let (answer, rows, gathering) = read_on(alloc, &mut source, Rows::new(alloc), gathering);
         match answer {
-            Ok(()) => {
-                let listing = Listing { source, rows };
-                Ok(Archive { listing, lookup })
-            }
+            Ok(()) => Ok(Archive {
+                listing: Listing { source, rows },
+                lookup: gathering.into_lookup(),
+            }),
             Err(fault) => Err((fault, source)),
         }
     }
@@ -105,15 +101,8 @@ impl<S: Source, A: Allocator + Copy> Archive<S, A> {
     pub fn grow(&mut self, source: S) -> Result<(), (Fault, S)>
     where
         S: Drop,
-        ensures grows { Grows IsIndexed self.old
-            (tapped (S.holds source) (S.faults source) (S.reads source) (S.asked source) (S.watches source)
-            (S.strays source))
-            (tapped (S.holds (source_grown result self.new.listing.source))
-            (S.faults (source_grown result self.new.listing.source))
-            (S.reads (source_grown result self.new.listing.source))
-            (S.asked (source_grown result self.new.listing.source))
-            (S.watches (source_grown result self.new.listing.source))
-            (S.strays (source_grown result self.new.listing.source))) (grown (without_source result) self.new) }
+        ensures grows { Grows IsIndexed self.old (S.tapped source) (S.tapped
+            (source_grown result self.new.listing.source)) (grown (without_source result) self.new) }
         ensures refused { OnErr result (self.new.listing ≡ self.old.listing) }
         ensures stays { (bytes : List ℕ) → IsIndexed bytes self.old → OnErr result (IsIndexed bytes self.new) }
     {
@@ -140,13 +129,8 @@ impl<S: Source, A: Allocator + Copy> Archive<S, A> {
 
     /// The record at a position, as a listing gives it.
     pub fn record(&mut self, position: usize) -> Result<Framed<A>, TakeFault>
-        ensures takes { Takes self.old.listing.rows position
-            (tapped (S.holds self.old.listing.source) (S.faults self.old.listing.source)
-            (S.reads self.old.listing.source) (S.asked self.old.listing.source)
-            (S.watches self.old.listing.source) (S.strays self.old.listing.source))
-            (tapped (S.holds self.new.listing.source) (S.faults self.new.listing.source)
-            (S.reads self.new.listing.source) (S.asked self.new.listing.source)
-            (S.watches self.new.listing.source) (S.strays self.new.listing.source)) result }
+        ensures takes { Takes self.old.listing.rows position (S.tapped self.old.listing.source)
+            (S.tapped self.new.listing.source) result }
         ensures rows { self.new.listing.rows ≡ self.old.listing.rows }
         ensures index { self.new.index ≡ self.old.index }
         ensures parts { self.new.parts ≡ self.old.parts }
@@ -172,14 +156,8 @@ impl<S: Source, A: Allocator + Copy> Archive<S, A> {
     /// A read that fails, or a source that no longer gives what it gave at opening, is `Read`; a write that fails is
     /// `Write`. Each tells how many bytes went out, which are the first of the block. `Memory` comes before any byte.
     pub fn extract<W: Sink>(&mut self, id: &[u8], out: &mut W) -> Result<u64, ExtractFault>
-        ensures extracts { Extracts self.old id.now
-            (tapped (S.holds self.old.listing.source) (S.faults self.old.listing.source)
-            (S.reads self.old.listing.source) (S.asked self.old.listing.source)
-            (S.watches self.old.listing.source) (S.strays self.old.listing.source))
-            (tapped (S.holds self.new.listing.source) (S.faults self.new.listing.source)
-            (S.reads self.new.listing.source) (S.asked self.new.listing.source)
-            (S.watches self.new.listing.source) (S.strays self.new.listing.source))
-            (seen (W.tells out.old) (W.faults out.old)) (seen (W.tells out.new) (W.faults out.new)) result }
+        ensures extracts { Extracts self.old id.now (S.tapped self.old.listing.source)
+            (S.tapped self.new.listing.source) (W.seen out.old) (W.seen out.new) result }
         ensures rows { self.new.listing.rows ≡ self.old.listing.rows }
         ensures index { self.new.index ≡ self.old.index }
         ensures parts { self.new.parts ≡ self.old.parts }
@@ -207,13 +185,8 @@ impl<S: Source, A: Allocator + Copy> Archive<S, A> {
         out: &mut W,
     ) -> Result<Answer, ReplayFault>
         ensures replays { Replays self.old.listing.rows self.old.index self.old.parts uri.now moment.now
-            (tapped (S.holds self.old.listing.source) (S.faults self.old.listing.source)
-            (S.reads self.old.listing.source) (S.asked self.old.listing.source)
-            (S.watches self.old.listing.source) (S.strays self.old.listing.source))
-            (tapped (S.holds self.new.listing.source) (S.faults self.new.listing.source)
-            (S.reads self.new.listing.source) (S.asked self.new.listing.source)
-            (S.watches self.new.listing.source) (S.strays self.new.listing.source))
-            (seen (W.tells out.old) (W.faults out.old)) (seen (W.tells out.new) (W.faults out.new)) result }
+            (S.tapped self.old.listing.source) (S.tapped self.new.listing.source) (W.seen out.old) (W.seen out.new)
+            result }
         ensures rows { self.new.listing.rows ≡ self.old.listing.rows }
         ensures index { self.new.index ≡ self.old.index }
         ensures parts { self.new.parts ≡ self.old.parts }
@@ -223,14 +196,8 @@ impl<S: Source, A: Allocator + Copy> Archive<S, A> {
 
     /// Writes a line for each finding, as a listing does, and answers how many there are.
     pub fn check<W: Sink>(&mut self, out: &mut W) -> Result<usize, OutFault>
-        ensures checks { Checks self.old.listing.rows
-            (tapped (S.holds self.old.listing.source) (S.faults self.old.listing.source)
-            (S.reads self.old.listing.source) (S.asked self.old.listing.source)
-            (S.watches self.old.listing.source) (S.strays self.old.listing.source))
-            (tapped (S.holds self.new.listing.source) (S.faults self.new.listing.source)
-            (S.reads self.new.listing.source) (S.asked self.new.listing.source)
-            (S.watches self.new.listing.source) (S.strays self.new.listing.source))
-            (seen (W.tells out.old) (W.faults out.old)) (seen (W.tells out.new) (W.faults out.new)) result }
+        ensures checks { Checks self.old.listing.rows (S.tapped self.old.listing.source)
+            (S.tapped self.new.listing.source) (W.seen out.old) (W.seen out.new) result }
 
         // The rows stay, and so does what finds and joins the records.
         ensures rows { self.new.listing.rows ≡ self.old.listing.rows }

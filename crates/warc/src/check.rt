@@ -15,7 +15,6 @@ ghost use Rattle.warc.specs.Heads.{ReadsHeads};
 ghost use Rattle.warc.specs.Used.{HasMet, IsAlone, IsTally};
 ghost use Rattle.warc_record.specs.Ids.{id_key};
 ghost use Rattle.warc_frame.specs.Putting.{Puts};
-ghost use Rattle.warc_frame.specs.Seen.{seen, tapped};
 ghost use Rattle.warc_frame.specs.Failing.{HasFailedBy, MayHaveFailedBy, failed_by, is_read};
 
 use crate::heads::{Halt, Reread, head_buffer, read_again};
@@ -45,25 +44,20 @@ fn examine<S: Source, A: Allocator + Copy>(
 ) -> Result<Examined<A>, Halt>
     requires { max_head ≤ length buf.old }
     ensures said { IfOk result (λ x. said x.reread.typed ≡ reading_of x.reread.fields) }
-    ensures read { (bytes : List ℕ) (p : Placed) (before : List Record) →
-        S.holds source.old ≡ Some bytes → HasHead bytes p → row.now ≡ row_of p → HasMet before met.old →
-        IsAlone before met.old (id_key row.now.id) →
-        IfOk result (λ x. IsExamined before p.content x.reread.fields x.facts) }
-    ensures met { (bytes : List ℕ) (p : Placed) (before : List Record) →
-        S.holds source.old ≡ Some bytes → HasHead bytes p → row.now ≡ row_of p → HasMet before met.old →
-        OnOk result (HasMet (before ++ p.content ∷ []) met.new) }
+    ensures read { (bytes : List ℕ) (p : Placed) (before : List Record) → (S.tapped source.old).holds ≡ Some bytes →
+        HasHead bytes p → row.now ≡ row_of p → HasMet before met.old → IsAlone before met.old (id_key row.now.id) → IfOk
+        result (λ x. IsExamined before p.content x.reread.fields x.facts) }
+    ensures met { (bytes : List ℕ) (p : Placed) (before : List Record) → (S.tapped source.old).holds ≡ Some bytes →
+        HasHead bytes p → row.now ≡ row_of p → HasMet before met.old → OnOk result (HasMet (before ++ p.content ∷ [])
+        met.new) }
     ensures counts { met.new.counts ≡ met.old.counts }
-    ensures kept { S.holds source.new ≡ S.holds source.old }
-    ensures sound { OnOk result (S.faults source.new ≡ S.faults source.old) }
-    ensures heads { ReadsHeads (row.now ∷ [])
-        (tapped (S.holds source.old) (S.faults source.old) (S.reads source.old) (S.asked source.old)
-        (S.watches source.old) (S.strays source.old))
-        (tapped (S.holds source.new) (S.faults source.new) (S.reads source.new) (S.asked source.new)
-        (S.watches source.new) (S.strays source.new)) }
-    ensures may { IfErr result (λ halt. MayHaveFailed halt (S.faults source.old) (S.faults source.new)) }
-    ensures failed { (bytes : List ℕ) (p : Placed) →
-        S.holds source.old ≡ Some bytes → HasHead bytes p → row.now ≡ row_of p →
-        IfErr result (λ halt. HasFailed halt (S.faults source.old) (S.faults source.new)) }
+    ensures kept { (S.tapped source.new).holds ≡ (S.tapped source.old).holds }
+    ensures sound { OnOk result ((S.tapped source.new).faults ≡ (S.tapped source.old).faults) }
+    ensures heads { ReadsHeads (row.now ∷ []) (S.tapped source.old) (S.tapped source.new) }
+    ensures may { IfErr result (λ halt. MayHaveFailed halt (S.tapped source.old).faults (S.tapped source.new).faults) }
+    ensures failed { (bytes : List ℕ) (p : Placed) → (S.tapped source.old).holds ≡ Some bytes → HasHead bytes p →
+        row.now ≡ row_of p → IfErr result (λ halt. HasFailed halt (S.tapped source.old).faults
+        (S.tapped source.new).faults) }
 {
     good_heads_read();
     let reread = match read_again(alloc, source, row, buf) {
@@ -93,8 +87,8 @@ fn put_parts<'a, W: Sink>(
     buffer: &mut OutBuffer,
     out: &mut W,
 ) -> Result<(), SendFault>
-    ensures { Puts (seen (W.tells out.old) (W.faults out.old)) (seen (W.tells out.new) (W.faults out.new))
-        buffer.old buffer.new result (numbered_line (decimal position) number (space.now ++ field.now)) }
+    ensures { Puts (W.seen out.old) (W.seen out.new) buffer.old buffer.new result (numbered_line (decimal position)
+        number (space.now ++ field.now)) }
 {
     let (mut first, mut second) = (Buffer::new(), Buffer::new());
     let pieces = [
@@ -116,8 +110,8 @@ fn put_finding<W: Sink>(
     buffer: &mut OutBuffer,
     out: &mut W,
 ) -> Result<(), SendFault>
-    ensures { Puts (seen (W.tells out.old) (W.faults out.old)) (seen (W.tells out.new) (W.faults out.new))
-        buffer.old buffer.new result (line_text (about_record position (finding_seen finding.now))) }
+    ensures { Puts (W.seen out.old) (W.seen out.new) buffer.old buffer.new result (line_text (about_record position
+        (finding_seen finding.now))) }
 {
     match finding.field {
         Some(name) => put_parts(position, finding.number, b" ", name, buffer, out),
@@ -132,8 +126,8 @@ fn put_findings<W: Sink>(
     buffer: &mut OutBuffer,
     out: &mut W,
 ) -> Result<(), SendFault>
-    ensures { Puts (seen (W.tells out.old) (W.faults out.old)) (seen (W.tells out.new) (W.faults out.new))
-        buffer.old buffer.new result (record_text position (map finding_seen found.now)) }
+    ensures { Puts (W.seen out.old) (W.seen out.new) buffer.old buffer.new result (record_text position
+        (map finding_seen found.now)) }
 {
     went_out_of_longer();
     'putting: for finding in found {
@@ -152,16 +146,14 @@ fn put_examined<A: Allocator + Copy, W: Sink>(
     out: &mut W,
 ) -> Result<usize, OutFault>
     requires { said examined.reread.typed ≡ reading_of examined.reread.fields }
-    ensures out { (start : Option (List ℕ)) (output : List ℕ) → IsStaged start output (W.tells out.old) buffer.old →
-        OnOk result (IsStaged start
-        (output ++ record_text position (found_by examined.reread.fields block_len examined.facts))
-        (W.tells out.new) buffer.new) }
-    ensures cut { (start : Option (List ℕ)) (output : List ℕ) → IsStaged start output (W.tells out.old) buffer.old →
-        IfErr result (λ e. WentOut start
-        (output ++ record_text position (found_by examined.reread.fields block_len examined.facts))
-        (W.tells out.new) (sent_of e)) }
+    ensures out { (start : Option (List ℕ)) (output : List ℕ) → IsStaged start output (W.seen out.old).tells buffer.old
+        → OnOk result (IsStaged start (output ++ record_text position (found_by examined.reread.fields block_len
+        examined.facts)) (W.seen out.new).tells buffer.new) }
+    ensures cut { (start : Option (List ℕ)) (output : List ℕ) → IsStaged start output (W.seen out.old).tells buffer.old
+        → IfErr result (λ e. WentOut start (output ++ record_text position (found_by examined.reread.fields block_len
+        examined.facts)) (W.seen out.new).tells (sent_of e)) }
     ensures number { IfOk result (λ n. n ≡ length (found_by examined.reread.fields block_len examined.facts)) }
-    ensures cause { W.faults out.new ≡ failed_by result (W.faults out.old) }
+    ensures cause { (W.seen out.new).faults ≡ failed_by result (W.seen out.old).faults }
     ensures unread { IfErr result (λ e. is_read e ≡ false) }
 {
     staged_went_out();
@@ -197,27 +189,21 @@ fn put_records<S: Source, A: Allocator + Copy, W: Sink>(
     requires tally { IsTally (length rows.now) rows.now met.old.counts }
     requires met { HasMet [] met.old }
     ensures out { (bytes : List ℕ) (records : List Placed) (start : Option (List ℕ)) (output : List ℕ) →
-        S.holds source.old ≡ Some bytes → AreCheckable bytes records rows.now →
-        IsStaged start output (W.tells out.old) buffer.old →
-        OnOk result (IsStaged start (output ++ records_text (contents records)) (W.tells out.new) buffer.new) }
-    ensures number { (bytes : List ℕ) (records : List Placed) →
-        S.holds source.old ≡ Some bytes → AreCheckable bytes records rows.now →
-        IfOk result (λ n. n ≡ capped (length (findings_of_records (contents records)))) }
+        (S.tapped source.old).holds ≡ Some bytes → AreCheckable bytes records rows.now → IsStaged start output
+        (W.seen out.old).tells buffer.old → OnOk result (IsStaged start (output ++ records_text (contents records))
+        (W.seen out.new).tells buffer.new) }
+    ensures number { (bytes : List ℕ) (records : List Placed) → (S.tapped source.old).holds ≡ Some bytes → AreCheckable
+        bytes records rows.now → IfOk result (λ n. n ≡ capped (length (findings_of_records (contents records)))) }
     ensures cut { (bytes : List ℕ) (records : List Placed) (start : Option (List ℕ)) (output : List ℕ) →
-        S.holds source.old ≡ Some bytes → AreCheckable bytes records rows.now →
-        IsStaged start output (W.tells out.old) buffer.old →
-        IfErr result (λ e. WentOut start (output ++ records_text (contents records)) (W.tells out.new) (sent_of e)) }
-    ensures kept { S.holds source.new ≡ S.holds source.old }
-    ensures cause { W.faults out.new ≡ failed_by result (W.faults out.old) }
-    ensures heads { ReadsHeads rows.now
-        (tapped (S.holds source.old) (S.faults source.old) (S.reads source.old) (S.asked source.old)
-        (S.watches source.old) (S.strays source.old))
-        (tapped (S.holds source.new) (S.faults source.new) (S.reads source.new) (S.asked source.new)
-        (S.watches source.new) (S.strays source.new)) }
-    ensures may { MayHaveFailedBy result (S.faults source.old) (S.faults source.new) }
-    ensures failed { (bytes : List ℕ) (records : List Placed) →
-        S.holds source.old ≡ Some bytes → AreCheckable bytes records rows.now →
-        HasFailedBy result (S.faults source.old) (S.faults source.new) }
+        (S.tapped source.old).holds ≡ Some bytes → AreCheckable bytes records rows.now → IsStaged start output
+        (W.seen out.old).tells buffer.old → IfErr result (λ e. WentOut start (output ++ records_text (contents records))
+        (W.seen out.new).tells (sent_of e)) }
+    ensures kept { (S.tapped source.new).holds ≡ (S.tapped source.old).holds }
+    ensures cause { (W.seen out.new).faults ≡ failed_by result (W.seen out.old).faults }
+    ensures heads { ReadsHeads rows.now (S.tapped source.old) (S.tapped source.new) }
+    ensures may { MayHaveFailedBy result (S.tapped source.old).faults (S.tapped source.new).faults }
+    ensures failed { (bytes : List ℕ) (records : List Placed) → (S.tapped source.old).holds ≡ Some bytes → AreCheckable
+        bytes records rows.now → HasFailedBy result (S.tapped source.old).faults (S.tapped source.new).faults }
 {
     staged_went_out();
     went_out_of_longer();
@@ -246,27 +232,21 @@ fn put_archive<S: Source, A: Allocator + Copy, W: Sink>(
     out: &mut W,
 ) -> Result<usize, OutFault>
     ensures out { (bytes : List ℕ) (records : List Placed) (start : Option (List ℕ)) (output : List ℕ) →
-        S.holds source.old ≡ Some bytes → AreCheckable bytes records rows.now →
-        IsStaged start output (W.tells out.old) buffer.old →
-        OnOk result (IsStaged start (output ++ check_text (contents records)) (W.tells out.new) buffer.new) }
-    ensures number { (bytes : List ℕ) (records : List Placed) →
-        S.holds source.old ≡ Some bytes → AreCheckable bytes records rows.now →
-        IfOk result (λ n. n ≡ capped (length (findings_of_archive (contents records)))) }
+        (S.tapped source.old).holds ≡ Some bytes → AreCheckable bytes records rows.now → IsStaged start output
+        (W.seen out.old).tells buffer.old → OnOk result (IsStaged start (output ++ check_text (contents records))
+        (W.seen out.new).tells buffer.new) }
+    ensures number { (bytes : List ℕ) (records : List Placed) → (S.tapped source.old).holds ≡ Some bytes → AreCheckable
+        bytes records rows.now → IfOk result (λ n. n ≡ capped (length (findings_of_archive (contents records)))) }
     ensures cut { (bytes : List ℕ) (records : List Placed) (start : Option (List ℕ)) (output : List ℕ) →
-        S.holds source.old ≡ Some bytes → AreCheckable bytes records rows.now →
-        IsStaged start output (W.tells out.old) buffer.old →
-        IfErr result (λ e. WentOut start (output ++ check_text (contents records)) (W.tells out.new) (sent_of e)) }
-    ensures kept { S.holds source.new ≡ S.holds source.old }
-    ensures cause { W.faults out.new ≡ failed_by result (W.faults out.old) }
-    ensures heads { ReadsHeads rows.now
-        (tapped (S.holds source.old) (S.faults source.old) (S.reads source.old) (S.asked source.old)
-        (S.watches source.old) (S.strays source.old))
-        (tapped (S.holds source.new) (S.faults source.new) (S.reads source.new) (S.asked source.new)
-        (S.watches source.new) (S.strays source.new)) }
-    ensures may { MayHaveFailedBy result (S.faults source.old) (S.faults source.new) }
-    ensures failed { (bytes : List ℕ) (records : List Placed) →
-        S.holds source.old ≡ Some bytes → AreCheckable bytes records rows.now →
-        HasFailedBy result (S.faults source.old) (S.faults source.new) }
+        (S.tapped source.old).holds ≡ Some bytes → AreCheckable bytes records rows.now → IsStaged start output
+        (W.seen out.old).tells buffer.old → IfErr result (λ e. WentOut start (output ++ check_text (contents records))
+        (W.seen out.new).tells (sent_of e)) }
+    ensures kept { (S.tapped source.new).holds ≡ (S.tapped source.old).holds }
+    ensures cause { (W.seen out.new).faults ≡ failed_by result (W.seen out.old).faults }
+    ensures heads { ReadsHeads rows.now (S.tapped source.old) (S.tapped source.new) }
+    ensures may { MayHaveFailedBy result (S.tapped source.old).faults (S.tapped source.new).faults }
+    ensures failed { (bytes : List ℕ) (records : List Placed) → (S.tapped source.old).holds ≡ Some bytes → AreCheckable
+        bytes records rows.now → HasFailedBy result (S.tapped source.old).faults (S.tapped source.new).faults }
 {
     staged_went_out();
     went_out_of_longer();
@@ -293,26 +273,20 @@ pub(crate) fn check_rows<S: Source, A: Allocator + Copy, W: Sink>(
     rows: &Rows<A>,
     out: &mut W,
 ) -> Result<usize, OutFault>
-    ensures told { (bytes : List ℕ) (records : List Placed) →
-        S.holds source.old ≡ Some bytes → AreCheckable bytes records rows.now →
-        OnOk result (W.tells out.new ≡ append_known (W.tells out.old) (check_text (contents records))) }
-    ensures number { (bytes : List ℕ) (records : List Placed) →
-        S.holds source.old ≡ Some bytes → AreCheckable bytes records rows.now →
-        IfOk result (λ n. n ≡ capped (length (findings_of_archive (contents records)))) }
-    ensures cut { (bytes : List ℕ) (records : List Placed) →
-        S.holds source.old ≡ Some bytes → AreCheckable bytes records rows.now →
-        IfErr result (λ e. WentOut (W.tells out.old) (check_text (contents records)) (W.tells out.new) (sent_of e)) }
-    ensures kept { S.holds source.new ≡ S.holds source.old }
-    ensures cause { W.faults out.new ≡ failed_by result (W.faults out.old) }
-    ensures heads { ReadsHeads rows.now
-        (tapped (S.holds source.old) (S.faults source.old) (S.reads source.old) (S.asked source.old)
-        (S.watches source.old) (S.strays source.old))
-        (tapped (S.holds source.new) (S.faults source.new) (S.reads source.new) (S.asked source.new)
-        (S.watches source.new) (S.strays source.new)) }
-    ensures may { MayHaveFailedBy result (S.faults source.old) (S.faults source.new) }
-    ensures failed { (bytes : List ℕ) (records : List Placed) →
-        S.holds source.old ≡ Some bytes → AreCheckable bytes records rows.now →
-        HasFailedBy result (S.faults source.old) (S.faults source.new) }
+    ensures told { (bytes : List ℕ) (records : List Placed) → (S.tapped source.old).holds ≡ Some bytes → AreCheckable
+        bytes records rows.now → OnOk result ((W.seen out.new).tells ≡ append_known (W.seen out.old).tells (check_text
+        (contents records))) }
+    ensures number { (bytes : List ℕ) (records : List Placed) → (S.tapped source.old).holds ≡ Some bytes → AreCheckable
+        bytes records rows.now → IfOk result (λ n. n ≡ capped (length (findings_of_archive (contents records)))) }
+    ensures cut { (bytes : List ℕ) (records : List Placed) → (S.tapped source.old).holds ≡ Some bytes → AreCheckable
+        bytes records rows.now → IfErr result (λ e. WentOut (W.seen out.old).tells (check_text (contents records))
+        (W.seen out.new).tells (sent_of e)) }
+    ensures kept { (S.tapped source.new).holds ≡ (S.tapped source.old).holds }
+    ensures cause { (W.seen out.new).faults ≡ failed_by result (W.seen out.old).faults }
+    ensures heads { ReadsHeads rows.now (S.tapped source.old) (S.tapped source.new) }
+    ensures may { MayHaveFailedBy result (S.tapped source.old).faults (S.tapped source.new).faults }
+    ensures failed { (bytes : List ℕ) (records : List Placed) → (S.tapped source.old).holds ≡ Some bytes → AreCheckable
+        bytes records rows.now → HasFailedBy result (S.tapped source.old).faults (S.tapped source.new).faults }
 {
     let mut buffer = OutBuffer::new();
     let number = put_archive(alloc, source, rows, &mut buffer, out)?;

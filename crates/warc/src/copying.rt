@@ -1,6 +1,5 @@
 //! Records of an archive written in a form: each head from its fields, each block copied from the source.
 ghost use Rattle.std.specs.Prelude.{◌≡◌, ◌<◌, IfOk, length};
-ghost use Rattle.warc_frame.specs.Seen.{seen, tapped};
 ghost use Rattle.warc.specs.Copied.{IsCopiedOf, IsCopy, IsTextWith};
 ghost use Rattle.warc.specs.Emitting.{Emits};
 ghost use Rattle.warc.specs.Examining.{IsHeadOf};
@@ -41,18 +40,10 @@ pub(crate) fn put_copied<S: Source, A: Allocator, W: Sink>(
     out: &mut W,
 ) -> Result<(), OutFault>
     requires { 0 < length scratch.old }
-    ensures emits { Emits (IsCopy copy.now)
-        (tapped (S.holds source.old) (S.faults source.old) (S.reads source.old) (S.asked source.old)
-        (S.watches source.old) (S.strays source.old))
-        (tapped (S.holds source.new) (S.faults source.new) (S.reads source.new) (S.asked source.new)
-        (S.watches source.new) (S.strays source.new))
-        (seen (W.tells out.old) (W.faults out.old)) (seen (W.tells out.new) (W.faults out.new))
-        buffer.old buffer.new result }
+    ensures emits { Emits (IsCopy copy.now) (S.tapped source.old) (S.tapped source.new) (W.seen out.old)
+        (W.seen out.new) buffer.old buffer.new result }
     ensures reads { ReadsOnly (IsInBlock copy.now.block_start copy.now.block_len) copy.now.block_len
-        (tapped (S.holds source.old) (S.faults source.old) (S.reads source.old) (S.asked source.old)
-        (S.watches source.old) (S.strays source.old))
-        (tapped (S.holds source.new) (S.faults source.new) (S.reads source.new) (S.asked source.new)
-        (S.watches source.new) (S.strays source.new)) }
+        (S.tapped source.old) (S.tapped source.new) }
 {
     match put_head(copy.version, &copy.fields, buffer, out) {
         Ok(()) => {}
@@ -109,18 +100,10 @@ pub(crate) fn put_as<S: Source, A: Allocator + Copy, W: Sink>(
     out: &mut W,
 ) -> Result<(), OutFault>
     requires { 0 < length scratch.old }
-    ensures emits { Emits (IsTextWith (text_as form) row.now head)
-        (tapped (S.holds source.old) (S.faults source.old) (S.reads source.old) (S.asked source.old)
-        (S.watches source.old) (S.strays source.old))
-        (tapped (S.holds source.new) (S.faults source.new) (S.reads source.new) (S.asked source.new)
-        (S.watches source.new) (S.strays source.new))
-        (seen (W.tells out.old) (W.faults out.old)) (seen (W.tells out.new) (W.faults out.new))
-        buffer.old buffer.new result }
-    ensures reads { ReadsOnly (IsInBlock row.now.block_start row.now.block_len) row.now.block_len
-        (tapped (S.holds source.old) (S.faults source.old) (S.reads source.old) (S.asked source.old)
-        (S.watches source.old) (S.strays source.old))
-        (tapped (S.holds source.new) (S.faults source.new) (S.reads source.new) (S.asked source.new)
-        (S.watches source.new) (S.strays source.new)) }
+    ensures emits { Emits (IsTextWith (text_as form) row.now head) (S.tapped source.old) (S.tapped source.new)
+        (W.seen out.old) (W.seen out.new) buffer.old buffer.new result }
+    ensures reads { ReadsOnly (IsInBlock row.now.block_start row.now.block_len) row.now.block_len (S.tapped source.old)
+        (S.tapped source.new) }
 {
     let Ok(copy) = copy_as(alloc, form, row, head) else {
         return Err(OutFault::Memory(buffer.sent()));

@@ -8,7 +8,6 @@ ghost use Rattle.warc_record.specs.Readings.{reading_of};
 ghost use Rattle.warc_record.specs.Seen.{said};
 ghost use Rattle.warc.specs.Heads.{ReadsHeads};
 ghost use Rattle.warc_reading.specs.Row.{Placed, row_of};
-ghost use Rattle.warc_frame.specs.Seen.{tapped};
 ghost use Rattle.warc.specs.Examining.{HasFailed, HasHead, IsHeadOf, MayHaveFailed, halt_of, halted};
 
 use std::alloc::{AllocError, Allocator};
@@ -112,23 +111,18 @@ pub(crate) fn reread_head<S: Source, A: Allocator + Copy>(
     buf: &mut [u8],
 ) -> Result<Head<A>, Halt>
     requires { max_head ≤ length buf.old }
-    ensures read { (bytes : List ℕ) (p : Placed) →
-        S.holds source.old ≡ Some bytes → HasHead bytes p → row.now ≡ row_of p →
-        IfOk result (IsHeadOf p.content) }
+    ensures read { (bytes : List ℕ) (p : Placed) → (S.tapped source.old).holds ≡ Some bytes → HasHead bytes p → row.now
+        ≡ row_of p → IfOk result (IsHeadOf p.content) }
     ensures order { OnOk result (row.now.offset ≤ row.now.block_start) }
-    ensures kept { S.holds source.new ≡ S.holds source.old }
-    ensures sound { OnOk result (S.faults source.new ≡ S.faults source.old) }
-    ensures heads { ReadsHeads (row.now ∷ [])
-        (tapped (S.holds source.old) (S.faults source.old) (S.reads source.old) (S.asked source.old)
-        (S.watches source.old) (S.strays source.old))
-        (tapped (S.holds source.new) (S.faults source.new) (S.reads source.new) (S.asked source.new)
-        (S.watches source.new) (S.strays source.new)) }
-    ensures may { IfErr result (λ halt. MayHaveFailed halt (S.faults source.old) (S.faults source.new)) }
+    ensures kept { (S.tapped source.new).holds ≡ (S.tapped source.old).holds }
+    ensures sound { OnOk result ((S.tapped source.new).faults ≡ (S.tapped source.old).faults) }
+    ensures heads { ReadsHeads (row.now ∷ []) (S.tapped source.old) (S.tapped source.new) }
+    ensures may { IfErr result (λ halt. MayHaveFailed halt (S.tapped source.old).faults (S.tapped source.new).faults) }
 
     // Over bytes that hold the head it stops for a failed read or for want of memory alone.
-    ensures failed { (bytes : List ℕ) (p : Placed) →
-        S.holds source.old ≡ Some bytes → HasHead bytes p → row.now ≡ row_of p →
-        IfErr result (λ halt. HasFailed halt (S.faults source.old) (S.faults source.new)) }
+    ensures failed { (bytes : List ℕ) (p : Placed) → (S.tapped source.old).holds ≡ Some bytes → HasHead bytes p →
+        row.now ≡ row_of p → IfErr result (λ halt. HasFailed halt (S.tapped source.old).faults
+        (S.tapped source.new).faults) }
 {
     let Some(len) = head_len(row, buf.len()) else {
         return Err(Halt::Read);
@@ -149,22 +143,17 @@ pub(crate) fn read_again<S: Source, A: Allocator + Copy>(
 ) -> Result<Reread<A>, Halt>
     requires { max_head ≤ length buf.old }
     ensures said { IfOk result (λ x. said x.typed ≡ reading_of x.fields) }
-    ensures read { (bytes : List ℕ) (p : Placed) →
-        S.holds source.old ≡ Some bytes → HasHead bytes p → row.now ≡ row_of p →
-        IfOk result (λ x. x.fields ≡ p.content.fields) }
-    ensures kept { S.holds source.new ≡ S.holds source.old }
-    ensures sound { OnOk result (S.faults source.new ≡ S.faults source.old) }
-    ensures heads { ReadsHeads (row.now ∷ [])
-        (tapped (S.holds source.old) (S.faults source.old) (S.reads source.old) (S.asked source.old)
-        (S.watches source.old) (S.strays source.old))
-        (tapped (S.holds source.new) (S.faults source.new) (S.reads source.new) (S.asked source.new)
-        (S.watches source.new) (S.strays source.new)) }
-    ensures may { IfErr result (λ halt. MayHaveFailed halt (S.faults source.old) (S.faults source.new)) }
+    ensures read { (bytes : List ℕ) (p : Placed) → (S.tapped source.old).holds ≡ Some bytes → HasHead bytes p → row.now
+        ≡ row_of p → IfOk result (λ x. x.fields ≡ p.content.fields) }
+    ensures kept { (S.tapped source.new).holds ≡ (S.tapped source.old).holds }
+    ensures sound { OnOk result ((S.tapped source.new).faults ≡ (S.tapped source.old).faults) }
+    ensures heads { ReadsHeads (row.now ∷ []) (S.tapped source.old) (S.tapped source.new) }
+    ensures may { IfErr result (λ halt. MayHaveFailed halt (S.tapped source.old).faults (S.tapped source.new).faults) }
 
     // Over bytes that hold the head it stops for a failed read or for want of memory alone.
-    ensures failed { (bytes : List ℕ) (p : Placed) →
-        S.holds source.old ≡ Some bytes → HasHead bytes p → row.now ≡ row_of p →
-        IfErr result (λ halt. HasFailed halt (S.faults source.old) (S.faults source.new)) }
+    ensures failed { (bytes : List ℕ) (p : Placed) → (S.tapped source.old).holds ≡ Some bytes → HasHead bytes p →
+        row.now ≡ row_of p → IfErr result (λ halt. HasFailed halt (S.tapped source.old).faults
+        (S.tapped source.new).faults) }
 {
     let head = match reread_head(alloc, source, row, buf) {
         Ok(head) => head,

@@ -14,7 +14,6 @@ ghost use Rattle.warc_reading.specs.Opening.{Opens};
 ghost use Rattle.warc_reading.specs.Stream.{IsKeptOf};
 ghost use Rattle.warc.specs.Replaying.{Replays};
 ghost use Rattle.warc.specs.Taking.{Takes};
-ghost use Rattle.warc_frame.specs.Seen.{seen, tapped};
 
 use crate::anew::{Manner, write_rows};
 use crate::blocks::send_range;
@@ -73,11 +72,13 @@ impl<S: Source, A: Allocator> Listing<S, A> {
     /// Writes a line for each record: its position and offset, the length of its block, its type,
     /// date, id and target, with a tab between two, and `-` for an absent target. It takes no memory.
     pub fn list<W: Sink>(&self, out: &mut W) -> Result<(), OutFault>
-        ensures told { OnOk result (W.tells out.new ≡ append_known (W.tells out.old) (listing self.now.rows)) }
-        ensures cut { IfErr result (λ e.
-            WentOut (W.tells out.old) (listing self.now.rows) (W.tells out.new) (sent_of e)) }
+        ensures told { OnOk result ((W.seen out.new).tells ≡ append_known (W.seen out.old).tells
+            (listing self.now.rows)) }
+        ensures cut { IfErr result (λ e. WentOut (W.seen out.old).tells (listing self.now.rows) (W.seen out.new).tells
+            (sent_of e)) }
         ensures write { IfErr result (λ e. e ≡ OutFault.Write (sent_of e)) }
-        ensures cause { W.faults out.new ≡ (if is_err result then raised (W.faults out.old) else W.faults out.old) }
+        ensures cause { (W.seen out.new).faults ≡ (if is_err result then raised (W.seen out.old).faults else
+            (W.seen out.old).faults) }
     {
         let mut buffer = OutBuffer::new();
         'listing: for position in 0..self.rows.len() {
@@ -96,12 +97,7 @@ impl<S: Source, A: Allocator + Copy> Listing<S, A> {
     /// no block. A refusal hands the source back: `Read` where a read failed, at the offset that was asked
     /// for, `Memory` at the record for which it didn't suffice, and else the first fault of the bytes.
     pub fn open(alloc: A, source: S) -> Result<Listing<S, A>, (Fault, S)>
-        ensures { Opens IsArchiveOf
-            (tapped (S.holds source) (S.faults source) (S.reads source) (S.asked source) (S.watches source)
-            (S.strays source))
-            (tapped (S.holds (source_of result)) (S.faults (source_of result)) (S.reads (source_of result))
-            (S.asked (source_of result)) (S.watches (source_of result)) (S.strays (source_of result)))
-            (rows_of result) }
+        ensures { Opens IsArchiveOf (S.tapped source) (S.tapped (source_of result)) (rows_of result) }
     {
         let mut source = source;
         let (answer, rows, Nothing) = read_on(alloc, &mut source, Rows::new(alloc), Nothing);
@@ -118,13 +114,8 @@ impl<S: Source, A: Allocator + Copy> Listing<S, A> {
     pub fn grow(&mut self, source: S) -> Result<(), (Fault, S)>
     where
         S: Drop,
-        ensures grows { Grows IsArchiveOf self.old.rows
-            (tapped (S.holds source) (S.faults source) (S.reads source) (S.asked source) (S.watches source)
-            (S.strays source))
-            (tapped (S.holds (source_grown result self.new.source)) (S.faults (source_grown result self.new.source))
-            (S.reads (source_grown result self.new.source)) (S.asked (source_grown result self.new.source))
-            (S.watches (source_grown result self.new.source)) (S.strays (source_grown result self.new.source)))
-            (grown (without_source result) self.new.rows) }
+        ensures grows { Grows IsArchiveOf self.old.rows (S.tapped source) (S.tapped
+            (source_grown result self.new.source)) (grown (without_source result) self.new.rows) }
         ensures refused { OnErr result (self.new ≡ self.old) }
     {
         let (answer, Nothing) = self.grow_with(source, Nothing);
@@ -144,13 +135,8 @@ impl<S: Source, A: Allocator + Copy> Listing<S, A> {
     ) -> (Result<(), (Fault, S)>, L)
     where
         S: Drop,
-        ensures grows { Grows (IsKeptOf L.keeps) (self.old.rows, beside)
-            (tapped (S.holds source) (S.faults source) (S.reads source) (S.asked source) (S.watches source)
-            (S.strays source))
-            (tapped (S.holds (source_grown result.0 self.new.source)) (S.faults (source_grown result.0 self.new.source))
-            (S.reads (source_grown result.0 self.new.source)) (S.asked (source_grown result.0 self.new.source))
-            (S.watches (source_grown result.0 self.new.source)) (S.strays (source_grown result.0 self.new.source)))
-            (grown (without_source result.0) (self.new.rows, result.1)) }
+        ensures grows { Grows (IsKeptOf L.keeps) (self.old.rows, beside) (S.tapped source) (S.tapped
+            (source_grown result.0 self.new.source)) (grown (without_source result.0) (self.new.rows, result.1)) }
         ensures refused { OnErr result.0 (self.new ≡ self.old) }
         ensures beside { (bytes : List ℕ) → IsKeptOf L.keeps bytes (self.old.rows, beside)
             → OnErr result.0 (IsKeptOf L.keeps bytes (self.new.rows, result.1)) }
@@ -172,11 +158,7 @@ impl<S: Source, A: Allocator + Copy> Listing<S, A> {
     /// The record at a position, read again: its version, its fields and its block, which take as much memory twice as
     /// the record is long. A read that fails, or a source that no longer gives what it gave at opening, is `Read`.
     pub fn record(&mut self, position: usize) -> Result<Framed<A>, TakeFault>
-        ensures takes { Takes self.old.rows position
-            (tapped (S.holds self.old.source) (S.faults self.old.source) (S.reads self.old.source)
-            (S.asked self.old.source) (S.watches self.old.source) (S.strays self.old.source))
-            (tapped (S.holds self.new.source) (S.faults self.new.source) (S.reads self.new.source)
-            (S.asked self.new.source) (S.watches self.new.source) (S.strays self.new.source)) result }
+        ensures takes { Takes self.old.rows position (S.tapped self.old.source) (S.tapped self.new.source) result }
 
         // The rows stay.
         ensures rows { self.new.rows ≡ self.old.rows }
@@ -194,12 +176,8 @@ impl<S: Source, A: Allocator + Copy> Listing<S, A> {
         position: usize,
         out: &mut W,
     ) -> Result<u64, ExtractFault>
-        ensures extracts { ExtractsAt self.old.rows position
-            (tapped (S.holds self.old.source) (S.faults self.old.source) (S.reads self.old.source)
-            (S.asked self.old.source) (S.watches self.old.source) (S.strays self.old.source))
-            (tapped (S.holds self.new.source) (S.faults self.new.source) (S.reads self.new.source)
-            (S.asked self.new.source) (S.watches self.new.source) (S.strays self.new.source))
-            (seen (W.tells out.old) (W.faults out.old)) (seen (W.tells out.new) (W.faults out.new)) result }
+        ensures extracts { ExtractsAt self.old.rows position (S.tapped self.old.source) (S.tapped self.new.source)
+            (W.seen out.old) (W.seen out.new) result }
         ensures rows { self.new.rows ≡ self.old.rows }
     {
         let Some(row) = self.rows.get(position) else {
@@ -220,11 +198,7 @@ impl<S: Source, A: Allocator + Copy> Listing<S, A> {
         out: &mut W,
     ) -> Result<Answer, ReplayFault>
         ensures replays { Replays self.old.rows lookup.now.index lookup.now.parts uri.now moment.now
-            (tapped (S.holds self.old.source) (S.faults self.old.source) (S.reads self.old.source)
-            (S.asked self.old.source) (S.watches self.old.source) (S.strays self.old.source))
-            (tapped (S.holds self.new.source) (S.faults self.new.source) (S.reads self.new.source)
-            (S.asked self.new.source) (S.watches self.new.source) (S.strays self.new.source))
-            (seen (W.tells out.old) (W.faults out.old)) (seen (W.tells out.new) (W.faults out.new)) result }
+            (S.tapped self.old.source) (S.tapped self.new.source) (W.seen out.old) (W.seen out.new) result }
         ensures rows { self.new.rows ≡ self.old.rows }
     {
         replay_rows(&mut self.source, &self.rows, lookup, uri, moment, out)
@@ -238,12 +212,8 @@ impl<S: Source, A: Allocator + Copy> Listing<S, A> {
     /// write that fails is `Write`, and a refused growth of the memory `Memory`. Each tells how many
     /// bytes went out, which are the first of the output.
     pub fn check<W: Sink>(&mut self, out: &mut W) -> Result<usize, OutFault>
-        ensures checks { Checks self.old.rows
-            (tapped (S.holds self.old.source) (S.faults self.old.source) (S.reads self.old.source)
-            (S.asked self.old.source) (S.watches self.old.source) (S.strays self.old.source))
-            (tapped (S.holds self.new.source) (S.faults self.new.source) (S.reads self.new.source)
-            (S.asked self.new.source) (S.watches self.new.source) (S.strays self.new.source))
-            (seen (W.tells out.old) (W.faults out.old)) (seen (W.tells out.new) (W.faults out.new)) result }
+        ensures checks { Checks self.old.rows (S.tapped self.old.source) (S.tapped self.new.source) (W.seen out.old)
+            (W.seen out.new) result }
 
         // The rows stay.
         ensures rows { self.new.rows ≡ self.old.rows }
@@ -260,12 +230,8 @@ impl<S: Source, A: Allocator + Copy> Listing<S, A> {
     /// `Write`, and a refused growth of the memory `Memory`. Each tells how many bytes went out, which are the first of
     /// the output.
     pub fn write_as<W: Sink>(&mut self, form: Form, out: &mut W) -> Result<(), OutFault>
-        ensures writes { Writes form self.old.rows
-            (tapped (S.holds self.old.source) (S.faults self.old.source) (S.reads self.old.source)
-            (S.asked self.old.source) (S.watches self.old.source) (S.strays self.old.source))
-            (tapped (S.holds self.new.source) (S.faults self.new.source) (S.reads self.new.source)
-            (S.asked self.new.source) (S.watches self.new.source) (S.strays self.new.source))
-            (seen (W.tells out.old) (W.faults out.old)) (seen (W.tells out.new) (W.faults out.new)) result }
+        ensures writes { Writes form self.old.rows (S.tapped self.old.source) (S.tapped self.new.source)
+            (W.seen out.old) (W.seen out.new) result }
 
         // The rows stay.
         ensures rows { self.new.rows ≡ self.old.rows }
@@ -281,12 +247,8 @@ impl<S: Source, A: Allocator + Copy> Listing<S, A> {
     /// `Write`, and a refused growth of the memory `Memory`. Each tells how many bytes went out, which are the first of
     /// the output, up to 2^64 - 1.
     pub fn split<W: Sink>(&mut self, size: u64, out: &mut W) -> Result<(), OutFault>
-        ensures writes { WritesSplit size self.old.rows
-            (tapped (S.holds self.old.source) (S.faults self.old.source) (S.reads self.old.source)
-            (S.asked self.old.source) (S.watches self.old.source) (S.strays self.old.source))
-            (tapped (S.holds self.new.source) (S.faults self.new.source) (S.reads self.new.source)
-            (S.asked self.new.source) (S.watches self.new.source) (S.strays self.new.source))
-            (seen (W.tells out.old) (W.faults out.old)) (seen (W.tells out.new) (W.faults out.new)) result }
+        ensures writes { WritesSplit size self.old.rows (S.tapped self.old.source) (S.tapped self.new.source)
+            (W.seen out.old) (W.seen out.new) result }
 
         // The rows stay.
         ensures rows { self.new.rows ≡ self.old.rows }
@@ -296,12 +258,8 @@ impl<S: Source, A: Allocator + Copy> Listing<S, A> {
 
     /// Writes the records anew in a manner.
     fn write_each<W: Sink>(&mut self, manner: Manner, out: &mut W) -> Result<(), OutFault>
-        ensures writes { WritesEach (text_by manner) (len_by manner) self.old.rows
-            (tapped (S.holds self.old.source) (S.faults self.old.source) (S.reads self.old.source)
-            (S.asked self.old.source) (S.watches self.old.source) (S.strays self.old.source))
-            (tapped (S.holds self.new.source) (S.faults self.new.source) (S.reads self.new.source)
-            (S.asked self.new.source) (S.watches self.new.source) (S.strays self.new.source))
-            (seen (W.tells out.old) (W.faults out.old)) (seen (W.tells out.new) (W.faults out.new)) result }
+        ensures writes { WritesEach (text_by manner) (len_by manner) self.old.rows (S.tapped self.old.source)
+            (S.tapped self.new.source) (W.seen out.old) (W.seen out.new) result }
         ensures rows { self.new.rows ≡ self.old.rows }
     {
         head_of_spelled();

@@ -3,7 +3,7 @@ ghost use Rattle.std.specs.Prelude.{◌≡◌, ℕ, ◌+◌, ◌-◌, ◌*◌, �
 ghost use Rattle.warc_value.specs.Dates.{Instant};
 ghost use Rattle.warc_frame.specs.Failing.{HasFailedBy, MayHaveFailedBy, failed_by};
 ghost use Rattle.warc_frame.specs.Record.{max_head};
-ghost use Rattle.warc_frame.specs.Seen.{AsksOnly, seen, tapped};
+ghost use Rattle.warc_frame.specs.Seen.{AsksOnly};
 ghost use Rattle.warc_record.specs.Readings.{reading_of};
 ghost use Rattle.warc_record.specs.Seen.{said};
 ghost use Rattle.warc_segment.specs.Joined.{joined_places, joined_records};
@@ -61,31 +61,27 @@ fn replay_origin<S: Source, W: Sink, A: Allocator + Copy>(
     out: &mut W,
 ) -> Result<Answer, ReplayFault>
     ensures told { (bytes : List ℕ) (records : List Placed) (uri : List ℕ) (moment : Instant) (p : Placed) →
-        S.holds source.old ≡ Some bytes → IsOrigin bytes records uri moment path p →
-        parts.now ≡ kept_in (map placed_record records) → said origin.now ≡ reading_of p.content.fields →
-        place ≡ place_of p → IsReplay (contents records) uri moment result (W.tells out.old) (W.tells out.new) }
+        (S.tapped source.old).holds ≡ Some bytes → IsOrigin bytes records uri moment path p → parts.now ≡ kept_in
+        (map placed_record records) → said origin.now ≡ reading_of p.content.fields → place ≡ place_of p → IsReplay
+        (contents records) uri moment result (W.seen out.old).tells (W.seen out.new).tells }
     ensures failed { (bytes : List ℕ) (records : List Placed) (uri : List ℕ) (moment : Instant) (p : Placed) →
-        S.holds source.old ≡ Some bytes → IsOrigin bytes records uri moment path p →
-        parts.now ≡ kept_in (map placed_record records) → said origin.now ≡ reading_of p.content.fields →
-        place ≡ place_of p → HasFailedBy (out_result result) (S.faults source.old) (S.faults source.new) }
+        (S.tapped source.old).holds ≡ Some bytes → IsOrigin bytes records uri moment path p → parts.now ≡ kept_in
+        (map placed_record records) → said origin.now ≡ reading_of p.content.fields → place ≡ place_of p → HasFailedBy
+        (out_result result) (S.tapped source.old).faults (S.tapped source.new).faults }
     ensures cost { (bytes : List ℕ) (records : List Placed) (uri : List ℕ) (moment : Instant) (p : Placed) →
-        S.holds source.old ≡ Some bytes → IsOrigin bytes records uri moment path p →
-        parts.now ≡ kept_in (map placed_record records) → said origin.now ≡ reading_of p.content.fields →
-        place ≡ place_of p → S.reads source.new ≤ S.reads source.old
-        + 2 * joined_len (joined_records (map read_record (contents records)) (read_record p.content)) }
+        (S.tapped source.old).holds ≡ Some bytes → IsOrigin bytes records uri moment path p → parts.now ≡ kept_in
+        (map placed_record records) → said origin.now ≡ reading_of p.content.fields → place ≡ place_of p →
+        (S.tapped source.new).reads ≤ (S.tapped source.old).reads + 2 * joined_len (joined_records (map read_record
+        (contents records)) (read_record p.content)) }
     ensures near { (bytes : List ℕ) (records : List Placed) (uri : List ℕ) (moment : Instant) (p : Placed) →
-        S.holds source.old ≡ Some bytes → IsOrigin bytes records uri moment path p →
-        parts.now ≡ kept_in (map placed_record records) → said origin.now ≡ reading_of p.content.fields →
-        place ≡ place_of p →
-        AsksOnly (IsJoined (joined_places (map placed_record records) (placed_record p)))
-        (tapped (S.holds source.old) (S.faults source.old) (S.reads source.old) (S.asked source.old)
-        (S.watches source.old) (S.strays source.old))
-        (tapped (S.holds source.new) (S.faults source.new) (S.reads source.new) (S.asked source.new)
-        (S.watches source.new) (S.strays source.new)) }
-    ensures silent { IsSilent result (W.tells out.old) (W.tells out.new) }
-    ensures kept { S.holds source.new ≡ S.holds source.old }
-    ensures may { MayHaveFailedBy (out_result result) (S.faults source.old) (S.faults source.new) }
-    ensures cause { W.faults out.new ≡ failed_by (out_result result) (W.faults out.old) }
+        (S.tapped source.old).holds ≡ Some bytes → IsOrigin bytes records uri moment path p → parts.now ≡ kept_in
+        (map placed_record records) → said origin.now ≡ reading_of p.content.fields → place ≡ place_of p → AsksOnly
+        (IsJoined (joined_places (map placed_record records) (placed_record p))) (S.tapped source.old)
+        (S.tapped source.new) }
+    ensures silent { IsSilent result (W.seen out.old).tells (W.seen out.new).tells }
+    ensures kept { (S.tapped source.new).holds ≡ (S.tapped source.old).holds }
+    ensures may { MayHaveFailedBy (out_result result) (S.tapped source.old).faults (S.tapped source.new).faults }
+    ensures cause { (W.seen out.new).faults ≡ failed_by (out_result result) (W.seen out.old).faults }
 {
     reasons_are_answers();
     fails_before_all();
@@ -112,30 +108,26 @@ fn replay_row<S: Source, W: Sink, A: Allocator + Copy>(
 ) -> Result<Answer, ReplayFault>
     requires { max_head ≤ length buf.old }
     ensures told { (bytes : List ℕ) (records : List Placed) (uri : List ℕ) (moment : Instant) (p : Placed) →
-        S.holds source.old ≡ Some bytes → IsOrigin bytes records uri moment path p → HasHead bytes p →
-        row.now ≡ row_of p → parts.now ≡ kept_in (map placed_record records) →
-        IsReplay (contents records) uri moment result (W.tells out.old) (W.tells out.new) }
+        (S.tapped source.old).holds ≡ Some bytes → IsOrigin bytes records uri moment path p → HasHead bytes p → row.now
+        ≡ row_of p → parts.now ≡ kept_in (map placed_record records) → IsReplay (contents records) uri moment result
+        (W.seen out.old).tells (W.seen out.new).tells }
     ensures failed { (bytes : List ℕ) (records : List Placed) (uri : List ℕ) (moment : Instant) (p : Placed) →
-        S.holds source.old ≡ Some bytes → IsOrigin bytes records uri moment path p → HasHead bytes p →
-        row.now ≡ row_of p → parts.now ≡ kept_in (map placed_record records) →
-        HasFailedBy (out_result result) (S.faults source.old) (S.faults source.new) }
+        (S.tapped source.old).holds ≡ Some bytes → IsOrigin bytes records uri moment path p → HasHead bytes p → row.now
+        ≡ row_of p → parts.now ≡ kept_in (map placed_record records) → HasFailedBy (out_result result)
+        (S.tapped source.old).faults (S.tapped source.new).faults }
     ensures cost { (bytes : List ℕ) (records : List Placed) (uri : List ℕ) (moment : Instant) (p : Placed) →
-        S.holds source.old ≡ Some bytes → IsOrigin bytes records uri moment path p → HasHead bytes p →
-        row.now ≡ row_of p → parts.now ≡ kept_in (map placed_record records) →
-        S.reads source.new ≤ S.reads source.old + (p.block_start - p.offset
-        + 2 * joined_len (joined_records (map read_record (contents records)) (read_record p.content))) }
+        (S.tapped source.old).holds ≡ Some bytes → IsOrigin bytes records uri moment path p → HasHead bytes p → row.now
+        ≡ row_of p → parts.now ≡ kept_in (map placed_record records) → (S.tapped source.new).reads ≤
+        (S.tapped source.old).reads + (p.block_start - p.offset + 2 * joined_len (joined_records (map read_record
+        (contents records)) (read_record p.content))) }
     ensures near { (bytes : List ℕ) (records : List Placed) (uri : List ℕ) (moment : Instant) (p : Placed) →
-        S.holds source.old ≡ Some bytes → IsOrigin bytes records uri moment path p → HasHead bytes p →
-        row.now ≡ row_of p → parts.now ≡ kept_in (map placed_record records) →
-        AsksOnly (IsOfOrigin records (Some p))
-        (tapped (S.holds source.old) (S.faults source.old) (S.reads source.old) (S.asked source.old)
-        (S.watches source.old) (S.strays source.old))
-        (tapped (S.holds source.new) (S.faults source.new) (S.reads source.new) (S.asked source.new)
-        (S.watches source.new) (S.strays source.new)) }
-    ensures silent { IsSilent result (W.tells out.old) (W.tells out.new) }
-    ensures kept { S.holds source.new ≡ S.holds source.old }
-    ensures may { MayHaveFailedBy (out_result result) (S.faults source.old) (S.faults source.new) }
-    ensures cause { W.faults out.new ≡ failed_by (out_result result) (W.faults out.old) }
+        (S.tapped source.old).holds ≡ Some bytes → IsOrigin bytes records uri moment path p → HasHead bytes p → row.now
+        ≡ row_of p → parts.now ≡ kept_in (map placed_record records) → AsksOnly (IsOfOrigin records (Some p))
+        (S.tapped source.old) (S.tapped source.new) }
+    ensures silent { IsSilent result (W.seen out.old).tells (W.seen out.new).tells }
+    ensures kept { (S.tapped source.new).holds ≡ (S.tapped source.old).holds }
+    ensures may { MayHaveFailedBy (out_result result) (S.tapped source.old).faults (S.tapped source.new).faults }
+    ensures cause { (W.seen out.new).faults ≡ failed_by (out_result result) (W.seen out.old).faults }
 {
     fails_before_all();
     let origin = match read_again(alloc, source, row, buf) {
@@ -160,12 +152,8 @@ pub(crate) fn replay_rows<S: Source, W: Sink, A: Allocator + Copy>(
     moment: &Moment,
     out: &mut W,
 ) -> Result<Answer, ReplayFault>
-    ensures { Replays rows.now lookup.now.index lookup.now.parts uri.now moment.now
-        (tapped (S.holds source.old) (S.faults source.old) (S.reads source.old) (S.asked source.old)
-        (S.watches source.old) (S.strays source.old))
-        (tapped (S.holds source.new) (S.faults source.new) (S.reads source.new) (S.asked source.new)
-        (S.watches source.new) (S.strays source.new))
-        (seen (W.tells out.old) (W.faults out.old)) (seen (W.tells out.new) (W.faults out.new)) result }
+    ensures { Replays rows.now lookup.now.index lookup.now.parts uri.now moment.now (S.tapped source.old)
+        (S.tapped source.new) (W.seen out.old) (W.seen out.new) result }
 {
     head_of_spelled();
     reasons_are_answers();

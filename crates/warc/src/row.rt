@@ -2,7 +2,6 @@
 ghost use Rattle.std.specs.Prelude.{◌≡◌};
 ghost use Rattle.warc.specs.Listing.{line_of, shown};
 ghost use Rattle.warc_frame.specs.Putting.{Puts};
-ghost use Rattle.warc_frame.specs.Seen.{seen};
 
 use itoa::Buffer;
 use warc_frame::{OutBuffer, SendFault, Sink, put_all};
@@ -15,8 +14,7 @@ pub(crate) fn put_line<W: Sink>(
     buffer: &mut OutBuffer,
     out: &mut W,
 ) -> Result<(), SendFault>
-    ensures { Puts (seen (W.tells out.old) (W.faults out.old)) (seen (W.tells out.new) (W.faults out.new))
-        buffer.old buffer.new result (line_of position row.now) }
+    ensures { Puts (W.seen out.old) (W.seen out.new) buffer.old buffer.new result (line_of position row.now) }
 {
     let (mut first, mut second, mut third) = (Buffer::new(), Buffer::new(), Buffer::new());
     let pieces = [

@@ -4,7 +4,6 @@ ghost use Rattle.sha1.specs.Sha1.{sha1};
 ghost use Rattle.warc_frame.specs.Copying.{HasRange};
 ghost use Rattle.warc_frame.specs.Count.{raised};
 ghost use Rattle.warc_frame.specs.Record.{Record};
-ghost use Rattle.warc_frame.specs.Seen.{seen, tapped};
 ghost use Rattle.warc_value.specs.Digests.{is_bad};
 ghost use Rattle.warc_write.specs.Cutting.{HasParts, records_by, split_or_whole};
 ghost use Rattle.warc_write.specs.Splitting.{segment_count};
@@ -45,19 +44,15 @@ fn digest_range<S: Source>(
     scratch: &mut [u8],
 ) -> Result<[u8; 20], ReadFault>
     requires { 0 < length scratch.old }
-    ensures digest { (bytes : List ℕ) → S.holds source.old ≡ Some bytes →
-        IfOk result (λ digest. digest ≡ sha1 (take len (drop at bytes))) }
-    ensures kept { S.holds source.new ≡ S.holds source.old }
-    ensures sound { OnOk result (S.faults source.new ≡ S.faults source.old) }
-    ensures reads { ReadsOnly (IsInBlock at len) len
-        (tapped (S.holds source.old) (S.faults source.old) (S.reads source.old) (S.asked source.old)
-        (S.watches source.old) (S.strays source.old))
-        (tapped (S.holds source.new) (S.faults source.new) (S.reads source.new) (S.asked source.new)
-        (S.watches source.new) (S.strays source.new)) }
-    ensures may { OnErr result
-        ((S.faults source.new ≡ S.faults source.old) ⊎ (S.faults source.new ≡ raised (S.faults source.old))) }
-    ensures failed { (bytes : List ℕ) → S.holds source.old ≡ Some bytes → HasRange at len bytes →
-        OnErr result (S.faults source.new ≡ raised (S.faults source.old)) }
+    ensures digest { (bytes : List ℕ) → (S.tapped source.old).holds ≡ Some bytes → IfOk result (λ digest. digest ≡ sha1
+        (take len (drop at bytes))) }
+    ensures kept { (S.tapped source.new).holds ≡ (S.tapped source.old).holds }
+    ensures sound { OnOk result ((S.tapped source.new).faults ≡ (S.tapped source.old).faults) }
+    ensures reads { ReadsOnly (IsInBlock at len) len (S.tapped source.old) (S.tapped source.new) }
+    ensures may { OnErr result (((S.tapped source.new).faults ≡ (S.tapped source.old).faults) ⊎
+        ((S.tapped source.new).faults ≡ raised (S.tapped source.old).faults)) }
+    ensures failed { (bytes : List ℕ) → (S.tapped source.old).holds ≡ Some bytes → HasRange at len bytes → OnErr result
+        ((S.tapped source.new).faults ≡ raised (S.tapped source.old).faults) }
 {
     if len > u64::MAX - at {
         return Err(ReadFault);
@@ -92,19 +87,10 @@ fn put_segment<S: Source, A: Allocator + Copy, W: Sink>(
     requires some { 0 < cut.now.size }
     requires inside { at * cut.now.size < cut.now.block_len }
     requires end { cut.now.block_start + cut.now.block_len < 2 ^ 64 }
-    ensures emits { Emits (IsSegmentText cut.now at)
-        (tapped (S.holds source.old) (S.faults source.old) (S.reads source.old) (S.asked source.old)
-        (S.watches source.old) (S.strays source.old))
-        (tapped (S.holds source.new) (S.faults source.new) (S.reads source.new) (S.asked source.new)
-        (S.watches source.new) (S.strays source.new))
-        (seen (W.tells out.old) (W.faults out.old)) (seen (W.tells out.new) (W.faults out.new))
-        buffer.old buffer.new result }
-    ensures reads { ReadsOnly (IsInBlock cut.now.block_start cut.now.block_len)
-        (2 * min cut.now.size (cut.now.block_len - at * cut.now.size))
-        (tapped (S.holds source.old) (S.faults source.old) (S.reads source.old) (S.asked source.old)
-        (S.watches source.old) (S.strays source.old))
-        (tapped (S.holds source.new) (S.faults source.new) (S.reads source.new) (S.asked source.new)
-        (S.watches source.new) (S.strays source.new)) }
+    ensures emits { Emits (IsSegmentText cut.now at) (S.tapped source.old) (S.tapped source.new) (W.seen out.old)
+        (W.seen out.new) buffer.old buffer.new result }
+    ensures reads { ReadsOnly (IsInBlock cut.now.block_start cut.now.block_len) (2 * min cut.now.size
+        (cut.now.block_len - at * cut.now.size)) (S.tapped source.old) (S.tapped source.new) }
 {
     let gone = at * cut.size;
     let start = cut.block_start + gone;
@@ -137,18 +123,10 @@ fn put_segments<S: Source, A: Allocator + Copy, W: Sink>(
     requires room { 0 < length scratch.old }
     requires some { 0 < cut.now.size }
     requires more { 0 < cut.now.block_len }
-    ensures emits { Emits (AreSegmentTexts cut.now (segment_count cut.now.size cut.now.block_len))
-        (tapped (S.holds source.old) (S.faults source.old) (S.reads source.old) (S.asked source.old)
-        (S.watches source.old) (S.strays source.old))
-        (tapped (S.holds source.new) (S.faults source.new) (S.reads source.new) (S.asked source.new)
-        (S.watches source.new) (S.strays source.new))
-        (seen (W.tells out.old) (W.faults out.old)) (seen (W.tells out.new) (W.faults out.new))
-        buffer.old buffer.new result }
+    ensures emits { Emits (AreSegmentTexts cut.now (segment_count cut.now.size cut.now.block_len)) (S.tapped source.old)
+        (S.tapped source.new) (W.seen out.old) (W.seen out.new) buffer.old buffer.new result }
     ensures reads { ReadsOnly (IsInBlock cut.now.block_start cut.now.block_len) (2 * cut.now.block_len)
-        (tapped (S.holds source.old) (S.faults source.old) (S.reads source.old) (S.asked source.old)
-        (S.watches source.old) (S.strays source.old))
-        (tapped (S.holds source.new) (S.faults source.new) (S.reads source.new) (S.asked source.new)
-        (S.watches source.new) (S.strays source.new)) }
+        (S.tapped source.old) (S.tapped source.new) }
 {
     if cut.block_len > u64::MAX - cut.block_start {
         return Err(OutFault::Read(buffer.sent()));
@@ -202,18 +180,10 @@ pub(crate) fn put_split<S: Source, A: Allocator + Copy, W: Sink>(
     out: &mut W,
 ) -> Result<(), OutFault>
     requires { 0 < length scratch.old }
-    ensures emits { Emits (IsTextWith (split_text size) row.now head)
-        (tapped (S.holds source.old) (S.faults source.old) (S.reads source.old) (S.asked source.old)
-        (S.watches source.old) (S.strays source.old))
-        (tapped (S.holds source.new) (S.faults source.new) (S.reads source.new) (S.asked source.new)
-        (S.watches source.new) (S.strays source.new))
-        (seen (W.tells out.old) (W.faults out.old)) (seen (W.tells out.new) (W.faults out.new))
-        buffer.old buffer.new result }
+    ensures emits { Emits (IsTextWith (split_text size) row.now head) (S.tapped source.old) (S.tapped source.new)
+        (W.seen out.old) (W.seen out.new) buffer.old buffer.new result }
     ensures reads { ReadsOnly (IsInBlock row.now.block_start row.now.block_len) (2 * row.now.block_len)
-        (tapped (S.holds source.old) (S.faults source.old) (S.reads source.old) (S.asked source.old)
-        (S.watches source.old) (S.strays source.old))
-        (tapped (S.holds source.new) (S.faults source.new) (S.reads source.new) (S.asked source.new)
-        (S.watches source.new) (S.strays source.new)) }
+        (S.tapped source.old) (S.tapped source.new) }
 {
     let Ok(uuid) = cut_or_whole(alloc, size, row, &head) else {
         return Err(OutFault::Memory(buffer.sent()));

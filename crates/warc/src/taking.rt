@@ -4,7 +4,6 @@ ghost use Rattle.warc_frame.specs.Failing.{HasFailedBy, MayHaveFailedBy};
 ghost use Rattle.warc_frame.specs.Ranges.{HasFilled};
 ghost use Rattle.warc_frame.specs.Record.{Record, max_archive};
 ghost use Rattle.warc_frame.specs.Spelling.{Spells};
-ghost use Rattle.warc_frame.specs.Seen.{tapped};
 ghost use Rattle.warc_reading.specs.Row.{Placed, row_of};
 ghost use Rattle.warc.specs.Standing.{IsEnd, IsWritten};
 ghost use Rattle.warc.specs.Taking.{IsTaken, ReadsRecord, take_result};
@@ -63,21 +62,15 @@ fn read_record<S: Source, A: Allocator + Copy>(
     text: &mut [u8],
 ) -> Result<Framed<A>, TakeFault>
     requires { at + length text.old < 2 ^ 64 }
-    ensures taken { (bytes : List ℕ) (r : Record) →
-        S.holds source.old ≡ Some bytes → Spells r (take (length text.old) (drop at bytes)) →
-        IfOk result (λ framed. framed ≡ r) }
-    ensures failed { (bytes : List ℕ) (r : Record) →
-        S.holds source.old ≡ Some bytes → Spells r (take (length text.old) (drop at bytes)) →
-        at + length text.old ≤ length bytes →
-        HasFailedBy (take_result result) (S.faults source.old) (S.faults source.new) }
+    ensures taken { (bytes : List ℕ) (r : Record) → (S.tapped source.old).holds ≡ Some bytes → Spells r (take
+        (length text.old) (drop at bytes)) → IfOk result (λ framed. framed ≡ r) }
+    ensures failed { (bytes : List ℕ) (r : Record) → (S.tapped source.old).holds ≡ Some bytes → Spells r (take
+        (length text.old) (drop at bytes)) → at + length text.old ≤ length bytes → HasFailedBy (take_result result)
+        (S.tapped source.old).faults (S.tapped source.new).faults }
     ensures is { IfErr result IsEnd }
-    ensures kept { S.holds source.new ≡ S.holds source.old }
-    ensures may { MayHaveFailedBy (take_result result) (S.faults source.old) (S.faults source.new) }
-    ensures filled { HasFilled at (length text.old)
-        (tapped (S.holds source.old) (S.faults source.old) (S.reads source.old) (S.asked source.old)
-        (S.watches source.old) (S.strays source.old))
-        (tapped (S.holds source.new) (S.faults source.new) (S.reads source.new) (S.asked source.new)
-        (S.watches source.new) (S.strays source.new)) }
+    ensures kept { (S.tapped source.new).holds ≡ (S.tapped source.old).holds }
+    ensures may { MayHaveFailedBy (take_result result) (S.tapped source.old).faults (S.tapped source.new).faults }
+    ensures filled { HasFilled at (length text.old) (S.tapped source.old) (S.tapped source.new) }
 {
     if read_range(source, at, text).is_err() {
         return Err(TakeFault::Read);
@@ -91,20 +84,15 @@ pub(crate) fn take_record<S: Source, A: Allocator + Copy>(
     source: &mut S,
     row: &Row<'_>,
 ) -> Result<Framed<A>, TakeFault>
-    ensures taken { (bytes : List ℕ) (p : Placed) →
-        S.holds source.old ≡ Some bytes → length bytes ≤ max_archive → IsWritten bytes p → row.now ≡ row_of p →
-        IsTaken (Some p) result }
-    ensures failed { (bytes : List ℕ) (p : Placed) →
-        S.holds source.old ≡ Some bytes → length bytes ≤ max_archive → IsWritten bytes p → row.now ≡ row_of p →
-        HasFailedBy (take_result result) (S.faults source.old) (S.faults source.new) }
+    ensures taken { (bytes : List ℕ) (p : Placed) → (S.tapped source.old).holds ≡ Some bytes → length bytes ≤
+        max_archive → IsWritten bytes p → row.now ≡ row_of p → IsTaken (Some p) result }
+    ensures failed { (bytes : List ℕ) (p : Placed) → (S.tapped source.old).holds ≡ Some bytes → length bytes ≤
+        max_archive → IsWritten bytes p → row.now ≡ row_of p → HasFailedBy (take_result result)
+        (S.tapped source.old).faults (S.tapped source.new).faults }
     ensures is { IfErr result IsEnd }
-    ensures kept { S.holds source.new ≡ S.holds source.old }
-    ensures may { MayHaveFailedBy (take_result result) (S.faults source.old) (S.faults source.new) }
-    ensures reads { ReadsRecord (Some row.now)
-        (tapped (S.holds source.old) (S.faults source.old) (S.reads source.old) (S.asked source.old)
-        (S.watches source.old) (S.strays source.old))
-        (tapped (S.holds source.new) (S.faults source.new) (S.reads source.new) (S.asked source.new)
-        (S.watches source.new) (S.strays source.new)) }
+    ensures kept { (S.tapped source.new).holds ≡ (S.tapped source.old).holds }
+    ensures may { MayHaveFailedBy (take_result result) (S.tapped source.old).faults (S.tapped source.new).faults }
+    ensures reads { ReadsRecord (Some row.now) (S.tapped source.old) (S.tapped source.new) }
 {
     let Some(len) = record_len(row) else {
         return Err(TakeFault::Read);

@@ -20,12 +20,12 @@ pub record LieIn (places : List Place) (bytes : List ℕ) : Type 0 where
   pub within : All (λ p. p.start + p.len ≤ length bytes) places
   pub short : length bytes < 2 ^ 64
 
--- an offset at one of the places
-abbrev pub IsAt : List Place → ℕ → Type 0
-IsAt places q = (p : Place) × Contains places p × (p.start ≤ q) × (q < p.start + p.len)
+-- an offset in one of the places
+abbrev pub IsInOne : List Place → ℕ → Type 0
+IsInOne places q = (p : Place) × Contains places p × (p.start ≤ q) × (q < p.start + p.len)
 
 -- of a source no bytes but those at the places were asked for, in so many reads at most
 pub record HasRead (most : ℕ) (places : List Place) (old new : Tapped) : Type 0 where
-  pub near : AsksOnly (IsAt places) old new
+  pub near : AsksOnly (IsInOne places) old new
   pub bound : new.reads ≤ old.reads + most
   pub watched : new.watches ≡ old.watches

@@ -5,7 +5,6 @@ ghost use Rattle.warc_frame.specs.Copying.{Copies, IsOfDevice};
 ghost use Rattle.warc_frame.specs.Count.{raised};
 ghost use Rattle.warc_frame.specs.Failing.{HasFailedBy, MayHaveFailedBy, failed_by};
 ghost use Rattle.warc_frame.specs.Ranges.{HasFilled};
-ghost use Rattle.warc_frame.specs.Seen.{seen, tapped};
 ghost use Rattle.warc_frame.specs.Send.{WentOut, sent_of};
 ghost use Rattle.warc_answer.specs.Places.{HasRead, LieIn, len_of, text_at};
 
@@ -19,19 +18,15 @@ const PIECE: usize = 8_192;
 /// Fills the buffer with the bytes at an offset. It fails where a read does, where the source ends too early, and where
 /// the bytes don't end before offset 2^64.
 fn read_bytes<S: Source>(source: &mut S, at: u64, buf: &mut [u8]) -> Result<(), ReadFault>
-    ensures bytes { (bytes : List ℕ) → S.holds source.old ≡ Some bytes →
-        OnOk result (buf.new ≡ take (length buf.old) (drop at bytes)) }
-    ensures kept { S.holds source.new ≡ S.holds source.old }
-    ensures sound { OnOk result (S.faults source.new ≡ S.faults source.old) }
-    ensures filled { HasFilled at (length buf.old)
-        (tapped (S.holds source.old) (S.faults source.old) (S.reads source.old) (S.asked source.old)
-        (S.watches source.old) (S.strays source.old))
-        (tapped (S.holds source.new) (S.faults source.new) (S.reads source.new) (S.asked source.new)
-        (S.watches source.new) (S.strays source.new)) }
-    ensures may { OnErr result
-        ((S.faults source.new ≡ S.faults source.old) ⊎ (S.faults source.new ≡ raised (S.faults source.old))) }
-    ensures failed { (bytes : List ℕ) → S.holds source.old ≡ Some bytes → at + length buf.old ≤ length bytes →
-        length bytes < 2 ^ 64 → OnErr result (S.faults source.new ≡ raised (S.faults source.old)) }
+    ensures bytes { (bytes : List ℕ) → (S.tapped source.old).holds ≡ Some bytes → OnOk result (buf.new ≡ take
+        (length buf.old) (drop at bytes)) }
+    ensures kept { (S.tapped source.new).holds ≡ (S.tapped source.old).holds }
+    ensures sound { OnOk result ((S.tapped source.new).faults ≡ (S.tapped source.old).faults) }
+    ensures filled { HasFilled at (length buf.old) (S.tapped source.old) (S.tapped source.new) }
+    ensures may { OnErr result (((S.tapped source.new).faults ≡ (S.tapped source.old).faults) ⊎
+        ((S.tapped source.new).faults ≡ raised (S.tapped source.old).faults)) }
+    ensures failed { (bytes : List ℕ) → (S.tapped source.old).holds ≡ Some bytes → at + length buf.old ≤ length bytes →
+        length bytes < 2 ^ 64 → OnErr result ((S.tapped source.new).faults ≡ raised (S.tapped source.old).faults) }
 {
     if buf.len() as u64 > u64::MAX - at {
         return Err(ReadFault);
@@ -46,19 +41,15 @@ pub(crate) fn read_front<S: Source>(
     front: &mut [u8],
 ) -> Result<usize, ReadFault>
     ensures within { IfOk result (λ n. n ≤ length front.new) }
-    ensures bytes { (bytes : List ℕ) → S.holds source.old ≡ Some bytes → LieIn places.now bytes →
-        IfOk result (λ n. take n front.new ≡ take (length front.old) (text_at places.now bytes)) }
-    ensures kept { S.holds source.new ≡ S.holds source.old }
-    ensures sound { OnOk result (S.faults source.new ≡ S.faults source.old) }
-    ensures read { HasRead (len_of places.now) places.now
-        (tapped (S.holds source.old) (S.faults source.old) (S.reads source.old) (S.asked source.old)
-        (S.watches source.old) (S.strays source.old))
-        (tapped (S.holds source.new) (S.faults source.new) (S.reads source.new) (S.asked source.new)
-        (S.watches source.new) (S.strays source.new)) }
-    ensures may { OnErr result
-        ((S.faults source.new ≡ S.faults source.old) ⊎ (S.faults source.new ≡ raised (S.faults source.old))) }
-    ensures failed { (bytes : List ℕ) → S.holds source.old ≡ Some bytes → LieIn places.now bytes →
-        OnErr result (S.faults source.new ≡ raised (S.faults source.old)) }
+    ensures bytes { (bytes : List ℕ) → (S.tapped source.old).holds ≡ Some bytes → LieIn places.now bytes → IfOk result
+        (λ n. take n front.new ≡ take (length front.old) (text_at places.now bytes)) }
+    ensures kept { (S.tapped source.new).holds ≡ (S.tapped source.old).holds }
+    ensures sound { OnOk result ((S.tapped source.new).faults ≡ (S.tapped source.old).faults) }
+    ensures read { HasRead (len_of places.now) places.now (S.tapped source.old) (S.tapped source.new) }
+    ensures may { OnErr result (((S.tapped source.new).faults ≡ (S.tapped source.old).faults) ⊎
+        ((S.tapped source.new).faults ≡ raised (S.tapped source.old).faults)) }
+    ensures failed { (bytes : List ℕ) → (S.tapped source.old).holds ≡ Some bytes → LieIn places.now bytes → OnErr result
+        ((S.tapped source.new).faults ≡ raised (S.tapped source.old).faults) }
 {
     let mut filled = 0;
     'reading: for place in places {
@@ -81,18 +72,9 @@ fn put_blocks<S: Source, W: Sink>(
     out: &mut W,
 ) -> Result<(), OutFault>
     requires { 0 < length scratch.old }
-    ensures copied { Copies (λ bytes. drop skip (text_at places.now bytes)) (LieIn places.now)
-        (tapped (S.holds source.old) (S.faults source.old) (S.reads source.old) (S.asked source.old)
-        (S.watches source.old) (S.strays source.old))
-        (tapped (S.holds source.new) (S.faults source.new) (S.reads source.new) (S.asked source.new)
-        (S.watches source.new) (S.strays source.new))
-        (seen (W.tells out.old) (W.faults out.old)) (seen (W.tells out.new) (W.faults out.new))
-        buffer.old buffer.new result }
-    ensures read { HasRead (len_of places.now) places.now
-        (tapped (S.holds source.old) (S.faults source.old) (S.reads source.old) (S.asked source.old)
-        (S.watches source.old) (S.strays source.old))
-        (tapped (S.holds source.new) (S.faults source.new) (S.reads source.new) (S.asked source.new)
-        (S.watches source.new) (S.strays source.new)) }
+    ensures copied { Copies (λ bytes. drop skip (text_at places.now bytes)) (LieIn places.now) (S.tapped source.old)
+        (S.tapped source.new) (W.seen out.old) (W.seen out.new) buffer.old buffer.new result }
+    ensures read { HasRead (len_of places.now) places.now (S.tapped source.old) (S.tapped source.new) }
 {
     went_out_of_longer();
     let mut left = skip;
@@ -114,22 +96,17 @@ pub(crate) fn send_blocks<S: Source, W: Sink>(
     skip: u64,
     out: &mut W,
 ) -> Result<(), OutFault>
-    ensures told { (bytes : List ℕ) → S.holds source.old ≡ Some bytes → LieIn places.now bytes →
-        OnOk result (W.tells out.new ≡ append_known (W.tells out.old) (drop skip (text_at places.now bytes))) }
-    ensures cut { (bytes : List ℕ) → S.holds source.old ≡ Some bytes → LieIn places.now bytes →
-        IfErr result (λ e.
-        WentOut (W.tells out.old) (drop skip (text_at places.now bytes)) (W.tells out.new) (sent_of e)) }
+    ensures told { (bytes : List ℕ) → (S.tapped source.old).holds ≡ Some bytes → LieIn places.now bytes → OnOk result
+        ((W.seen out.new).tells ≡ append_known (W.seen out.old).tells (drop skip (text_at places.now bytes))) }
+    ensures cut { (bytes : List ℕ) → (S.tapped source.old).holds ≡ Some bytes → LieIn places.now bytes → IfErr result (λ
+        e. WentOut (W.seen out.old).tells (drop skip (text_at places.now bytes)) (W.seen out.new).tells (sent_of e)) }
     ensures device { IfErr result IsOfDevice }
-    ensures cause { W.faults out.new ≡ failed_by result (W.faults out.old) }
-    ensures kept { S.holds source.new ≡ S.holds source.old }
-    ensures may { MayHaveFailedBy result (S.faults source.old) (S.faults source.new) }
-    ensures failed { (bytes : List ℕ) → S.holds source.old ≡ Some bytes → LieIn places.now bytes →
-        HasFailedBy result (S.faults source.old) (S.faults source.new) }
-    ensures read { HasRead (len_of places.now) places.now
-        (tapped (S.holds source.old) (S.faults source.old) (S.reads source.old) (S.asked source.old)
-        (S.watches source.old) (S.strays source.old))
-        (tapped (S.holds source.new) (S.faults source.new) (S.reads source.new) (S.asked source.new)
-        (S.watches source.new) (S.strays source.new)) }
+    ensures cause { (W.seen out.new).faults ≡ failed_by result (W.seen out.old).faults }
+    ensures kept { (S.tapped source.new).holds ≡ (S.tapped source.old).holds }
+    ensures may { MayHaveFailedBy result (S.tapped source.old).faults (S.tapped source.new).faults }
+    ensures failed { (bytes : List ℕ) → (S.tapped source.old).holds ≡ Some bytes → LieIn places.now bytes → HasFailedBy
+        result (S.tapped source.old).faults (S.tapped source.new).faults }
+    ensures read { HasRead (len_of places.now) places.now (S.tapped source.old) (S.tapped source.new) }
 {
     let mut scratch = [0; PIECE];
     let mut buffer = OutBuffer::new();

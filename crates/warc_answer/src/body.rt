@@ -1,7 +1,6 @@
 //! Where the body begins in the joined blocks of an origin.
 ghost use Rattle.std.specs.Prelude.{◌≡◌, ℕ, List, length, Some, IfErr};
 ghost use Rattle.warc_frame.specs.Failing.{HasFailedBy, MayHaveFailedBy, failed_by};
-ghost use Rattle.warc_frame.specs.Seen.{tapped};
 ghost use Rattle.warc_record.specs.Seen.{said};
 ghost use Rattle.warc_answer.specs.Giving.{IsStart};
 ghost use Rattle.warc_answer.specs.Payloads.{is_http, is_http_response};
@@ -55,19 +54,15 @@ fn start_through<S: Source>(
     front: &mut [u8],
 ) -> Result<BodyStart, ReplayFault>
     requires { length front.old ≡ 65536 }
-    ensures begun { (bytes : List ℕ) → S.holds source.old ≡ Some bytes → LieIn places.now bytes →
-        IsStart http (text_at places.now bytes) result }
+    ensures begun { (bytes : List ℕ) → (S.tapped source.old).holds ≡ Some bytes → LieIn places.now bytes → IsStart http
+        (text_at places.now bytes) result }
     ensures unwritten { (n : ℕ) → failed_by (out_result result) n ≡ n }
     ensures device { IfErr result WantsNoMemory }
-    ensures kept { S.holds source.new ≡ S.holds source.old }
-    ensures may { MayHaveFailedBy (out_result result) (S.faults source.old) (S.faults source.new) }
-    ensures failed { (bytes : List ℕ) → S.holds source.old ≡ Some bytes → LieIn places.now bytes →
-        HasFailedBy (out_result result) (S.faults source.old) (S.faults source.new) }
-    ensures read { HasRead (len_of places.now) places.now
-        (tapped (S.holds source.old) (S.faults source.old) (S.reads source.old) (S.asked source.old)
-        (S.watches source.old) (S.strays source.old))
-        (tapped (S.holds source.new) (S.faults source.new) (S.reads source.new) (S.asked source.new)
-        (S.watches source.new) (S.strays source.new)) }
+    ensures kept { (S.tapped source.new).holds ≡ (S.tapped source.old).holds }
+    ensures may { MayHaveFailedBy (out_result result) (S.tapped source.old).faults (S.tapped source.new).faults }
+    ensures failed { (bytes : List ℕ) → (S.tapped source.old).holds ≡ Some bytes → LieIn places.now bytes → HasFailedBy
+        (out_result result) (S.tapped source.old).faults (S.tapped source.new).faults }
+    ensures read { HasRead (len_of places.now) places.now (S.tapped source.old) (S.tapped source.new) }
 {
     front_tells_head();
     front_tells_no_head();
@@ -96,19 +91,15 @@ pub(crate) fn find_body<S: Source>(
     http: bool,
     places: &[Place],
 ) -> Result<BodyStart, ReplayFault>
-    ensures begun { (bytes : List ℕ) → S.holds source.old ≡ Some bytes → LieIn places.now bytes →
-        IsStart http (text_at places.now bytes) result }
+    ensures begun { (bytes : List ℕ) → (S.tapped source.old).holds ≡ Some bytes → LieIn places.now bytes → IsStart http
+        (text_at places.now bytes) result }
     ensures unwritten { (n : ℕ) → failed_by (out_result result) n ≡ n }
     ensures device { IfErr result WantsNoMemory }
-    ensures kept { S.holds source.new ≡ S.holds source.old }
-    ensures may { MayHaveFailedBy (out_result result) (S.faults source.old) (S.faults source.new) }
-    ensures failed { (bytes : List ℕ) → S.holds source.old ≡ Some bytes → LieIn places.now bytes →
-        HasFailedBy (out_result result) (S.faults source.old) (S.faults source.new) }
-    ensures read { HasRead (len_of places.now) places.now
-        (tapped (S.holds source.old) (S.faults source.old) (S.reads source.old) (S.asked source.old)
-        (S.watches source.old) (S.strays source.old))
-        (tapped (S.holds source.new) (S.faults source.new) (S.reads source.new) (S.asked source.new)
-        (S.watches source.new) (S.strays source.new)) }
+    ensures kept { (S.tapped source.new).holds ≡ (S.tapped source.old).holds }
+    ensures may { MayHaveFailedBy (out_result result) (S.tapped source.old).faults (S.tapped source.new).faults }
+    ensures failed { (bytes : List ℕ) → (S.tapped source.old).holds ≡ Some bytes → LieIn places.now bytes → HasFailedBy
+        (out_result result) (S.tapped source.old).faults (S.tapped source.new).faults }
+    ensures read { HasRead (len_of places.now) places.now (S.tapped source.old) (S.tapped source.new) }
 {
     let mut front = [0; MOST_HEAD_BYTES];
     start_through(source, http, places, &mut front)

@@ -6,7 +6,6 @@ ghost use Rattle.warc_value.specs.Digests.{is_bad};
 ghost use Rattle.warc_frame.specs.Count.{capped};
 ghost use Rattle.warc_frame.specs.Failing.{HasFailedBy, MayHaveFailedBy, failed_by};
 ghost use Rattle.warc_frame.specs.Record.{Record, max_archive};
-ghost use Rattle.warc_frame.specs.Seen.{tapped};
 ghost use Rattle.warc_record.specs.Seen.{said};
 ghost use Rattle.warc_segment.specs.Joined.{ReadRecord, ArePlacesOf};
 ghost use Rattle.warc_answer.specs.Laws.{IsFound};
@@ -61,30 +60,25 @@ pub fn replay_joined<S: Source, W: Sink, A: Allocator>(
     out: &mut W,
 ) -> Result<Answer, ReplayFault>
     ensures replayed { (bytes : List ℕ) (records : List Record) (uri : List ℕ) (moment : Instant) (read : ReadRecord)
-        (joined : List ReadRecord) → S.holds source.old ≡ Some bytes → length bytes ≤ max_archive →
-        IsFound (map read_record records) uri moment path read (Ok joined) → said origin.now ≡ read.head →
-        ArePlacesOf bytes places.now joined →
-        IsReplay records uri moment result (W.tells out.old) (W.tells out.new) }
+        (joined : List ReadRecord) → (S.tapped source.old).holds ≡ Some bytes → length bytes ≤ max_archive → IsFound
+        (map read_record records) uri moment path read (Ok joined) → said origin.now ≡ read.head → ArePlacesOf bytes
+        places.now joined → IsReplay records uri moment result (W.seen out.old).tells (W.seen out.new).tells }
 
     // Nothing is written before a reason, whatever the source holds; and no memory is wanted.
-    ensures silent { IsSilent result (W.tells out.old) (W.tells out.new) }
+    ensures silent { IsSilent result (W.seen out.old).tells (W.seen out.new).tells }
     ensures device { IfErr result WantsNoMemory }
 
     // The sink has failed once more exactly where the answer is `Write`, and the source where it is `Read`, unless it
     // gives other bytes than it gave.
-    ensures cause { W.faults out.new ≡ failed_by (out_result result) (W.faults out.old) }
-    ensures kept { S.holds source.new ≡ S.holds source.old }
-    ensures may { MayHaveFailedBy (out_result result) (S.faults source.old) (S.faults source.new) }
-    ensures failed { (bytes : List ℕ) (joined : List ReadRecord) → S.holds source.old ≡ Some bytes →
-        length bytes ≤ max_archive → ArePlacesOf bytes places.now joined →
-        HasFailedBy (out_result result) (S.faults source.old) (S.faults source.new) }
+    ensures cause { (W.seen out.new).faults ≡ failed_by (out_result result) (W.seen out.old).faults }
+    ensures kept { (S.tapped source.new).holds ≡ (S.tapped source.old).holds }
+    ensures may { MayHaveFailedBy (out_result result) (S.tapped source.old).faults (S.tapped source.new).faults }
+    ensures failed { (bytes : List ℕ) (joined : List ReadRecord) → (S.tapped source.old).holds ≡ Some bytes → length
+        bytes ≤ max_archive → ArePlacesOf bytes places.now joined → HasFailedBy (out_result result)
+        (S.tapped source.old).faults (S.tapped source.new).faults }
 
     // It asks for no byte but those of the joined blocks, and reads at most twice for each.
-    ensures read { HasRead (2 * len_of places.now) places.now
-        (tapped (S.holds source.old) (S.faults source.old) (S.reads source.old) (S.asked source.old)
-        (S.watches source.old) (S.strays source.old))
-        (tapped (S.holds source.new) (S.faults source.new) (S.reads source.new) (S.asked source.new)
-        (S.watches source.new) (S.strays source.new)) }
+    ensures read { HasRead (2 * len_of places.now) places.now (S.tapped source.old) (S.tapped source.new) }
 {
     one_of_three();
     joined_has_total();

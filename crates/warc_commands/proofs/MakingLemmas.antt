@@ -1,12 +1,15 @@
 -- The front of the bytes that a source holds, read piece by piece.
-use Rattle.std.proofs.Common.{◌≡◌, ℕ, ◌+◌, ◌<◌, ◌≤◌, nat_lt, Bool, true, false, refl, List, ◌++◌, length, length-append, length-take, take, take_all, drop, sym, ap, ◌∙◌, arith}
+use Rattle.std.proofs.Common.{◌≡◌, ℕ, ◌+◌, ◌<◌, ◌≤◌, nat_lt, Bool, true, false, refl, List, ◌++◌, length, length-append, length-take, take, take_all, drop, Option, Some, Result, Err, sym, ap, subst, ◌∙◌, arith}
+use Rattle.std.specs.Option.{IfSome}
 use Rattle.std.proofs.Math.Seq.{take-add}
 use Rattle.std.proofs.lemmas.Bool.{ltb-true}
 use Rattle.std.proofs.lemmas.Bool.Decides.{nat_tests}
-use Rattle.warc_frame.specs.Record.{max_block}
+use Rattle.warc_frame.specs.Record.{Record, max_block}
 use Rattle.warc_record.specs.Kinds.{kind_named}
 use Rattle.warc_record.specs.declared.types.Kind.{Kind}
-use Rattle.warc_write.specs.Making.{Plan}
+use Rattle.warc_write.specs.Making.{Makes, Plan}
+use Rattle.warc_write.specs.declared.making.MakeFault.{MakeFault}
+use Rattle.warc_write.specs.declared.making.MakeFault.TheVariants.{Date, Text, TooLong, Memory, Kind as BadKind}
 use Rattle.warc_commands.specs.Program.{plan_of}
 use Rattle.warc_commands.specs.declared.words.Draft.{Draft}
 
@@ -42,3 +45,19 @@ pub plan_is : (d : Draft) (bytes block : List ℕ) (kind : Kind) (uri date uuid 
     → ◌≡◌ {A = Plan} (record { kind = kind; uri = uri; date = date; uuid = uuid; content_type = content_type; block = block }) (plan_of d bytes)
 plan_is d bytes block kind uri date uuid content_type a b c e f h i =
     record { kind = a i; uri = b i; date = c i; uuid = e i; content_type = f i; block = h i }
+
+-- a file that is too long has more bytes than a block may have, as many of them as are read
+pub stays_long : (bytes : List ℕ) → max_block < length bytes → max_block < length (take (max_block + 1) bytes)
+stays_long bytes long = omega (arith, long, length-take (max_block + 1) bytes)
+
+-- what isn't made is refused
+pub refused : (fault : MakeFault) (made : Result Record MakeFault) → made ≡ Err fault → Makes (Err fault) made
+refused Memory made is = tt
+refused Date made is = is
+refused Text made is = is
+refused TooLong made is = is
+refused BadKind made is = is
+
+-- what a clause says of a value that is there
+pub some_of : {X : Type 0} (P : X → Type 0) {o : Option X} {x : X} → o ≡ Some x → IfSome o P → P x
+some_of P {o} {x} is fact = subst (λ o. IfSome o P) is fact

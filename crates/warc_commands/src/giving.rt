@@ -2,7 +2,6 @@
 ghost use Rattle.std.specs.Prelude.{◌≡◌, ◌≤◌, ◌⊎◌, ◌++◌, length, Some, codes};
 ghost use Rattle.warc_value.specs.Dates.{Instant, instant_of};
 ghost use Rattle.warc_answer.specs.ReasonText.{reason_text};
-ghost use Rattle.warc_frame.specs.Seen.{seen, tapped};
 ghost use Rattle.warc_commands.specs.Devices.{devices};
 ghost use Rattle.warc_commands.specs.Program.{ExtractEnds, ReplayEnds, Tells, TellsIf, answer_text, extract_line, extract_status, number_or_dash, replay_line, replay_status, told_line, yes_or_no};
 
@@ -28,16 +27,11 @@ where
     S: Source + Drop,
     W: Sink,
     E: Sink,
-    ensures ends { ExtractEnds id.now
-        (devices (tapped (S.holds source) (S.faults source) (S.reads source) (S.asked source) (S.watches source)
-        (S.strays source)) (seen (W.tells out.old) (W.faults out.old)) (seen (E.tells err.old) (E.faults err.old)))
-        (devices (tapped (S.holds result.1) (S.faults result.1) (S.reads result.1) (S.asked result.1)
-        (S.watches result.1) (S.strays result.1))
-        (seen (W.tells out.new) (W.faults out.new)) (seen (E.tells err.new) (E.faults err.new)))
-        result.0 }
+    ensures ends { ExtractEnds id.now (devices (S.tapped source) (W.seen out.old) (E.seen err.old)) (devices
+        (S.tapped result.1) (W.seen out.new) (E.seen err.new)) result.0 }
 
     // The source still holds what it held.
-    ensures kept { S.holds result.1 ≡ S.holds source }
+    ensures kept { (S.tapped result.1).holds ≡ (S.tapped source).holds }
 {
     let mut archive = match Archive::open(alloc, source) {
         Ok(archive) => archive,
@@ -61,16 +55,11 @@ where
     S: Source + Drop,
     W: Sink,
     E: Sink,
-    ensures ends { ReplayEnds uri.now (instant_of date.now)
-        (devices (tapped (S.holds source) (S.faults source) (S.reads source) (S.asked source) (S.watches source)
-        (S.strays source)) (seen (W.tells out.old) (W.faults out.old)) (seen (E.tells err.old) (E.faults err.old)))
-        (devices (tapped (S.holds result.1) (S.faults result.1) (S.reads result.1) (S.asked result.1)
-        (S.watches result.1) (S.strays result.1))
-        (seen (W.tells out.new) (W.faults out.new)) (seen (E.tells err.new) (E.faults err.new)))
-        result.0 }
+    ensures ends { ReplayEnds uri.now (instant_of date.now) (devices (S.tapped source) (W.seen out.old)
+        (E.seen err.old)) (devices (S.tapped result.1) (W.seen out.new) (E.seen err.new)) result.0 }
 
     // The source still holds what it held.
-    ensures kept { S.holds result.1 ≡ S.holds source }
+    ensures kept { (S.tapped result.1).holds ≡ (S.tapped source).holds }
 {
     match read_date(date.as_bytes()) {
         Some(moment) => replay_as_of(alloc, uri, &moment, source, out, err),
@@ -95,16 +84,11 @@ where
     S: Source + Drop,
     W: Sink,
     E: Sink,
-    ensures ends { ReplayEnds uri.now (Some moment.now)
-        (devices (tapped (S.holds source) (S.faults source) (S.reads source) (S.asked source) (S.watches source)
-        (S.strays source)) (seen (W.tells out.old) (W.faults out.old)) (seen (E.tells err.old) (E.faults err.old)))
-        (devices (tapped (S.holds result.1) (S.faults result.1) (S.reads result.1) (S.asked result.1)
-        (S.watches result.1) (S.strays result.1))
-        (seen (W.tells out.new) (W.faults out.new)) (seen (E.tells err.new) (E.faults err.new)))
-        result.0 }
+    ensures ends { ReplayEnds uri.now (Some moment.now) (devices (S.tapped source) (W.seen out.old) (E.seen err.old))
+        (devices (S.tapped result.1) (W.seen out.new) (E.seen err.new)) result.0 }
 
     // The source still holds what it held.
-    ensures kept { S.holds result.1 ≡ S.holds source }
+    ensures kept { (S.tapped result.1).holds ≡ (S.tapped source).holds }
 {
     let mut archive = match Archive::open(alloc, source) {
         Ok(archive) => archive,
@@ -116,8 +100,7 @@ where
 
 /// Tells why a block isn't written, or not whole, and answers the exit status.
 fn tell_extract<E: Sink>(answer: Result<u64, ExtractFault>, err: &mut E) -> u8
-    ensures told { TellsIf (extract_line answer) (seen (E.tells err.old) (E.faults err.old))
-        (seen (E.tells err.new) (E.faults err.new)) }
+    ensures told { TellsIf (extract_line answer) (E.seen err.old) (E.seen err.new) }
     ensures status { result ≡ extract_status answer }
 {
     match answer {
@@ -132,8 +115,7 @@ fn tell_extract<E: Sink>(answer: Result<u64, ExtractFault>, err: &mut E) -> u8
 
 /// Tells what is said of a body, or why it isn't written, or not whole, and answers the exit status.
 fn tell_replay<E: Sink>(answer: Result<Answer, ReplayFault>, err: &mut E) -> u8
-    ensures told { Tells (replay_line answer) (seen (E.tells err.old) (E.faults err.old))
-        (seen (E.tells err.new) (E.faults err.new)) }
+    ensures told { Tells (replay_line answer) (E.seen err.old) (E.seen err.new) }
     ensures status { result ≡ replay_status answer }
 {
     match answer {

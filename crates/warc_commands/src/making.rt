@@ -1,18 +1,19 @@
 //! What the program does to write one record, made of a file.
-ghost use Rattle.std.specs.Prelude.{◌≡◌, ℕ, ◌<◌, ◌⊎◌, List, length, take, Some, IfOk, IfErr};
+ghost use Rattle.std.specs.Option.{IfSome};
+ghost use Rattle.std.specs.Prelude.{◌≡◌, ℕ, ◌+◌, ◌<◌, nat_lt, List, length, take, Err, Some, is_none, IfOk, IfErr};
 ghost use Rattle.warc_frame.specs.Failing.{HasFailedBy};
-ghost use Rattle.warc_frame.specs.Seen.{seen, tapped};
+ghost use Rattle.warc_frame.specs.Record.{max_block};
 ghost use Rattle.warc_frame.specs.Send.{sent_of};
-ghost use Rattle.warc_write.specs.Making.{make_fault_text};
+ghost use Rattle.warc_write.specs.Making.{Makes, made, make_fault_text};
 ghost use Rattle.warc_commands.specs.Devices.{devices};
-ghost use Rattle.warc_commands.specs.Program.{MakeEnds, Tells, told_line};
+ghost use Rattle.warc_commands.specs.Program.{MakeEnds, Tells, plan_of, told_line};
 
-use crate::program::{DONE, FAILED, tell, tell_cut};
+use crate::program::{DONE, FAILED, line_of, tell, tell_cut};
 use crate::words::Draft;
 use std::alloc::Allocator;
-use warc_frame::{MAX_BLOCK, OutFault, Sink, Source};
+use warc_frame::{Framed, MAX_BLOCK, OutFault, Sink, Source};
 use warc_record::Kind;
-use warc_write::{MakeFault, make, render_one};
+use warc_write::{MakeFault, make, refusal_of_long, render_one};
 
 /// How many bytes a read asks for.
 const PIECE: usize = 65_536;
@@ -25,10 +26,10 @@ fn read_through<S: Source, A: Allocator>(
     buf: &mut [u8],
 ) -> Result<Vec<u8, A>, OutFault>
     requires { 0 < length buf.old }
-    ensures bytes { (bytes : List ℕ) → S.holds source.old ≡ Some bytes →
-        IfOk result (λ read. read.items ≡ take most bytes) }
-    ensures kept { S.holds source.new ≡ S.holds source.old }
-    ensures failed { HasFailedBy result (S.faults source.old) (S.faults source.new) }
+    ensures bytes { (bytes : List ℕ) → (S.tapped source.old).holds ≡ Some bytes → IfOk result
+        (λ read. read.items ≡ take most bytes) }
+    ensures kept { (S.tapped source.new).holds ≡ (S.tapped source.old).holds }
+    ensures failed { HasFailedBy result (S.tapped source.old).faults (S.tapped source.new).faults }
     ensures none { IfErr result (λ fault. sent_of fault ≡ 0) }
 {
     let mut read = Vec::new(alloc);
@@ -50,25 +51,96 @@ fn read_through<S: Source, A: Allocator>(
     Ok(read)
 }
 
-/// All bytes of a source, or as many of its first.
-fn read_whole<S: Source, A: Allocator + Copy>(
-    alloc: A,
-    source: &mut S,
-    most: u64,
-) -> Result<Vec<u8, A>, OutFault>
-    ensures bytes { (bytes : List ℕ) → S.holds source.old ≡ Some bytes →
-        IfOk result (λ read. read.items ≡ take most bytes) }
-    ensures kept { S.holds source.new ≡ S.holds source.old }
-    ensures failed { HasFailedBy result (S.faults source.old) (S.faults source.new) }
+/// Whether a byte stands at the offset of a source.
+fn has_byte_at<S: Source>(source: &mut S, at: u64) -> Result<bool, OutFault>
+    ensures stands { (bytes : List ℕ) → (S.tapped source.old).holds ≡ Some bytes → IfOk result (λ stands. stands ≡
+        nat_lt at (length bytes)) }
+    ensures kept { (S.tapped source.new).holds ≡ (S.tapped source.old).holds }
+    ensures failed { HasFailedBy result (S.tapped source.old).faults (S.tapped source.new).faults }
     ensures none { IfErr result (λ fault. sent_of fault ≡ 0) }
 {
+    let mut byte = [0u8];
+    match source.read_at(at, &mut byte) {
+        Ok(n) => Ok(n > 0),
+        Err(_) => Err(OutFault::Read(0)),
+    }
+}
+
+/// Whether a source has more bytes than a block may have. It is asked for single bytes, each twice as far out as the
+/// one before, so that a short file isn't asked where its file system can't seek.
+fn is_long<S: Source>(source: &mut S) -> Result<bool, OutFault>
+    ensures long { (bytes : List ℕ) → (S.tapped source.old).holds ≡ Some bytes → IfOk result (λ long. long ≡ nat_lt
+        max_block (length bytes)) }
+    ensures kept { (S.tapped source.new).holds ≡ (S.tapped source.old).holds }
+    ensures failed { HasFailedBy result (S.tapped source.old).faults (S.tapped source.new).faults }
+    ensures none { IfErr result (λ fault. sent_of fault ≡ 0) }
+{
+    let mut at = PIECE as u64;
+    'asking: while at < MAX_BLOCK {
+        if !has_byte_at(source, at)? {
+            return Ok(false);
+        }
+        at *= 2;
+    }
+    has_byte_at(source, MAX_BLOCK)
+}
+
+/// All bytes of a source, or nothing where they are more than a block may have.
+fn read_block<S: Source, A: Allocator + Copy>(
+    alloc: A,
+    source: &mut S,
+) -> Result<Option<Vec<u8, A>>, OutFault>
+    ensures long { (bytes : List ℕ) → (S.tapped source.old).holds ≡ Some bytes → IfOk result (λ block. is_none block ≡
+        nat_lt max_block (length bytes)) }
+    ensures bytes { (bytes : List ℕ) → (S.tapped source.old).holds ≡ Some bytes → IfOk result (λ block. IfSome block (λ
+        read. read.items ≡ take (max_block + 1) bytes)) }
+    ensures kept { (S.tapped source.new).holds ≡ (S.tapped source.old).holds }
+    ensures failed { HasFailedBy result (S.tapped source.old).faults (S.tapped source.new).faults }
+    ensures none { IfErr result (λ fault. sent_of fault ≡ 0) }
+{
+    if is_long(source)? {
+        return Ok(None);
+    }
     let Ok(mut buf) = vec![in alloc; 0u8; PIECE] else {
         return Err(OutFault::Memory(0));
     };
-    read_through(alloc, source, most, &mut buf)
+    Ok(Some(read_through(alloc, source, MAX_BLOCK + 1, &mut buf)?))
 }
 
-/// Writes one record, whose block are the bytes of the source. They are read first.
+/// The record of these words and the bytes of a file.
+fn make_by<A: Allocator + Copy>(
+    alloc: A,
+    draft: &Draft<'_>,
+    block: &[u8],
+) -> Result<Framed<A>, MakeFault>
+    ensures { (bytes : List ℕ) → block.now ≡ take (max_block + 1) bytes →
+        Makes result (made (plan_of draft.now bytes)) }
+{
+    make(
+        alloc,
+        Kind::named(draft.kind.as_bytes()),
+        draft.uri.as_bytes(),
+        draft.date.as_bytes(),
+        draft.uuid.as_bytes(),
+        draft.content_type.as_bytes(),
+        block,
+    )
+}
+
+/// Why no record is made of a file with more bytes than a block may have.
+fn refusal_of(draft: &Draft<'_>) -> MakeFault
+    ensures { (bytes : List ℕ) → max_block < length bytes → made (plan_of draft.now bytes) ≡ Err result }
+{
+    refusal_of_long(
+        Kind::named(draft.kind.as_bytes()),
+        draft.uri.as_bytes(),
+        draft.date.as_bytes(),
+        draft.uuid.as_bytes(),
+        draft.content_type.as_bytes(),
+    )
+}
+
+/// Writes one record, whose block are the bytes of the source. They are read first, unless they are too many.
 pub(crate) fn write<A, S, W, E>(
     alloc: A,
     draft: &Draft<'_>,
@@ -81,26 +153,19 @@ where
     S: Source + Drop,
     W: Sink,
     E: Sink,
-    ensures ends { MakeEnds draft.now
-        (devices (tapped (S.holds source) (S.faults source) (S.reads source) (S.asked source) (S.watches source)
-        (S.strays source)) (seen (W.tells out.old) (W.faults out.old)) (seen (E.tells err.old) (E.faults err.old)))
-        (devices (tapped (S.holds result.1) (S.faults result.1) (S.reads result.1) (S.asked result.1)
-        (S.watches result.1) (S.strays result.1))
-        (seen (W.tells out.new) (W.faults out.new)) (seen (E.tells err.new) (E.faults err.new)))
-        result.0 }
+    ensures ends { MakeEnds draft.now (devices (S.tapped source) (W.seen out.old) (E.seen err.old)) (devices
+        (S.tapped result.1) (W.seen out.new) (E.seen err.new)) result.0 }
 
     // The source still holds what it held.
-    ensures kept { S.holds result.1 ≡ S.holds source }
+    ensures kept { (S.tapped result.1).holds ≡ (S.tapped source).holds }
 {
     let mut source = source;
-    let block = match read_whole(alloc, &mut source, MAX_BLOCK + 1) {
-        Ok(block) => block,
+    let block = match read_block(alloc, &mut source) {
+        Ok(Some(block)) => block,
+        Ok(None) => return (tell_unmade(refusal_of(draft), err), source),
         Err(fault) => return (tell_cut(fault, err), source),
     };
-    let kind = Kind::named(draft.kind.as_bytes());
-    let (uri, date) = (draft.uri.as_bytes(), draft.date.as_bytes());
-    let (uuid, content_type) = (draft.uuid.as_bytes(), draft.content_type.as_bytes());
-    let framed = match make(alloc, kind, uri, date, uuid, content_type, &block) {
+    let framed = match make_by(alloc, draft, &block) {
         Ok(framed) => framed,
         Err(fault) => return (tell_unmade(fault, err), source),
     };
@@ -112,23 +177,9 @@ where
 
 /// Tells why no record is made, and answers the exit status.
 fn tell_unmade<E: Sink>(fault: MakeFault, err: &mut E) -> u8
-    ensures told { Tells (told_line (make_fault_text fault)) (seen (E.tells err.old) (E.faults err.old))
-        (seen (E.tells err.new) (E.faults err.new)) }
+    ensures told { Tells (told_line (make_fault_text fault)) (E.seen err.old) (E.seen err.new) }
     ensures status { result ≡ 3 }
 {
-    tell(line_of(fault), err);
+    tell(line_of(fault.name()).as_str(), err);
     FAILED
-}
-
-/// The line that tells why no record is made.
-fn line_of(fault: MakeFault) -> &'static str
-    ensures { result.now ≡ told_line (make_fault_text fault) }
-{
-    match fault {
-        MakeFault::Date => "warc: M1 Date\n",
-        MakeFault::Text => "warc: M2 Text\n",
-        MakeFault::TooLong => "warc: M3 TooLong\n",
-        MakeFault::Memory => "warc: M4 Memory\n",
-        MakeFault::Kind => "warc: M5 Kind\n",
-    }
 }

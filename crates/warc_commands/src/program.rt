@@ -5,7 +5,6 @@ ghost use Rattle.warc_frame.specs.Send.{sent_of};
 ghost use Rattle.warc_commands.specs.Program.{CheckEnds, Ends, FaultEnds, IsShown, IsStatusOf, ListEnds, Tells, WriteEnds, fault_line, status_of_kind, told_line};
 ghost use Rattle.warc_commands.specs.Devices.{devices};
 ghost use Rattle.warc.specs.Forms.{texts_as};
-ghost use Rattle.warc_frame.specs.Seen.{seen, tapped};
 
 use crate::giving::{extract, replay};
 use crate::making::write;
@@ -49,19 +48,15 @@ where
     S: Source + Drop,
     W: Sink,
     E: Sink,
-    ensures ends { Ends command.now
-        (devices (tapped (S.holds source) (S.faults source) (S.reads source) (S.asked source) (S.watches source)
-        (S.strays source)) (seen (W.tells out.old) (W.faults out.old)) (seen (E.tells err.old) (E.faults err.old)))
-        (devices (tapped (S.holds result.1) (S.faults result.1) (S.reads result.1) (S.asked result.1)
-        (S.watches result.1) (S.strays result.1))
-        (seen (W.tells out.new) (W.faults out.new)) (seen (E.tells err.new) (E.faults err.new)))
-        result.0 }
+    ensures ends { Ends command.now (devices (S.tapped source) (W.seen out.old) (E.seen err.old)) (devices
+        (S.tapped result.1) (W.seen out.new) (E.seen err.new)) result.0 }
 
     // The source still holds what it held.
-    ensures kept { S.holds result.1 ≡ S.holds source }
+    ensures kept { (S.tapped result.1).holds ≡ (S.tapped source).holds }
 
     // Nothing is written where the archive is refused, whatever the source holds.
-    ensures refused { result.0 ≡ 2 → (W.tells out.new ≡ W.tells out.old) × (W.faults out.new ≡ W.faults out.old) }
+    ensures refused { result.0 ≡ 2 → ((W.seen out.new).tells ≡ (W.seen out.old).tells) × ((W.seen out.new).faults ≡
+        (W.seen out.old).faults) }
     ensures answers { IsStatusOf command.now result.0 }
 {
     match command {
@@ -86,16 +81,11 @@ where
     S: Source + Drop,
     W: Sink,
     E: Sink,
-    ensures ends { ListEnds
-        (devices (tapped (S.holds source) (S.faults source) (S.reads source) (S.asked source) (S.watches source)
-        (S.strays source)) (seen (W.tells out.old) (W.faults out.old)) (seen (E.tells err.old) (E.faults err.old)))
-        (devices (tapped (S.holds result.1) (S.faults result.1) (S.reads result.1) (S.asked result.1)
-        (S.watches result.1) (S.strays result.1))
-        (seen (W.tells out.new) (W.faults out.new)) (seen (E.tells err.new) (E.faults err.new)))
-        result.0 }
+    ensures ends { ListEnds (devices (S.tapped source) (W.seen out.old) (E.seen err.old)) (devices (S.tapped result.1)
+        (W.seen out.new) (E.seen err.new)) result.0 }
 
     // The source still holds what it held.
-    ensures kept { S.holds result.1 ≡ S.holds source }
+    ensures kept { (S.tapped result.1).holds ≡ (S.tapped source).holds }
 {
     let listing = match Listing::open(alloc, source) {
         Ok(listing) => listing,
@@ -113,16 +103,11 @@ where
     S: Source + Drop,
     W: Sink,
     E: Sink,
-    ensures ends { CheckEnds
-        (devices (tapped (S.holds source) (S.faults source) (S.reads source) (S.asked source) (S.watches source)
-        (S.strays source)) (seen (W.tells out.old) (W.faults out.old)) (seen (E.tells err.old) (E.faults err.old)))
-        (devices (tapped (S.holds result.1) (S.faults result.1) (S.reads result.1) (S.asked result.1)
-        (S.watches result.1) (S.strays result.1))
-        (seen (W.tells out.new) (W.faults out.new)) (seen (E.tells err.new) (E.faults err.new)))
-        result.0 }
+    ensures ends { CheckEnds (devices (S.tapped source) (W.seen out.old) (E.seen err.old)) (devices (S.tapped result.1)
+        (W.seen out.new) (E.seen err.new)) result.0 }
 
     // The source still holds what it held.
-    ensures kept { S.holds result.1 ≡ S.holds source }
+    ensures kept { (S.tapped result.1).holds ≡ (S.tapped source).holds }
 {
     let mut listing = match Listing::open(alloc, source) {
         Ok(listing) => listing,
@@ -141,16 +126,11 @@ where
     S: Source + Drop,
     W: Sink,
     E: Sink,
-    ensures ends { WriteEnds (texts_as form)
-        (devices (tapped (S.holds source) (S.faults source) (S.reads source) (S.asked source) (S.watches source)
-        (S.strays source)) (seen (W.tells out.old) (W.faults out.old)) (seen (E.tells err.old) (E.faults err.old)))
-        (devices (tapped (S.holds result.1) (S.faults result.1) (S.reads result.1) (S.asked result.1)
-        (S.watches result.1) (S.strays result.1))
-        (seen (W.tells out.new) (W.faults out.new)) (seen (E.tells err.new) (E.faults err.new)))
-        result.0 }
+    ensures ends { WriteEnds (texts_as form) (devices (S.tapped source) (W.seen out.old) (E.seen err.old)) (devices
+        (S.tapped result.1) (W.seen out.new) (E.seen err.new)) result.0 }
 
     // The source still holds what it held.
-    ensures kept { S.holds result.1 ≡ S.holds source }
+    ensures kept { (S.tapped result.1).holds ≡ (S.tapped source).holds }
 {
     let mut archive = match Listing::open(alloc, source) {
         Ok(archive) => archive,
@@ -172,8 +152,7 @@ fn status_of_count(count: usize) -> u8
 
 /// Tells why an archive isn't opened, and answers the exit status.
 pub(crate) fn tell_refusal<E: Sink>(fault: Fault, err: &mut E) -> u8
-    ensures told { Tells (fault_line fault) (seen (E.tells err.old) (E.faults err.old))
-        (seen (E.tells err.new) (E.faults err.new)) }
+    ensures told { Tells (fault_line fault) (E.seen err.old) (E.seen err.new) }
     ensures status { result ≡ status_of_kind fault.kind }
 {
     tell(line_of_fault(fault).as_str(), err);
@@ -182,8 +161,7 @@ pub(crate) fn tell_refusal<E: Sink>(fault: Fault, err: &mut E) -> u8
 
 /// Tells why an output ends early, and answers the exit status.
 pub(crate) fn tell_cut<E: Sink>(fault: OutFault, err: &mut E) -> u8
-    ensures told { Tells (told_line (out_fault_text fault)) (seen (E.tells err.old) (E.faults err.old))
-        (seen (E.tells err.new) (E.faults err.new)) }
+    ensures told { Tells (told_line (out_fault_text fault)) (E.seen err.old) (E.seen err.new) }
     ensures status { result ≡ 3 }
 {
     tell(line_of_cut(fault).as_str(), err);
@@ -202,8 +180,7 @@ fn status_of(kind: FaultKind) -> u8
 
 /// Writes a line, as far as the sink takes it.
 pub(crate) fn tell<E: Sink>(line: &str, err: &mut E)
-    ensures { Tells line.now (seen (E.tells err.old) (E.faults err.old))
-        (seen (E.tells err.new) (E.faults err.new)) }
+    ensures { Tells line.now (E.seen err.old) (E.seen err.new) }
 {
     let _ = send_all(err, line.as_bytes());
 }
@@ -224,18 +201,6 @@ fn line_of_fault(fault: Fault) -> ArrayString<LINE>
     line
 }
 
-/// How an output ended, but for the number of bytes that went out.
-fn cause_of(fault: OutFault) -> &'static str
-    ensures text { result.now ++ decimal (sent_of fault) ≡ out_fault_text fault }
-    ensures short { length result.now ≤ 20 }
-{
-    match fault {
-        OutFault::Read(_) => "read failed after ",
-        OutFault::Write(_) => "write failed after ",
-        OutFault::Memory(_) => "out of memory after ",
-    }
-}
-
 /// The line that tells why an output ends early.
 fn line_of_cut(fault: OutFault) -> ArrayString<LINE>
     ensures { result.bytes ≡ told_line (out_fault_text fault) }
@@ -243,8 +208,20 @@ fn line_of_cut(fault: OutFault) -> ArrayString<LINE>
     let mut digits = Buffer::new();
     let mut line = ArrayString::new();
     line.push_str("warc: ");
-    line.push_str(cause_of(fault));
+    line.push_str(fault.cause());
     line.push_str(digits.format(fault.sent()));
+    line.push_str("\n");
+    line
+}
+
+/// The line that tells a short text.
+pub(crate) fn line_of(text: &str) -> ArrayString<LINE>
+    requires { length text.now ≤ 17 }
+    ensures { result.bytes ≡ told_line text.now }
+{
+    let mut line = ArrayString::new();
+    line.push_str("warc: ");
+    line.push_str(text);
     line.push_str("\n");
     line
 }
@@ -252,10 +229,7 @@ fn line_of_cut(fault: OutFault) -> ArrayString<LINE>
 /// Tells why words name no command: where `clap`'s text was asked for it goes to `out`, and else to
 /// `err`. The answer is the exit status: 0 where it was asked for and written, else 3.
 pub fn refuse<W: Sink, E: Sink>(fault: &CommandFault, out: &mut W, err: &mut E) -> u8
-    ensures { FaultEnds fault.now (seen (W.tells out.old) (W.faults out.old))
-        (seen (W.tells out.new) (W.faults out.new))
-        (seen (E.tells err.old) (E.faults err.old))
-        (seen (E.tells err.new) (E.faults err.new)) result }
+    ensures { FaultEnds fault.now (W.seen out.old) (W.seen out.new) (E.seen err.old) (E.seen err.new) result }
 {
     match fault {
         CommandFault::Usage { text, asked: true } => show(text.as_str(), out, err),
@@ -269,10 +243,7 @@ pub fn refuse<W: Sink, E: Sink>(fault: &CommandFault, out: &mut W, err: &mut E) 
 
 /// Writes a text that was asked for.
 fn show<W: Sink, E: Sink>(text: &str, out: &mut W, err: &mut E) -> u8
-    ensures { IsShown text.now (seen (W.tells out.old) (W.faults out.old))
-        (seen (W.tells out.new) (W.faults out.new))
-        (seen (E.tells err.old) (E.faults err.old))
-        (seen (E.tells err.new) (E.faults err.new)) result }
+    ensures { IsShown text.now (W.seen out.old) (W.seen out.new) (E.seen err.old) (E.seen err.new) result }
 {
     match send_all(out, text.as_bytes()) {
         Ok(()) => DONE,

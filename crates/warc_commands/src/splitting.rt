@@ -1,6 +1,5 @@
 //! What the program does to split the records of an archive.
 ghost use Rattle.std.specs.Prelude.{◌≡◌, ◌⊎◌};
-ghost use Rattle.warc_frame.specs.Seen.{seen, tapped};
 ghost use Rattle.warc_commands.specs.Devices.{devices};
 ghost use Rattle.warc_commands.specs.Program.{SplitEnds, size_of};
 
@@ -33,16 +32,11 @@ where
     S: Source + Drop,
     W: Sink,
     E: Sink,
-    ensures ends { SplitEnds (size_of size.now)
-        (devices (tapped (S.holds source) (S.faults source) (S.reads source) (S.asked source) (S.watches source)
-        (S.strays source)) (seen (W.tells out.old) (W.faults out.old)) (seen (E.tells err.old) (E.faults err.old)))
-        (devices (tapped (S.holds result.1) (S.faults result.1) (S.reads result.1) (S.asked result.1)
-        (S.watches result.1) (S.strays result.1))
-        (seen (W.tells out.new) (W.faults out.new)) (seen (E.tells err.new) (E.faults err.new)))
-        result.0 }
+    ensures ends { SplitEnds (size_of size.now) (devices (S.tapped source) (W.seen out.old) (E.seen err.old)) (devices
+        (S.tapped result.1) (W.seen out.new) (E.seen err.new)) result.0 }
 
     // The source still holds what it held.
-    ensures kept { S.holds result.1 ≡ S.holds source }
+    ensures kept { (S.tapped result.1).holds ≡ (S.tapped source).holds }
 {
     let Some(size) = size_of(size.as_bytes()) else {
         tell("warc: bad size\n", err);

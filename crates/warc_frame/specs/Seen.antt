@@ -11,10 +11,6 @@ pub record Tapped : Type 0 where
   pub watches : ℕ → Bool
   pub strays : ℕ
 
-abbrev pub tapped : Option (List ℕ) → ℕ → ℕ → ℕ → (ℕ → Bool) → ℕ → Tapped
-tapped holds faults reads asked watches strays =
-    record { holds = holds; faults = faults; reads = reads; asked = asked; watches = watches; strays = strays }
-
 -- a fact about the bytes that a source holds, where they are known
 abbrev pub IfHeld : Option (List ℕ) → (List ℕ → Type 0) → Type 0
 IfHeld holds P = (bytes : List ℕ) → holds ≡ Some bytes → P bytes
@@ -28,6 +24,3 @@ AsksOnly These old new = ((at : ℕ) → These at → old.watches at ≡ false) 
 pub record Seen : Type 0 where
   pub tells : Option (List ℕ)
   pub faults : ℕ
-
-abbrev pub seen : Option (List ℕ) → ℕ → Seen
-seen tells faults = record { tells = tells; faults = faults }

@@ -1,5 +1,5 @@
 //! The first fault of an archive: what it is, and where.
-ghost use Rattle.std.specs.Prelude.{◌≡◌, ◌≤◌, ◌++◌, length, Some};
+ghost use Rattle.std.specs.Prelude.{◌≡◌, ◌≤◌, ◌++◌, decimal, length, Some};
 ghost use Rattle.warc_frame.specs.Send.{sent_of};
 ghost use Rattle.warc_frame.specs.FaultText.{name_of, kind_text, fault_text, out_fault_text};
 
@@ -164,17 +164,25 @@ impl OutFault {
             OutFault::Read(sent) | OutFault::Write(sent) | OutFault::Memory(sent) => sent,
         }
     }
+
+    /// What comes before that number in the fault's text, in at most 20 bytes.
+    pub fn cause(self) -> &'static str
+        ensures text { result.now ++ decimal (sent_of self) ≡ out_fault_text self }
+        ensures short { length result.now ≤ 20 }
+    {
+        match self {
+            OutFault::Read(_) => "read failed after ",
+            OutFault::Write(_) => "write failed after ",
+            OutFault::Memory(_) => "out of memory after ",
+        }
+    }
 }
 
 impl fmt::Display for OutFault {
     ghost output = { λ fault. Some (out_fault_text fault) };
 
     fn fmt<W: fmt::Write>(&self, f: &mut fmt::Formatter<W>) -> fmt::Result {
-        match self {
-            OutFault::Read(sent) => write!(f, "read failed after {sent}"),
-            OutFault::Write(sent) => write!(f, "write failed after {sent}"),
-            OutFault::Memory(sent) => write!(f, "out of memory after {sent}"),
-        }
+        write!(f, "{}{}", self.cause(), self.sent())
     }
 }
 

@@ -3,7 +3,6 @@ ghost use Rattle.std.specs.Prelude.{◌≡◌, ℕ, ◌+◌, ◌^◌, ◌<◌, �
 ghost use Rattle.warc_frame.specs.Copying.{Copies, HasRange};
 ghost use Rattle.warc_frame.specs.Count.{raised};
 ghost use Rattle.warc_frame.specs.Ranges.{HasFilled};
-ghost use Rattle.warc_frame.specs.Seen.{seen, tapped};
 
 use crate::fault::OutFault;
 use crate::laws::{staged_went_out, went_out_of_longer};
@@ -15,23 +14,19 @@ use crate::staging::OutBuffer;
 /// ends too early.
 pub fn read_range<S: Source>(source: &mut S, at: u64, buf: &mut [u8]) -> Result<(), ReadFault>
     requires { at + length buf.old < 2 ^ 64 }
-    ensures bytes { (bytes : List ℕ) → S.holds source.old ≡ Some bytes →
-        OnOk result (buf.new ≡ take (length buf.old) (drop at bytes)) }
-    ensures kept { S.holds source.new ≡ S.holds source.old }
-    ensures sound { OnOk result (S.faults source.new ≡ S.faults source.old) }
+    ensures bytes { (bytes : List ℕ) → (S.tapped source.old).holds ≡ Some bytes → OnOk result (buf.new ≡ take
+        (length buf.old) (drop at bytes)) }
+    ensures kept { (S.tapped source.new).holds ≡ (S.tapped source.old).holds }
+    ensures sound { OnOk result ((S.tapped source.new).faults ≡ (S.tapped source.old).faults) }
 
     // It asks for no byte outside, and reads at most once for each.
-    ensures filled { HasFilled at (length buf.old)
-        (tapped (S.holds source.old) (S.faults source.old) (S.reads source.old) (S.asked source.old)
-        (S.watches source.old) (S.strays source.old))
-        (tapped (S.holds source.new) (S.faults source.new) (S.reads source.new) (S.asked source.new)
-        (S.watches source.new) (S.strays source.new)) }
+    ensures filled { HasFilled at (length buf.old) (S.tapped source.old) (S.tapped source.new) }
 
     // An error is a failure of the source, unless it gives too little.
-    ensures may { OnErr result
-        ((S.faults source.new ≡ S.faults source.old) ⊎ (S.faults source.new ≡ raised (S.faults source.old))) }
-    ensures failed { (bytes : List ℕ) → S.holds source.old ≡ Some bytes → at + length buf.old ≤ length bytes →
-        OnErr result (S.faults source.new ≡ raised (S.faults source.old)) }
+    ensures may { OnErr result (((S.tapped source.new).faults ≡ (S.tapped source.old).faults) ⊎
+        ((S.tapped source.new).faults ≡ raised (S.tapped source.old).faults)) }
+    ensures failed { (bytes : List ℕ) → (S.tapped source.old).holds ≡ Some bytes → at + length buf.old ≤ length bytes →
+        OnErr result ((S.tapped source.new).faults ≡ raised (S.tapped source.old).faults) }
 {
     let mut filled = 0;
     'filling: while filled < buf.len() {
@@ -68,20 +63,11 @@ pub fn put_range<S: Source, W: Sink>(
     out: &mut W,
 ) -> Result<(), OutFault>
     requires { 0 < length scratch.old }
-    ensures copied { Copies (λ bytes. take len (drop at bytes)) (HasRange at len)
-        (tapped (S.holds source.old) (S.faults source.old) (S.reads source.old) (S.asked source.old)
-        (S.watches source.old) (S.strays source.old))
-        (tapped (S.holds source.new) (S.faults source.new) (S.reads source.new) (S.asked source.new)
-        (S.watches source.new) (S.strays source.new))
-        (seen (W.tells out.old) (W.faults out.old)) (seen (W.tells out.new) (W.faults out.new))
-        buffer.old buffer.new result }
+    ensures copied { Copies (λ bytes. take len (drop at bytes)) (HasRange at len) (S.tapped source.old)
+        (S.tapped source.new) (W.seen out.old) (W.seen out.new) buffer.old buffer.new result }
 
     // It asks for no byte outside, and reads at most once for each.
-    ensures filled { HasFilled at len
-        (tapped (S.holds source.old) (S.faults source.old) (S.reads source.old) (S.asked source.old)
-        (S.watches source.old) (S.strays source.old))
-        (tapped (S.holds source.new) (S.faults source.new) (S.reads source.new) (S.asked source.new)
-        (S.watches source.new) (S.strays source.new)) }
+    ensures filled { HasFilled at len (S.tapped source.old) (S.tapped source.new) }
 {
     staged_went_out();
     went_out_of_longer();

@@ -26,9 +26,11 @@ impl std::fmt::Display for SendFault {
 
 /// Writes the whole piece, by single writes, so that the count in a fault is exact.
 pub fn send_all<W: Sink>(out: &mut W, piece: &[u8]) -> Result<(), SendFault>
-    ensures bytes { W.tells out.new ≡ append_known (W.tells out.old) (take (count_sent result piece.now) piece.now) }
+    ensures bytes { (W.seen out.new).tells ≡ append_known (W.seen out.old).tells (take (count_sent result piece.now)
+        piece.now) }
     ensures bound { IfErr result (λ e. e.sent < length piece.now) }
-    ensures cause { W.faults out.new ≡ (if is_err result then raised (W.faults out.old) else W.faults out.old) }
+    ensures cause { (W.seen out.new).faults ≡ (if is_err result then raised (W.seen out.old).faults else
+        (W.seen out.old).faults) }
 {
     let mut sent = 0;
     'writing: while sent < piece.len() {

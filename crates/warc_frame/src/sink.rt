@@ -3,6 +3,7 @@ ghost use Rattle.std.specs.Prelude.{◌≡◌, ℕ, ◌-◌, ◌<◌, ◌≤◌,
 ghost use Rattle.std.specs.Io.KnownBytes.{append_known, WriteAppends};
 ghost use Rattle.warc_frame.specs.Count.{raised};
 ghost use Rattle.warc_frame.specs.Device.{taken, failed};
+ghost use Rattle.warc_frame.specs.Seen.{Seen};
 
 use crate::count::raise;
 use std::alloc::{Allocator, Global};
@@ -27,19 +28,17 @@ impl fmt::Display for WriteFault {
 
 /// Takes bytes, as many of each piece as it likes.
 pub trait Sink {
-    /// The bytes that were taken, where that is told.
-    ghost tells: { Self → Option (List ℕ) };
-
-    /// How often it has failed. A count stays at 2^64 - 1.
-    ghost faults: { Self → ℕ };
+    /// What contracts see of it: the bytes that were taken, where that is told, and how often it has failed. The count
+    /// stays at 2^64 - 1.
+    ghost seen: { Self → Seen };
 
     /// Takes a front of the piece, and answers its length. A write that takes nothing of a piece
     /// that isn't empty is a failure, too.
     fn write(&mut self, piece: &[u8]) -> Result<usize, WriteFault>
         ensures bound { IfOk result (λ n. n ≤ length piece.now) }
-        ensures bytes { tells self.new ≡ append_known (tells self.old) (take (taken result) piece.now) }
-        ensures cause { faults self.new
-            ≡ (if failed result piece.now then raised (faults self.old) else faults self.old) };
+        ensures bytes { (seen self.new).tells ≡ append_known (seen self.old).tells (take (taken result) piece.now) }
+        ensures cause { (seen self.new).faults ≡ (if failed result piece.now then raised (seen self.old).faults else
+            (seen self.old).faults) };
 }
 
 /// Whether a write failed, or took nothing of a piece that isn't empty.
@@ -98,9 +97,7 @@ impl<A: Allocator> MemSink<A> {
 }
 
 impl<A: Allocator> Sink for MemSink<A> {
-    ghost tells = { λ s. Some s.bytes };
-
-    ghost faults = { λ s. s.faults };
+    ghost seen = { λ s. record { tells = Some s.bytes; faults = s.faults } };
 
     /// It fails only where a growth of the memory is refused, and else takes the whole piece.
     fn write(&mut self, piece: &[u8]) -> Result<usize, WriteFault>
@@ -154,9 +151,7 @@ impl<W: Write> OutSink<W> {
 }
 
 impl<W: Write> Sink for OutSink<W> {
-    ghost tells = { λ _. None };
-
-    ghost faults = { λ s. s.faults };
+    ghost seen = { λ s. record { tells = None; faults = s.faults } };
 
     /// Any error of the writer is a failure, and nothing is tried again. What the writer holds,
     /// where that is known, grows by the bytes that it took.

@@ -2,6 +2,7 @@
 ghost use Rattle.std.specs.Prelude.{◌≡◌, ℕ, ◌-◌, ◌<◌, ◌≤◌, List, length, take, min, Bool, false, Option, Some, None, Ok, IfOk, is_err, if◌then◌else◌};
 ghost use Rattle.warc_frame.specs.Count.{raised};
 ghost use Rattle.warc_frame.specs.Device.{Gives};
+ghost use Rattle.warc_frame.specs.Seen.{Tapped};
 
 use crate::count::raise;
 use std::alloc::{Allocator, Global};
@@ -26,36 +27,24 @@ impl fmt::Display for ReadFault {
 
 /// Bytes that are read at any offset, in pieces as long as the source likes.
 pub trait Source {
-    /// The bytes that the source holds, where they are known.
-    ghost holds: { Self → Option (List ℕ) };
-
-    /// How often it has failed. A count stays at 2^64 - 1.
-    ghost faults: { Self → ℕ };
-
-    /// How often it was read.
-    ghost reads: { Self → ℕ };
-
-    /// The offset that was asked for last.
-    ghost asked: { Self → ℕ };
-
-    /// The offsets that it watches, whichever they are.
-    ghost watches: { Self → ℕ → Bool };
-
-    /// How often it was asked for one that it watches. So a call that leaves this count as it was, whatever
-    /// a source watches outside some offsets, asks for those alone.
-    ghost strays: { Self → ℕ };
+    /// What contracts see of it: the bytes that it holds, where they are known, how often it has failed and was read,
+    /// the offset that was asked for last, the offsets that it watches, whichever they are, and how often it was asked
+    /// for one of those. A count stays at 2^64 - 1. So a call that leaves the last count as it was, whatever a source
+    /// watches outside some offsets, asks for those alone.
+    ghost tapped: { Self → Tapped };
 
     /// Reads bytes at the offset into the front of the buffer, and answers how many.
     fn read_at(&mut self, at: u64, buf: &mut [u8]) -> Result<usize, ReadFault>
         ensures bound { IfOk result (λ n. n ≤ length buf.new) }
-        ensures bytes { (bytes : List ℕ) → holds self.old ≡ Some bytes → IfOk result (Gives bytes at buf.new) }
-        ensures kept { holds self.new ≡ holds self.old }
-        ensures cause { faults self.new ≡ (if is_err result then raised (faults self.old) else faults self.old) }
-        ensures counted { reads self.new ≡ raised (reads self.old) }
-        ensures asked { asked self.new ≡ at }
-        ensures watched { watches self.new ≡ watches self.old }
-        ensures strayed { strays self.new ≡
-            (if watches self.old at then raised (strays self.old) else strays self.old) };
+        ensures bytes { (bytes : List ℕ) → (tapped self.old).holds ≡ Some bytes → IfOk result (Gives bytes at buf.new) }
+        ensures kept { (tapped self.new).holds ≡ (tapped self.old).holds }
+        ensures cause { (tapped self.new).faults ≡ (if is_err result then raised (tapped self.old).faults else
+            (tapped self.old).faults) }
+        ensures counted { (tapped self.new).reads ≡ raised (tapped self.old).reads }
+        ensures asked { (tapped self.new).asked ≡ at }
+        ensures watched { (tapped self.new).watches ≡ (tapped self.old).watches }
+        ensures strayed { (tapped self.new).strays ≡ (if (tapped self.old).watches at then raised
+            (tapped self.old).strays else (tapped self.old).strays) };
 }
 
 /// Bytes in memory, of which each read gives at most `most`.
@@ -104,17 +93,14 @@ impl<A: Allocator> MemSource<A> {
 }
 
 impl<A: Allocator> Source for MemSource<A> {
-    ghost holds = { λ s. Some s.bytes };
-
-    ghost faults = { λ _. 0 };
-
-    ghost reads = { λ s. s.reads };
-
-    ghost asked = { λ s. s.asked };
-
-    ghost watches = { λ _ _. false };
-
-    ghost strays = { λ _. 0 };
+    ghost tapped = { λ s. record {
+      holds = Some s.bytes;
+      faults = 0;
+      reads = s.reads;
+      asked = s.asked;
+      watches = λ _. false;
+      strays = 0;
+    } };
 
     /// It never fails, and gives as many bytes as there are, up to `most` and the buffer's length.
     fn read_at(&mut self, at: u64, buf: &mut [u8]) -> Result<usize, ReadFault>
@@ -196,17 +182,14 @@ fn seek_and_read<F: Read + Seek>(file: &mut F, at: u64, buf: &mut [u8]) -> Resul
 }
 
 impl<F: Read + Seek> Source for FileSource<F> {
-    ghost holds = { λ _. None };
-
-    ghost faults = { λ s. s.faults };
-
-    ghost reads = { λ s. s.reads };
-
-    ghost asked = { λ s. s.asked };
-
-    ghost watches = { λ _ _. false };
-
-    ghost strays = { λ _. 0 };
+    ghost tapped = { λ s. record {
+      holds = None;
+      faults = s.faults;
+      reads = s.reads;
+      asked = s.asked;
+      watches = λ _. false;
+      strays = 0;
+    } };
 
     /// Any error of the seek or the read is a failure, and nothing is tried again.
     fn read_at(&mut self, at: u64, buf: &mut [u8]) -> Result<usize, ReadFault> {

@@ -4,7 +4,6 @@ ghost use Rattle.std.specs.Io.KnownBytes.{append_known};
 ghost use Rattle.std.specs.List.{concat};
 ghost use Rattle.warc_frame.specs.Count.{raised, capped};
 ghost use Rattle.warc_frame.specs.Putting.{Puts};
-ghost use Rattle.warc_frame.specs.Seen.{seen};
 ghost use Rattle.warc_frame.specs.Send.{count_sent, WentOut, IsStaged};
 
 use crate::send::{SendFault, send_all};
@@ -37,15 +36,15 @@ impl Model for OutBuffer {
 
 /// Writes the whole piece, and adds to the count of bytes that went out.
 fn send_counted<W: Sink>(out: &mut W, piece: &[u8], sent: &mut u64) -> Result<(), SendFault>
-    ensures out { (start : Option (List ℕ)) (gone : List ℕ) → W.tells out.old ≡ append_known start gone →
-        sent.old ≡ capped (length gone) →
-        OnOk result (W.tells out.new ≡ append_known start (gone ++ piece.now))
+    ensures out { (start : Option (List ℕ)) (gone : List ℕ) → (W.seen out.old).tells ≡ append_known start gone →
+        sent.old ≡ capped (length gone) → OnOk result ((W.seen out.new).tells ≡ append_known start (gone ++ piece.now))
         × OnOk result (sent.new ≡ capped (length (gone ++ piece.now))) }
-    ensures cut { (start : Option (List ℕ)) (gone : List ℕ) → W.tells out.old ≡ append_known start gone →
-        sent.old ≡ capped (length gone) →
-        IfErr result (λ e. WentOut start (gone ++ piece.now) (W.tells out.new) e.sent) }
+    ensures cut { (start : Option (List ℕ)) (gone : List ℕ) → (W.seen out.old).tells ≡ append_known start gone →
+        sent.old ≡ capped (length gone) → IfErr result (λ e. WentOut start (gone ++ piece.now) (W.seen out.new).tells
+        e.sent) }
     ensures number { IfErr result (λ e. sent.new ≡ e.sent) }
-    ensures cause { W.faults out.new ≡ (if is_err result then raised (W.faults out.old) else W.faults out.old) }
+    ensures cause { (W.seen out.new).faults ≡ (if is_err result then raised (W.seen out.old).faults else
+        (W.seen out.old).faults) }
 {
     match send_all(out, piece) {
         Ok(()) => {
@@ -83,15 +82,16 @@ impl OutBuffer {
 
     /// Sends what waits in the buffer. After a failed write the buffer is empty.
     pub fn flush<W: Sink>(&mut self, out: &mut W) -> Result<(), SendFault>
-        ensures out { (start : Option (List ℕ)) (output : List ℕ) → IsStaged start output (W.tells out.old) self.old →
-            OnOk result (IsStaged start output (W.tells out.new) self.new) }
-        ensures told { (start : Option (List ℕ)) (output : List ℕ) → IsStaged start output (W.tells out.old) self.old →
-            OnOk result (W.tells out.new ≡ append_known start output) }
-        ensures cut { (start : Option (List ℕ)) (output : List ℕ) → IsStaged start output (W.tells out.old) self.old →
-            IfErr result (λ e. WentOut start output (W.tells out.new) e.sent) }
+        ensures out { (start : Option (List ℕ)) (output : List ℕ) → IsStaged start output (W.seen out.old).tells
+            self.old → OnOk result (IsStaged start output (W.seen out.new).tells self.new) }
+        ensures told { (start : Option (List ℕ)) (output : List ℕ) → IsStaged start output (W.seen out.old).tells
+            self.old → OnOk result ((W.seen out.new).tells ≡ append_known start output) }
+        ensures cut { (start : Option (List ℕ)) (output : List ℕ) → IsStaged start output (W.seen out.old).tells
+            self.old → IfErr result (λ e. WentOut start output (W.seen out.new).tells e.sent) }
         ensures empty { self.new.bytes ≡ [] }
         ensures failed { IfErr result (λ e. self.new ≡ record { bytes = []; sent = e.sent }) }
-        ensures cause { W.faults out.new ≡ (if is_err result then raised (W.faults out.old) else W.faults out.old) }
+        ensures cause { (W.seen out.new).faults ≡ (if is_err result then raised (W.seen out.old).faults else
+            (W.seen out.old).faults) }
     {
         let answer = send_counted(out, &self.bytes[..self.len], &mut self.sent);
         self.len = 0;
@@ -100,13 +100,14 @@ impl OutBuffer {
 
     /// Sends what waits in the buffer where so many bytes don't fit behind it.
     fn make_room<W: Sink>(&mut self, out: &mut W, len: usize) -> Result<(), SendFault>
-        ensures out { (start : Option (List ℕ)) (output : List ℕ) → IsStaged start output (W.tells out.old) self.old →
-            OnOk result (IsStaged start output (W.tells out.new) self.new) }
-        ensures cut { (start : Option (List ℕ)) (output : List ℕ) → IsStaged start output (W.tells out.old) self.old →
-            IfErr result (λ e. WentOut start output (W.tells out.new) e.sent) }
+        ensures out { (start : Option (List ℕ)) (output : List ℕ) → IsStaged start output (W.seen out.old).tells
+            self.old → OnOk result (IsStaged start output (W.seen out.new).tells self.new) }
+        ensures cut { (start : Option (List ℕ)) (output : List ℕ) → IsStaged start output (W.seen out.old).tells
+            self.old → IfErr result (λ e. WentOut start output (W.seen out.new).tells e.sent) }
         ensures room { OnOk result (SIZE < length self.new.bytes + len → self.new.bytes ≡ []) }
         ensures failed { IfErr result (λ e. self.new ≡ record { bytes = []; sent = e.sent }) }
-        ensures cause { W.faults out.new ≡ (if is_err result then raised (W.faults out.old) else W.faults out.old) }
+        ensures cause { (W.seen out.new).faults ≡ (if is_err result then raised (W.seen out.old).faults else
+            (W.seen out.old).faults) }
     {
         if len > SIZE - self.len {
             return self.flush(out);
@@ -117,8 +118,7 @@ impl OutBuffer {
     /// Adds a piece to the output. One that is longer than the buffer goes through without being
     /// copied. After a failed write the buffer is empty.
     pub fn put<W: Sink>(&mut self, out: &mut W, piece: &[u8]) -> Result<(), SendFault>
-        ensures puts { Puts (seen (W.tells out.old) (W.faults out.old)) (seen (W.tells out.new) (W.faults out.new))
-            self.old self.new result piece.now }
+        ensures puts { Puts (W.seen out.old) (W.seen out.new) self.old self.new result piece.now }
         ensures failed { IfErr result (λ e. self.new ≡ record { bytes = []; sent = e.sent }) }
     {
         self.make_room(out, piece.len())?;
@@ -138,8 +138,8 @@ pub fn put_all<W: Sink>(
     buffer: &mut OutBuffer,
     out: &mut W,
 ) -> Result<(), SendFault>
-    ensures { Puts (seen (W.tells out.old) (W.faults out.old)) (seen (W.tells out.new) (W.faults out.new))
-        buffer.old buffer.new result (concat (map (λ p. p.now) pieces.now)) }
+    ensures { Puts (W.seen out.old) (W.seen out.new) buffer.old buffer.new result
+        (concat (map (λ p. p.now) pieces.now)) }
 {
     'putting: for piece in pieces {
         buffer.put(out, piece)?;

@@ -14,9 +14,10 @@ ghost use Rattle.warc_index.specs.Linked.{instant_mark, revisit_link};
 ghost use Rattle.warc_index.specs.Orders.{IsKeptOf, IsBelow, id_entry, capture_entry, text_bytes};
 ghost use Rattle.warc_index.specs.Orders.{step_of};
 
-use crate::key::{OTHERS, capture_key, id_key};
+use crate::entering::{keep_first, put_record};
+use crate::key::OTHERS;
 use crate::link::{FIRST, Link, Links, Role};
-use crate::linked::{link_of, mark_at};
+use crate::linked::mark_at;
 use crate::lookup::{capture_with, ends_chain, first_of_pair, latest_of_payload};
 use crate::unfound::Unfound;
 use std::alloc::{AllocError, Allocator, Global};
@@ -24,65 +25,6 @@ use std::marker::Model;
 use warc_order::Order;
 use warc_record::{IdKey, Typed};
 use warc_value::Moment;
-
-/// Adds a record to the order by id.
-fn put_id<A: Allocator + Copy, B: Allocator>(
-    order: &mut Order<A>,
-    position: usize,
-    typed: &Typed<B>,
-) -> Result<(), AllocError>
-    requires { All (λ e. e.position < position) order.old }
-    ensures ok { OnOk result (order.new ≡ order.old ++ option_to_list (id_entry position (indexed_of
-        (said typed.now)))) }
-    ensures err { OnErr result (order.new ≡ order.old) }
-{
-    let key = id_key(typed);
-    order.add(key.text, key.mark, position)
-}
-
-/// Adds a record to the order by target and instant, if it is a capture with a target.
-fn put_capture<A: Allocator + Copy, B: Allocator>(
-    order: &mut Order<A>,
-    position: usize,
-    typed: &Typed<B>,
-) -> Result<(), AllocError>
-    requires { All (λ e. e.position < position) order.old }
-    ensures ok { OnOk result (order.new ≡ order.old ++ option_to_list (capture_entry position (indexed_of
-        (said typed.now)))) }
-    ensures err { OnErr result (order.new ≡ order.old) }
-{
-    match capture_key(typed) {
-        Some(key) => order.add(key.text, key.mark, position),
-        None => Ok(()),
-    }
-}
-
-/// Adds a record to both orders.
-fn put<A: Allocator + Copy, B: Allocator>(
-    by_id: &mut Order<A>,
-    by_target: &mut Order<A>,
-    position: usize,
-    typed: &Typed<B>,
-) -> Result<(), AllocError>
-    requires ids { All (λ e. e.position < position) by_id.old }
-    requires captures { All (λ e. e.position < position) by_target.old }
-    ensures ids { OnOk result (by_id.new ≡ by_id.old ++ option_to_list (id_entry position (indexed_of
-        (said typed.now)))) }
-    ensures captures { OnOk result (by_target.new ≡ by_target.old ++ option_to_list (capture_entry position (indexed_of
-        (said typed.now)))) }
-    ensures err_ids { OnErr result (by_id.new ≡ by_id.old) }
-    ensures err_captures { OnErr result (by_target.new ≡ by_target.old) }
-{
-    put_id(by_id, position, typed)?;
-    match put_capture(by_target, position, typed) {
-        Ok(()) => Ok(()),
-        Err(refused) => {
-            // What was added is taken back, which takes no memory.
-            by_id.forget_after(position);
-            Err(refused)
-        }
-    }
-}
 
 /// Records by target and instant, and by id. To a caller it is what is kept of a list of records.
 #[derive(Drop)]
@@ -151,17 +93,15 @@ impl<A: Allocator + Copy> Index<A> {
         let Some(count) = position.checked_add(1) else {
             return Err(AllocError);
         };
-        self.links.push(&link_of(typed))?;
-        match put(&mut self.by_id, &mut self.by_target, position, typed) {
-            Ok(()) => {
-                self.count = count;
-                Ok(())
-            }
-            Err(refused) => {
-                self.links.truncate(position);
-                Err(refused)
-            }
-        }
+        put_record(
+            &mut self.by_id,
+            &mut self.by_target,
+            &mut self.links,
+            position,
+            typed,
+        )?;
+        self.count = count;
+        Ok(())
     }
 
     /// Keeps the first so many records. It takes no memory.
@@ -169,9 +109,7 @@ impl<A: Allocator + Copy> Index<A> {
         ensures { (all : List Indexed) → IsKeptOf all self.old → IsKeptOf (take count all) self.new }
     {
         if count < self.count {
-            self.by_id.forget_after(count);
-            self.by_target.forget_after(count);
-            self.links.truncate(count);
+            keep_first(&mut self.by_id, &mut self.by_target, &mut self.links, count);
             self.count = count;
         }
     }

@@ -1,6 +1,7 @@
 //! Which capture of a target answers at a moment, and which record a revisit leads to.
 #![tactic(auto)]
 
+mod entering;
 mod filling;
 mod index;
 mod key;

@@ -1,6 +1,7 @@
 -- Lists one after another.
 use Rattle.std.proofs.Common.{◌≡◌, ℕ, zero, suc, ◌+◌, ◌-◌, ◌<◌, ◌≤◌, Bool, true, false, List, [], ◌∷◌, ◌++◌, length, take, drop, get_or, set, map, Some, None, refl, sym, ap, ◌∙◌, inl, inr, arith, append_assoc, length-append, true≢false, All, slice_get, filter, insert}
-use Rattle.std.proofs.lemmas.List.{take_all, append-nil, take_more, get_or_append_left, get_or-append-add, get_or_default, take-append-drop, map-set, take-map, drop-map, map-append, get_or-map, length-map, length-set, set-set, get_or-set_same, length-take-le, length-drop, drop_more, get_or_at}
+use Rattle.std.proofs.lemmas.List.{take_all, append-nil, take_more, get_or_append_left, get_or-append-add, get_or_default, take-append-drop, map-set, take-map, drop-map, map-append, get_or-map, length-map, length-set, set-set, get_or-set_same, length-take-le, length-drop, drop_more, get_or_at, take_more_set, drop-set-lt}
+use Rattle.std.proofs.Math.Seq.{take-add}
 use Rattle.std.proofs.lemmas.List.Edits.{insert-append_left, insert-append_right, map_over_more}
 use Rattle.std.proofs.lemmas.List.Elements.{All-head, All-tail, All-append, All-take, All-drop, All-cons, All-weaker, filter-append}
 use Rattle.std.proofs.lemmas.Bool.{cases_lt, cases_Bool}
@@ -372,3 +373,68 @@ keep_more t ls bs i old new h n e f inv =
     let items : get_or (lists_of bs) i [] ≡ old.list = items_at bs i old h e in
     lists_of-set bs i new ∙ (ap (set (lists_of bs) i) (f ∙ ap (filter t) (sym items))
     ∙ filters_more t ls (lists_of bs) i (omega arith) inv)
+
+-- ---- blocks that are filled anew
+
+-- the end of the last list
+pub end_at : (ls : List (List Slot)) (b : ℕ) → b + 1 ≡ length ls →
+    start_of ls b + length (get_or ls b []) ≡ length (flattened ls)
+end_at ls b h = sym (start_of-more ls b (omega arith)) ∙ start_of-all ls (b + 1) (omega arith)
+
+-- one more block is filled
+pub refilled_more : (bs : List (Held)) (i from to : ℕ) (old new : Held) (ss : List Slot) → i < length bs →
+    old ≡ get_or bs i old → to ≡ from + length (get_or (lists_of bs) i []) → new.list ≡ take (to - from) (drop from ss) →
+    flattened (take i (lists_of bs)) ≡ take from ss →
+    flattened (take (i + 1) (lists_of (set bs i new))) ≡ take to ss
+refilled_more bs i from to old new ss h e t n front =
+    let ls : List (List Slot) = lists_of bs in
+    let l : i < length ls = rw length-map h in
+    let apart : to ≡ from + (to - from) = omega arith in
+    ap (λ us. flattened (take (i + 1) us)) (lists_of-set bs i new) ∙ (ap flattened (take_more_set ls i new.list l)
+    ∙ (flattened-append (take i ls) (new.list ∷ []) ∙ (ap (λ us. flattened (take i ls) ++ us) (append-nil new.list)
+    ∙ (ap (λ us. us ++ new.list) front ∙ (ap (λ us. take from ss ++ us) n ∙ (sym (take-add from (to - from) ss)
+    ∙ ap (λ m. take m ss) (sym apart)))))))
+
+-- from a list on
+cut_off : (bs : List (Held)) (i : ℕ) → i < length bs → length (flattened (drop i (lists_of bs))) ≡
+    length (get_or (lists_of bs) i []) + length (flattened (drop (i + 1) (lists_of bs)))
+cut_off bs i h =
+    let ls : List (List Slot) = lists_of bs in
+    let l : i < length ls = rw length-map h in
+    ap (λ us. length (flattened us)) (drop_more ls i [] l) ∙ length-append (get_or ls i []) (flattened (drop (i + 1)
+    ls))
+
+-- what is left to fill
+pub left_more : (bs : List (Held)) (i from to : ℕ) (new : Held) (ss : List Slot) → i < length bs →
+    to ≡ from + length (get_or (lists_of bs) i []) → from + length (flattened (drop i (lists_of bs))) ≡ length ss →
+    to + length (flattened (drop (i + 1) (lists_of (set bs i new)))) ≡ length ss
+left_more bs i from to new ss h t count =
+    let back : drop (i + 1) (lists_of (set bs i new)) ≡ drop (i + 1) (lists_of bs) =
+    ap (drop (i + 1)) (lists_of-set bs i new) ∙ drop-set-lt (i + 1) (lists_of bs) i new.list (omega arith) in
+    let cut = cut_off bs i h in
+    ap (λ us. to + length (flattened us)) back ∙ omega (arith, cut, t, count)
+
+-- a block that is filled anew has as many slots as before
+pub refilled_block : (bs : List (Held)) (i from to : ℕ) (old new : Held) (ss : List Slot) → i < length bs →
+    old ≡ get_or bs i old → to ≡ from + length (get_or (lists_of bs) i []) →
+    from + length (flattened (drop i (lists_of bs))) ≡ length ss → new.list ≡ take (to - from) (drop from ss) →
+    new.room ≡ old.room → IsBlock 512 old → IsBlock 512 new
+refilled_block bs i from to old new ss h e t count n room was =
+    let cut = cut_off bs i h in
+    let items : length (get_or (lists_of bs) i []) ≡ length old.list = ap length (items_at bs i old h e) in
+    let rest : length (drop from ss) ≡ length ss - from = length-drop from ss in
+    let len : length new.list ≡ to - from = ap length n ∙ length-take-le (to - from) (drop from ss) (omega (
+      arith,
+      cut,
+      t,
+      count,
+      rest,
+    )) in
+    let some = was.some in
+    let few = was.few in
+    let wide = was.room in
+    record {
+      some = omega (arith, len, items, t, some);
+      few = omega (arith, len, items, t, few);
+      room = omega (arith, room, wide);
+    }

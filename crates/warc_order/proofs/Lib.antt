@@ -3,5 +3,4 @@ pub mod BlockLemmas
 pub mod PairLemmas
 pub mod RankLemmas
 pub mod StepLemmas
-pub mod FillLemmas
 pub mod OrderLemmas

@@ -7,8 +7,8 @@ use Rattle.std.proofs.lemmas.Cmp.{upto, tied_itself, then_total, on_total, nat_l
 use Rattle.std.proofs.lemmas.Map.Text.{is_eq-slice_cmp}
 use Rattle.std.proofs.lemmas.Map.Keys.{IsDistinct-IsPermutation, IsDistinct-from_apart, apart_from_distinct}
 use Rattle.std.proofs.lemmas.Slice.Eq.{bytes_eq-Decides}
-use Rattle.std.proofs.lemmas.List.{get_or_append_left, get_or-take, get_or_at, get_or_default, length-take, length-append, take_all}
-use Rattle.std.proofs.lemmas.List.Elements.{All-push, All-cons, All-head, All-tail, All-filter, All-weaker, filter_passes, All-contains}
+use Rattle.std.proofs.lemmas.List.{get_or_append_left, get_or-take, get_or_at, get_or_default, length-take, length-append, take_all, append-nil}
+use Rattle.std.proofs.lemmas.List.Elements.{All-push, All-cons, All-head, All-tail, All-filter, All-weaker, filter_passes, All-contains, filter-append}
 use Rattle.std.proofs.lemmas.List.Sorted.{Contains-permutation, All-permutation as All-moved}
 use Rattle.std.proofs.lemmas.List.Kept.{AllPairs-filter, AllPairs-cons}
 use Rattle.std.specs.List.{Contains, AllPairs}
@@ -23,7 +23,7 @@ use Rattle.warc_order.specs.declared.slot.Slot.{Slot}
 use Rattle.warc_order.specs.Heads.{head_of}
 use Rattle.warc_order.specs.Ranking.{IsRanked, IsStrict, IsFirstOf, IsLastOf}
 use Rattle.warc_order.specs.Entries.{Entry, no_entry, entry_at, mark_lt, comes_later, IsUpTo, IsFrom, IsAfter, IsBefore, IsFirst, IsLast, IsNone}
-use Rattle.warc_order.specs.Layout.{Key, mark_cmp, text_cmp, key_cmp, key_at, key_for, in_order, slot_for, slots_of, same_index, IsSlotOf, IsOrderOf, IsGrowing, IsOrdered}
+use Rattle.warc_order.specs.Layout.{Key, mark_cmp, text_cmp, key_cmp, key_at, key_for, in_order, slot_for, slots_of, same_index, IsSlotOf, IsOrderOf, IsGrowing, IsOrdered, AreWaiting}
 
 pub mark_total : IsTotalOrder mark_cmp
 mark_total = then_total (on_total (λ (m : Mark). m.major) nat_cmp_total) (on_total (λ (m : Mark). m.minor)
@@ -591,12 +591,15 @@ ordered_more es fs ss ts e n it f l all order =
     }
 
 -- fewer entries
+growing_fewer : (es : List Entry) (m : ℕ) → IsGrowing es → IsGrowing (take m es)
+growing_fewer es m growing i j d h k =
+    let l : length (take m es) ≡ min m (length es) = length-take m es in
+    rw (get_or-take m es i d (omega arith), get_or-take m es j d (omega arith)) (growing i j d h (omega arith))
+
 pub ordered_fewer : (es fs : List Entry) (ss ts : List Slot) (m : ℕ) → IsOrdered es ss → fs ≡ take m es →
     ts ≡ filter (λ s. nat_lt s.index m) ss → IsOrdered fs ts
 ordered_fewer es fs ss ts m it f t = rw (f, t) record {
-  growing = λ i j d h k.
-      let l : length (take m es) ≡ min m (length es) = length-take m es in
-      rw (get_or-take m es i d (omega arith), get_or-take m es j d (omega arith)) (it.growing i j d h (omega arith));
+  growing = growing_fewer es m it.growing;
   order = rw (length-take m es) (carried es (take m es) (min m (length es)) (filter (λ s. nat_lt s.index m) ss) (λ q h.
       get_or-take m es q no_entry (omega arith)) (order_fewer es (length es) m ss it.order));
 }
@@ -642,3 +645,55 @@ order_of_all es ss ranked moved = record {
   all = λ q h. Contains-permutation (slots_of es (length es)) ss (slot_for es q) moved (slots_all es (length es) q h);
   distinct = apart_moved (slots_of es (length es)) ss moved (slots_apart es (length es));
 }
+
+-- ---- slots that wait
+
+slots_same : (es fs : List Entry) (n : ℕ) → ((q : ℕ) → q < n → entry_at fs q ≡ entry_at es q) →
+    slots_of fs n ≡ slots_of es n
+slots_same es fs zero h = refl
+slots_same es fs (suc n) h =
+    ap (λ us. us ++ slot_for fs n ∷ []) (slots_same es fs n (λ q lt. h q (omega arith)))
+    ∙ ap (λ (e : Entry). slots_of es n ++ record { head = head_of e.text; index = n } ∷ []) (h n (omega arith))
+
+pub waiting_more : (es fs : List Entry) (ss ts : List Slot) (e : Entry) (n : ℕ) → AreWaiting es ss →
+    fs ≡ es ++ e ∷ [] → n ≡ length es → All (λ f. f.position < e.position) es → ts ≡ ss ++ slot_for fs n ∷ [] →
+    AreWaiting fs ts
+waiting_more es fs ss ts e n it f l all t =
+    let more : length (es ++ e ∷ []) ≡ suc (length es) = length-append es (e ∷ []) ∙ omega arith in
+    let there : ts ≡ ss ++ slot_for (es ++ e ∷ []) (length es) ∷ [] =
+    t ∙ (ap (λ gs. ss ++ slot_for gs n ∷ []) f ∙ ap (λ m. ss ++ slot_for (es ++ e ∷ []) m ∷ []) l) in
+    rw (f, there) record {
+      growing = growing_more es e it.growing all;
+      slots = ap (λ us. us ++ slot_for (es ++ e ∷ []) (length es) ∷ []) (it.slots
+          ∙ sym (slots_same es (es ++ e ∷ []) (length es) (entry_more es e))) ∙ ap (slots_of (es ++ e ∷ [])) (sym more);
+    }
+
+-- of the slots of n entries those below m
+slots_below : (es : List Entry) (m n : ℕ) → filter (λ s. nat_lt s.index m) (slots_of es n) ≡ slots_of es (min m n)
+slots_below es m zero = ap (slots_of es) (sym (let none : min m 0 ≡ 0 = omega arith in none))
+slots_below es m (suc n) =
+    filter-append (λ (s : Slot). nat_lt s.index m) (slots_of es n) (slot_for es n ∷ [])
+    ∙ (ap (λ us. us ++ filter (λ (s : Slot). nat_lt s.index m) (slot_for es n ∷ [])) (slots_below es m n)
+    ∙ elim (cases_lt n m) [
+      | inl low ↦
+          let t : nat_lt n m ≡ true = grind (arith, nat_tests) in
+          let a : min m n ≡ n = omega arith in
+          let b : min m (suc n) ≡ suc n = omega arith in
+          rw (t, a, b) refl
+      | inr high ↦
+          let t : nat_lt n m ≡ false = grind (arith, nat_tests) in
+          let a : min m n ≡ m = omega arith in
+          let b : min m (suc n) ≡ m = omega arith in
+          rw (t, a, b) (append-nil (slots_of es m))
+    ])
+
+pub waiting_fewer : (es fs : List Entry) (ss ts : List Slot) (m : ℕ) → AreWaiting es ss → fs ≡ take m es →
+    ts ≡ filter (λ s. nat_lt s.index m) ss → AreWaiting fs ts
+waiting_fewer es fs ss ts m it f t =
+    let l : length (take m es) ≡ min m (length es) = length-take m es in
+    rw (f, t) record {
+      growing = growing_fewer es m it.growing;
+      slots = ap (filter (λ s. nat_lt s.index m)) it.slots ∙ (slots_below es m (length es)
+          ∙ (sym (slots_same es (take m es) (min m (length es)) (λ q h. get_or-take m es q no_entry (omega arith)))
+          ∙ ap (slots_of (take m es)) (sym l)));
+    }

@@ -107,3 +107,8 @@ IsGrowing es = AllPairs (λ a b. a.position < b.position) es
 pub record IsOrdered (es : List Entry) (ss : List Slot) : Type 0 where
   pub growing : IsGrowing es
   pub order : IsOrderOf es (length es) ss
+
+-- entries that wait to be put in order, and their slots as they were added
+pub record AreWaiting (es : List Entry) (ss : List Slot) : Type 0 where
+  pub growing : IsGrowing es
+  pub slots : ss ≡ slots_of es (length es)

@@ -276,6 +276,28 @@ impl<A: Allocator> Block<A> {
         );
     }
 
+    /// Drops all slots.
+    fn clear(&mut self)
+        ensures list { self.new.list ≡ [] }
+        ensures room { self.new.room ≡ self.old.room }
+    {
+        self.heads.truncate(0);
+        self.indices.truncate(0);
+    }
+
+    /// Puts other slots in the place of all, for which there is room.
+    pub(crate) fn refill(&mut self, slots: &[Slot])
+        requires { length slots.now ≤ self.old.room }
+        ensures list { self.new.list ≡ slots.now }
+        ensures room { self.new.room ≡ self.old.room }
+    {
+        self.clear();
+        for slot in slots {
+            let end = self.len();
+            self.insert(end, *slot);
+        }
+    }
+
     /// Drops the slots whose indices aren't below a number.
     pub(crate) fn keep_below(&mut self, count: usize)
         ensures list { self.new.list ≡ filter (λ e. nat_lt e.index count) self.old.list }

@@ -7,10 +7,10 @@
 //!
 //! To a caller an `Order` is the plain list of its entries, in the order in which they were added: contracts speak of
 //! no other. Many entries at once are pushed to an [`Unordered`], which `into_order` puts in order: the value is the
-//! same as after adding them one by one, in about half the time or less.
+//! same as after adding them one by one, in about half the time or less. What that takes of memory each push reserves.
 //!
 //! Each look-up halves, and takes no memory; a step from an entry to the next doesn't halve. An entry takes 24 bytes
-//! and its text, and 8 bytes of the order (up to 16 where entries are added one by one).
+//! and its text, and 8 bytes of the order (up to 16 where entries are added one by one, and 16 while they wait).
 #![tactic(auto)]
 
 ghost use Rattle.std.specs.Prelude.{◌≡◌, ℕ, ◌+◌, ◌<◌, [], ◌∷◌, ◌++◌, length, filter, nat_lt, OnOk, OnErr, IfOk, IfSome};
@@ -27,12 +27,14 @@ mod lookup;
 mod mark;
 mod ranked;
 mod slot;
+mod waiting;
 
 pub use entries::Entries;
 pub use mark::Mark;
 use ranked::{Place, Ranked};
 use std::alloc::{AllocError, Allocator, Global};
 use std::marker::Model;
+use waiting::Waiting;
 
 /// An entry that a look-up found: the number of those that were added before it. It also keeps where the entry stood
 /// in the order, so that a step from it needs no search.
@@ -46,18 +48,19 @@ pub struct Found {
 #[derive(Drop)]
 pub struct Unordered<A: Allocator = Global> {
     entries: Entries<A>,
+    waiting: Waiting<A>,
 }
 
 impl<A: Allocator> Model for Unordered<A> {
     ghost use Rattle.std.specs.Prelude.{List};
     ghost use Rattle.warc_order.specs.Entries.{Entry};
-    ghost use Rattle.warc_order.specs.Layout.{IsGrowing};
+    ghost use Rattle.warc_order.specs.Layout.{AreWaiting};
 
     ghost Value = { List Entry };
 
     ghost view = { λ s. s.entries.list };
 
-    ghost invariant = { λ s. IsGrowing s.entries.list };
+    ghost invariant = { λ s. AreWaiting s.entries.list s.waiting.list };
 }
 
 impl<A: Allocator + Copy> Unordered<A> {
@@ -67,30 +70,43 @@ impl<A: Allocator + Copy> Unordered<A> {
     {
         Unordered {
             entries: Entries::new(alloc),
+            waiting: Waiting::new(alloc),
         }
     }
 
-    /// Adds an entry. Its position is above all positions so far. `Err`: no memory for it, or the position is 2^32 or
-    /// more; then nothing changes.
+    /// Adds an entry. Its position is above all positions so far. `Err`: no memory for it and for putting it in order,
+    /// or the position is 2^32 or more; then nothing changes.
     pub fn push(&mut self, text: &[u8], mark: Mark, position: usize) -> Result<(), AllocError>
         requires { All (λ e. e.position < position) self.old }
         ensures ok { OnOk result (self.new ≡ self.old ++ entry_of text.now mark position ∷ []) }
         ensures err { OnErr result (self.new ≡ self.old) }
     {
-        lookup::narrow(self.entries.len())?;
+        let index = lookup::narrow(self.entries.len())?;
         let position = lookup::narrow(position)?;
         self.entries.reserve_for(text.len())?;
+        self.waiting.reserve()?;
         self.entries.push_reserved(text, mark, position);
+        self.waiting
+            .push_reserved(lookup::slot_of(&self.entries, index));
         Ok(())
     }
 
-    /// Puts the entries in order. `Err`: no memory for it.
-    pub fn into_order(self) -> Result<Order<A>, AllocError>
-        ensures { IfOk result (λ order. order ≡ self) }
+    /// Drops all entries whose positions are `position` or above. It takes no memory.
+    pub fn forget_after(&mut self, position: usize)
+        ensures { self.new ≡ filter (λ e. nat_lt e.position position) self.old }
     {
-        let Unordered { entries } = self;
-        let ranked = lookup::rank_all(&entries)?;
-        Ok(Order { entries, ranked })
+        let kept = self.entries.count_below(position);
+        self.entries.truncate(kept);
+        self.waiting.forget_after(kept);
+    }
+
+    /// Puts the entries in order. It takes no memory.
+    pub fn into_order(self) -> Order<A>
+        ensures { result ≡ self }
+    {
+        let Unordered { entries, waiting } = self;
+        let ranked = lookup::rank_all(&entries, waiting);
+        Order { entries, ranked }
     }
 }
 

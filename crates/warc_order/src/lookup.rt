@@ -13,7 +13,8 @@ use crate::entries::Entries;
 use crate::head::head_of;
 use crate::mark::Mark;
 use crate::ranked::{Place, Ranked, Standing};
-use crate::slot::{Slot, SlotOrder};
+use crate::slot::Slot;
+use crate::waiting::Waiting;
 use std::alloc::{AllocError, Allocator};
 
 /// A number of at most 4 bytes. `Err` where it is larger: as many things are never kept.
@@ -28,7 +29,7 @@ pub(crate) fn narrow(number: usize) -> Result<u32, AllocError>
 }
 
 /// The slot of the entry at an index.
-fn slot_of<A: Allocator + Copy>(entries: &Entries<A>, index: u32) -> Slot
+pub(crate) fn slot_of<A: Allocator + Copy>(entries: &Entries<A>, index: u32) -> Slot
     ensures { result ≡ slot_for entries.now.list index }
 {
     Slot {
@@ -61,58 +62,13 @@ pub(crate) fn rank_one<A: Allocator + Copy>(
     ranked.add_reserved(&order, slot_of(entries, index));
 }
 
-/// The slots of all entries, in the order in which they were added.
-fn all_slots<A: Allocator + Copy>(entries: &Entries<A>) -> Result<Vec<Slot, A>, AllocError>
-    ensures { IfOk result (λ slots. slots.items ≡ slots_of entries.now.list (length entries.now.list)) }
+/// Puts the slots of all entries in order.
+pub(crate) fn rank_all<A: Allocator + Copy>(entries: &Entries<A>, waiting: Waiting<A>) -> Ranked<A>
+    requires { waiting.list ≡ slots_of entries.now.list (length entries.now.list) }
+    ensures { IsOrderOf entries.now.list (length entries.now.list) result.list }
 {
-    let mut slots = Vec::new(entries.allocator());
-    for i in 0..entries.len() {
-        slots.push(slot_of(entries, narrow(i)?))?;
-    }
-    Ok(slots)
-}
-
-/// Adds slots one by one. It is fast where they come in the order.
-#[tactic(auto, using(crate::proofs::FillLemmas::one_more))]
-fn add_all<O: SlotOrder, A: Allocator + Copy>(
-    ranked: &mut Ranked<A>,
-    order: &O,
-    slots: &[Slot],
-) -> Result<(), AllocError>
-    requires { IsRanked (O.compare order.now) ranked.old.list }
-    ensures ranked { IsRanked (O.compare order.now) ranked.new.list }
-    ensures members { OnOk result (IsPermutation (slots.now ++ ranked.old.list) ranked.new.list) }
-{
-    for slot in slots {
-        ranked.reserve()?;
-        ranked.add_reserved(order, *slot);
-    }
-    Ok(())
-}
-
-/// Sorts slots and adds them. That the result is in the order doesn't rest on the sort.
-fn fill<O: SlotOrder, A: Allocator + Copy>(
-    ranked: &mut Ranked<A>,
-    order: &O,
-    slots: &mut [Slot],
-) -> Result<(), AllocError>
-    requires { IsRanked (O.compare order.now) ranked.old.list }
-    ensures ranked { IsRanked (O.compare order.now) ranked.new.list }
-    ensures members { OnOk result (IsPermutation (slots.old ++ ranked.old.list) ranked.new.list) }
-{
-    slots.sort_unstable_by(|a, b| order.compare(*a, *b));
-    add_all(ranked, order, slots)
-}
-
-/// The slots of all entries in order.
-pub(crate) fn rank_all<A: Allocator + Copy>(entries: &Entries<A>) -> Result<Ranked<A>, AllocError>
-    ensures { IfOk result (λ ranked. IsOrderOf entries.now.list (length entries.now.list) ranked.list) }
-{
-    let mut slots = all_slots(entries)?;
     let order = ByText { entries };
-    let mut ranked = Ranked::new(entries.allocator());
-    fill(&mut ranked, &order, &mut slots)?;
-    Ok(ranked)
+    waiting.into_ranked(&order)
 }
 
 /// The last entry of a text whose mark isn't above one.

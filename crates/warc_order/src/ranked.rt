@@ -324,6 +324,22 @@ fn place_for<O: SlotOrder, A: Allocator>(blocks: &[Block<A>], order: &O, slot: S
     find_place(blocks, &test)
 }
 
+/// Adds the first index.
+fn put_first<A: Allocator + Copy>(blocks: &mut Vec<Block<A>, A>, slot: Slot, spare: &mut Block<A>)
+    requires none { blocks.old.items ≡ [] }
+    requires room { vec_len blocks.old < vec_capacity blocks.old }
+    requires spare { spare.old.list ≡ [] }
+    requires spare_room { LIMIT ≤ spare.old.room }
+    ensures blocks { All (IsBlock LIMIT) blocks.new.items }
+    ensures spare { spare.new.list ≡ [] }
+    ensures list { flattened (lists_of blocks.new.items) ≡ slot ∷ [] }
+{
+    let alloc = spare.allocator();
+    let mut block = mem::replace(spare, Block::new(alloc));
+    block.insert(0, slot);
+    blocks.push_reserved(block);
+}
+
 /// Adds an index behind those that come before it.
 fn add_in<O: SlotOrder, A: Allocator + Copy>(
     blocks: &mut Vec<Block<A>, A>,
@@ -342,13 +358,57 @@ fn add_in<O: SlotOrder, A: Allocator + Copy>(
         placed (O.compare order.now) (flattened (lists_of blocks.old.items)) slot }
 {
     if blocks.is_empty() {
-        let alloc = spare.allocator();
-        let mut block = mem::replace(spare, Block::new(alloc));
-        block.insert(0, slot);
-        blocks.push_reserved(block);
+        put_first(blocks, slot, spare);
     } else {
         let place = place_for(blocks, order, slot);
         put(blocks, place, slot, spare);
+    }
+}
+
+/// The place behind all indices.
+fn end_of<A: Allocator>(blocks: &[Block<A>]) -> Place
+    requires { 0 < length blocks.now }
+    ensures block { result.block < length blocks.now }
+    ensures within { result.offset ≤ length (slice_index_or (lists_of blocks.now) result.block []) }
+    ensures end { start_of (lists_of blocks.now) result.block + result.offset ≡ length (flattened
+        (lists_of blocks.now)) }
+{
+    let block = blocks.len() - 1;
+    let offset = length_of(blocks, block);
+    Place { block, offset }
+}
+
+/// Adds an index behind all others.
+fn append_in<A: Allocator + Copy>(blocks: &mut Vec<Block<A>, A>, slot: Slot, spare: &mut Block<A>)
+    requires blocks { All (IsBlock LIMIT) blocks.old.items }
+    requires room { vec_len blocks.old < vec_capacity blocks.old }
+    requires spare { spare.old.list ≡ [] }
+    requires spare_room { LIMIT ≤ spare.old.room }
+    ensures blocks { All (IsBlock LIMIT) blocks.new.items }
+    ensures spare { spare.new.list ≡ [] }
+    ensures list { flattened (lists_of blocks.new.items) ≡ flattened (lists_of blocks.old.items) ++ slot ∷ [] }
+{
+    if blocks.is_empty() {
+        put_first(blocks, slot, spare);
+    } else {
+        let place = end_of(blocks);
+        put(blocks, place, slot, spare);
+    }
+}
+
+/// Puts other slots in the place of those of all blocks.
+fn refill<A: Allocator>(blocks: &mut Vec<Block<A>, A>, slots: &[Slot])
+    requires blocks { All (IsBlock LIMIT) blocks.old.items }
+    requires same { length (flattened (lists_of blocks.old.items)) ≡ length slots.now }
+    ensures blocks { All (IsBlock LIMIT) blocks.new.items }
+    ensures list { flattened (lists_of blocks.new.items) ≡ slots.now }
+{
+    let mut from = 0;
+    for i in 0..blocks.len() {
+        let to = from + length_of(blocks, i);
+        let block = &mut blocks[i];
+        block.refill(&slots[from..to]);
+        from = to;
     }
 }
 
@@ -424,6 +484,22 @@ impl<A: Allocator + Copy> Ranked<A> {
         ensures members { IsPermutation (slot ∷ self.old.list) self.new.list }
     {
         add_in(&mut self.blocks, order, slot, &mut self.spare);
+    }
+
+    /// Adds an index for which there is room behind all others.
+    pub fn append_reserved(&mut self, slot: Slot)
+        requires { IsTrue self.old.ready }
+        ensures { self.new.list ≡ self.old.list ++ slot ∷ [] }
+    {
+        append_in(&mut self.blocks, slot, &mut self.spare);
+    }
+
+    /// Puts as many other indices in the place of all. It takes no memory.
+    pub fn refill(&mut self, slots: &[Slot])
+        requires { length self.old.list ≡ length slots.now }
+        ensures { self.new.list ≡ slots.now }
+    {
+        refill(&mut self.blocks, slots);
     }
 
     /// The first slot that fails a test, which those behind it fail too.

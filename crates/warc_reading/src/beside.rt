@@ -1,5 +1,7 @@
 //! What is kept of records beside their rows: nothing in a listing; in an archive, what finds them and what joins them.
 ghost use Rattle.std.specs.Prelude.{◌≡◌, None, List, [], ◌∷◌, ◌++◌, length, take, OnErr, OnOk};
+ghost use Rattle.warc_index.specs.Captures.{Indexed, indexed_of};
+ghost use Rattle.warc_index.specs.Orders.{IsKeptOf};
 ghost use Rattle.warc_record.specs.Heads.{head_fault};
 ghost use Rattle.warc_record.specs.Readings.{reading_of};
 ghost use Rattle.warc_record.specs.Seen.{said};
@@ -8,7 +10,7 @@ ghost use Rattle.warc_reading.specs.Row.{Placed};
 
 use std::alloc::{AllocError, Allocator};
 use warc_field::Fields;
-use warc_index::Index;
+use warc_index::{Filling, Index};
 use warc_record::{Typed, type_head};
 use warc_segment::{Parts, Place};
 
@@ -57,6 +59,103 @@ impl<A: Allocator> Keep<A> for Nothing {
     fn forget_after(&mut self, _count: usize) {}
 }
 
+/// What takes records one after another: an index, or one that is still to be put in order.
+trait Indexing {
+    ghost use Rattle.warc_index.specs.Orders.{Kept};
+
+    ghost kept: { Self → Kept };
+
+    /// Adds the next record. `Err`: no memory for it; then nothing changes.
+    fn add_next<B: Allocator>(&mut self, typed: &Typed<B>) -> Result<(), AllocError>
+        ensures ok { (all : List Indexed) → IsKeptOf all (kept self.old) →
+            OnOk result (IsKeptOf (all ++ indexed_of (said typed.now) ∷ []) (kept self.new)) }
+        ensures err { OnErr result (kept self.new ≡ kept self.old) };
+
+    /// Keeps the first so many records. It takes no memory.
+    fn keep_first(&mut self, count: usize)
+        ensures { (all : List Indexed) → IsKeptOf all (kept self.old) → IsKeptOf (take count all) (kept self.new) };
+}
+
+impl<A: Allocator + Copy> Indexing for Index<A> {
+    ghost kept = { λ s. s };
+
+    fn add_next<B: Allocator>(&mut self, typed: &Typed<B>) -> Result<(), AllocError> {
+        self.add(typed)
+    }
+
+    fn keep_first(&mut self, count: usize) {
+        self.forget_after(count);
+    }
+}
+
+impl<A: Allocator + Copy> Indexing for Filling<A> {
+    ghost kept = { λ s. s };
+
+    fn add_next<B: Allocator>(&mut self, typed: &Typed<B>) -> Result<(), AllocError> {
+        self.push(typed)
+    }
+
+    fn keep_first(&mut self, count: usize) {
+        self.forget_after(count);
+    }
+}
+
+/// Keeps the next record, by its position, what its head says and where its block stands.
+fn add<I: Indexing, A: Allocator + Copy>(
+    index: &mut I,
+    parts: &mut Parts<A>,
+    position: usize,
+    typed: &Typed<A>,
+    place: Place,
+) -> Result<(), AllocError>
+    ensures ok { (records : List Placed) (p : Placed) → AreOf records (I.kept index.old) parts.old →
+        said typed.now ≡ reading_of p.content.fields → place ≡ place_of p →
+        OnOk result (AreOf (records ++ p ∷ []) (I.kept index.new) parts.new) }
+    ensures err { (records : List Placed) → AreOf records (I.kept index.old) parts.old →
+        position ≡ length records → OnErr result (AreOf records (I.kept index.new) parts.new) }
+{
+    index.add_next(typed)?;
+    match parts.add(typed, place) {
+        Ok(()) => Ok(()),
+        Err(refused) => {
+            // What was added is taken back, which takes no memory.
+            index.keep_first(position);
+            Err(refused)
+        }
+    }
+}
+
+/// Keeps the next record, by its position, the fields of its good head and where its block stands.
+fn add_head<I: Indexing, A: Allocator + Copy>(
+    alloc: A,
+    index: &mut I,
+    parts: &mut Parts<A>,
+    position: usize,
+    fields: &Fields<A>,
+    place: Place,
+) -> Result<(), AllocError>
+    ensures ok { (records : List Placed) (p : Placed) → AreOf records (I.kept index.old) parts.old →
+        position ≡ length records → fields.now ≡ p.content.fields → head_fault p.content.fields ≡ None →
+        place ≡ place_of p → OnOk result (AreOf (records ++ p ∷ []) (I.kept index.new) parts.new) }
+    ensures err { (records : List Placed) → AreOf records (I.kept index.old) parts.old →
+        position ≡ length records → OnErr result (AreOf records (I.kept index.new) parts.new) }
+{
+    // The head is good, so that nothing but memory fails.
+    let Ok(typed) = type_head(alloc, fields) else {
+        return Err(AllocError);
+    };
+    add(index, parts, position, &typed, place)
+}
+
+/// Keeps the first so many records. It takes no memory.
+fn keep_first<I: Indexing, A: Allocator + Copy>(index: &mut I, parts: &mut Parts<A>, count: usize)
+    ensures { (records : List Placed) → AreOf records (I.kept index.old) parts.old →
+        AreOf (take count records) (I.kept index.new) parts.new }
+{
+    index.keep_first(count);
+    parts.forget_after(count);
+}
+
 /// What finds the records of an archive, and what joins those that are in segments.
 #[derive(Drop)]
 pub struct Lookup<A: Allocator> {
@@ -74,23 +173,34 @@ impl<A: Allocator + Copy> Lookup<A> {
             parts: Parts::new(alloc),
         }
     }
+}
 
-    /// Keeps the next record, by its position, what its head says and where its block stands.
-    fn add(&mut self, position: usize, typed: &Typed<A>, place: Place) -> Result<(), AllocError>
-        ensures ok { (records : List Placed) (p : Placed) → AreOf records self.old.index self.old.parts →
-            said typed.now ≡ reading_of p.content.fields → place ≡ place_of p →
-            OnOk result (AreOf (records ++ p ∷ []) self.new.index self.new.parts) }
-        ensures err { (records : List Placed) → AreOf records self.old.index self.old.parts →
-            position ≡ length records → OnErr result (AreOf records self.new.index self.new.parts) }
+/// The same of records that come at once, which are put in order when all are there.
+#[derive(Drop)]
+pub struct Gathering<A: Allocator> {
+    pub filling: Filling<A>,
+    pub parts: Parts<A>,
+}
+
+impl<A: Allocator + Copy> Gathering<A> {
+    /// Of no records.
+    pub fn new(alloc: A) -> Gathering<A>
+        ensures { AreOf [] result.filling result.parts }
     {
-        self.index.add(typed)?;
-        match self.parts.add(typed, place) {
-            Ok(()) => Ok(()),
-            Err(refused) => {
-                // What was added is taken back, which takes no memory.
-                self.index.forget_after(position);
-                Err(refused)
-            }
+        Gathering {
+            filling: Filling::new(alloc),
+            parts: Parts::new(alloc),
+        }
+    }
+
+    /// Puts the records in order. It takes no memory.
+    pub fn into_lookup(self) -> Lookup<A>
+        ensures index { result.index ≡ self.filling }
+        ensures parts { result.parts ≡ self.parts }
+    {
+        Lookup {
+            index: self.filling.into_index(),
+            parts: self.parts,
         }
     }
 }
@@ -104,25 +214,43 @@ impl<A: Allocator + Copy> Keep<A> for Lookup<A> {
         position: usize,
         fields: &Fields<A>,
         place: Place,
-    ) -> Result<(), AllocError>
-        ensures ok { (records : List Placed) (p : Placed) → AreOf records self.old.index self.old.parts →
-            position ≡ length records → fields.now ≡ p.content.fields → head_fault p.content.fields ≡ None →
-            place ≡ place_of p → OnOk result (AreOf (records ++ p ∷ []) self.new.index self.new.parts) }
-        ensures err { (records : List Placed) → AreOf records self.old.index self.old.parts →
-            position ≡ length records → OnErr result (AreOf records self.new.index self.new.parts) }
-    {
-        // The head is good, so that nothing but memory fails.
-        let Ok(typed) = type_head(alloc, fields) else {
-            return Err(AllocError);
-        };
-        self.add(position, &typed, place)
+    ) -> Result<(), AllocError> {
+        add_head(
+            alloc,
+            &mut self.index,
+            &mut self.parts,
+            position,
+            fields,
+            place,
+        )
     }
 
-    fn forget_after(&mut self, count: usize)
-        ensures { (records : List Placed) → AreOf records self.old.index self.old.parts →
-            AreOf (take count records) self.new.index self.new.parts }
-    {
-        self.index.forget_after(count);
-        self.parts.forget_after(count);
+    fn forget_after(&mut self, count: usize) {
+        keep_first(&mut self.index, &mut self.parts, count);
+    }
+}
+
+impl<A: Allocator + Copy> Keep<A> for Gathering<A> {
+    ghost keeps = { λ l records. AreOf records l.filling l.parts };
+
+    fn keep(
+        &mut self,
+        alloc: A,
+        position: usize,
+        fields: &Fields<A>,
+        place: Place,
+    ) -> Result<(), AllocError> {
+        add_head(
+            alloc,
+            &mut self.filling,
+            &mut self.parts,
+            position,
+            fields,
+            place,
+        )
+    }
+
+    fn forget_after(&mut self, count: usize) {
+        keep_first(&mut self.filling, &mut self.parts, count);
     }
 }

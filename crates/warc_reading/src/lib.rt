@@ -5,6 +5,6 @@ mod beside;
 mod reading;
 mod rows;
 
-pub use beside::{Keep, Lookup, Nothing};
+pub use beside::{Gathering, Keep, Lookup, Nothing};
 pub use reading::read_on;
 pub use rows::{Row, Rows};

@@ -7,7 +7,6 @@ ghost use Rattle.warc_reading.specs.Indexed.{place_of};
 ghost use Rattle.warc_reading.specs.Growing.{Grows, grown};
 ghost use Rattle.warc_reading.specs.Row.{Placed};
 ghost use Rattle.warc_frame.specs.Decoding.{IsAt};
-ghost use Rattle.warc_frame.specs.Seen.{tapped};
 ghost use Rattle.warc_frame.specs.Told.{Told};
 ghost use Rattle.warc_reading.specs.Stream.{BeginsSince, Extends, HasSeen, WantsSince, IsHead, IsKeptOf, IsLeft, Since, Stands, StaysRefused, place_by, row_by};
 ghost use Rattle.warc_reading.specs.declared.reading.Current.{Current as Kept};
@@ -276,11 +275,8 @@ fn read_through<S: Source, A: Allocator + Copy, L: Keep<A> + Drop>(
     requires limit { reading.old.begin ≤ 2 ^ 48 }
     requires begin { (bytes : List ℕ) → IsArchiveOf bytes reading.old.rows → reading.old.begin ≡ length bytes }
     requires current { reading.old.current ≡ None }
-    ensures grows { Grows (IsKeptOf L.keeps) (reading.old.rows, reading.old.beside)
-        (tapped (S.holds source.old) (S.faults source.old) (S.reads source.old) (S.asked source.old)
-        (S.watches source.old) (S.strays source.old))
-        (tapped (S.holds source.new) (S.faults source.new) (S.reads source.new) (S.asked source.new)
-        (S.watches source.new) (S.strays source.new)) (grown result (reading.new.rows, reading.new.beside)) }
+    ensures grows { Grows (IsKeptOf L.keeps) (reading.old.rows, reading.old.beside) (S.tapped source.old)
+        (S.tapped source.new) (grown result (reading.new.rows, reading.new.beside)) }
     ensures rows { Extends reading.old.rows reading.new.rows }
     ensures left { (bytes : List ℕ) (is : IsKeptOf L.keeps bytes (reading.old.rows, reading.old.beside))
         → OnErr result (IsLeft L.keeps is.listed.are.records reading.new.beside) }
@@ -308,11 +304,8 @@ pub fn read_on<S: Source, A: Allocator + Copy, L: Keep<A> + Drop>(
     rows: Rows<A>,
     beside: L,
 ) -> (Result<(), Fault>, Rows<A>, L)
-    ensures grows { Grows (IsKeptOf L.keeps) (rows, beside)
-        (tapped (S.holds source.old) (S.faults source.old) (S.reads source.old) (S.asked source.old)
-        (S.watches source.old) (S.strays source.old))
-        (tapped (S.holds source.new) (S.faults source.new) (S.reads source.new) (S.asked source.new)
-        (S.watches source.new) (S.strays source.new)) (grown result.0 (result.1, result.2)) }
+    ensures grows { Grows (IsKeptOf L.keeps) (rows, beside) (S.tapped source.old) (S.tapped source.new) (grown result.0
+        (result.1, result.2)) }
     ensures rows { OnErr result.0 (result.1 ≡ rows) }
     ensures beside { (bytes : List ℕ) → IsKeptOf L.keeps bytes (rows, beside)
         → OnErr result.0 (IsKeptOf L.keeps bytes (result.1, result.2)) }

@@ -48,17 +48,14 @@ impl<A: Allocator> BrokenSource<A> {
 }
 
 impl<A: Allocator> Source for BrokenSource<A> {
-    ghost holds = { λ s. Some s.bytes };
-
-    ghost faults = { λ s. s.faults };
-
-    ghost reads = { λ s. s.reads };
-
-    ghost asked = { λ s. s.asked };
-
-    ghost watches = { λ _ _. false };
-
-    ghost strays = { λ _. 0 };
+    ghost tapped = { λ s. record {
+      holds = Some s.bytes;
+      faults = s.faults;
+      reads = s.reads;
+      asked = s.asked;
+      watches = λ _. false;
+      strays = 0;
+    } };
 
     /// It fails at the read of its number, and at no other.
     fn read_at(&mut self, at: u64, buf: &mut [u8]) -> Result<usize, ReadFault>
@@ -145,17 +142,14 @@ impl<A: Allocator> ChangingSource<A> {
 }
 
 impl<A: Allocator> Source for ChangingSource<A> {
-    ghost holds = { λ _. None };
-
-    ghost faults = { λ _. 0 };
-
-    ghost reads = { λ s. s.reads };
-
-    ghost asked = { λ s. s.asked };
-
-    ghost watches = { λ _ _. false };
-
-    ghost strays = { λ _. 0 };
+    ghost tapped = { λ s. record {
+      holds = None;
+      faults = 0;
+      reads = s.reads;
+      asked = s.asked;
+      watches = λ _. false;
+      strays = 0;
+    } };
 
     /// It never fails.
     fn read_at(&mut self, at: u64, buf: &mut [u8]) -> Result<usize, ReadFault> {
@@ -241,9 +235,7 @@ impl<A: Allocator> BrokenWriter<A> {
 }
 
 impl<A: Allocator> Sink for BrokenWriter<A> {
-    ghost tells = { λ w. Some w.bytes };
-
-    ghost faults = { λ w. w.faults };
+    ghost seen = { λ w. record { tells = Some w.bytes; faults = w.faults } };
 
     fn write(&mut self, piece: &[u8]) -> Result<usize, WriteFault> {
         let answer = self.write_some(piece);

@@ -21,7 +21,7 @@ fn has_room<A: Allocator>(version: Version, fields: &Fields<A>) -> bool
 }
 
 /// Whether a segment's head is short enough, whichever its digest is: a digest's text has 37 bytes.
-fn fits<A: Allocator + Copy>(
+fn has_short_head<A: Allocator + Copy>(
     alloc: A,
     version: Version,
     fields: &Fields<A>,
@@ -50,7 +50,7 @@ fn all_fit<A: Allocator + Copy>(
 {
     for at in 0..segment_count(size, len) {
         let part = part_at(size, len, at, [0; 20]);
-        if !fits(alloc, version, fields, uuid, &part)? {
+        if !has_short_head(alloc, version, fields, uuid, &part)? {
             return Ok(false);
         }
     }

@@ -12,6 +12,6 @@ mod written;
 
 pub use conversion::{convert, convert_fields};
 pub use cutting::cut;
-pub use making::{MakeFault, make};
+pub use making::{MakeFault, make, refusal_of_long};
 pub use sending::{put_head, render, render_one};
 pub use splitting::{Part, SplitFault, part_at, segment_count, segment_head, split, splittable};

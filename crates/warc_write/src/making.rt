@@ -1,9 +1,11 @@
 //! Records made of a target, a date, an id and a block.
-ghost use Rattle.std.specs.Prelude.{◌≡◌, [], true, length, IfOk, Ok, Some};
+ghost use Rattle.std.specs.Prelude.{◌≡◌, ℕ, ◌<◌, ◌≤◌, List, [], true, length, IfErr, IfOk, OnOk, Ok, Err, Some};
 ghost use Rattle.std.specs.Option.{option_copied};
+ghost use Rattle.uuid.specs.Text.{parsed};
 ghost use Rattle.warc_field.specs.Text.{is_value};
-ghost use Rattle.warc_frame.specs.Record.{IsFramed, block_len};
+ghost use Rattle.warc_frame.specs.Record.{IsFramed, block_len, max_block};
 ghost use Rattle.warc_record.specs.Good.{IsGood};
+ghost use Rattle.warc_record.specs.Heads.{is_date};
 ghost use Rattle.warc_write.specs.Making.{Makes, fitted, is_target, is_text, made, made_fields};
 ghost use Rattle.warc_write.specs.Making.{make_fault_text, type_of};
 
@@ -39,17 +41,27 @@ pub enum MakeFault {
     Kind,
 }
 
+impl MakeFault {
+    /// Its number and name, which are its text, in at most 10 bytes.
+    pub fn name(self) -> &'static str
+        ensures text { result.now ≡ make_fault_text self }
+        ensures short { length result.now ≤ 10 }
+    {
+        match self {
+            MakeFault::Date => "M1 Date",
+            MakeFault::Text => "M2 Text",
+            MakeFault::TooLong => "M3 TooLong",
+            MakeFault::Memory => "M4 Memory",
+            MakeFault::Kind => "M5 Kind",
+        }
+    }
+}
+
 impl fmt::Display for MakeFault {
     ghost output = { λ fault. Some (make_fault_text fault) };
 
     fn fmt<W: fmt::Write>(&self, f: &mut fmt::Formatter<W>) -> fmt::Result {
-        match self {
-            MakeFault::Date => write!(f, "M1 Date"),
-            MakeFault::Text => write!(f, "M2 Text"),
-            MakeFault::TooLong => write!(f, "M3 TooLong"),
-            MakeFault::Memory => write!(f, "M4 Memory"),
-            MakeFault::Kind => write!(f, "M5 Kind"),
-        }
+        write!(f, "{}", self.name())
     }
 }
 
@@ -141,6 +153,64 @@ fn fitting<A: Allocator>(fields: Fields<A>, block: Vec<u8, A>) -> Result<Framed<
     }
 }
 
+/// The id, or the first refusal of what a record of a kind that is made has but its block.
+fn judge(uri: &[u8], date: &[u8], uuid: &[u8], content_type: &[u8]) -> Result<Uuid, MakeFault>
+    ensures date { OnOk result (is_date date.now ≡ true) }
+    ensures target { OnOk result (is_target uri.now ≡ true) }
+    ensures id { IfOk result (λ id. parsed uuid.now ≡ Some id) }
+    ensures content_type { OnOk result (is_text content_type.now ≡ true) }
+    ensures refused { (kind : Kind) (type block : List ℕ) → type_of kind ≡ Some type →
+        IfErr result (λ fault. made (record {
+          kind = kind;
+          uri = uri.now;
+          date = date.now;
+          uuid = uuid.now;
+          content_type = content_type.now;
+          block = block;
+        }) ≡ Err fault) }
+{
+    if read_date(date).is_none() {
+        return Err(MakeFault::Date);
+    }
+    if !is_target(uri) {
+        return Err(MakeFault::Text);
+    }
+    let Ok(uuid) = Uuid::try_parse_ascii(uuid) else {
+        return Err(MakeFault::Text);
+    };
+    if !is_text(content_type) {
+        return Err(MakeFault::Text);
+    }
+    Ok(uuid)
+}
+
+/// Why no record is made of these and a block of more than 2^40 bytes, whichever they are: the first refusal of the
+/// order of `make`.
+pub fn refusal_of_long(
+    kind: Kind,
+    uri: &[u8],
+    date: &[u8],
+    uuid: &[u8],
+    content_type: &[u8],
+) -> MakeFault
+    ensures { (block : List ℕ) → max_block < length block → made (record {
+      kind = kind;
+      uri = uri.now;
+      date = date.now;
+      uuid = uuid.now;
+      content_type = content_type.now;
+      block = block;
+    }) ≡ Err result }
+{
+    let Some(_) = type_of(kind) else {
+        return MakeFault::Kind;
+    };
+    match judge(uri, date, uuid, content_type) {
+        Ok(_) => MakeFault::TooLong,
+        Err(fault) => fault,
+    }
+}
+
 /// The record of WARC 1.1 with this kind, target, date, id and content type, and this block: the kind is
 /// resource, metadata or conversion; the id a UUID in any form that `uuid` reads, written between `<` and `>`
 /// in lower case with hyphens. It has the block's digest. The refusals come in the order M5, M1, M2, M3, and M4
@@ -168,18 +238,7 @@ pub fn make<A: Allocator + Copy>(
     let Some(type_text) = type_of(kind) else {
         return Err(MakeFault::Kind);
     };
-    if read_date(date).is_none() {
-        return Err(MakeFault::Date);
-    }
-    if !is_target(uri) {
-        return Err(MakeFault::Text);
-    }
-    let Ok(uuid) = Uuid::try_parse_ascii(uuid) else {
-        return Err(MakeFault::Text);
-    };
-    if !is_text(content_type) {
-        return Err(MakeFault::Text);
-    }
+    let uuid = judge(uri, date, uuid, content_type)?;
     if block.len() as u64 > MAX_BLOCK {
         return Err(MakeFault::TooLong);
     }

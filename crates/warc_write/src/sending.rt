@@ -5,7 +5,6 @@ ghost use Rattle.warc_field.specs.Area.{canonical_line, canonical_fields};
 ghost use Rattle.warc_frame.specs.Count.{raised};
 ghost use Rattle.warc_frame.specs.Putting.{Puts};
 ghost use Rattle.warc_frame.specs.Record.{head_text};
-ghost use Rattle.warc_frame.specs.Seen.{seen};
 ghost use Rattle.warc_frame.specs.Send.{WentOut, sent_of};
 ghost use Rattle.warc_frame.specs.Spelling.{canonical};
 ghost use Rattle.warc_frame.specs.declared.fault.OutFault.TheVariants.{Write};
@@ -22,8 +21,7 @@ fn put_fields<A: Allocator, W: Sink>(
     buffer: &mut OutBuffer,
     out: &mut W,
 ) -> Result<(), SendFault>
-    ensures { Puts (seen (W.tells out.old) (W.faults out.old)) (seen (W.tells out.new) (W.faults out.new))
-        buffer.old buffer.new result (canonical_fields fields.now) }
+    ensures { Puts (W.seen out.old) (W.seen out.new) buffer.old buffer.new result (canonical_fields fields.now) }
 {
     went_out_of_longer();
     'putting: for field in fields {
@@ -39,8 +37,8 @@ fn put_line<W: Sink>(
     buffer: &mut OutBuffer,
     out: &mut W,
 ) -> Result<(), SendFault>
-    ensures { Puts (seen (W.tells out.old) (W.faults out.old)) (seen (W.tells out.new) (W.faults out.new))
-        buffer.old buffer.new result (canonical_line (name.now, value.now)) }
+    ensures { Puts (W.seen out.old) (W.seen out.new) buffer.old buffer.new result
+        (canonical_line (name.now, value.now)) }
 {
     put_all(&[name, b": ", value, b"\r\n"], buffer, out)
 }
@@ -52,8 +50,8 @@ pub fn put_head<A: Allocator, W: Sink>(
     buffer: &mut OutBuffer,
     out: &mut W,
 ) -> Result<(), SendFault>
-    ensures { Puts (seen (W.tells out.old) (W.faults out.old)) (seen (W.tells out.new) (W.faults out.new))
-        buffer.old buffer.new result (head_text version (canonical_fields fields.now)) }
+    ensures { Puts (W.seen out.old) (W.seen out.new) buffer.old buffer.new result (head_text version
+        (canonical_fields fields.now)) }
 {
     went_out_of_longer();
     buffer.put(out, version.line())?;
@@ -67,8 +65,7 @@ fn put_record<A: Allocator, W: Sink>(
     buffer: &mut OutBuffer,
     out: &mut W,
 ) -> Result<(), SendFault>
-    ensures { Puts (seen (W.tells out.old) (W.faults out.old)) (seen (W.tells out.new) (W.faults out.new))
-        buffer.old buffer.new result (canonical framed.now) }
+    ensures { Puts (W.seen out.old) (W.seen out.new) buffer.old buffer.new result (canonical framed.now) }
 {
     went_out_of_longer();
     put_head(framed.version(), framed.fields(), buffer, out)?;
@@ -81,8 +78,7 @@ fn put_records<A: Allocator, W: Sink>(
     buffer: &mut OutBuffer,
     out: &mut W,
 ) -> Result<(), SendFault>
-    ensures { Puts (seen (W.tells out.old) (W.faults out.old)) (seen (W.tells out.new) (W.faults out.new))
-        buffer.old buffer.new result (canonical_texts records.now) }
+    ensures { Puts (W.seen out.old) (W.seen out.new) buffer.old buffer.new result (canonical_texts records.now) }
 {
     went_out_of_longer();
     'putting: for framed in records {
@@ -95,13 +91,15 @@ fn put_records<A: Allocator, W: Sink>(
 /// no memory, so that it fails only where a write failed, and answers `Write` with the number of bytes that
 /// went out, up to 2^64 - 1.
 pub fn render<A: Allocator, W: Sink>(records: &[Framed<A>], out: &mut W) -> Result<(), OutFault>
-    ensures told { OnOk result (W.tells out.new ≡ append_known (W.tells out.old) (canonical_texts records.now)) }
+    ensures told { OnOk result ((W.seen out.new).tells ≡ append_known (W.seen out.old).tells
+        (canonical_texts records.now)) }
 
     // After a failed write just so many bytes of them went out.
-    ensures cut { IfErr result (λ e.
-        WentOut (W.tells out.old) (canonical_texts records.now) (W.tells out.new) (sent_of e)) }
+    ensures cut { IfErr result (λ e. WentOut (W.seen out.old).tells (canonical_texts records.now) (W.seen out.new).tells
+        (sent_of e)) }
     ensures write { IfErr result (λ e. e ≡ Write (sent_of e)) }
-    ensures cause { W.faults out.new ≡ (if is_err result then raised (W.faults out.old) else W.faults out.old) }
+    ensures cause { (W.seen out.new).faults ≡ (if is_err result then raised (W.seen out.old).faults else
+        (W.seen out.old).faults) }
 {
     let mut buffer = OutBuffer::new();
     put_records(records, &mut buffer, out)?;
@@ -111,11 +109,12 @@ pub fn render<A: Allocator, W: Sink>(records: &[Framed<A>], out: &mut W) -> Resu
 
 /// Writes the canonical text of one record, as `render` does.
 pub fn render_one<A: Allocator, W: Sink>(framed: &Framed<A>, out: &mut W) -> Result<(), OutFault>
-    ensures told { OnOk result (W.tells out.new ≡ append_known (W.tells out.old) (canonical framed.now)) }
-    ensures cut { IfErr result (λ e.
-        WentOut (W.tells out.old) (canonical framed.now) (W.tells out.new) (sent_of e)) }
+    ensures told { OnOk result ((W.seen out.new).tells ≡ append_known (W.seen out.old).tells (canonical framed.now)) }
+    ensures cut { IfErr result (λ e. WentOut (W.seen out.old).tells (canonical framed.now) (W.seen out.new).tells
+        (sent_of e)) }
     ensures write { IfErr result (λ e. e ≡ Write (sent_of e)) }
-    ensures cause { W.faults out.new ≡ (if is_err result then raised (W.faults out.old) else W.faults out.old) }
+    ensures cause { (W.seen out.new).faults ≡ (if is_err result then raised (W.seen out.old).faults else
+        (W.seen out.old).faults) }
 {
     let mut buffer = OutBuffer::new();
     put_record(framed, &mut buffer, out)?;

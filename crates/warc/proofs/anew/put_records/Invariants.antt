@@ -1,7 +1,6 @@
 use Rattle.std.proofs.Common.{◌≤◌, Ok, length, take}
 use Rattle.std.specs.List.{sum_by}
 use Rattle.warc_frame.specs.Record.{max_head}
-use Rattle.warc_frame.specs.Seen.{seen, tapped}
 use Rattle.warc.specs.Copied.{AreTextsOf, len_by, text_by}
 use Rattle.warc.specs.Emitting.{Emits}
 use Rattle.warc.specs.Forms.{IsInRecord, ReadsOnly}
@@ -12,11 +11,11 @@ abbrev pub invariant-writing : goal.invariant-writing
 invariant-writing g l = record {
   room : max_head ≤ length l.scratch;
   emits : Emits {X = Unit {0}} (AreTextsOf (text_by l.manner) (take l.position l.rows))
-      (tapped (g.S.Source.holds l.fn.source) (g.S.Source.faults l.fn.source) (g.S.Source.reads l.fn.source) (g.S.Source.asked l.fn.source) (g.S.Source.watches l.fn.source) (g.S.Source.strays l.fn.source))
-      (tapped (g.S.Source.holds l.source) (g.S.Source.faults l.source) (g.S.Source.reads l.source) (g.S.Source.asked l.source) (g.S.Source.watches l.source) (g.S.Source.strays l.source))
-      (seen (g.W.Sink.tells l.fn.out) (g.W.Sink.faults l.fn.out)) (seen (g.W.Sink.tells l.out) (g.W.Sink.faults l.out))
+      (g.S.Source.tapped l.fn.source)
+      (g.S.Source.tapped l.source)
+      (g.W.Sink.seen l.fn.out) (g.W.Sink.seen l.out)
       l.fn.buffer l.buffer (Ok (tt {0}));
   reads : ReadsOnly (IsInRecord l.rows) (sum_by (len_by l.manner) (take l.position l.rows))
-      (tapped (g.S.Source.holds l.fn.source) (g.S.Source.faults l.fn.source) (g.S.Source.reads l.fn.source) (g.S.Source.asked l.fn.source) (g.S.Source.watches l.fn.source) (g.S.Source.strays l.fn.source))
-      (tapped (g.S.Source.holds l.source) (g.S.Source.faults l.source) (g.S.Source.reads l.source) (g.S.Source.asked l.source) (g.S.Source.watches l.source) (g.S.Source.strays l.source));
+      (g.S.Source.tapped l.fn.source)
+      (g.S.Source.tapped l.source);
 }

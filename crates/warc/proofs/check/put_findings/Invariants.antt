@@ -7,7 +7,7 @@ use Rattle.warc.proofs.check.put_findings.Given as goal
 -- the lines of the findings so far are staged, and no write has failed
 abbrev pub invariant-putting : goal.invariant-putting
 invariant-putting g l = record {
-  staged : (start : Option (List ℕ)) (output : List ℕ) → IsStaged start output (g.W.Sink.tells l.fn.out) l.fn.buffer
-      → IsStaged start (output ++ record_text l.position (map finding_seen (take l.finding-index l.found))) (g.W.Sink.tells l.out) l.buffer;
-  sound : g.W.Sink.faults l.out ≡ g.W.Sink.faults l.fn.out;
+  staged : (start : Option (List ℕ)) (output : List ℕ) → IsStaged start output ((g.W.Sink.seen l.fn.out).tells) l.fn.buffer
+      → IsStaged start (output ++ record_text l.position (map finding_seen (take l.finding-index l.found))) ((g.W.Sink.seen l.out).tells) l.buffer;
+  sound : (g.W.Sink.seen l.out).faults ≡ (g.W.Sink.seen l.fn.out).faults;
 }

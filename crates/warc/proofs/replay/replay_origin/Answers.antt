@@ -16,7 +16,7 @@ returns-in-Err-Gap-clause-told g c = λ bytes records uri moment p held is kept 
 
 pub returns-in-Err-Memory-clause-told : goal.returns-in-Err-Memory-clause-told
 returns-in-Err-Memory-clause-told g c = λ bytes records uri moment p held is kept says at.
-    c.fails_before_all.ensures (contents records) uri moment (g.W.Sink.tells c.args.out.now) (outs.Memory 0) refl
+    c.fails_before_all.ensures (contents records) uri moment ((g.W.Sink.seen c.args.out.now).tells) (outs.Memory 0) refl
 
 pub returns-clause-told : goal.returns-clause-told
 returns-clause-told g c = λ bytes records uri moment p held is kept says at.

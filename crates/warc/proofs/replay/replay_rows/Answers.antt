@@ -27,7 +27,7 @@ returns-in-Err g c = record {
 
 pub returns-in_default : goal.returns-in_default
 returns-in_default g c = record {
-  told = λ bytes held is are. c.fails_before_all.ensures (contents is.are.records) c.args.uri.now c.args.moment.now (g.W.Sink.tells c.args.out.now) (outs.Memory 0) refl;
+  told = λ bytes held is are. c.fails_before_all.ensures (contents is.are.records) c.args.uri.now c.args.moment.now ((g.W.Sink.seen c.args.out.now).tells) (outs.Memory 0) refl;
   failed = λ bytes held is are. refl;
   cost = λ bytes held is are. omega arith;
   near = λ bytes held is are off. refl;
@@ -39,7 +39,7 @@ returns-in_default g c = record {
 
 pub returns-in_default-get : goal.returns-in_default-get
 returns-in_default-get g c = record {
-  told = λ bytes held is are. c.fails_before_all.ensures (contents is.are.records) c.args.uri.now c.args.moment.now (g.W.Sink.tells c.args.out.now) (outs.Read 0) refl;
+  told = λ bytes held is are. c.fails_before_all.ensures (contents is.are.records) c.args.uri.now c.args.moment.now ((g.W.Sink.seen c.args.out.now).tells) (outs.Read 0) refl;
   failed = λ bytes held is are.
       absurd (row_missing is.are.records c.args.uri.now c.args.moment.now _ c.chosen_is_latest.ensures c.origins_stand.ensures (sym (c.in-Ok.ensures is.are.records are))
       (ap (λ l. slice_get l c.in-Ok.path.given) (sym is.are.rows_are) ∙ sym c.get.ensures ∙ c.in_default-get.is));

@@ -1,5 +1,4 @@
 use Rattle.std.proofs.Common.{◌≡◌, ◌≤◌, ℕ, List, length, min, take, Some}
-use Rattle.warc_frame.specs.Seen.{tapped}
 use Rattle.warc_answer.specs.Places.{HasRead, LieIn, len_of, text_at}
 use Rattle.warc_answer.proofs.blocks.read_front.Given as goal
 
@@ -9,11 +8,11 @@ invariant-reading g l = record {
   within : l.filled ≤ length l.front;
   count : (bytes : List ℕ) → LieIn l.places bytes
       → l.filled ≡ min (length l.front) (length (text_at (take l.place-index l.places) bytes));
-  bytes : (bytes : List ℕ) → g.S.Source.holds l.fn.source ≡ Some bytes → LieIn l.places bytes
+  bytes : (bytes : List ℕ) → (g.S.Source.tapped l.fn.source).holds ≡ Some bytes → LieIn l.places bytes
       → take l.filled l.front ≡ take (length l.front) (text_at (take l.place-index l.places) bytes);
-  kept : g.S.Source.holds l.source ≡ g.S.Source.holds l.fn.source;
-  sound : g.S.Source.faults l.source ≡ g.S.Source.faults l.fn.source;
+  kept : (g.S.Source.tapped l.source).holds ≡ (g.S.Source.tapped l.fn.source).holds;
+  sound : (g.S.Source.tapped l.source).faults ≡ (g.S.Source.tapped l.fn.source).faults;
   read : HasRead (len_of (take l.place-index l.places)) l.places
-      (tapped (g.S.Source.holds l.fn.source) (g.S.Source.faults l.fn.source) (g.S.Source.reads l.fn.source) (g.S.Source.asked l.fn.source) (g.S.Source.watches l.fn.source) (g.S.Source.strays l.fn.source))
-      (tapped (g.S.Source.holds l.source) (g.S.Source.faults l.source) (g.S.Source.reads l.source) (g.S.Source.asked l.source) (g.S.Source.watches l.source) (g.S.Source.strays l.source));
+      (g.S.Source.tapped l.fn.source)
+      (g.S.Source.tapped l.source);
 }

@@ -3,17 +3,17 @@ use Rattle.warc_answer.proofs.blocks.send_blocks.Goals as goal
 
 pub returns-in-Err-clause-cut : goal.returns-in-Err-clause-cut
 returns-in-Err-clause-cut g c = λ bytes held lie.
-    c.in-Err.ensures.copied.cut bytes held lie (g.W.Sink.tells c.args.out.now) []
-    (c.new-buffer.ensures.begins (g.W.Sink.tells c.args.out.now))
+    c.in-Err.ensures.copied.cut bytes held lie ((g.W.Sink.seen c.args.out.now).tells) []
+    (c.new-buffer.ensures.begins ((g.W.Sink.seen c.args.out.now).tells))
 
 pub returns-in-Ok-clause-told : goal.returns-in-Ok-clause-told
 returns-in-Ok-clause-told g c = λ bytes held lie.
-    c.in-Ok.ensures.told (g.W.Sink.tells c.args.out.now) _
-    (c.in_default.ensures.copied.out bytes held lie (g.W.Sink.tells c.args.out.now) []
-    (c.new-buffer.ensures.begins (g.W.Sink.tells c.args.out.now)))
+    c.in-Ok.ensures.told ((g.W.Sink.seen c.args.out.now).tells) _
+    (c.in_default.ensures.copied.out bytes held lie ((g.W.Sink.seen c.args.out.now).tells) []
+    (c.new-buffer.ensures.begins ((g.W.Sink.seen c.args.out.now).tells)))
 
 pub returns-in-Err-flush-clause-cut : goal.returns-in-Err-flush-clause-cut
 returns-in-Err-flush-clause-cut g c = λ bytes held lie.
-    c.in-Err-flush.ensures.cut (g.W.Sink.tells c.args.out.now) _
-    (c.in_default.ensures.copied.out bytes held lie (g.W.Sink.tells c.args.out.now) []
-    (c.new-buffer.ensures.begins (g.W.Sink.tells c.args.out.now)))
+    c.in-Err-flush.ensures.cut ((g.W.Sink.seen c.args.out.now).tells) _
+    (c.in_default.ensures.copied.out bytes held lie ((g.W.Sink.seen c.args.out.now).tells) []
+    (c.new-buffer.ensures.begins ((g.W.Sink.seen c.args.out.now).tells)))

@@ -11,7 +11,7 @@ use Rattle.warc_answer.proofs.replay.replay_joined.Goals as goal
 
 pub returns-then-any_bad-clause-replayed : goal.returns-then-any_bad-clause-replayed
 returns-then-any_bad-clause-replayed g c = λ bytes records uri moment read joined held short found says are.
-    replay_of_bad bytes records uri moment c.args.path read joined c.args.places.now (g.W.Sink.tells c.args.out.now) found are
+    replay_of_bad bytes records uri moment c.args.path read joined c.args.places.now ((g.W.Sink.seen c.args.out.now).tells) found are
     (sym c.any_bad.ensures ∙ c.if-any_bad.true)
 
 pub returns-in-Err-clause-replayed : goal.returns-in-Err-clause-replayed
@@ -20,7 +20,7 @@ returns-in-Err-clause-replayed g c = λ bytes records uri moment read joined hel
     let http : c.is_http_response.result ≡ is_http_response read.head =
     c.is_http_response.ensures ∙ ap (λ (h : Reading). is_http_response h) says in
     replay_of_none c.one_of_three.ensures bytes records uri moment c.args.path read joined places
-    (g.W.Sink.tells c.args.out.now) c.is_http_response.result c.in-Err.fault found are
+    ((g.W.Sink.seen c.args.out.now).tells) c.is_http_response.result c.in-Err.fault found are
     (sym c.any_bad.ensures ∙ c.if-any_bad.false) http
     (c.in-Err.ensures.begun bytes held (places_lie bytes places joined short are))
 
@@ -41,8 +41,8 @@ returns-in-Ok-send_blocks-clause-replayed g c = λ bytes records uri moment read
     joined_short c.joined_has_total.ensures bytes records uri moment c.args.path read joined places short found are in
     let len : c.saturating_sub.result ≡ length (drop start.skip (text_at places bytes)) =
     omega (arith, c.saturating_sub.ensures, c.total.ensures, places_len bytes places joined are, ap length text, length-drop start.skip (text_at places bytes)) in
-    replay_of_body bytes records uri moment c.args.path read joined places (g.W.Sink.tells c.args.out.now)
-    (g.W.Sink.tells c.send_blocks.new.out) c.is_http_response.result start c.any_truncated.result
+    replay_of_body bytes records uri moment c.args.path read joined places ((g.W.Sink.seen c.args.out.now).tells)
+    ((g.W.Sink.seen c.send_blocks.new.out).tells) c.is_http_response.result start c.any_truncated.result
     c.saturating_sub.result found are (sym c.any_bad.ensures ∙ c.if-any_bad.false) http
     (c.in-Ok.ensures.begun bytes held lie) c.any_truncated.ensures len
     (c.in-Ok-send_blocks.ensures.told bytes (c.in-Ok.ensures.kept ∙ held) lie)
@@ -59,8 +59,8 @@ returns-in-Err-send_blocks-clause-replayed g c = λ bytes records uri moment rea
     let lie = places_lie bytes places joined short are in
     let http : c.is_http_response.result ≡ is_http_response read.head =
     c.is_http_response.ensures ∙ ap (λ (h : Reading). is_http_response h) says in
-    replay_of_front bytes records uri moment c.args.path read joined places (g.W.Sink.tells c.args.out.now)
-    (g.W.Sink.tells c.send_blocks.new.out) c.is_http_response.result c.in-Ok.start c.in-Err-send_blocks.fault found are
+    replay_of_front bytes records uri moment c.args.path read joined places ((g.W.Sink.seen c.args.out.now).tells)
+    ((g.W.Sink.seen c.send_blocks.new.out).tells) c.is_http_response.result c.in-Ok.start c.in-Err-send_blocks.fault found are
     (sym c.any_bad.ensures ∙ c.if-any_bad.false) http (c.in-Ok.ensures.begun bytes held lie)
     (c.in-Err-send_blocks.ensures.cut bytes (c.in-Ok.ensures.kept ∙ held) lie)
 

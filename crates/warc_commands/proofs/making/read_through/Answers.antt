@@ -44,12 +44,12 @@ returns-clause-bytes g c = λ bytes held. elim c.reading-test.branch [
 
 pub returns-clause-kept : goal.returns-clause-kept
 returns-clause-kept g c = elim c.reading-test.branch [
-  | else-reading-test w ↦ ap g.S.Source.holds w.source-is ∙ c.reading.invariant.kept
-  | then-reading-test+in-Ok+then-n-eq0 w ↦ ap g.S.Source.holds w.source-is ∙ (w.in-Ok.ensures.kept ∙ c.reading.invariant.kept)
+  | else-reading-test w ↦ ap (λ s. (g.S.Source.tapped s).holds) w.source-is ∙ c.reading.invariant.kept
+  | then-reading-test+in-Ok+then-n-eq0 w ↦ ap (λ s. (g.S.Source.tapped s).holds) w.source-is ∙ (w.in-Ok.ensures.kept ∙ c.reading.invariant.kept)
 ]
 
 pub returns-clause-failed : goal.returns-clause-failed
 returns-clause-failed g c = elim c.reading-test.branch [
-  | else-reading-test w ↦ ap g.S.Source.faults w.source-is ∙ c.reading.invariant.sound
-  | then-reading-test+in-Ok+then-n-eq0 w ↦ ap g.S.Source.faults w.source-is ∙ (w.in-Ok.ensures.cause ∙ c.reading.invariant.sound)
+  | else-reading-test w ↦ ap (λ s. (g.S.Source.tapped s).faults) w.source-is ∙ c.reading.invariant.sound
+  | then-reading-test+in-Ok+then-n-eq0 w ↦ ap (λ s. (g.S.Source.tapped s).faults) w.source-is ∙ (w.in-Ok.ensures.cause ∙ c.reading.invariant.sound)
 ]

@@ -5,9 +5,9 @@ use Rattle.warc_commands.proofs.making.read_through.Given as goal
 abbrev pub invariant-reading : goal.invariant-reading
 invariant-reading g l = record {
   within : length l.read.items ≤ l.most;
-  bytes : (bytes : List ℕ) → g.S.Source.holds l.fn.source ≡ Some bytes → l.read.items ≡ take (length l.read.items) bytes;
-  kept : g.S.Source.holds l.source ≡ g.S.Source.holds l.fn.source;
-  sound : g.S.Source.faults l.source ≡ g.S.Source.faults l.fn.source;
+  bytes : (bytes : List ℕ) → (g.S.Source.tapped l.fn.source).holds ≡ Some bytes → l.read.items ≡ take (length l.read.items) bytes;
+  kept : (g.S.Source.tapped l.source).holds ≡ (g.S.Source.tapped l.fn.source).holds;
+  sound : (g.S.Source.tapped l.source).faults ≡ (g.S.Source.tapped l.fn.source).faults;
 }
 
 abbrev pub decreases-reading : goal.decreases-reading

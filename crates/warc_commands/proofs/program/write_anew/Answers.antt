@@ -6,8 +6,8 @@ pub returns-in-Err-clause-ends : goal.returns-in-Err-clause-ends
 returns-in-Err-clause-ends g c = inr (inl (not_opened _ _ _ _ _ _ c.in-Err.fault _ c.in-Err.ensures c.tell_refusal.ensures.told c.tell_refusal.ensures.status))
 
 pub returns-in-Ok-write_as-clause-ends : goal.returns-in-Ok-write_as-clause-ends
-returns-in-Ok-write_as-clause-ends g c = inl (all_written c.in-Ok.ensures c.in-Ok-write_as.ensures.writes (ap g.S.Source.faults c.into_source.ensures))
+returns-in-Ok-write_as-clause-ends g c = inl (all_written c.in-Ok.ensures c.in-Ok-write_as.ensures.writes (ap (λ s. (g.S.Source.tapped s).faults) c.into_source.ensures))
 
 pub returns-in-Err-write_as-clause-ends : goal.returns-in-Err-write_as-clause-ends
 returns-in-Err-write_as-clause-ends g c =
-    inr (inr (part_written c.in-Err-write_as.fault c.in-Ok.ensures c.in-Err-write_as.ensures.writes (ap g.S.Source.faults c.into_source-in-Err-write_as.ensures) c.tell_cut.ensures.told c.tell_cut.ensures.status))
+    inr (inr (part_written c.in-Err-write_as.fault c.in-Ok.ensures c.in-Err-write_as.ensures.writes (ap (λ s. (g.S.Source.tapped s).faults) c.into_source-in-Err-write_as.ensures) c.tell_cut.ensures.told c.tell_cut.ensures.status))

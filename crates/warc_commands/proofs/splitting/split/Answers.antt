@@ -11,9 +11,9 @@ split_by word n old new status same ends = let P : Option ℕ → Type 0 = λ si
 pub returns-in-Ok-split-clause-ends : goal.returns-in-Ok-split-clause-ends
 returns-in-Ok-split-clause-ends g c =
     split_by c.args.size.now c.in-Some.size _ _ _ (c.in-Some.ensures ∙ ap size_of c.as_bytes.ensures.value)
-    (inl (all_written c.in-Ok.ensures c.in-Ok-split.ensures.writes (ap g.S.Source.faults c.into_source.ensures)))
+    (inl (all_written c.in-Ok.ensures c.in-Ok-split.ensures.writes (ap (λ s. (g.S.Source.tapped s).faults) c.into_source.ensures)))
 
 pub returns-in-Err-split-clause-ends : goal.returns-in-Err-split-clause-ends
 returns-in-Err-split-clause-ends g c =
     split_by c.args.size.now c.in-Some.size _ _ _ (c.in-Some.ensures ∙ ap size_of c.as_bytes.ensures.value)
-    (inr (inr (part_written c.in-Err-split.fault c.in-Ok.ensures c.in-Err-split.ensures.writes (ap g.S.Source.faults c.into_source-in-Err-split.ensures) c.tell_cut.ensures.told c.tell_cut.ensures.status)))
+    (inr (inr (part_written c.in-Err-split.fault c.in-Ok.ensures c.in-Err-split.ensures.writes (ap (λ s. (g.S.Source.tapped s).faults) c.into_source-in-Err-split.ensures) c.tell_cut.ensures.told c.tell_cut.ensures.status)))

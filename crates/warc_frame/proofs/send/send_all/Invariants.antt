@@ -5,8 +5,8 @@ use Rattle.warc_frame.proofs.send.send_all.Given as goal
 abbrev pub invariant-writing : goal.invariant-writing
 invariant-writing g l = record {
   within : l.sent ≤ length l.piece;
-  told : g.W.Sink.tells l.out ≡ append_known (g.W.Sink.tells l.fn.out) (take l.sent l.piece);
-  sound : g.W.Sink.faults l.out ≡ g.W.Sink.faults l.fn.out;
+  told : (g.W.Sink.seen l.out).tells ≡ append_known ((g.W.Sink.seen l.fn.out).tells) (take l.sent l.piece);
+  sound : (g.W.Sink.seen l.out).faults ≡ (g.W.Sink.seen l.fn.out).faults;
 }
 
 abbrev pub decreases-writing : goal.decreases-writing

@@ -1,6 +1,5 @@
 use Rattle.std.proofs.Common.{◌≡◌, ℕ, ◌+◌, ◌-◌, ◌^◌, List, ◌++◌, length}
 use Rattle.warc_frame.specs.Decoding.{IsAt}
-use Rattle.warc_frame.specs.Seen.{tapped}
 use Rattle.warc_frame.specs.Told.{Told}
 use Rattle.warc_reading.specs.Stream.{Extends, HasGivenFrom, IsKeptOf, Since, Stands}
 use Rattle.warc_reading.proofs.reading.read_through.Given as goal
@@ -14,9 +13,8 @@ invariant-reading g l = record {
   stands : (bytes : List ℕ) (is : IsKeptOf g.L.Keep.keeps bytes (l.fn.reading.rows, l.fn.reading.beside)) → Stands (Since g.L.Keep.keeps is.listed.are.records) (bytes ++ taken) l.decoder l.reading;
   rows : Extends l.fn.reading.rows l.reading.rows;
   given : HasGivenFrom l.fn.reading.begin
-      (tapped (g.S.Source.holds l.fn.source) (g.S.Source.faults l.fn.source) (g.S.Source.reads l.fn.source) (g.S.Source.asked l.fn.source) (g.S.Source.watches l.fn.source)
-      (g.S.Source.strays l.fn.source))
-      (tapped (g.S.Source.holds l.source) (g.S.Source.faults l.source) (g.S.Source.reads l.source) (g.S.Source.asked l.source) (g.S.Source.watches l.source) (g.S.Source.strays l.source))
+      (g.S.Source.tapped l.fn.source)
+      (g.S.Source.tapped l.source)
       taken;
   room : length l.buf ≡ length l.fn.buf;
 }

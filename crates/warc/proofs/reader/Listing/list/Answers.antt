@@ -9,7 +9,7 @@ use Rattle.warc.proofs.reader.Listing.list.Goals as goal
 pub listing-init : goal.listing-init
 unfolding listing
 listing-init g c = record {
-  staged = c.new-buffer.ensures.begins (g.W.Sink.tells c.args.out.now);
+  staged = c.new-buffer.ensures.begins ((g.W.Sink.seen c.args.out.now).tells);
   sound = refl;
 }
 

@@ -6,6 +6,6 @@ use Rattle.warc.proofs.reader.Listing.list.Given as goal
 -- the lines of the rows so far are staged, and no write has failed
 abbrev pub invariant-listing : goal.invariant-listing
 invariant-listing g l = record {
-  staged : IsStaged (g.W.Sink.tells l.fn.out) (listing (take l.position l.self.rows)) (g.W.Sink.tells l.out) l.buffer;
-  sound : g.W.Sink.faults l.out ≡ g.W.Sink.faults l.fn.out;
+  staged : IsStaged ((g.W.Sink.seen l.fn.out).tells) (listing (take l.position l.self.rows)) ((g.W.Sink.seen l.out).tells) l.buffer;
+  sound : (g.W.Sink.seen l.out).faults ≡ (g.W.Sink.seen l.fn.out).faults;
 }

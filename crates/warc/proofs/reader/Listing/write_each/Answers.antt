@@ -8,14 +8,14 @@ pub returns-clause-writes : goal.returns-clause-writes
 returns-clause-writes g c = record {
   told = λ bytes held is.
       let are = texts_of_archive c.head_of_spelled.ensures (text_by c.args.manner) bytes c.self.inside.rows _ is (same_rows c.self.view_is) in
-      c.write_rows.ensures.told bytes _ (ap g.S.Source.holds (same_source c.self.view_is) ∙ held) are;
+      c.write_rows.ensures.told bytes _ (ap (λ s. (g.S.Source.tapped s).holds) (same_source c.self.view_is) ∙ held) are;
   cut = λ bytes held is.
       let are = texts_of_archive c.head_of_spelled.ensures (text_by c.args.manner) bytes c.self.inside.rows _ is (same_rows c.self.view_is) in
-      c.write_rows.ensures.cut bytes _ (ap g.S.Source.holds (same_source c.self.view_is) ∙ held) are;
+      c.write_rows.ensures.cut bytes _ (ap (λ s. (g.S.Source.tapped s).holds) (same_source c.self.view_is) ∙ held) are;
   failed = λ bytes held is.
       let are = texts_of_archive c.head_of_spelled.ensures (text_by c.args.manner) bytes c.self.inside.rows _ is (same_rows c.self.view_is) in
-      let failed = c.write_rows.ensures.failed bytes _ (ap g.S.Source.holds (same_source c.self.view_is) ∙ held) are in
-      rw (← (ap g.S.Source.faults (same_source c.self.view_is))) failed;
+      let failed = c.write_rows.ensures.failed bytes _ (ap (λ s. (g.S.Source.tapped s).holds) (same_source c.self.view_is) ∙ held) are in
+      rw (← (ap (λ s. (g.S.Source.tapped s).faults) (same_source c.self.view_is))) failed;
   kept = search rules;
   reads = rw (← (same_rows c.self.view_is), ← (same_source c.self.view_is)) c.write_rows.ensures.reads;
   may = search rules;

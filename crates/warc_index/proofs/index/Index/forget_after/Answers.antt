@@ -6,10 +6,10 @@ use Rattle.warc_index.proofs.index.Index.forget_after.Goals as goal
 
 pub invariant_of-self : goal.invariant_of-self
 invariant_of-self g c = record {
-  ids = subst (IsBelow c.args.count) (sym c.forget_after.ensures) (below_kept c.self.inside.by_id c.args.count);
-  captures = subst (IsBelow c.args.count) (sym c.forget_after-then-count-self.ensures) (below_kept
+  ids = subst (IsBelow c.args.count) (sym c.keep_first.ensures.ids) (below_kept c.self.inside.by_id c.args.count);
+  captures = subst (IsBelow c.args.count) (sym c.keep_first.ensures.captures) (below_kept
       c.self.inside.by_target c.args.count);
-  links = ap length c.truncate.ensures ∙ length-take-le c.args.count c.self.inside.links (omega (
+  links = ap length c.keep_first.ensures.links ∙ length-take-le c.args.count c.self.inside.links (omega (
     arith,
     c.self.invariant.links,
   ));
@@ -23,5 +23,5 @@ returns-then-count-self g c all kept =
       captures = c.self.inside.by_target;
       links = c.self.inside.links;
     }) _
-    c.args.count c.if-count-self.true (subst (IsKeptOf all) (sym c.self.view_is) kept) refl c.forget_after.ensures
-    c.forget_after-then-count-self.ensures c.truncate.ensures
+    c.args.count c.if-count-self.true (subst (IsKeptOf all) (sym c.self.view_is) kept) refl c.keep_first.ensures.ids
+    c.keep_first.ensures.captures c.keep_first.ensures.links
