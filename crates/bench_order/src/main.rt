@@ -1,5 +1,6 @@
 //! Times `warc_order`: `bench_order COUNT [equal]`. It fills an order of COUNT entries at once, adds as many one by
-//! one, and looks each up, all in random order, and prints nanoseconds an entry. With `equal` all texts have one hash.
+//! one, and looks each up, all in random order, and prints nanoseconds an entry; what making the texts takes is in each
+//! of them. With `equal` all texts have one hash.
 //! Without arguments it does nothing.
 #![tactic(auto)]
 
@@ -78,6 +79,53 @@ fn looked_up(
     Ok(found)
 }
 
+/// Looks each entry up, and prints how many were found, and the nanoseconds that each took.
+fn look_up<R: Print + Clock>(
+    rt: &R,
+    alloc: Global,
+    order: &Order,
+    count: usize,
+    is_equal: bool,
+) -> io::Result<()> {
+    let start = Instant::now(rt)?;
+    let found = looked_up(alloc, order, count, is_equal)?;
+    let each = per(start.elapsed(rt)?.as_nanos(), count);
+    println!(rt; "found {found} in {each} ns each")
+}
+
+/// Adds the entries one by one, looks them up, and forgets half of them.
+fn measure_adding<R: Print + Clock>(
+    rt: &R,
+    alloc: Global,
+    count: usize,
+    is_equal: bool,
+) -> io::Result<()> {
+    let start = Instant::now(rt)?;
+    let mut order = added(alloc, count, is_equal)?;
+    let each = per(start.elapsed(rt)?.as_nanos(), count);
+    println!(rt; "{count} added in {each} ns each")?;
+    look_up(rt, alloc, &order, count, is_equal)?;
+    let start = Instant::now(rt)?;
+    order.forget_after(count / 2);
+    let taken = start.elapsed(rt)?.as_nanos() / 1000;
+    println!(rt; "half of them forgotten in {taken} us")
+}
+
+/// Fills an order with the entries at once, and looks them up.
+fn measure_filling<R: Print + Clock>(
+    rt: &R,
+    alloc: Global,
+    count: usize,
+    is_equal: bool,
+) -> io::Result<()> {
+    let start = Instant::now(rt)?;
+    let order = filled(alloc, count, is_equal)?;
+    let each = per(start.elapsed(rt)?.as_nanos(), count);
+    println!(rt; "{count} filled in {each} ns each")?;
+    look_up(rt, alloc, &order, count, is_equal)
+}
+
+/// Prints what the texts alone cost, and then what it costs to order them and to find them.
 fn measure<R: Print + Clock>(
     rt: &R,
     alloc: Global,
@@ -86,28 +134,10 @@ fn measure<R: Print + Clock>(
 ) -> io::Result<()> {
     let start = Instant::now(rt)?;
     let length = written(alloc, count, is_equal)?;
-    let texts = per(start.elapsed(rt)?.as_nanos(), count);
-    let start = Instant::now(rt)?;
-    let order = added(alloc, count, is_equal)?;
-    let adding = per(start.elapsed(rt)?.as_nanos(), count);
-    let start = Instant::now(rt)?;
-    let found = looked_up(alloc, &order, count, is_equal)?;
-    let eager = per(start.elapsed(rt)?.as_nanos(), count);
-    drop(order);
-    let start = Instant::now(rt)?;
-    let mut order = filled(alloc, count, is_equal)?;
-    let filling = per(start.elapsed(rt)?.as_nanos(), count);
-    let start = Instant::now(rt)?;
-    let again = looked_up(alloc, &order, count, is_equal)?;
-    let looking = per(start.elapsed(rt)?.as_nanos(), count);
-    let start = Instant::now(rt)?;
-    order.forget_after(count / 2);
-    let forgetting = start.elapsed(rt)?.as_nanos() / 1000;
-    println!(rt; "{count} texts {texts} ns (check {length}), filling {filling}, adding {adding}")?;
-    println!(rt;
-        "found {found} in {eager} ns each after adding, {again} in {looking} after filling; \
-         forgetting half {forgetting} us"
-    )
+    let each = per(start.elapsed(rt)?.as_nanos(), count);
+    println!(rt; "{count} texts made in {each} ns each (check {length})")?;
+    measure_filling(rt, alloc, count, is_equal)?;
+    measure_adding(rt, alloc, count, is_equal)
 }
 
 fn main(rt: HostRuntime) -> io::Result<()> {
