@@ -27,8 +27,8 @@ pub not_opened : {X : Type 0} (Is : List ℕ → X → Type 0) (old new : Tapped
 not_opened Is old new out err told fault status opens tells is = record {
   fault = fault;
   is = opens.refused;
-  failed = opens.cause;
-  asked = opens.asked;
+  failed = opens.reads.cause;
+  asked = opens.reads.asked;
   untouched = refl;
   told = tells;
   status_is = is;
@@ -70,9 +70,9 @@ all_written opened writes same = record {
       record {
         records = contents archive.are.records;
         are = good_records_of archive;
-        told = writes.told bytes (opened.kept ∙ held) archive;
+        told = writes.told bytes (opened.reads.kept ∙ held) archive;
       };
-  sound = same ∙ writes.may ∙ opened.cause;
+  sound = same ∙ writes.may ∙ opened.reads.cause;
   silent = refl;
   status_is = refl;
 }
@@ -88,10 +88,10 @@ part_written e opened writes same tells is = record {
       record {
         records = contents archive.are.records;
         are = good_records_of archive;
-        front = writes.cut bytes (opened.kept ∙ held) archive;
-        source = has_failed e _ _ _ _ opened.cause (sym same) (writes.failed bytes (opened.kept ∙ held) archive);
+        front = writes.cut bytes (opened.reads.kept ∙ held) archive;
+        source = has_failed e _ _ _ _ opened.reads.cause (sym same) (writes.failed bytes (opened.reads.kept ∙ held) archive);
       };
-  source = may_have_failed e _ _ _ _ opened.cause (sym same) writes.may;
+  source = may_have_failed e _ _ _ _ opened.reads.cause (sym same) writes.may;
   failed = writes.cause;
   told = tells;
   status_is = is;

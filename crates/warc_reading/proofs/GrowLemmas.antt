@@ -192,11 +192,13 @@ module _ (start : ℕ) (old mid new : Tapped) (taken : List ℕ) (has : HasGiven
     whole = whole;
     less = less;
     cost = λ bytes more is held. cost bytes more (at bytes is) held;
-    kept = read.kept ∙ has.kept;
-    cause = cause;
-    asked = asked;
-    near = near_more old mid new (start + length taken) failed short has.watched read has.near;
-    bound = bound;
+    reads = record {
+      kept = read.kept ∙ has.kept;
+      cause = cause;
+      asked = asked;
+      near = near_more old mid new (start + length taken) failed short has.watched read has.near;
+      bound = bound;
+    };
   }
 
   module _ {A L : Type 0} (K : L → List Placed → Type 0) (was : List Row × L) (at : (bytes : List ℕ) → IsKeptOf K bytes was → start ≡ length bytes) (d : State) (r : Reading A L)
@@ -294,20 +296,24 @@ grows_untried was old = record {
   whole = λ bytes more is held. record {
     accepted = λ all holds. tt;
     refused = λ all holds. inl (record { front = refl; same = refl });
+    reads = record {
+      kept = refl;
+      cause = refl;
+      asked = λ is. cc is;
+      near = λ these. refl;
+      bound = omega arith;
+    };
+    cost = λ all holds. omega arith;
+  };
+  less = λ bytes held is holds less. inr refl;
+  cost = λ bytes more is held. omega arith;
+  reads = record {
     kept = refl;
     cause = refl;
     asked = λ is. cc is;
     near = λ these. refl;
     bound = omega arith;
-    cost = λ all holds. omega arith;
   };
-  less = λ bytes held is holds less. inr refl;
-  cost = λ bytes more is held. omega arith;
-  kept = refl;
-  cause = refl;
-  asked = λ is. cc is;
-  near = λ these. refl;
-  bound = omega arith;
 }
 
 pub opens_as : {X Y : Type 0} {Is : List ℕ → X → Type 0} {Gives : List ℕ → Y → Type 0} {old new : Tapped} (x : X) (y : Y) (r : Result (Unit {0}) Fault) → ((bytes : List ℕ) → Is bytes x → Gives bytes y)
@@ -330,11 +336,13 @@ grows_as {X} {Y} {Is} {Gives} {old} {new} was x seen y r begins gives grows = re
   whole = λ bytes more is held. opens_as x y r gives (grows.whole bytes more (begins bytes is) held);
   less = λ bytes held is holds less. match_as x y r (Is bytes) (Gives bytes) IsOfDevice (gives bytes) (grows.less bytes held (begins bytes is) holds less);
   cost = λ bytes more is held. grows.cost bytes more (begins bytes is) held;
-  kept = grows.kept;
-  cause = match_as x y r (λ z. new.faults ≡ old.faults) (λ z. new.faults ≡ old.faults) (λ f. new.faults ≡ faults_after f.kind old.faults) (λ same. same) grows.cause;
-  asked = asked_as x y r (λ f. f.kind ≡ Read → f.offset ≡ new.asked) grows.asked;
-  near = grows.near;
-  bound = grows.bound;
+  reads = record {
+    kept = grows.reads.kept;
+    cause = match_as x y r (λ z. new.faults ≡ old.faults) (λ z. new.faults ≡ old.faults) (λ f. new.faults ≡ faults_after f.kind old.faults) (λ same. same) grows.reads.cause;
+    asked = asked_as x y r (λ f. f.kind ≡ Read → f.offset ≡ new.asked) grows.reads.asked;
+    near = grows.reads.near;
+    bound = grows.reads.bound;
+  };
 }
 
 -- opening is growing of nothing
@@ -342,11 +350,7 @@ pub opens_new : {X : Type 0} {Is : List ℕ → X → Type 0} {old new : Tapped}
 opens_new was answer is grows = record {
   accepted = λ bytes held. (grows.whole [] bytes is held).accepted bytes held;
   refused = λ bytes held. (grows.whole [] bytes is held).refused bytes held;
-  kept = grows.kept;
-  cause = grows.cause;
-  asked = grows.asked;
-  near = grows.near;
-  bound = grows.bound;
+  reads = grows.reads;
   cost = λ bytes held. (grows.whole [] bytes is held).cost bytes held;
 }
 

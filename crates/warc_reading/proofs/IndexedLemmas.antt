@@ -40,11 +40,13 @@ pub opens_with : {X Y : Type 0} {Is : List ℕ → X → Type 0} {Gives : List �
 opens_with x y gives opens = record {
   accepted = λ bytes held. gives bytes (opens.accepted bytes held);
   refused = λ bytes held. tt;
-  kept = opens.kept;
-  cause = opens.cause;
-  asked = tt;
-  near = opens.near;
-  bound = opens.bound;
+  reads = record {
+    kept = opens.reads.kept;
+    cause = opens.reads.cause;
+    asked = tt;
+    near = opens.reads.near;
+    bound = opens.reads.bound;
+  };
   cost = opens.cost;
 }
 
@@ -52,11 +54,13 @@ pub refuses_with : {X Y : Type 0} {Is : List ℕ → X → Type 0} {Gives : List
 refuses_with f opens = record {
   accepted = λ bytes held. tt;
   refused = opens.refused;
-  kept = opens.kept;
-  cause = opens.cause;
-  asked = opens.asked;
-  near = opens.near;
-  bound = opens.bound;
+  reads = record {
+    kept = opens.reads.kept;
+    cause = opens.reads.cause;
+    asked = opens.reads.asked;
+    near = opens.reads.near;
+    bound = opens.reads.bound;
+  };
   cost = opens.cost;
 }
 

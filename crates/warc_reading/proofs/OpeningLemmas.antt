@@ -120,11 +120,13 @@ module _ (old mid new : Tapped) (text : List ℕ) (has : HasGiven old mid text) 
       within = low bytes held;
       before = let P : List ℕ → Type 0 = λ t. IsOnlyCut t in subst P (has.part bytes held) (only_cut text told r lies kept short);
     };
-    kept = read.kept ∙ has.kept;
-    cause = read.cause ∙ ap (λ b. if b then raised mid.faults else mid.faults) fails ∙ ap raised has.sound;
-    asked = λ is. sym read.asked;
-    near = near_more old mid new (length text) failed short has.watched read has.near;
-    bound = bound;
+    reads = record {
+      kept = read.kept ∙ has.kept;
+      cause = read.cause ∙ ap (λ b. if b then raised mid.faults else mid.faults) fails ∙ ap raised has.sound;
+      asked = λ is. sym read.asked;
+      near = near_more old mid new (length text) failed short has.watched read has.near;
+      bound = bound;
+    };
     cost = cost;
   }
 
@@ -136,11 +138,13 @@ module _ (old mid new : Tapped) (text : List ℕ) (has : HasGiven old mid text) 
   by_bytes f well never refusal = record {
     accepted = λ bytes held. tt;
     refused = refusal;
-    kept = read.kept ∙ has.kept;
-    cause = sound well ∙ sym (not_raised f.kind old.faults never);
-    asked = λ is. absurd (never is);
-    near = near_more old mid new (length text) failed short has.watched read has.near;
-    bound = bound;
+    reads = record {
+      kept = read.kept ∙ has.kept;
+      cause = sound well ∙ sym (not_raised f.kind old.faults never);
+      asked = λ is. absurd (never is);
+      near = near_more old mid new (length text) failed short has.watched read has.near;
+      bound = bound;
+    };
     cost = cost;
   }
 
@@ -177,11 +181,13 @@ module _ (old mid new : Tapped) (text : List ℕ) (has : HasGiven old mid text) 
   opens_ended {X} {Is} (Ok x) well whole is = record {
     accepted = λ bytes held. let P : List ℕ → Type 0 = λ t. Is t x in subst P (whole bytes held) is;
     refused = λ bytes held. tt;
-    kept = read.kept ∙ has.kept;
-    cause = sound well;
-    asked = tt;
-    near = near_more old mid new (length text) failed short has.watched read has.near;
-    bound = bound;
+    reads = record {
+      kept = read.kept ∙ has.kept;
+      cause = sound well;
+      asked = tt;
+      near = near_more old mid new (length text) failed short has.watched read has.near;
+      bound = bound;
+    };
     cost = cost;
   }
   opens_ended (Err f) well whole (kind, is) =

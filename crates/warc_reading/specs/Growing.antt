@@ -4,7 +4,7 @@ use Rattle.warc_frame.specs.Record.{max_archive}
 use Rattle.warc_frame.specs.Seen.{AsksOnly, Tapped}
 use Rattle.warc_frame.specs.declared.fault.Fault.{Fault}
 use Rattle.warc_frame.specs.declared.fault.FaultKind.TheVariants.{Memory, Read}
-use Rattle.warc_reading.specs.Opening.{Opens, faults_after}
+use Rattle.warc_reading.specs.Opening.{Opens, ReadsOn}
 
 -- a refusal by a device or by memory
 abbrev pub IsOfDevice : Fault → Type 0
@@ -12,7 +12,7 @@ IsOfDevice f = (f.kind ≡ Read) ⊎ (f.kind ≡ Memory)
 
 -- growing by a source: over one that begins with the bytes of which something was right, it gives what opening it
 -- gives, and at most one read is made for each byte behind them, and one. A source that isn't longer than those
--- bytes adds nothing. Of any source all else is as in opening
+-- bytes adds nothing. Any source is read as in opening
 pub record Grows {X : Type 0} (Is : List ℕ → X → Type 0) (was : X) (old new : Tapped) (answer : Result X Fault)
     : Type 0 where
   pub whole : (bytes more : List ℕ) → Is bytes was → old.holds ≡ Some (bytes ++ more) → Opens Is old new answer
@@ -20,11 +20,7 @@ pub record Grows {X : Type 0} (Is : List ℕ → X → Type 0) (was : X) (old ne
       → MatchResult answer (Is bytes) IsOfDevice
   pub cost : (bytes more : List ℕ) → Is bytes was → old.holds ≡ Some (bytes ++ more)
       → new.reads ≤ old.reads + length more + 1
-  pub kept : new.holds ≡ old.holds
-  pub cause : MatchResult answer (λ x. new.faults ≡ old.faults) (λ f. new.faults ≡ faults_after f.kind old.faults)
-  pub asked : IfErr answer (λ f. f.kind ≡ Read → f.offset ≡ new.asked)
-  pub near : AsksOnly (λ at. at ≤ max_archive) old new
-  pub bound : new.reads ≤ old.reads + max_archive + 1
+  pub reads : ReadsOn old new answer
 
 -- what growing gives, by what is there afterwards
 abbrev pub grown : {X : Type 0} → Result (Unit {0}) Fault → X → Result X Fault

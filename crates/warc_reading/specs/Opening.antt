@@ -44,16 +44,20 @@ abbrev pub faults_after : FaultKind → ℕ → ℕ
 faults_after Read n = raised n
 faults_after kind n = n
 
--- opening a source: it gives what is right for the bytes, or a refusal, by the bytes that the source holds, where
--- they are known. The source still holds them, and has failed once more exactly where the refusal is a read fault, at
--- the offset asked last. No offset above 2^48 is asked for, at most 2^48 reads and one are made, and at most one for
--- each byte and one
-pub record Opens {X : Type 0} (Is : List ℕ → X → Type 0) (old new : Tapped) (answer : Result X Fault) : Type 0 where
-  pub accepted : IfHeld old.holds (λ bytes. IfOk answer (Is bytes))
-  pub refused : IfHeld old.holds (λ bytes. IfErr answer (IsRefusalOf bytes old new))
+-- reading on in a source to its end, or to a refusal: it still holds what it held, and has failed once more exactly
+-- where the refusal is a read fault, at the offset asked last. No offset above 2^48 is asked for, and at most 2^48 reads
+-- and one are made
+pub record ReadsOn {X : Type 0} (old new : Tapped) (answer : Result X Fault) : Type 0 where
   pub kept : new.holds ≡ old.holds
   pub cause : MatchResult answer (λ x. new.faults ≡ old.faults) (λ f. new.faults ≡ faults_after f.kind old.faults)
   pub asked : IfErr answer (λ f. f.kind ≡ Read → f.offset ≡ new.asked)
   pub near : AsksOnly (λ at. at ≤ max_archive) old new
   pub bound : new.reads ≤ old.reads + max_archive + 1
+
+-- opening a source: it gives what is right for the bytes, or a refusal, by the bytes that the source holds, where
+-- they are known; at most one read is made for each of them, and one
+pub record Opens {X : Type 0} (Is : List ℕ → X → Type 0) (old new : Tapped) (answer : Result X Fault) : Type 0 where
+  pub accepted : IfHeld old.holds (λ bytes. IfOk answer (Is bytes))
+  pub refused : IfHeld old.holds (λ bytes. IfErr answer (IsRefusalOf bytes old new))
   pub cost : IfHeld old.holds (λ bytes. new.reads ≤ old.reads + length bytes + 1)
+  pub reads : ReadsOn old new answer

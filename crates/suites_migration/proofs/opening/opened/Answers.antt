@@ -7,5 +7,5 @@ returns-in-Ok-clause-opened c = c.in-Ok.ensures.accepted c.args.text.items (ap S
 
 pub returns-in-Err-clause-refused : goal.returns-in-Err-clause-refused
 returns-in-Err-clause-refused c =
-    sound_refused c.in-Err.fault.kind c.args.text.items _ _ c.in-Err.fault c.in-Err.ensures.cause
+    sound_refused c.in-Err.fault.kind c.args.text.items _ _ c.in-Err.fault c.in-Err.ensures.reads.cause
     (c.in-Err.ensures.refused c.args.text.items (ap Some c.new.ensures.bytes))

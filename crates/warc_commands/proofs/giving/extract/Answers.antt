@@ -14,11 +14,11 @@ returns-clause-ends g c = inl (record {
       record {
         rows = c.in-Ok.archive.listing.rows;
         is = archive.listed;
-        told = rw (← c.as_bytes.ensures.value) (c.extract-answer.ensures.extracts.told bytes (c.in-Ok.ensures.kept ∙ held) archive);
-        source = failed_as (extract_result c.extract-answer.result) _ _ _ _ c.in-Ok.ensures.cause (ap (λ s. (g.S.Source.tapped s).faults) (sym c.into_source.ensures)) (c.extract-answer.ensures.extracts.failed bytes (c.in-Ok.ensures.kept ∙ held) archive);
+        told = rw (← c.as_bytes.ensures.value) (c.extract-answer.ensures.extracts.told bytes (c.in-Ok.ensures.reads.kept ∙ held) archive);
+        source = failed_as (extract_result c.extract-answer.result) _ _ _ _ c.in-Ok.ensures.reads.cause (ap (λ s. (g.S.Source.tapped s).faults) (sym c.into_source.ensures)) (c.extract-answer.ensures.extracts.failed bytes (c.in-Ok.ensures.reads.kept ∙ held) archive);
       };
   silent = c.extract-answer.ensures.extracts.silent;
-  source = may_have_failed_as (extract_result c.extract-answer.result) _ _ _ _ c.in-Ok.ensures.cause (ap (λ s. (g.S.Source.tapped s).faults) (sym c.into_source.ensures)) c.extract-answer.ensures.extracts.may;
+  source = may_have_failed_as (extract_result c.extract-answer.result) _ _ _ _ c.in-Ok.ensures.reads.cause (ap (λ s. (g.S.Source.tapped s).faults) (sym c.into_source.ensures)) c.extract-answer.ensures.extracts.may;
   failed = c.extract-answer.ensures.extracts.cause;
   told = c.tell_extract.ensures.told;
   status_is = c.tell_extract.ensures.status;

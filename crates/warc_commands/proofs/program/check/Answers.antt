@@ -15,10 +15,10 @@ returns-in-Ok-check-clause-ends g c = inl (record {
       record {
         records = rs;
         are = good_records_of archive;
-        told = c.in-Ok-check.ensures.checks.told bytes (c.in-Ok.ensures.kept ∙ held) archive;
-        status_is = c.status_of_count.ensures.value ∙ ap (λ n. min n 1) (c.in-Ok-check.ensures.checks.number bytes (c.in-Ok.ensures.kept ∙ held) archive) ∙ status_by (findings_of_archive rs);
+        told = c.in-Ok-check.ensures.checks.told bytes (c.in-Ok.ensures.reads.kept ∙ held) archive;
+        status_is = c.status_of_count.ensures.value ∙ ap (λ n. min n 1) (c.in-Ok-check.ensures.checks.number bytes (c.in-Ok.ensures.reads.kept ∙ held) archive) ∙ status_by (findings_of_archive rs);
       };
-  sound = ap (λ s. (g.S.Source.tapped s).faults) c.into_source.ensures ∙ c.in-Ok-check.ensures.checks.may ∙ c.in-Ok.ensures.cause;
+  sound = ap (λ s. (g.S.Source.tapped s).faults) c.into_source.ensures ∙ c.in-Ok-check.ensures.checks.may ∙ c.in-Ok.ensures.reads.cause;
   silent = refl;
   status_in = c.status_of_count.ensures.cases;
 })
@@ -31,10 +31,10 @@ returns-in-Err-check-clause-ends g c = inr (inr (record {
       record {
         records = contents archive.are.records;
         are = good_records_of archive;
-        front = c.in-Err-check.ensures.checks.cut bytes (c.in-Ok.ensures.kept ∙ held) archive;
-        source = has_failed _ _ _ _ _ c.in-Ok.ensures.cause (ap (λ s. (g.S.Source.tapped s).faults) (sym c.into_source-in-Err-check.ensures)) (c.in-Err-check.ensures.checks.failed bytes (c.in-Ok.ensures.kept ∙ held) archive);
+        front = c.in-Err-check.ensures.checks.cut bytes (c.in-Ok.ensures.reads.kept ∙ held) archive;
+        source = has_failed _ _ _ _ _ c.in-Ok.ensures.reads.cause (ap (λ s. (g.S.Source.tapped s).faults) (sym c.into_source-in-Err-check.ensures)) (c.in-Err-check.ensures.checks.failed bytes (c.in-Ok.ensures.reads.kept ∙ held) archive);
       };
-  source = may_have_failed _ _ _ _ _ c.in-Ok.ensures.cause (ap (λ s. (g.S.Source.tapped s).faults) (sym c.into_source-in-Err-check.ensures)) c.in-Err-check.ensures.checks.may;
+  source = may_have_failed _ _ _ _ _ c.in-Ok.ensures.reads.cause (ap (λ s. (g.S.Source.tapped s).faults) (sym c.into_source-in-Err-check.ensures)) c.in-Err-check.ensures.checks.may;
   failed = c.in-Err-check.ensures.checks.cause;
   told = c.tell_cut.ensures.told;
   status_is = c.tell_cut.ensures.status;

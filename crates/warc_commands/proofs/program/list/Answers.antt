@@ -13,7 +13,7 @@ returns-in-Ok-list-clause-ends g c = inl (record {
   rows = c.in-Ok.listing.rows;
   are = c.in-Ok.ensures.accepted;
   told = c.in-Ok-list.ensures.told;
-  sound = ap (λ s. (g.S.Source.tapped s).faults) c.into_source.ensures ∙ c.in-Ok.ensures.cause;
+  sound = ap (λ s. (g.S.Source.tapped s).faults) c.into_source.ensures ∙ c.in-Ok.ensures.reads.cause;
   silent = refl;
   status_is = refl;
 })
@@ -25,7 +25,7 @@ returns-in-Err-list-clause-ends g c = inr (inr (record {
   sent = sent_of c.in-Err-list.fault;
   front = c.in-Err-list.ensures.cut;
   failed = c.in-Err-list.ensures.cause;
-  sound = ap (λ s. (g.S.Source.tapped s).faults) c.into_source-in-Err-list.ensures ∙ c.in-Ok.ensures.cause;
+  sound = ap (λ s. (g.S.Source.tapped s).faults) c.into_source-in-Err-list.ensures ∙ c.in-Ok.ensures.reads.cause;
   told = told_as (ap (λ e. told_line (out_fault_text e)) c.in-Err-list.ensures.write) c.tell_cut.ensures.told;
   status_is = c.tell_cut.ensures.status;
 }))
