@@ -1,11 +1,8 @@
-//! The suite of captures, ids and revisits: which record a look-up gives, and where a revisit leads.
+//! The suite of captures and ids: which record a look-up gives; and chains of revisits.
 #![tactic(auto)]
 
 #[cfg(test)]
 mod chains;
 #[cfg(test)]
 mod lookups;
-#[cfg(test)]
-mod origins;
-#[cfg(test)]
-mod rows;
+pub mod rows;

@@ -6,13 +6,13 @@ use warc_index::Index;
 use warc_record::{Typed, type_head};
 
 /// A record: its type, id, date and target, the last one empty where it has none.
-pub(crate) type Row = (&'static str, &'static str, &'static str, &'static str);
+pub type Row = (&'static str, &'static str, &'static str, &'static str);
 
 /// A field: its name and its value.
-pub(crate) type Field = (&'static str, &'static str);
+pub type Field = (&'static str, &'static str);
 
 /// Adds a field to a head.
-pub(crate) fn push<A: Allocator + Copy>(
+pub fn push<A: Allocator + Copy>(
     alloc: A,
     fields: &mut Fields<A>,
     name: &[u8],
@@ -24,7 +24,7 @@ pub(crate) fn push<A: Allocator + Copy>(
 }
 
 /// What a head of a row and more fields says.
-pub(crate) fn typed<A: Allocator + Copy>(
+pub fn typed<A: Allocator + Copy>(
     alloc: A,
     row: &Row,
     more: &[Field],
@@ -43,7 +43,7 @@ pub(crate) fn typed<A: Allocator + Copy>(
 
 /// Adds a record, and where that is refused adds it again. Whether it was refused, and then left as many bytes kept as
 /// there were.
-pub(crate) fn add_again<A: Allocator + Copy, B: Allocator>(
+pub fn add_again<A: Allocator + Copy, B: Allocator>(
     index: &mut Index<A>,
     typed: &Typed<B>,
 ) -> Result<Option<bool>, AllocError> {

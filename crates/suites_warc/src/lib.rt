@@ -2,16 +2,12 @@
 #![tactic(auto)]
 
 #[cfg(test)]
-mod check;
-#[cfg(test)]
 mod good;
 #[cfg(test)]
 mod library;
-#[cfg(test)]
-mod plain;
+pub mod plain;
 #[cfg(test)]
 mod program;
-#[cfg(test)]
-mod runs;
+pub mod runs;
 #[cfg(test)]
 mod words;

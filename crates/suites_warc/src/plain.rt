@@ -15,7 +15,7 @@ fn read_good(alloc: Global, text: &[u8]) -> Result<usize, Fault> {
 }
 
 /// How many good records the bytes spell, or their first fault.
-pub(crate) fn read_plainly(alloc: Global, bytes: &[u8]) -> Result<usize, Fault> {
+pub fn read_plainly(alloc: Global, bytes: &[u8]) -> Result<usize, Fault> {
     let mut rest = bytes;
     for count in 0..bytes.len() {
         if rest.is_empty() {

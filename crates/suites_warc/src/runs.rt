@@ -8,20 +8,20 @@ use warc_commands::{Command, perform};
 use warc_frame::{Fault, MemSink, MemSource, Sink, Source};
 use warc_vectors::{Break, BrokenSource, BrokenWriter, RefusingAllocator};
 
-pub(crate) const LIST: Command<'static> = Command::List { archive: "a.warc" };
+pub const LIST: Command<'static> = Command::List { archive: "a.warc" };
 
-pub(crate) const CHECK: Command<'static> = Command::Check { archive: "a.warc" };
+pub const CHECK: Command<'static> = Command::Check { archive: "a.warc" };
 
 /// What a run wrote to its two outputs, and its status.
 #[derive(Drop)]
-pub(crate) struct Ended {
-    pub(crate) out: Vec<u8>,
-    pub(crate) err: Vec<u8>,
-    pub(crate) status: u8,
+pub struct Ended {
+    pub out: Vec<u8>,
+    pub err: Vec<u8>,
+    pub status: u8,
 }
 
 impl Ended {
-    pub(crate) fn is(&self, out: &str, err: &str, status: u8) -> bool {
+    pub fn is(&self, out: &str, err: &str, status: u8) -> bool {
         self.out.as_slice() == out.as_bytes()
             && self.err.as_slice() == err.as_bytes()
             && self.status == status
@@ -29,7 +29,7 @@ impl Ended {
 }
 
 /// The run of a command over a source. What the program keeps is taken from `heap`.
-pub(crate) fn run<S: Source + Drop, A: Allocator + Copy>(
+pub fn run<S: Source + Drop, A: Allocator + Copy>(
     heap: A,
     alloc: Global,
     command: &Command<'_>,
@@ -46,7 +46,7 @@ pub(crate) fn run<S: Source + Drop, A: Allocator + Copy>(
 }
 
 /// The run of a command over these bytes where the read of a number fails, each being of so many bytes at most.
-pub(crate) fn run_broken(
+pub fn run_broken(
     alloc: Global,
     command: &Command<'_>,
     bytes: &[u8],
@@ -58,7 +58,7 @@ pub(crate) fn run_broken(
 }
 
 /// The run of a command over these bytes where the request for memory of a number is refused, and whether it came.
-pub(crate) fn run_refused(
+pub fn run_refused(
     alloc: Global,
     command: &Command<'_>,
     bytes: &[u8],
@@ -85,7 +85,7 @@ fn told_to<W: Sink>(
 
 /// The run of a command over these bytes where the write of a number breaks, each being of one byte; and the bytes of
 /// its source then.
-pub(crate) fn run_cut(
+pub fn run_cut(
     alloc: Global,
     command: &Command<'_>,
     bytes: &[u8],
@@ -107,7 +107,7 @@ fn opened<S: Source + Drop>(alloc: Global, source: S) -> Result<usize, Fault> {
 }
 
 /// Whether the archive opens as the plain reading says, with reads of 1 byte, of 7 bytes and of all.
-pub(crate) fn opens_as_read(alloc: Global, bytes: &[u8]) -> Result<bool, Fail> {
+pub fn opens_as_read(alloc: Global, bytes: &[u8]) -> Result<bool, Fail> {
     let plain = read_plainly(alloc, bytes);
     for most in [1usize, 7, usize::MAX] {
         let source = MemSource::new(bytes.to_vec(alloc)?, most.max(1));
@@ -120,7 +120,7 @@ pub(crate) fn opens_as_read(alloc: Global, bytes: &[u8]) -> Result<bool, Fail> {
 
 /// Whether the command over these bytes ends so, with such reads, and the archive opens as the plain
 /// reading says.
-pub(crate) fn ends(
+pub fn ends(
     alloc: Global,
     command: &Command<'_>,
     bytes: &[u8],

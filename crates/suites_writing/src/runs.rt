@@ -5,15 +5,15 @@ use std::test::Fail;
 use warc_commands::{Command, perform};
 use warc_frame::{MemSink, MemSource, Sink, Source};
 use warc_vectors::listed::THEN_OLDER;
-pub(crate) use warc_vectors::listed::{both_versions, folded};
+pub use warc_vectors::listed::{both_versions, folded};
 use warc_vectors::{Break, BrokenWriter, archive_text};
 
-pub(crate) const REWRITE: Command<'static> = Command::Rewrite { archive: "a.warc" };
+pub const REWRITE: Command<'static> = Command::Rewrite { archive: "a.warc" };
 
-pub(crate) const CONVERT: Command<'static> = Command::Convert { archive: "a.warc" };
+pub const CONVERT: Command<'static> = Command::Convert { archive: "a.warc" };
 
 /// A split at a size.
-pub(crate) const fn split_at(size: &str) -> Command<'_> {
+pub const fn split_at(size: &str) -> Command<'_> {
     Command::Split {
         archive: "a.warc",
         size,
@@ -21,12 +21,12 @@ pub(crate) const fn split_at(size: &str) -> Command<'_> {
 }
 
 /// What is written of the records of both versions in canonical form.
-pub(crate) fn both_rewritten(alloc: Global) -> Result<Vec<u8>, Fail> {
+pub fn both_rewritten(alloc: Global) -> Result<Vec<u8>, Fail> {
     Ok(archive_text(alloc, THEN_OLDER)?)
 }
 
 /// The line and the status of a run whose output goes to a sink.
-pub(crate) fn told<S: Source + Drop, A: Allocator + Copy, W: Sink>(
+pub fn told<S: Source + Drop, A: Allocator + Copy, W: Sink>(
     heap: A,
     alloc: Global,
     command: &Command<'_>,
@@ -39,7 +39,7 @@ pub(crate) fn told<S: Source + Drop, A: Allocator + Copy, W: Sink>(
 }
 
 /// Whether the command over these bytes ends so, with reads of 1 byte, of 7 bytes and of all.
-pub(crate) fn ends(
+pub fn ends(
     alloc: Global,
     command: &Command<'_>,
     bytes: &[u8],
@@ -77,7 +77,7 @@ fn cut_at(
 /// How many writes a run makes, of which each fails in turn, until none fails and the whole output goes out. Before a
 /// failed write exactly the bytes went out whose number is told, and they are the front of the whole. Nothing where a
 /// run ends otherwise.
-pub(crate) fn writes_that_fail(
+pub fn writes_that_fail(
     alloc: Global,
     command: &Command<'_>,
     bytes: &[u8],

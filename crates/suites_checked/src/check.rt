@@ -1,8 +1,8 @@
 //! The suite of `check`: the findings of whole archives, a line each, and the status.
 
-use crate::runs::{CHECK, Ended, LIST, ends, run, run_broken, run_cut, run_refused};
 use std::alloc::Global;
 use std::test::Fail;
+use suites_warc::runs::{CHECK, Ended, LIST, ends, run, run_broken, run_cut, run_refused};
 use warc::{Archive, Listing};
 use warc_commands::Command;
 use warc_frame::{MemSink, MemSource};

@@ -1,8 +1,8 @@
 //! Origins by table: where revisits lead, and each reason why one leads nowhere.
 
-use crate::rows::{Field, Row, add_again, typed};
 use std::alloc::{AllocError, Allocator, Global};
 use std::test::Fail;
+use suites_index::rows::{Field, Row, add_again, typed};
 use warc_index::{Filling, Index, Unfound};
 use warc_value::read_date;
 use warc_vectors::RefusingAllocator;

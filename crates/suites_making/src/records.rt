@@ -1,9 +1,9 @@
 //! What `write` writes, and how it ends.
 
 use crate::endless::EndlessSource;
-use crate::runs::{ends, told, writes_that_fail};
 use std::alloc::Global;
 use std::test::Fail;
+use suites_writing::runs::{ends, told, writes_that_fail};
 use warc_commands::{Command, Draft, parse, perform};
 use warc_frame::{MemSink, MemSource};
 use warc_vectors::{BrokenSource, RefusingAllocator};

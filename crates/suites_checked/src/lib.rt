@@ -1,0 +1,5 @@
+//! The suite of `check`.
+#![tactic(auto)]
+
+#[cfg(test)]
+mod check;
