@@ -3,9 +3,9 @@
 use std::alloc::Global;
 use std::test::Fail;
 use suites_warc::runs::{CHECK, Ended, LIST, ends, run, run_broken, run_cut, run_refused};
-use warc::{Archive, Listing};
+use warc::{Archive, Checked};
 use warc_commands::Command;
-use warc_frame::{MemSink, MemSource};
+use warc_frame::{MemSink, MemSource, OutFault, Source};
 use warc_vectors::checked::{
     DIGESTS, FIVE_LINES, IDS, KNOWN_KINDS, OTHER_KINDS, OWN_DIGESTS, TWO_OF_ONE_ID, WARCINFO,
     WORKED, bare_id, both_ids, long_resource, many, without_x,
@@ -94,12 +94,24 @@ fn refused_archives_are_not_checked(rt: HostRuntime) -> Result<(), Fail> {
     Ok(())
 }
 
-/// The run of a command over two records, which a source gives in another form once it was opened: it reads once to the
-/// bytes' end, and once behind it.
-fn run_changing(alloc: Global, command: &Command<'_>, after: Vec<u8>) -> Result<Ended, Fail> {
+/// Two records, which a source gives in another form once it was opened: it is read once to the bytes' end, and once
+/// behind it.
+fn changing(alloc: Global, after: Vec<u8>) -> Result<ChangingSource, Fail> {
     let before = archive_text(alloc, TWO_OF_ONE_ID)?;
-    let source = ChangingSource::new(before, after, 3);
-    Ok(run(alloc, alloc, command, source))
+    Ok(ChangingSource::new(before, after, 3))
+}
+
+/// The run of a command over them.
+fn run_changing(alloc: Global, command: &Command<'_>, after: Vec<u8>) -> Result<Ended, Fail> {
+    Ok(run(alloc, alloc, command, changing(alloc, after)?))
+}
+
+/// How a check of an archive of them ends.
+fn check_changing(alloc: Global, after: Vec<u8>) -> Result<Answer, Fail> {
+    match Archive::open(alloc, changing(alloc, after)?) {
+        Ok(mut archive) => Ok(checked(alloc, &mut archive)),
+        Err((fault, _)) => Err(fault.into()),
+    }
 }
 
 #[test]
@@ -111,7 +123,8 @@ fn a_source_that_gives_no_byte_after_opening(rt: HostRuntime) -> Result<(), Fail
     let told = run_changing(alloc, &LIST, Vec::new(alloc))?;
     assert!(rt; told.is(line, "", 0));
     let told = run_changing(alloc, &CHECK, Vec::new(alloc))?;
-    assert!(rt; told.is("", "warc: read failed after 0\n", 3));
+    assert!(rt; told.is(FIVE_LINES, "", 1));
+    assert!(rt; check_changing(alloc, Vec::new(alloc))?.is(Err(OutFault::Read(0)), ""));
     Ok(())
 }
 
@@ -127,8 +140,8 @@ fn a_source_that_gives_other_bytes_after_opening(rt: HostRuntime) -> Result<(), 
         ("Length: 3\r\n\r\n", "Length: 3\r\nA"),
         ("a.example/\r\nContent", "a.example\r\n\r\nContent"),
     ] {
-        let told = run_changing(alloc, &CHECK, changed(alloc, &text, old, new)?)?;
-        assert!(rt; told.is("", "warc: read failed after 0\n", 3), "{new}");
+        let told = check_changing(alloc, changed(alloc, &text, old, new)?)?;
+        assert!(rt; told.is(Err(OutFault::Read(0)), ""), "{new}");
     }
     Ok(())
 }
@@ -137,14 +150,14 @@ fn a_source_that_gives_other_bytes_after_opening(rt: HostRuntime) -> Result<(), 
 fn a_failed_read_is_told(rt: HostRuntime) -> Result<(), Fail> {
     let alloc = rt.alloc();
     let text = ONE_RESOURCE.text(alloc)?;
-    for (number, line) in [
-        (1, "warc: F13 Read at 0\n"),
-        (2, "warc: F13 Read at 278\n"),
-        (3, "warc: read failed after 0\n"),
-    ] {
+    for (number, line) in [(1, "warc: F13 Read at 0\n"), (2, "warc: F13 Read at 278\n")] {
         let told = run_broken(alloc, &CHECK, &text, usize::MAX, number)?;
         assert!(rt; told.is("", line, 3), "{line}");
     }
+
+    // No third read is made.
+    let told = run_broken(alloc, &CHECK, &text, usize::MAX, 3)?;
+    assert!(rt; told.is("", "", 0));
     Ok(())
 }
 
@@ -165,14 +178,14 @@ fn a_failed_write_is_told(rt: HostRuntime) -> Result<(), Fail> {
     Ok(())
 }
 
-/// Whether a listing opens where the request for memory of that number is refused.
+/// Whether an archive that is judged opens where the request for memory of that number is refused.
 fn opens_without(alloc: Global, text: &[u8], number: u64) -> Result<bool, Fail> {
     let heap = RefusingAllocator::new(alloc, number);
     let source = MemSource::new(text.to_vec(alloc)?, usize::MAX);
-    Ok(Listing::open(&heap, source).is_ok())
+    Ok(Checked::open(&heap, source).is_ok())
 }
 
-/// How often memory is asked for until a listing is open.
+/// How often memory is asked for until it is open.
 fn requests(alloc: Global, text: &[u8]) -> Result<u64, Fail> {
     for number in 1..1000u64 {
         if opens_without(alloc, text, number)? {
@@ -211,29 +224,34 @@ fn a_refused_growth_is_told(rt: HostRuntime) -> Result<(), Fail> {
     Ok(())
 }
 
-/// How many findings a check of an archive tells, if it doesn't fail, and what it writes.
-fn checked(alloc: Global, archive: &mut Archive<BrokenSource>) -> (Option<usize>, Vec<u8>) {
-    let mut out = MemSink::new(Vec::new(alloc));
-    let count = archive.check(&mut out).ok();
-    (count, out.into_inner())
+/// What a check of an archive answers, and what it writes.
+#[derive(Drop)]
+struct Answer {
+    count: Result<usize, OutFault>,
+    out: Vec<u8>,
 }
 
-/// Whether a check of an archive tells so many findings, if it doesn't fail, and writes these lines.
-fn checks(
-    alloc: Global,
-    archive: &mut Archive<BrokenSource>,
-    count: Option<usize>,
-    lines: &str,
-) -> bool {
-    let (told, written) = checked(alloc, archive);
-    told == count && written.as_slice() == lines.as_bytes()
+impl Answer {
+    fn is(&self, count: Result<usize, OutFault>, lines: &str) -> bool {
+        self.count == count && self.out.as_slice() == lines.as_bytes()
+    }
+}
+
+/// A check of an archive.
+fn checked<S: Source>(alloc: Global, archive: &mut Archive<S>) -> Answer {
+    let mut out = MemSink::new(Vec::new(alloc));
+    let count = archive.check(&mut out);
+    Answer {
+        count,
+        out: out.into_inner(),
+    }
 }
 
 /// Which of the first three checks of an archive are as they should be, and how many records it has.
 fn checks_thrice(alloc: Global, archive: &mut Archive<BrokenSource>) -> (bool, bool, bool, usize) {
-    let first = checks(alloc, archive, None, "");
-    let second = checks(alloc, archive, Some(5), FIVE_LINES);
-    let third = checks(alloc, archive, Some(5), FIVE_LINES);
+    let first = checked(alloc, archive).is(Err(OutFault::Read(0)), "");
+    let second = checked(alloc, archive).is(Ok(5), FIVE_LINES);
+    let third = checked(alloc, archive).is(Ok(5), FIVE_LINES);
     (first, second, third, archive.count())
 }
 
@@ -253,6 +271,15 @@ fn a_check_is_made_again(rt: HostRuntime) -> Result<(), Fail> {
     Ok(())
 }
 
+/// How a check of an archive of these bytes ends, where the read of a number fails.
+fn check_broken(alloc: Global, text: &[u8], number: u64) -> Result<Answer, Fail> {
+    let source = BrokenSource::new(text.to_vec(alloc)?, usize::MAX, number);
+    match Archive::open(alloc, source) {
+        Ok(mut archive) => Ok(checked(alloc, &mut archive)),
+        Err((fault, _)) => Err(fault.into()),
+    }
+}
+
 /// What went out before a read failed is the front of the output.
 #[test]
 fn what_went_out_is_a_front(rt: HostRuntime) -> Result<(), Fail> {
@@ -261,13 +288,9 @@ fn what_went_out_is_a_front(rt: HostRuntime) -> Result<(), Fail> {
     let whole = run_broken(alloc, &CHECK, &text, usize::MAX, 0)?.out;
     let mut longest = 0;
     for number in [4u64, 5, 6, 200, 350] {
-        let told = run_broken(alloc, &CHECK, &text, usize::MAX, number)?;
-        if told.status == 1 {
-            continue;
-        }
+        let told = check_broken(alloc, &text, number)?;
         let sent = told.out.len();
-        let line = format!(in alloc; "warc: read failed after {sent}\n")?;
-        assert_eq!(rt; (told.err.as_slice(), told.status), (line.as_bytes(), 3));
+        assert_eq!(rt; told.count, Err(OutFault::Read(sent as u64)));
         assert!(rt; whole.starts_with(&told.out));
         longest = sent.max(longest);
     }

@@ -100,8 +100,7 @@ fn finds<A: Allocator + Copy>(
     facts: ArchiveFacts,
     want: &[Found],
 ) -> Result<bool, Fail> {
-    let typed = type_head(alloc, fields)?;
-    let found = all_findings(alloc, fields, &typed, block_len, facts)?;
+    let found = all_findings(alloc, fields, block_len, facts)?;
     let mut is_same = found.len() == want.len();
     for (finding, (number, field)) in found.iter().zip(want) {
         is_same &= finding.number == *number;
@@ -669,7 +668,7 @@ enum Want {
 /// Where the calls on a head meet want of memory.
 fn want_met<A: Allocator + Copy>(alloc: A, fields: &Fields<A>) -> Want {
     match type_head(alloc, fields) {
-        Ok(typed) => match findings(alloc, fields, &typed, 3) {
+        Ok(_) => match findings(alloc, fields, 3) {
             Ok(_) => Want::Nowhere,
             Err(_) => Want::OfFindings,
         },

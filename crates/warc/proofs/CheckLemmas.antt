@@ -24,7 +24,7 @@ pub finding_line : (position number : ℕ) (a c d e : List ℕ) → a ≡ decima
     → concat (a ∷ codes " N" ∷ c ∷ d ∷ e ∷ codes "\n" ∷ []) ≡ numbered_line (decimal position) number (d ++ e)
 finding_line position number a c d e is_a is_c = six a (codes " N") c d e (codes "\n") ∙ rw (is_a, is_c) refl
 
-text_append : (position : ℕ) (xs ys : List Found) → record_text position (xs ++ ys) ≡ record_text position xs ++ record_text position ys
+pub text_append : (position : ℕ) (xs ys : List Found) → record_text position (xs ++ ys) ≡ record_text position xs ++ record_text position ys
 text_append position xs ys = ap (flat_map line_text) (map-append (about_record position) xs ys) ∙ flat_map-append line_text (map (about_record position) xs) (map (about_record position) ys)
 
 module _ {X : Type 0} (seen : X → Found) where

@@ -1,4 +1,5 @@
 pub mod ArchiveTextLemmas
+pub mod AmongLemmas
 pub mod CheckLemmas
 pub mod OutputLemmas
 pub mod CountLemmas
@@ -8,6 +9,8 @@ pub mod HeadLemmas
 pub mod LawLemmas
 pub mod LineLemmas
 pub mod MetLemmas
+pub mod NextLemmas
+pub mod NotingLemmas
 pub mod PlaceLemmas
 pub mod ReadLemmas
 pub mod RecordsLemmas

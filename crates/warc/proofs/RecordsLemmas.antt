@@ -1,18 +1,20 @@
 -- The findings of the first records, and one more.
-use Rattle.std.proofs.Common.{◌≡◌, ℕ, zero, suc, ◌+◌, ◌-◌, ◌^◌, ◌<◌, ◌≤◌, min, List, [], ◌∷◌, ◌++◌, length, map, take, drop, Some, Err, append_assoc, length-append, take_all, refl, sym, ap, subst, ◌∙◌, arith}
+use Rattle.std.proofs.Common.{◌≡◌, ℕ, zero, suc, ◌+◌, ◌-◌, ◌^◌, ◌<◌, ◌≤◌, false, min, List, [], ◌∷◌, ◌++◌, length, map, take, drop, Some, Result, Ok, Err, append_assoc, length-append, take_all, refl, sym, ap, subst, ◌∙◌, arith}
 use Rattle.std.proofs.lemmas.Grind.{flat_map-append}
 use Rattle.std.proofs.lemmas.List.{append-nil, length-map, length-take-le, take-append-drop}
+use Rattle.std.specs.Result.{IsErrAnd}
 use Rattle.std.specs.List.{enumerate_from, flat_map, slice_get}
 use Rattle.warc_field.specs.Area.{Pair}
 use Rattle.warc_frame.specs.Count.{capped, raised}
 use Rattle.warc_frame.specs.Send.{sent_of}
 use Rattle.warc_frame.specs.declared.fault.OutFault.{OutFault}
+use Rattle.warc_frame.specs.declared.fault.OutFault.TheVariants.{Read as ReadFailed, Write as WriteFailed, Memory as OutOfMemory}
 use Rattle.warc_frame.specs.Record.{Record}
 use Rattle.warc_record.specs.declared.checks.ArchiveFacts.{ArchiveFacts}
 use Rattle.warc_reading.specs.Archive.{contents}
 use Rattle.warc.specs.Checking.{Line, findings_at, findings_behind, findings_of_records, line_text}
 use Rattle.warc.specs.Examining.{AreCheckable, HasFailed, HasHead, IsExamined, findings_of_first, first_text, found_by, halted, record_text, records_text}
-use Rattle.warc_frame.specs.Failing.{HasFailedBy}
+use Rattle.warc_frame.specs.Failing.{HasFailedBy, MayHaveFailedBy, is_read}
 use Rattle.warc.specs.declared.heads.Halt.{Halt}
 use Rattle.warc.specs.declared.heads.Halt.TheVariants.{Read, Memory}
 use Rattle.warc_reading.specs.Row.{Placed, Row, row_of}
@@ -30,7 +32,7 @@ record_at bytes records rows i row can is =
     let found = placed records i row (sym (ap (λ l. slice_get l i) can.rows_are) ∙ is) in
     (found.0, found.1, found.2, can.heads i found.0 found.1)
 
-content_at : (records : List Placed) (i : ℕ) (p : Placed) → slice_get records i ≡ Some p → slice_get (contents records) i ≡ Some p.content
+pub content_at : (records : List Placed) (i : ℕ) (p : Placed) → slice_get records i ≡ Some p → slice_get (contents records) i ≡ Some p.content
 content_at [] i p is = absurd (cc is)
 content_at (x ∷ xs) zero p is = let same : x ≡ p = cc is in ap (λ (q : Placed). Some q.content) same
 content_at (x ∷ xs) (suc i) p is = content_at xs i p is
@@ -130,3 +132,13 @@ sent_halted Memory e n m is same = sym (ap sent_of is ∙ same)
 pub failed_halted : (X : Type 0) (halt : Halt) (e : OutFault) (n old before new : ℕ) → e ≡ halted halt n → before ≡ old → HasFailed halt before new → HasFailedBy {X = X} (Err e) old new
 failed_halted X Read e n old before new is same has = let P : OutFault → Type 0 = λ f. HasFailedBy {X = X} (Err f) old new in subst P (sym is) (has ∙ ap raised same)
 failed_halted X Memory e n old before new is same has = let P : OutFault → Type 0 = λ f. HasFailedBy {X = X} (Err f) old new in subst P (sym is) (has ∙ same)
+
+-- an output that ended by no read over a source that hasn't failed
+unread : (X : Type 0) (e : OutFault) (old new : ℕ) → is_read e ≡ false → new ≡ old → MayHaveFailedBy {X = X} (Err e) old new × HasFailedBy {X = X} (Err e) old new
+unread X (ReadFailed sent) old new none same = absurd (cc none)
+unread X (WriteFailed sent) old new none same = (same, same)
+unread X (OutOfMemory sent) old new none same = (same, same)
+
+pub unread_sound : {X : Type 0} (r : Result X OutFault) (e : OutFault) (old new : ℕ) → IsErrAnd r (λ f. f ≡ e) → is_read e ≡ false → new ≡ old → MayHaveFailedBy r old new × HasFailedBy r old new
+unread_sound (Ok x) e old new is none same = absurd is
+unread_sound {X} (Err f) e old new is none same = unread X f old new (ap is_read is ∙ none) same

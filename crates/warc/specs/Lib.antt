@@ -4,11 +4,13 @@ pub mod Checks
 pub mod Emitting
 pub mod Examining
 pub mod Forms
+pub mod Found
 pub mod Copied
 pub mod Extracting
 pub mod Heads
 pub mod Laws
 pub mod Listing
+pub mod Noted
 pub mod Replaying
 pub mod Segments
 pub mod Standing

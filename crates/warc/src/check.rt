@@ -1,12 +1,10 @@
 //! What is wrong with records though they are readable: their findings, a line each.
-ghost use Rattle.std.specs.Prelude.{◌≡◌, ℕ, ◌++◌, ◌≤◌, List, [], ◌∷◌, Option, Some, false, IfOk, IfErr, OnOk, decimal, length, map, is_err, if◌then◌else◌};
+ghost use Rattle.std.specs.Prelude.{◌≡◌, ℕ, ◌++◌, ◌≤◌, List, [], ◌∷◌, Option, Some, false, IfOk, IfErr, OnOk, codes, decimal, length, map, is_err, if◌then◌else◌};
 ghost use Rattle.std.specs.Io.KnownBytes.{append_known};
 ghost use Rattle.warc_frame.specs.Count.{capped, raised};
 ghost use Rattle.warc_frame.specs.Record.{Record, max_head};
 ghost use Rattle.warc_frame.specs.Send.{IsStaged, WentOut, sent_of};
 ghost use Rattle.warc_record.specs.Findings.{finding_seen};
-ghost use Rattle.warc_record.specs.Readings.{reading_of};
-ghost use Rattle.warc_record.specs.Seen.{said};
 ghost use Rattle.warc_reading.specs.Archive.{contents};
 ghost use Rattle.warc_reading.specs.Row.{Placed, row_of};
 ghost use Rattle.warc.specs.Checking.{about_record, check_text, findings_of_archive, findings_of_records, line_text, numbered_line};
@@ -17,20 +15,21 @@ ghost use Rattle.warc_record.specs.Ids.{id_key};
 ghost use Rattle.warc_frame.specs.Putting.{Puts};
 ghost use Rattle.warc_frame.specs.Failing.{HasFailedBy, MayHaveFailedBy, failed_by, is_read};
 
-use crate::heads::{Halt, Reread, head_buffer, read_again};
+use crate::heads::{Halt, head_buffer, read_again};
 use crate::used::Met;
 use itoa::Buffer;
 use std::alloc::Allocator;
+use warc_field::Fields;
 use warc_frame::laws::{staged_went_out, went_out_of_longer};
 use warc_frame::{OutBuffer, OutFault, SendFault, Sink, Source, put_all};
 use warc_reading::{Row, Rows};
 use warc_record::laws::good_heads_read;
 use warc_record::{ArchiveFacts, Finding, all_findings};
 
-/// A record, read again, and what the archive tells of it.
+/// A record's fields, read again, and what the archive tells of it.
 #[derive(Drop)]
 struct Examined<A: Allocator> {
-    reread: Reread<A>,
+    fields: Fields<A>,
     facts: ArchiveFacts,
 }
 
@@ -43,10 +42,9 @@ fn examine<S: Source, A: Allocator + Copy>(
     buf: &mut [u8],
 ) -> Result<Examined<A>, Halt>
     requires { max_head ≤ length buf.old }
-    ensures said { IfOk result (λ x. said x.reread.typed ≡ reading_of x.reread.fields) }
     ensures read { (bytes : List ℕ) (p : Placed) (before : List Record) → (S.tapped source.old).holds ≡ Some bytes →
         HasHead bytes p → row.now ≡ row_of p → HasMet before met.old → IsAlone before met.old (id_key row.now.id) → IfOk
-        result (λ x. IsExamined before p.content x.reread.fields x.facts) }
+        result (λ x. IsExamined before p.content x.fields x.facts) }
     ensures met { (bytes : List ℕ) (p : Placed) (before : List Record) → (S.tapped source.old).holds ≡ Some bytes →
         HasHead bytes p → row.now ≡ row_of p → HasMet before met.old → OnOk result (HasMet (before ++ p.content ∷ [])
         met.new) }
@@ -69,7 +67,7 @@ fn examine<S: Source, A: Allocator + Copy>(
     };
     let bad_digest = row.verdict.is_bad();
     Ok(Examined {
-        reread,
+        fields: reread.fields,
         facts: ArchiveFacts {
             bad_digest,
             used_id,
@@ -79,7 +77,7 @@ fn examine<S: Source, A: Allocator + Copy>(
 
 /// Adds a finding's line to the output, by the position of its record, its number, and a field's name
 /// with what stands before it.
-fn put_parts<'a, W: Sink>(
+pub(crate) fn put_parts<'a, W: Sink>(
     position: u64,
     number: u8,
     space: &'a [u8],
@@ -104,7 +102,7 @@ fn put_parts<'a, W: Sink>(
 
 /// Adds a finding's line to the output, by the position of its record.
 #[tactic(auto, unfolding(crate::specs::Checking::line_text))]
-fn put_finding<W: Sink>(
+pub(crate) fn put_finding<W: Sink>(
     position: u64,
     finding: &Finding<'_>,
     buffer: &mut OutBuffer,
@@ -145,27 +143,19 @@ fn put_examined<A: Allocator + Copy, W: Sink>(
     buffer: &mut OutBuffer,
     out: &mut W,
 ) -> Result<usize, OutFault>
-    requires { said examined.reread.typed ≡ reading_of examined.reread.fields }
     ensures out { (start : Option (List ℕ)) (output : List ℕ) → IsStaged start output (W.seen out.old).tells buffer.old
-        → OnOk result (IsStaged start (output ++ record_text position (found_by examined.reread.fields block_len
+        → OnOk result (IsStaged start (output ++ record_text position (found_by examined.fields block_len
         examined.facts)) (W.seen out.new).tells buffer.new) }
     ensures cut { (start : Option (List ℕ)) (output : List ℕ) → IsStaged start output (W.seen out.old).tells buffer.old
-        → IfErr result (λ e. WentOut start (output ++ record_text position (found_by examined.reread.fields block_len
+        → IfErr result (λ e. WentOut start (output ++ record_text position (found_by examined.fields block_len
         examined.facts)) (W.seen out.new).tells (sent_of e)) }
-    ensures number { IfOk result (λ n. n ≡ length (found_by examined.reread.fields block_len examined.facts)) }
+    ensures number { IfOk result (λ n. n ≡ length (found_by examined.fields block_len examined.facts)) }
     ensures cause { (W.seen out.new).faults ≡ failed_by result (W.seen out.old).faults }
     ensures unread { IfErr result (λ e. is_read e ≡ false) }
 {
     staged_went_out();
     went_out_of_longer();
-    let reread = &examined.reread;
-    let Ok(found) = all_findings(
-        alloc,
-        &reread.fields,
-        &reread.typed,
-        block_len,
-        examined.facts,
-    ) else {
+    let Ok(found) = all_findings(alloc, &examined.fields, block_len, examined.facts) else {
         return Err(OutFault::Memory(buffer.sent()));
     };
     match put_findings(position, &found, buffer, out) {
@@ -223,6 +213,22 @@ fn put_records<S: Source, A: Allocator + Copy, W: Sink>(
     Ok(count)
 }
 
+/// Adds the line that there is no record to the output, and answers that it is one.
+pub(crate) fn put_none<W: Sink>(buffer: &mut OutBuffer, out: &mut W) -> Result<usize, OutFault>
+    ensures out { (start : Option (List ℕ)) (output : List ℕ) → IsStaged start output (W.seen out.old).tells buffer.old
+        → OnOk result (IsStaged start (output ++ codes "- N12\n") (W.seen out.new).tells buffer.new) }
+    ensures cut { (start : Option (List ℕ)) (output : List ℕ) → IsStaged start output (W.seen out.old).tells buffer.old
+        → IfErr result (λ e. WentOut start (output ++ codes "- N12\n") (W.seen out.new).tells (sent_of e)) }
+    ensures number { IfOk result (λ n. n ≡ 1) }
+    ensures cause { (W.seen out.new).faults ≡ failed_by result (W.seen out.old).faults }
+    ensures unread { IfErr result (λ e. is_read e ≡ false) }
+{
+    match buffer.put(out, b"- N12\n") {
+        Ok(()) => Ok(1),
+        Err(fault) => Err(OutFault::Write(fault.sent)),
+    }
+}
+
 /// Adds the lines of all findings to the output, or that there is no record.
 fn put_archive<S: Source, A: Allocator + Copy, W: Sink>(
     alloc: A,
@@ -251,10 +257,7 @@ fn put_archive<S: Source, A: Allocator + Copy, W: Sink>(
     staged_went_out();
     went_out_of_longer();
     if rows.len() == 0 {
-        return match buffer.put(out, b"- N12\n") {
-            Ok(()) => Ok(1),
-            Err(fault) => Err(OutFault::Write(fault.sent)),
-        };
+        return put_none(buffer, out);
     }
     let Ok(mut head) = head_buffer(alloc) else {
         return Err(OutFault::Memory(buffer.sent()));

@@ -62,6 +62,13 @@ impl<S: Source, A: Allocator> Listing<S, A> {
         self.rows.get(position)
     }
 
+    /// The rows of the records.
+    pub(crate) fn rows(&self) -> &Rows<A>
+        ensures { result.now ≡ self.now.rows }
+    {
+        &self.rows
+    }
+
     /// Gives the source back.
     pub fn into_source(self) -> S
         ensures { result ≡ self.source }

@@ -1,5 +1,5 @@
 -- How a run ends, from what its calls answered.
-use Rattle.std.proofs.Common.{◌≡◌, ℕ, List, [], ◌∷◌, length, min, Ok, Err, refl, sym, subst, ◌∙◌, arith}
+use Rattle.std.proofs.Common.{◌≡◌, ℕ, false, List, [], ◌∷◌, length, min, Ok, Err, refl, sym, subst, ◌∙◌, arith}
 use Rattle.std.specs.List.{flat_map}
 use Rattle.warc_frame.specs.FaultText.{out_fault_text}
 use Rattle.warc_frame.specs.Record.{Record}
@@ -9,7 +9,8 @@ use Rattle.warc_frame.specs.declared.fault.Fault.{Fault}
 use Rattle.warc_frame.specs.declared.fault.OutFault.{OutFault}
 use Rattle.warc_reading.specs.Archive.{IsArchiveOf, contents}
 use Rattle.warc.specs.Checking.{Line}
-use Rattle.warc_frame.specs.Failing.{HasFailedBy, MayHaveFailedBy}
+use Rattle.warc_frame.specs.Failing.{HasFailedBy, MayHaveFailedBy, is_read}
+use Rattle.warc_frame.specs.declared.fault.OutFault.TheVariants.{Read, Write, Memory}
 use Rattle.warc_commands.specs.Devices.{devices}
 use Rattle.warc_reading.specs.Opening.{Opens}
 use Rattle.warc_commands.specs.Program.{AreGoodRecordsOf, IsCutOff, IsNotOpened, IsWritten, Tells, fault_line, status_of_findings, status_of_kind, told_line}
@@ -105,3 +106,14 @@ told_as {line} {other} {old} {new} same told = let P : List ℕ → Type 0 = λ 
 pub status_by : (ls : List Line) → min (length ls) 1 ≡ status_of_findings ls
 status_by [] = refl
 status_by (l ∷ ls) = omega arith
+
+-- a fault that isn't a read's leaves the source as it was
+pub unread_failed : (f : OutFault) (old new : ℕ) → is_read f ≡ false → new ≡ old → HasFailedBy {X = ℕ} (Err f) old new
+unread_failed (Read sent) old new not same = absurd (cc not)
+unread_failed (Write sent) old new not same = same
+unread_failed (Memory sent) old new not same = same
+
+pub unread_may : (f : OutFault) (old new : ℕ) → is_read f ≡ false → new ≡ old → MayHaveFailedBy {X = ℕ} (Err f) old new
+unread_may (Read sent) old new not same = absurd (cc not)
+unread_may (Write sent) old new not same = same
+unread_may (Memory sent) old new not same = same

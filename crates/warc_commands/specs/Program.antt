@@ -35,7 +35,7 @@ use Rattle.warc_commands.specs.declared.words.CommandFault.TheVariants.{Usage, M
 use Rattle.warc_reading.specs.Opening.{IsRefusalOf, faults_after}
 use Rattle.warc_reading.specs.Archive.{AreGood, IsArchiveOf}
 use Rattle.warc.specs.Checking.{Line, check_text, findings_of_archive}
-use Rattle.warc_frame.specs.Failing.{HasFailedBy, MayHaveFailedBy, failed_by, failed_with}
+use Rattle.warc_frame.specs.Failing.{HasFailedBy, MayHaveFailedBy, failed_by, failed_with, is_read}
 use Rattle.warc.specs.Listing.{listing}
 use Rattle.warc_reading.specs.Row.{Row}
 use Rattle.warc_commands.specs.Devices.{Devices}
@@ -139,10 +139,17 @@ pub record IsCutOff (text : List Record → List ℕ) (old new : Devices) (statu
   pub told : Tells (told_line (out_fault_text fault)) old.err new.err
   pub status_is : status ≡ 3
 
+-- a write or a growth of the memory failed while the lines of `check` were written: no read, since all was read before,
+-- so that the source has failed as often as before
+pub record IsCheckCutOff (old new : Devices) (status : ℕ) : Type 0 where
+  pub cut : IsCutOff check_text old new status
+  pub unread : is_read cut.fault ≡ false
+  pub sound : new.source.faults ≡ old.source.faults
+
 -- how `check` ends
 abbrev pub CheckEnds : Devices → Devices → ℕ → Type 0
 CheckEnds old new status =
-    IsChecked old new status ⊎ (IsNotOpened old new status ⊎ IsCutOff check_text old new status)
+    IsChecked old new status ⊎ (IsNotOpened old new status ⊎ IsCheckCutOff old new status)
 
 -- a line was told, or none
 abbrev pub TellsIf : Option (List ℕ) → Seen → Seen → Type 0

@@ -13,7 +13,7 @@ use crate::words::{Command, CommandFault};
 use arrayvec::ArrayString;
 use itoa::Buffer;
 use std::alloc::Allocator;
-use warc::{Form, Listing};
+use warc::{Checked, Form, Listing};
 use warc_frame::{Fault, FaultKind, OutFault, Sink, Source, send_all};
 
 /// The exit status where all was done.
@@ -109,13 +109,13 @@ where
     // The source still holds what it held.
     ensures kept { (S.tapped result.1).holds ≡ (S.tapped source).holds }
 {
-    let mut listing = match Listing::open(alloc, source) {
-        Ok(listing) => listing,
+    let checked = match Checked::open(alloc, source) {
+        Ok(checked) => checked,
         Err((fault, source)) => return (tell_refusal(fault, err), source),
     };
-    match listing.check(out) {
-        Ok(count) => (status_of_count(count), listing.into_source()),
-        Err(fault) => (tell_cut(fault, err), listing.into_source()),
+    match checked.check(out) {
+        Ok(count) => (status_of_count(count), checked.into_source()),
+        Err(fault) => (tell_cut(fault, err), checked.into_source()),
     }
 }
 

@@ -1,7 +1,6 @@
 -- What growing reads of a source, and when it is refused.
-use Rattle.std.specs.Prelude.{◌≡◌, ℕ, ◌+◌, ◌≤◌, ◌⊎◌, List, ◌++◌, length, Some, Result, Ok, Err, IfErr, MatchResult}
-use Rattle.warc_frame.specs.Record.{max_archive}
-use Rattle.warc_frame.specs.Seen.{AsksOnly, Tapped}
+use Rattle.std.specs.Prelude.{◌≡◌, ℕ, ◌+◌, ◌≤◌, ◌⊎◌, List, ◌++◌, length, Some, Result, Ok, Err, MatchResult}
+use Rattle.warc_frame.specs.Seen.{Tapped}
 use Rattle.warc_frame.specs.declared.fault.Fault.{Fault}
 use Rattle.warc_frame.specs.declared.fault.FaultKind.TheVariants.{Memory, Read}
 use Rattle.warc_reading.specs.Opening.{Opens, ReadsOn}

@@ -6,8 +6,8 @@ use Rattle.std.proofs.lemmas.Str.{IsUtf8-from_is_utf8, is_utf8-from_IsUtf8}
 use Rattle.warc_field.specs.Area.{Pair}
 use Rattle.warc_record.specs.declared.checks.TableCheck.TheVariants.{Lacks, HasForbidden, Repeats}
 use Rattle.warc_record.specs.Kinds.{is_known}
-use Rattle.warc_record.specs.Readings.{Reading, reading_of}
-use Rattle.warc_record.specs.Findings.{Found, by_table, once, not_utf8, has_bad_segment, lacks_content_type, has_unknown_profile, has_bare_id, lacks_origin, findings_by, findings_of}
+use Rattle.warc_record.specs.Readings.{Reading}
+use Rattle.warc_record.specs.Findings.{Found, by_table, once, not_utf8, has_bad_segment, lacks_content_type, has_unknown_profile, has_bare_id, lacks_origin, findings_by}
 
 pub utf8_is : (bytes : List ℕ) → IsUtf8 bytes → true ≡ is_utf8 bytes
 utf8_is bytes is = sym (is_utf8-from_IsUtf8 bytes is)
@@ -62,9 +62,3 @@ assembled reading fields size bad used z a b c four d six e f g h i bad-4 five s
     let after-g = g-is ∙ ap (λ x. x ++ not_utf8 fields) after-f in
     let after-h = h-is ∙ ap₂ (λ x y. x ++ once 10 y) after-g is-10 in
     i-is ∙ ap₂ (λ x y. x ++ once 11 y) after-h is-11
-
--- the findings of a typed head are those of the fields that it says
-pub of_fields : (reading : Reading) (fields : List Pair) (size : ℕ) (bad used : Bool) → reading ≡ reading_of fields
-    → findings_by reading fields size bad used ≡ findings_of fields size bad used
-unfolding findings_of
-of_fields reading fields size bad used is = ap (λ r. findings_by r fields size bad used) is

@@ -2,16 +2,16 @@ ghost use Rattle.std.specs.Prelude.{◌≡◌, ◌++◌, ◌&&◌, not, nat_lt, 
 ghost use Rattle.warc_field.specs.Area.{count_of};
 ghost use Rattle.std.specs.Str.{is_utf8};
 ghost use Rattle.warc_record.specs.Kinds.{is_known};
-ghost use Rattle.warc_record.specs.Readings.{reading_of};
+ghost use Rattle.warc_record.specs.Readings.{kind_of, reading_of};
 ghost use Rattle.warc_record.specs.Known.{known_name};
-ghost use Rattle.warc_record.specs.Seen.{said};
 ghost use Rattle.warc_record.specs.Table.{rule_seen};
-ghost use Rattle.warc_record.specs.Findings.{stands, is_broken, check_number, by_table, once, finding_seen, is_bad_number, has_bad_segment, lacks_content_type, has_unknown_profile, lacks_origin, stands_in_brackets, not_utf8, findings_of};
+ghost use Rattle.warc_record.specs.Findings.{stands, is_broken, check_number, by_table, once, finding_seen, is_bad_number, has_bad_segment, lacks_content_type, has_unknown_profile, lacks_origin, has_bare_id, stands_in_brackets, not_utf8, findings_of};
 
-use crate::head::Typed;
 use crate::ids::bare;
 use crate::known::{ByName, Known};
-use crate::readings::{SegmentNumber, present};
+use crate::readings::{
+    SegmentNumber, is_known_profile, key_in, kind_in, number_in, present, segment_number,
+};
 use crate::table::{FieldRule, is_among, rows};
 use crate::types::Kind;
 use std::alloc::{AllocError, Allocator};
@@ -173,14 +173,15 @@ fn is_bad_number(kind: Kind, number: SegmentNumber) -> bool
 }
 
 /// Whether the record's segment number or its total is bad.
-fn has_bad_segment<A: Allocator>(typed: &Typed<A>, fields: &ByName<'_, A>) -> bool
-    ensures { result ≡ has_bad_segment (said typed.now) fields.now }
+fn has_bad_segment<A: Allocator>(kind: Kind, fields: &ByName<'_, A>) -> bool
+    requires { kind ≡ kind_of fields.now }
+    ensures { result ≡ has_bad_segment (reading_of fields.now) fields.now }
 {
-    is_known(typed.kind)
-        && (is_bad_number(typed.kind, typed.segment.number)
-            || typed.kind == Kind::Continuation
+    is_known(kind)
+        && (is_bad_number(kind, segment_number(fields))
+            || kind == Kind::Continuation
                 && present(fields, Known::SegmentTotalLength).is_some()
-                && typed.segment.total.is_none())
+                && number_in(fields, Known::SegmentTotalLength).is_none())
 }
 
 /// Whether the record has a block and no type of its content.
@@ -194,21 +195,32 @@ fn lacks_content_type<A: Allocator>(kind: Kind, fields: &ByName<'_, A>, block_le
 }
 
 /// Whether the record is a revisit of a profile that isn't known.
-fn has_unknown_profile<A: Allocator>(typed: &Typed<A>, fields: &ByName<'_, A>) -> bool
-    ensures { result ≡ has_unknown_profile (said typed.now) fields.now }
+fn has_unknown_profile<A: Allocator>(kind: Kind, fields: &ByName<'_, A>) -> bool
+    requires { kind ≡ kind_of fields.now }
+    ensures { result ≡ has_unknown_profile (reading_of fields.now) fields.now }
 {
-    typed.kind == Kind::Revisit
-        && present(fields, Known::Profile).is_some()
-        && !typed.reference.known_profile
+    if kind != Kind::Revisit {
+        return false;
+    }
+    match present(fields, Known::Profile) {
+        Some(profile) => !is_known_profile(profile.bytes()),
+        None => false,
+    }
 }
 
 /// Whether the record is a continuation of no id.
-fn lacks_origin<A: Allocator>(typed: &Typed<A>, fields: &ByName<'_, A>) -> bool
-    ensures { result ≡ lacks_origin (said typed.now) fields.now }
+fn lacks_origin<A: Allocator + Copy>(
+    alloc: A,
+    kind: Kind,
+    fields: &ByName<'_, A>,
+) -> Result<bool, AllocError>
+    requires { kind ≡ kind_of fields.now }
+    ensures { IfOk result (λ lacks. lacks ≡ lacks_origin (reading_of fields.now) fields.now) }
 {
-    typed.kind == Kind::Continuation
-        && present(fields, Known::SegmentOriginId).is_some()
-        && typed.segment.origin.is_none()
+    if kind != Kind::Continuation || present(fields, Known::SegmentOriginId).is_none() {
+        return Ok(false);
+    }
+    Ok(key_in(alloc, fields, Known::SegmentOriginId)?.is_none())
 }
 
 /// Whether the text begins with `<` and ends with `>`.
@@ -216,6 +228,16 @@ fn stands_in_brackets(text: &[u8]) -> bool
     ensures { result ≡ stands_in_brackets text.now }
 {
     !text.is_empty() && text[0] == b'<' && text[text.len() - 1] == b'>'
+}
+
+/// Whether the value of the record's id stands in no brackets.
+fn has_bare_id<A: Allocator>(fields: &ByName<'_, A>) -> bool
+    ensures { result ≡ has_bare_id (reading_of fields.now) }
+{
+    match fields.first(Known::RecordId) {
+        Some(id) => !stands_in_brackets(id.bytes()),
+        None => false,
+    }
 }
 
 /// What an archive tells of a record beside what the record tells itself.
@@ -239,62 +261,53 @@ fn has_bad_digest(kind: Kind, facts: ArchiveFacts) -> bool
 fn findings_in<'a, A: Allocator + Copy>(
     alloc: A,
     fields: &ByName<'a, A>,
-    typed: &Typed<A>,
     block_len: u64,
     facts: ArchiveFacts,
 ) -> Result<Vec<Finding<'a>, A>, AllocError>
-    ensures { said typed.now ≡ reading_of fields.now
-        → IfOk result (λ found. map finding_seen found.items
+    ensures { IfOk result (λ found. map finding_seen found.items
         ≡ findings_of fields.now block_len facts.bad_digest facts.used_id) }
 {
+    let kind = kind_in(fields);
     let mut found = Vec::new(alloc);
-    add_by_table(&mut found, TableCheck::Lacks, typed.kind, fields)?;
-    add_by_table(&mut found, TableCheck::HasForbidden, typed.kind, fields)?;
-    add_by_table(&mut found, TableCheck::Repeats, typed.kind, fields)?;
-    add_once(&mut found, 4, has_bad_digest(typed.kind, facts))?;
-    add_once(&mut found, 5, has_bad_segment(typed, fields))?;
+    add_by_table(&mut found, TableCheck::Lacks, kind, fields)?;
+    add_by_table(&mut found, TableCheck::HasForbidden, kind, fields)?;
+    add_by_table(&mut found, TableCheck::Repeats, kind, fields)?;
+    add_once(&mut found, 4, has_bad_digest(kind, facts))?;
+    add_once(&mut found, 5, has_bad_segment(kind, fields))?;
     add_once(&mut found, 6, facts.used_id)?;
-    add_once(
-        &mut found,
-        7,
-        lacks_content_type(typed.kind, fields, block_len),
-    )?;
-    add_once(&mut found, 8, has_unknown_profile(typed, fields))?;
+    add_once(&mut found, 7, lacks_content_type(kind, fields, block_len))?;
+    add_once(&mut found, 8, has_unknown_profile(kind, fields))?;
     add_not_utf8(&mut found, fields)?;
-    add_once(&mut found, 10, !stands_in_brackets(typed.id_text.bytes()))?;
-    add_once(&mut found, 11, lacks_origin(typed, fields))?;
+    add_once(&mut found, 10, has_bare_id(fields))?;
+    add_once(&mut found, 11, lacks_origin(alloc, kind, fields)?)?;
     Ok(found)
 }
 
-/// The findings N1 to N11 of a record, in their order. `typed` is what these fields say,
-/// `block_len` the length of the block in bytes.
+/// The findings N1 to N11 of a record with these fields, in their order, whether its head is good or not. `block_len`
+/// is the length of its block in bytes.
 pub fn all_findings<'a, A: Allocator + Copy>(
     alloc: A,
     fields: &'a Fields<A>,
-    typed: &Typed<A>,
     block_len: u64,
     facts: ArchiveFacts,
 ) -> Result<Vec<Finding<'a>, A>, AllocError>
-    ensures { said typed.now ≡ reading_of fields.now
-        → IfOk result (λ found. map finding_seen found.items
+    ensures { IfOk result (λ found. map finding_seen found.items
         ≡ findings_of fields.now block_len facts.bad_digest facts.used_id) }
 {
-    findings_in(alloc, &ByName::new(fields), typed, block_len, facts)
+    findings_in(alloc, &ByName::new(fields), block_len, facts)
 }
 
 /// The findings that the record alone tells: all but N4, N6 and N12.
 pub fn findings<'a, A: Allocator + Copy>(
     alloc: A,
     fields: &'a Fields<A>,
-    typed: &Typed<A>,
     block_len: u64,
 ) -> Result<Vec<Finding<'a>, A>, AllocError>
-    ensures { said typed.now ≡ reading_of fields.now
-        → IfOk result (λ found. map finding_seen found.items ≡ findings_of fields.now block_len false false) }
+    ensures { IfOk result (λ found. map finding_seen found.items ≡ findings_of fields.now block_len false false) }
 {
     let facts = ArchiveFacts {
         bad_digest: false,
         used_id: false,
     };
-    all_findings(alloc, fields, typed, block_len, facts)
+    all_findings(alloc, fields, block_len, facts)
 }

@@ -1,10 +1,11 @@
 ghost use Rattle.std.specs.Prelude.{◌≡◌, IfOk, Some};
 ghost use Rattle.std.specs.Option.{option_copied};
 ghost use Rattle.warc_record.specs.Known.{known_name};
-ghost use Rattle.warc_record.specs.Readings.{present_value, present_bare, key_in, number_in, is_known_profile, segment_number};
+ghost use Rattle.warc_record.specs.Readings.{present_value, present_bare, key_in, kind_of, number_in, is_known_profile, segment_number};
 
 use crate::ids::{IdKey, bare, id_key};
 use crate::known::{ByName, Known};
+use crate::types::Kind;
 use std::alloc::{AllocError, Allocator};
 use warc_field::{Value, decimal};
 
@@ -78,6 +79,16 @@ pub(crate) fn key_in<A: Allocator + Copy>(
     match present(fields, name) {
         Some(value) => id_key(alloc, value.bytes()),
         None => Ok(None),
+    }
+}
+
+/// The kind of the record.
+pub(crate) fn kind_in<A: Allocator>(fields: &ByName<'_, A>) -> Kind
+    ensures { result ≡ kind_of fields.now }
+{
+    match fields.first(Known::Type) {
+        Some(value) => Kind::named(value.bytes()),
+        None => Kind::Other,
     }
 }
 

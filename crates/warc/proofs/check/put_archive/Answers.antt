@@ -1,24 +1,21 @@
 use Rattle.std.proofs.Common.{rules, ◌≡◌, ◌<◌, ◌++◌, length, sym, ap, ◌∙◌}
 use Rattle.std.proofs.lemmas.Result.{IfErr-weaker, IfOk-weaker, on_ok_weaker}
 use Rattle.warc_frame.specs.Count.{capped}
-use Rattle.warc.proofs.ArchiveTextLemmas.{none_number, none_text, some_findings, some_text}
+use Rattle.warc.proofs.ArchiveTextLemmas.{none_text, some_findings, some_text}
 use Rattle.warc_frame.proofs.LawLemmas.{same_out, same_staged}
 use Rattle.warc.proofs.check.put_archive.Goals as goal
 
-pub returns-in-Ok-clause-out : goal.returns-in-Ok-clause-out
-returns-in-Ok-clause-out g c = λ bytes records start output held can is.
+pub returns-then-len-eq0-clause-out : goal.returns-then-len-eq0-clause-out
+returns-then-len-eq0-clause-out g c = λ bytes records start output held can is.
     let none : length c.args.rows.now ≡ 0 = search rules in
-    same_staged (ap (λ l. output ++ l) (sym (none_text bytes records c.args.rows.now can none))) (c.in-Ok.ensures.puts.out start output is)
+    on_ok_weaker c.put_none.result (same_staged (ap (λ l. output ++ l) (sym (none_text bytes records c.args.rows.now can none))))
+    (c.put_none.ensures.out start output is)
 
-pub returns-in-Ok-clause-number : goal.returns-in-Ok-clause-number
-returns-in-Ok-clause-number g c = λ bytes records held can.
+pub returns-then-len-eq0-clause-cut : goal.returns-then-len-eq0-clause-cut
+returns-then-len-eq0-clause-cut g c = λ bytes records start output held can is.
     let none : length c.args.rows.now ≡ 0 = search rules in
-    sym (ap capped (none_number bytes records c.args.rows.now can none))
-
-pub returns-in-Err-clause-cut : goal.returns-in-Err-clause-cut
-returns-in-Err-clause-cut g c = λ bytes records start output held can is.
-    let none : length c.args.rows.now ≡ 0 = search rules in
-    same_out (ap (λ l. output ++ l) (sym (none_text bytes records c.args.rows.now can none))) (c.in-Err.ensures.puts.cut start output is)
+    IfErr-weaker c.put_none.result _ _ (λ e out. same_out (ap (λ l. output ++ l) (sym (none_text bytes records c.args.rows.now can none))) out)
+    (c.put_none.ensures.cut start output is)
 
 pub returns-clause-out : goal.returns-clause-out
 returns-clause-out g c = λ bytes records start output held can is.

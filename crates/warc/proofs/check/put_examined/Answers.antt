@@ -12,15 +12,15 @@ returns-in_default-clause-cut g c = λ start output is.
 
 pub returns-in-Ok-put_findings-clause-out : goal.returns-in-Ok-put_findings-clause-out
 returns-in-Ok-put_findings-clause-out g c = λ start output is.
-    let found = ap (map finding_seen) c.deref.ensures.value ∙ c.in-Ok.ensures c.requires in
+    let found = ap (map finding_seen) c.deref.ensures.value ∙ c.in-Ok.ensures in
     same_staged (ap (λ l. output ++ record_text c.args.position l) found) (c.in-Ok-put_findings.ensures.out start output is)
 
 pub returns-clause-cut : goal.returns-clause-cut
 returns-clause-cut g c = λ start output is.
-    let found = ap (map finding_seen) c.deref.ensures.value ∙ c.in-Ok.ensures c.requires in
+    let found = ap (map finding_seen) c.deref.ensures.value ∙ c.in-Ok.ensures in
     same_out (ap (λ l. output ++ record_text c.args.position l) found) (c.in-Err.ensures.cut start output is)
 
 pub returns-in-Ok-put_findings-clause-number : goal.returns-in-Ok-put_findings-clause-number
 returns-in-Ok-put_findings-clause-number g c =
-    let found = c.in-Ok.ensures c.requires in
+    let found = c.in-Ok.ensures in
     omega (arith, c.len.ensures, c.in-Ok.found.ok.0, ap length found, length-map c.in-Ok.found.items finding_seen)

@@ -7,7 +7,7 @@ use Rattle.warc.specs.Examining.{findings_of_first, first_text}
 use Rattle.warc_reading.specs.Row.{Row}
 use Rattle.warc_frame.proofs.LawLemmas.{same_out, same_staged}
 use Rattle.warc.proofs.ReadLemmas.{reads_all, reads_more}
-use Rattle.warc.proofs.RecordsLemmas.{failed_halted, first_all, met_one, number_more, record_at, rest_text, sent_halted, text_more, text_rest}
+use Rattle.warc.proofs.RecordsLemmas.{failed_halted, first_all, met_one, number_more, record_at, rest_text, sent_halted, text_more, text_rest, unread_sound}
 use Rattle.warc.specs.Used.{IsTally}
 use Rattle.warc.proofs.TallyLemmas.{alone}
 use Rattle.warc.proofs.check.put_records.Goals as goal
@@ -48,9 +48,19 @@ returns-in_err-number-clause-cut g c = λ bytes records start output held can is
     let len = ap (λ (r : Row). r.block_len) (c.row.view_is ∙ at.2) in
     let cut = c.in_err-number.ensures.cut start (output ++ first_text i rs) (c.checking.invariant.staged bytes records start output held can is) in
     let longer = c.went_out_of_longer.ensures start _ _ (rest_text (i + 1) rs) _ cut in
-    let more = text_more records i at.0 c.in-Ok.examined.reread.fields c.row.inside.block_len c.in-Ok.examined.facts output at.1 examined len in
+    let more = text_more records i at.0 c.in-Ok.examined.fields c.row.inside.block_len c.in-Ok.examined.facts output at.1 examined len in
     let whole = same_out (ap (λ l. l ++ rest_text (i + 1) rs) more ∙ text_rest rs (i + 1) output) longer in
     search rules
+
+pub returns-in_err-number-clause-may : goal.returns-in_err-number-clause-may
+returns-in_err-number-clause-may g c =
+    let sound = c.in-Ok.ensures.sound ∙ c.checking.invariant.sound in
+    (unread_sound _ _ _ _ c.from_residual.ensures.1 c.in_err-number.ensures.unread sound).0
+
+pub returns-in_err-number-clause-failed : goal.returns-in_err-number-clause-failed
+returns-in_err-number-clause-failed g c = λ bytes records held can.
+    let sound = c.in-Ok.ensures.sound ∙ c.checking.invariant.sound in
+    (unread_sound _ _ _ _ c.from_residual.ensures.1 c.in_err-number.ensures.unread sound).1
 
 pub returns-clause-heads : goal.returns-clause-heads
 returns-clause-heads g c = reads_all c.args.rows.now c.checking.position _ _ c.checking.invariant.heads
@@ -81,7 +91,7 @@ checking-preserved g c =
           let examined = c.in-Ok.ensures.read bytes at.0 (take i rs) (c.checking.invariant.kept ∙ held) at.3 at.2 (c.checking.invariant.met bytes records held can)
           (alone bytes records c.args.rows.now i c.in-Some.row c.checking.met c.good_heads_read.ensures can c.checking.invariant.tally row_is) in
           let len = ap (λ (r : Row). r.block_len) (c.row.view_is ∙ at.2) in
-          same_staged (text_more records i at.0 c.in-Ok.examined.reread.fields c.row.inside.block_len c.in-Ok.examined.facts output at.1 examined len)
+          same_staged (text_more records i at.0 c.in-Ok.examined.fields c.row.inside.block_len c.in-Ok.examined.facts output at.1 examined len)
           (c.in_ok-number.ensures.out start (output ++ first_text i rs) (c.checking.invariant.staged bytes records start output held can is));
       met = λ bytes records held can.
           let rs = contents records in
@@ -96,7 +106,7 @@ checking-preserved g c =
           let len = ap (λ (r : Row). r.block_len) (c.row.view_is ∙ at.2) in
           c.saturating_add-count.ensures ∙ ap (λ n. capped (n + c.in_ok-number.number)) (c.checking.invariant.number bytes records held can)
           ∙ ap (λ n. capped (capped (length (findings_of_first i rs)) + n)) c.in_ok-number.ensures.number
-          ∙ number_more records i at.0 c.in-Ok.examined.reread.fields c.row.inside.block_len c.in-Ok.examined.facts at.1 examined len;
+          ∙ number_more records i at.0 c.in-Ok.examined.fields c.row.inside.block_len c.in-Ok.examined.facts at.1 examined len;
       heads = reads_more c.args.rows.now i c.in-Some.row _ _ _ row_is c.checking.invariant.heads c.examine.ensures.heads;
       kept = search rules;
       sound = search rules;

@@ -1,7 +1,7 @@
-use Rattle.std.proofs.Common.{inl, inr, min, refl, sym, ap, ◌∙◌}
+use Rattle.std.proofs.Common.{inl, inr, min, refl, ap, ◌∙◌}
 use Rattle.warc_reading.specs.Archive.{contents}
 use Rattle.warc.specs.Checking.{findings_of_archive}
-use Rattle.warc_commands.proofs.ProgramLemmas.{good_records_of, has_failed, may_have_failed, not_opened, status_by}
+use Rattle.warc_commands.proofs.ProgramLemmas.{good_records_of, not_opened, status_by, unread_failed, unread_may}
 use Rattle.warc_commands.proofs.program.check.Goals as goal
 
 pub returns-in-Err-clause-ends : goal.returns-in-Err-clause-ends
@@ -11,31 +11,38 @@ pub returns-in-Ok-check-clause-ends : goal.returns-in-Ok-check-clause-ends
 returns-in-Ok-check-clause-ends g c = inl (record {
   is = λ bytes held.
       let archive = c.in-Ok.ensures.accepted bytes held in
-      let rs = contents archive.are.records in
+      let rs = contents archive.listed.are.records in
+      let tells = c.in-Ok-check.ensures.tells bytes archive in
       record {
         records = rs;
-        are = good_records_of archive;
-        told = c.in-Ok-check.ensures.checks.told bytes (c.in-Ok.ensures.reads.kept ∙ held) archive;
-        status_is = c.status_of_count.ensures.value ∙ ap (λ n. min n 1) (c.in-Ok-check.ensures.checks.number bytes (c.in-Ok.ensures.reads.kept ∙ held) archive) ∙ status_by (findings_of_archive rs);
+        are = good_records_of archive.listed;
+        told = tells.told;
+        status_is = c.status_of_count.ensures.value ∙ ap (λ n. min n 1) tells.number ∙ status_by (findings_of_archive rs);
       };
-  sound = ap (λ s. (g.S.Source.tapped s).faults) c.into_source.ensures ∙ c.in-Ok-check.ensures.checks.may ∙ c.in-Ok.ensures.reads.cause;
+  sound = ap (λ s. (g.S.Source.tapped s).faults) c.into_source.ensures ∙ c.in-Ok.ensures.reads.cause;
   silent = refl;
   status_in = c.status_of_count.ensures.cases;
 })
 
 pub returns-in-Err-check-clause-ends : goal.returns-in-Err-check-clause-ends
-returns-in-Err-check-clause-ends g c = inr (inr (record {
-  fault = c.in-Err-check.fault;
-  is = λ bytes held.
-      let archive = c.in-Ok.ensures.accepted bytes held in
-      record {
-        records = contents archive.are.records;
-        are = good_records_of archive;
-        front = c.in-Err-check.ensures.checks.cut bytes (c.in-Ok.ensures.reads.kept ∙ held) archive;
-        source = has_failed _ _ _ _ _ c.in-Ok.ensures.reads.cause (ap (λ s. (g.S.Source.tapped s).faults) (sym c.into_source-in-Err-check.ensures)) (c.in-Err-check.ensures.checks.failed bytes (c.in-Ok.ensures.reads.kept ∙ held) archive);
+returns-in-Err-check-clause-ends g c =
+    let same = ap (λ s. (g.S.Source.tapped s).faults) c.into_source-in-Err-check.ensures ∙ c.in-Ok.ensures.reads.cause in
+    inr (inr (record {
+      cut = record {
+        fault = c.in-Err-check.fault;
+        is = λ bytes held.
+            let archive = c.in-Ok.ensures.accepted bytes held in
+            record {
+              records = contents archive.listed.are.records;
+              are = good_records_of archive.listed;
+              front = (c.in-Err-check.ensures.tells bytes archive).cut;
+              source = unread_failed c.in-Err-check.fault _ _ c.in-Err-check.ensures.unread same;
+            };
+        source = unread_may c.in-Err-check.fault _ _ c.in-Err-check.ensures.unread same;
+        failed = c.in-Err-check.ensures.cause;
+        told = c.tell_cut.ensures.told;
+        status_is = c.tell_cut.ensures.status;
       };
-  source = may_have_failed _ _ _ _ _ c.in-Ok.ensures.reads.cause (ap (λ s. (g.S.Source.tapped s).faults) (sym c.into_source-in-Err-check.ensures)) c.in-Err-check.ensures.checks.may;
-  failed = c.in-Err-check.ensures.checks.cause;
-  told = c.tell_cut.ensures.told;
-  status_is = c.tell_cut.ensures.status;
-}))
+      unread = c.in-Err-check.ensures.unread;
+      sound = same;
+    }))
