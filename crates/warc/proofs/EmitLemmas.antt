@@ -14,9 +14,9 @@ use Rattle.warc_frame.specs.declared.send.SendFault.{SendFault}
 use Rattle.warc_frame.proofs.LawLemmas.{same_out, same_staged, staged_went_out, went_out_of_longer}
 use Rattle.warc.specs.Emitting.{Emits}
 use Rattle.warc.specs.Forms.{ReadsOnly}
-use Rattle.warc.specs.Examining.{HasFailed, MayHaveFailed, halted}
-use Rattle.warc.specs.declared.heads.Halt.{Halt}
-use Rattle.warc.specs.declared.heads.Halt.TheVariants.{Read as NotRead, Memory as NoMemory}
+use Rattle.warc_checking.specs.Examining.{HasFailed, MayHaveFailed, halted}
+use Rattle.warc_checking.specs.declared.heads.Halt.{Halt}
+use Rattle.warc_checking.specs.declared.heads.Halt.TheVariants.{Read as NotRead, Memory as NoMemory}
 
 -- what the bytes of a source have to give
 abbrev pub Giving : Type 1

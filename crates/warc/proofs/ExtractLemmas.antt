@@ -19,7 +19,7 @@ use Rattle.warc_reading.specs.Row.{Placed, Row, row_of}
 use Rattle.warc.specs.Standing.{IsWritten}
 use Rattle.warc.specs.declared.fault.ExtractFault.{ExtractFault}
 use Rattle.warc.specs.declared.fault.ExtractFault.TheVariants.{NoRecord, Out}
-use Rattle.warc.proofs.RecordsLemmas.{placed}
+use Rattle.warc_checking.proofs.RecordsLemmas.{placed}
 use Rattle.warc.proofs.StandLemmas.{written}
 use Rattle.warc.proofs.TakeLemmas.{absent}
 

@@ -1,13 +1,9 @@
 -- Lines and the pieces that they are put together from.
-use Rattle.std.proofs.Common.{◌≡◌, ℕ, ◌+◌, ◌<◌, List, [], ◌∷◌, ◌++◌, length, take, drop, get_or, append_assoc, decimal, refl, sym, ap, subst, ◌∙◌, arith, Some, Result}
+use Rattle.std.proofs.Common.{◌≡◌, ℕ, ◌+◌, ◌<◌, List, [], ◌∷◌, ◌++◌, length, take, drop, get_or, append_assoc, decimal, refl, sym, ap, ◌∙◌, arith, Some}
 use Rattle.std.proofs.lemmas.Grind.{flat_map-append}
 use Rattle.std.proofs.lemmas.List.{append-nil, take_more, length-take-le, take-append-drop}
 use Rattle.std.proofs.lemmas.Option.{get_or_from_slice_get, slice_get_within}
 use Rattle.std.specs.List.{concat, enumerate_from, flat_map, join_with_byte, slice_get}
-use Rattle.warc_frame.specs.Device.{Staged}
-use Rattle.warc_frame.specs.declared.send.SendFault.{SendFault}
-use Rattle.warc_frame.specs.Putting.{Puts}
-use Rattle.warc_frame.specs.Seen.{Seen}
 use Rattle.warc.specs.Listing.{line_of, listing, shown}
 use Rattle.warc_reading.specs.Row.{Row}
 
@@ -22,11 +18,6 @@ pub line_from : (position : ℕ) (row : Row) (a b c d e f g : List ℕ) → a �
 unfolding line_of
 line_from position row a b c d e f g is_a is_b is_c is_d is_e is_f is_g =
     seven a b c d e f g ∙ rw (is_a, is_b, is_c, is_d, is_e, is_f, is_g) refl
-
--- the same text
-pub puts_same : {X : Type 0} {old new : Seen} {waits waiting : Staged} {answer : Result X SendFault} {a b : List ℕ} → a ≡ b → Puts old new waits waiting answer a
-    → Puts old new waits waiting answer b
-puts_same {X} {old} {new} {waits} {waiting} {answer} same puts = let P : List ℕ → Type 0 = λ l. Puts old new waits waiting answer l in subst P same puts
 
 enumerate_from-append : (n : ℕ) (xs ys : List Row) → enumerate_from n (xs ++ ys) ≡ enumerate_from n xs ++ enumerate_from (n + length xs) ys
 enumerate_from-append n [] ys = ap (λ k. enumerate_from k ys) (omega arith)

@@ -25,15 +25,15 @@ use Rattle.warc_answer.specs.Payloads.{read_record}
 use Rattle.warc_answer.specs.Places.{IsInOne, len_of}
 use Rattle.warc_answer.specs.declared.answer.Path.{Path}
 use Rattle.warc_reading.specs.Archive.{contents}
-use Rattle.warc.specs.Heads.{IsInHead, ReadsHeads, heads_len}
+use Rattle.warc_checking.specs.Heads.{IsInHead, ReadsHeads, heads_len}
 use Rattle.warc_reading.specs.Indexed.{indexed_record, place_of, placed_record}
 use Rattle.warc.specs.Replaying.{IsJoined, IsOfOrigin, IsOnPath, IsWanted, joined_len, most_reads, origin_reads, path_reads}
-use Rattle.warc.specs.Examining.{HasFailed, MayHaveFailed, halted}
+use Rattle.warc_checking.specs.Examining.{HasFailed, MayHaveFailed, halted}
 use Rattle.warc_reading.specs.Row.{Placed, Row, row_of}
 use Rattle.warc.specs.Standing.{IsOrigin, IsWritten}
-use Rattle.warc.specs.declared.heads.Halt.{Halt}
-use Rattle.warc.specs.declared.heads.Halt.TheVariants.{Read, Memory}
-use Rattle.warc.proofs.ReadLemmas.{one_row}
+use Rattle.warc_checking.specs.declared.heads.Halt.{Halt}
+use Rattle.warc_checking.specs.declared.heads.Halt.TheVariants.{Read, Memory}
+use Rattle.warc_checking.proofs.ReadLemmas.{one_row}
 use Rattle.warc.proofs.StandLemmas.{written}
 
 -- the records, read

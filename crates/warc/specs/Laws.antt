@@ -11,7 +11,7 @@ use Rattle.warc_answer.specs.declared.answer.Answer.{Answer}
 use Rattle.warc_answer.specs.declared.answer.Reason.{Reason}
 use Rattle.warc_answer.specs.declared.answer.ReplayFault.{ReplayFault}
 use Rattle.warc_reading.specs.Archive.{AreGood, IsArchiveOf, IsFaultOf, contents}
-use Rattle.warc.specs.Checking.{check_text, findings_of_archive}
+use Rattle.warc_checking.specs.Checking.{check_text}
 use Rattle.warc.specs.Forms.{record_as, texts_as}
 use Rattle.warc.specs.Listing.{listing}
 use Rattle.warc_reading.specs.Row.{Placed, Row, row_of}
@@ -45,11 +45,6 @@ FaultsAreStable = (bytes more : List ℕ) (fault : Fault) → IsFaultOf bytes fa
 
 abbrev pub OneFault : Type 0
 OneFault = (bytes : List ℕ) (one other : Fault) → IsFaultOf bytes one → IsFaultOf bytes other → one ≡ other
-
--- an archive has fewer findings than 2^64
-abbrev pub FindingsAreCounted : Type 0
-FindingsAreCounted = (bytes : List ℕ) (rows : List Row) (is : IsArchiveOf bytes rows)
-    → length (findings_of_archive (contents is.are.records)) < 2 ^ 64
 
 -- what is written of an archive, in each form, has fewer bytes than 2^64: a fault tells exactly how many went out
 abbrev pub OutputsAreCounted : Type 0

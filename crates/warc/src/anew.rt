@@ -10,9 +10,9 @@ ghost use Rattle.warc.specs.Emitting.{Emits};
 ghost use Rattle.warc.specs.Forms.{IsInRecord, IsInRow, ReadsOnly};
 
 use crate::copying::{Form, put_as};
-use crate::heads::{head_buffer, reread_head};
 use crate::segments::put_split;
 use std::alloc::Allocator;
+use warc_checking::{head_buffer, reread_head};
 use warc_frame::{OutBuffer, OutFault, Sink, Source};
 use warc_reading::{Row, Rows};
 

@@ -1,9 +1,10 @@
 //! Laws over the definitions: each function does nothing, and its contract is the law.
-ghost use Rattle.warc.specs.Laws.{ArchivesSpell, FaultsAreStable, FindingsAreCounted, NoFaultWhereSpelled, OneFault};
+ghost use Rattle.warc.specs.Laws.{ArchivesSpell, FaultsAreStable, NoFaultWhereSpelled, OneFault};
 ghost use Rattle.warc.specs.Laws.{MigrationKeepsAnswers, MigrationKeepsReplays, OutputsAreCounted, SomeFaultElse};
 ghost use Rattle.warc.specs.Laws.{WrittenOpensAsSame, WrittenSpells};
 
 use warc_answer::laws::conversion_keeps_answers;
+pub use warc_checking::laws::findings_are_counted;
 use warc_record::laws::{bare_texts_of_values, findings_are_few, findings_are_short};
 use warc_write::laws::{converted_stays_good, rendered_opens_as_same};
 
@@ -26,11 +27,6 @@ pub fn faults_are_stable()
 /// Bytes have at most one first fault.
 pub fn first_fault_is_unique()
     ensures { OneFault }
-{}
-
-/// An archive has fewer findings than 2^64, so that they are counted exactly.
-pub fn findings_are_counted()
-    ensures { FindingsAreCounted }
 {}
 
 /// What is written of an archive has fewer bytes than 2^64, so that a fault tells exactly how many went out.

@@ -4,23 +4,18 @@
 mod anew;
 mod archives;
 mod blocks;
-mod check;
-mod checking;
 mod copying;
 mod fault;
-mod heads;
 pub mod laws;
-mod noting;
 mod reader;
 mod replay;
 mod row;
 mod segments;
 mod taking;
-mod used;
 
 pub use archives::Archive;
-pub use checking::Checked;
 pub use copying::Form;
 pub use fault::{ExtractFault, TakeFault};
 pub use reader::Listing;
+pub use warc_checking::Checked;
 pub use warc_reading::Row;

@@ -4,7 +4,7 @@ ghost use Rattle.std.specs.Io.KnownBytes.{append_known};
 ghost use Rattle.warc_frame.specs.Count.{raised};
 ghost use Rattle.warc_frame.specs.Send.{WentOut, sent_of};
 ghost use Rattle.warc_reading.specs.Archive.{IsArchiveOf, rows_of, source_of};
-ghost use Rattle.warc.specs.Checks.{Checks};
+ghost use Rattle.warc_checking.specs.Checks.{Checks};
 ghost use Rattle.warc.specs.Forms.{Writes, WritesEach, WritesSplit};
 ghost use Rattle.warc.specs.Copied.{len_by, text_by};
 ghost use Rattle.warc.specs.Extracting.{ExtractsAt};
@@ -17,7 +17,6 @@ ghost use Rattle.warc.specs.Taking.{Takes};
 
 use crate::anew::{Manner, write_rows};
 use crate::blocks::send_range;
-use crate::check::check_rows;
 use crate::copying::Form;
 use crate::fault::{ExtractFault, TakeFault};
 use crate::replay::replay_rows;
@@ -27,6 +26,7 @@ use std::alloc::{Allocator, Global};
 use std::marker::Model;
 use std::mem;
 use warc_answer::{Answer, ReplayFault};
+use warc_checking::check_rows;
 use warc_frame::laws::head_of_spelled;
 use warc_frame::{Fault, Framed, OutBuffer, OutFault, Sink, Source};
 use warc_reading::{Keep, Lookup, Nothing, Row, Rows, read_on};
@@ -60,13 +60,6 @@ impl<S: Source, A: Allocator> Listing<S, A> {
         ensures { result ≡ slice_get self.now.rows position }
     {
         self.rows.get(position)
-    }
-
-    /// The rows of the records.
-    pub(crate) fn rows(&self) -> &Rows<A>
-        ensures { result.now ≡ self.now.rows }
-    {
-        &self.rows
     }
 
     /// Gives the source back.
@@ -225,7 +218,6 @@ impl<S: Source, A: Allocator + Copy> Listing<S, A> {
         // The rows stay.
         ensures rows { self.new.rows ≡ self.old.rows }
     {
-        head_of_spelled();
         let alloc = self.rows.allocator();
         check_rows(alloc, &mut self.source, &self.rows, out)
     }

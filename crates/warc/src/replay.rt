@@ -13,15 +13,15 @@ ghost use Rattle.warc_answer.specs.Payloads.{read_record};
 ghost use Rattle.warc_answer.specs.Replays.{IsReplay, IsSilent, out_result};
 ghost use Rattle.warc_reading.specs.Archive.{contents};
 ghost use Rattle.warc_reading.specs.Indexed.{AreOf, indexed_record, place_of, placed_record};
-ghost use Rattle.warc.specs.Examining.{HasHead};
+ghost use Rattle.warc_checking.specs.Examining.{HasHead};
 ghost use Rattle.warc.specs.Replaying.{IsJoined, IsOfOrigin, Replays, joined_len};
 ghost use Rattle.warc_reading.specs.Row.{Placed, row_of};
 ghost use Rattle.warc.specs.Standing.{IsOrigin};
 
-use crate::heads::{head_buffer, read_again};
 use std::alloc::Allocator;
 use warc_answer::laws::{fails_before_all, places_are_as_long, reasons_are_answers};
 use warc_answer::{Answer, Path, Reason, ReplayFault, replay_joined};
+use warc_checking::{head_buffer, read_again};
 use warc_frame::laws::head_of_spelled;
 use warc_frame::{OutFault, Sink, Source};
 use warc_index::Unfound;

@@ -8,7 +8,7 @@ use Rattle.std.specs.Prelude.{Result}
 use Rattle.warc_frame.specs.declared.fault.Fault.{Fault}
 use Rattle.warc_frame.specs.declared.fault.OutFault.{OutFault}
 use Rattle.warc_reading.specs.Archive.{IsArchiveOf, contents}
-use Rattle.warc.specs.Checking.{Line}
+use Rattle.warc_checking.specs.Checking.{Line}
 use Rattle.warc_frame.specs.Failing.{HasFailedBy, MayHaveFailedBy, is_read}
 use Rattle.warc_frame.specs.declared.fault.OutFault.TheVariants.{Read, Write, Memory}
 use Rattle.warc_commands.specs.Devices.{devices}

@@ -34,7 +34,7 @@ use Rattle.warc_commands.specs.declared.words.CommandFault.{CommandFault}
 use Rattle.warc_commands.specs.declared.words.CommandFault.TheVariants.{Usage, Memory as OutOfMemory}
 use Rattle.warc_reading.specs.Opening.{IsRefusalOf, faults_after}
 use Rattle.warc_reading.specs.Archive.{AreGood, IsArchiveOf}
-use Rattle.warc.specs.Checking.{Line, check_text, findings_of_archive}
+use Rattle.warc_checking.specs.Checking.{Line, check_text, findings_of_archive}
 use Rattle.warc_frame.specs.Failing.{HasFailedBy, MayHaveFailedBy, failed_by, failed_with, is_read}
 use Rattle.warc.specs.Listing.{listing}
 use Rattle.warc_reading.specs.Row.{Row}

@@ -4,8 +4,8 @@ use Rattle.warc_frame.specs.declared.fault.OutFault.TheVariants as outs
 use Rattle.warc_answer.specs.Answers.{path_of}
 use Rattle.warc_reading.specs.Archive.{contents}
 use Rattle.warc.specs.Standing.{IsOrigin}
-use Rattle.warc.proofs.PlaceLemmas.{checkable_archive}
-use Rattle.warc.proofs.RecordsLemmas.{placed}
+use Rattle.warc_checking.proofs.PlaceLemmas.{checkable_archive}
+use Rattle.warc_checking.proofs.RecordsLemmas.{placed}
 use Rattle.warc.proofs.ReplayLemmas.{most_is, near_path, row_missing, same_index}
 use Rattle.warc.proofs.replay.replay_rows.Goals as goal
 

@@ -1,7 +1,8 @@
 use Rattle.std.proofs.Common.{decimal, ap, ◌∙◌}
 use Rattle.warc.specs.Listing.{shown}
 use Rattle.warc_reading.specs.Row.{Row}
-use Rattle.warc.proofs.LineLemmas.{line_from, puts_same}
+use Rattle.warc_checking.proofs.CheckLemmas.{puts_same}
+use Rattle.warc.proofs.LineLemmas.{line_from}
 use Rattle.warc.proofs.row.put_line.Goals as goal
 
 pub returns : goal.returns

@@ -1,6 +1,6 @@
 use Rattle.std.proofs.Common.{sym, subst}
 use Rattle.warc_frame.specs.Spelling.{Spells}
-use Rattle.warc.proofs.HeadLemmas.{of_ok}
+use Rattle.warc_checking.proofs.HeadLemmas.{of_ok}
 use Rattle.warc.proofs.TakeLemmas.{failed_by_none, may_take, read_is}
 use Rattle.warc.proofs.taking.read_record.Goals as goal
 

@@ -1,6 +1,6 @@
 use Rattle.std.proofs.Common.{inl, inr, min, refl, ap, ◌∙◌}
 use Rattle.warc_reading.specs.Archive.{contents}
-use Rattle.warc.specs.Checking.{findings_of_archive}
+use Rattle.warc_checking.specs.Checking.{findings_of_archive}
 use Rattle.warc_commands.proofs.ProgramLemmas.{good_records_of, not_opened, status_by, unread_failed, unread_may}
 use Rattle.warc_commands.proofs.program.check.Goals as goal
 

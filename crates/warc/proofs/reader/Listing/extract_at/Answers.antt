@@ -1,7 +1,7 @@
 use Rattle.std.proofs.Common.{◌≡◌, Some, sym, ap, ◌∙◌}
 use Rattle.std.specs.List.{slice_get}
 use Rattle.warc.proofs.ExtractLemmas.{extracts_cut, extracts_ok}
-use Rattle.warc.proofs.PlaceLemmas.{same_rows, same_source}
+use Rattle.warc_checking.proofs.PlaceLemmas.{same_rows, same_source}
 use Rattle.warc.proofs.reader.Listing.extract_at.Goals as goal
 
 pub returns-in-Err-clause-extracts : goal.returns-in-Err-clause-extracts

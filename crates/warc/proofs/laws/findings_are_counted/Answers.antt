@@ -1,5 +1,0 @@
-use Rattle.warc.proofs.CountLemmas.{findings_are_counted}
-use Rattle.warc.proofs.laws.findings_are_counted.Goals as goal
-
-pub returns : goal.returns
-returns c = findings_are_counted

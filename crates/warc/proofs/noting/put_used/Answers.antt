@@ -1,6 +1,0 @@
-use Rattle.warc.proofs.LineLemmas.{puts_same}
-use Rattle.warc.proofs.NotingLemmas.{used_line}
-use Rattle.warc.proofs.noting.put_used.Goals as goal
-
-pub returns : goal.returns
-returns g c = puts_same (used_line c.args.position c.args.used c.if-not-used.false) c.put_parts.ensures

@@ -1,0 +1,102 @@
+-- N6 among the findings that a record alone tells.
+use Rattle.std.proofs.Common.{◌≡◌, ℕ, ◌+◌, Bool, true, false, None, List, [], ◌∷◌, ◌++◌, length, map, if◌then◌else◌, append_assoc, length-append, refl, ap, ◌∙◌, arith}
+use Rattle.std.proofs.lemmas.List.{append-nil}
+use Rattle.std.proofs.lemmas.List.Elements.{filter-append}
+use Rattle.std.specs.List.{filter}
+use Rattle.warc_field.specs.Area.{Pair}
+use Rattle.warc_record.specs.Readings.{Reading, reading_of}
+use Rattle.warc_record.specs.Table.{Rule}
+use Rattle.warc_record.specs.Findings.{Found, about, findings_by, findings_of, once}
+use Rattle.warc_checking.specs.Noted.{is_late, with_used}
+
+all_told : {X : Type 0} (test : Found → Bool) (f : X → Found) (xs : List X) → ((x : X) → test (f x) ≡ true) → filter test (map f xs) ≡ map f xs
+all_told test f [] is = refl
+all_told test f (x ∷ xs) is = rw (is x) (ap (λ l. f x ∷ l) (all_told test f xs is))
+
+none_told : {X : Type 0} (test : Found → Bool) (f : X → Found) (xs : List X) → ((x : X) → test (f x) ≡ false) → filter test (map f xs) ≡ []
+none_told test f [] is = refl
+none_told test f (x ∷ xs) is = rw (is x) (none_told test f xs is)
+
+once_before : (n : ℕ) (b : Bool) → is_late false (record { number = n; field = None }) ≡ true → filter (is_late false) (once n b) ≡ once n b
+once_before n true is = rw is refl
+once_before n false is = refl
+
+once_behind : (n : ℕ) (b : Bool) → is_late true (record { number = n; field = None }) ≡ true → filter (is_late true) (once n b) ≡ once n b
+once_behind n true is = rw is refl
+once_behind n false is = refl
+
+once_not : (late : Bool) (n : ℕ) (b : Bool) → is_late late (record { number = n; field = None }) ≡ false → filter (is_late late) (once n b) ≡ []
+once_not late n true is = rw is refl
+once_not late n false is = refl
+
+eleven : (test : Found → Bool) (a b c d e f g h i j k : List Found) → filter test (a ++ b ++ c ++ d ++ e ++ f ++ g ++ h ++ i ++ j ++ k)
+    ≡ filter test a ++ filter test b ++ filter test c ++ filter test d ++ filter test e ++ filter test f ++ filter test g ++ filter test h ++ filter test i ++ filter test j ++ filter test k
+eleven test a b c d e f g h i j k = simp filter-append
+
+-- the first five of eleven lists, and the last five
+five_first : (test : Found → Bool) (a b c d e f g h i j k : List Found) → filter test a ≡ a → filter test b ≡ b → filter test c ≡ c → filter test d ≡ d → filter test e ≡ e → filter test f ≡ []
+    → filter test g ≡ [] → filter test h ≡ [] → filter test i ≡ [] → filter test j ≡ [] → filter test k ≡ [] → filter test (a ++ b ++ c ++ d ++ e ++ f ++ g ++ h ++ i ++ j ++ k) ≡ a ++ b ++ c ++ d ++ e
+five_first test a b c d e f g h i j k ia ib ic id ie nf ng nh ni nj nk = eleven test a b c d e f g h i j k ∙ rw (ia, ib, ic, id, ie, nf, ng, nh, ni, nj, nk) (simp append-nil)
+
+five_last : (test : Found → Bool) (a b c d e f g h i j k : List Found) → filter test a ≡ [] → filter test b ≡ [] → filter test c ≡ [] → filter test d ≡ [] → filter test e ≡ [] → filter test f ≡ []
+    → filter test g ≡ g → filter test h ≡ h → filter test i ≡ i → filter test j ≡ j → filter test k ≡ k → filter test (a ++ b ++ c ++ d ++ e ++ f ++ g ++ h ++ i ++ j ++ k) ≡ g ++ h ++ i ++ j ++ k
+five_last test a b c d e f g h i j k na nb nc nd ne nf ig ih ii ij ik = eleven test a b c d e f g h i j k ∙ rw (na, nb, nc, nd, ne, nf, ig, ih, ii, ij, ik) refl
+
+-- N1 to N3 by the table
+abbrev about_rule : ℕ → Rule → Found
+about_rule n rule = about n rule.name
+
+abbrev about_field : Pair → Found
+about_field field = about 9 field.0
+
+parted : (a b c d e f g h i j k : List Found) → (a ++ b ++ c ++ d ++ e) ++ f ++ (g ++ h ++ i ++ j ++ k) ≡ a ++ b ++ c ++ d ++ e ++ f ++ g ++ h ++ i ++ j ++ k
+parted a b c d e f g h i j k = simp append_assoc
+
+-- what is about a field by the table, the other numbers with N6 or without it, and the fields whose values aren't UTF-8
+module _ (ls fs rs : List Rule) (b4 b5 b7 b8 b10 b11 : Bool) (names : List Pair) (used : Bool) where
+  abbrev all_by : List Found → List Found
+  all_by n = map (about_rule 1) ls ++ map (about_rule 2) fs ++ map (about_rule 3) rs ++ once 4 b4 ++ once 5 b5 ++ n ++ once 7 b7 ++ once 8 b8 ++ map about_field names ++ once 10 b10 ++ once 11 b11
+
+  among : filter (is_late false) (all_by []) ++ once 6 used ++ filter (is_late true) (all_by []) ≡ all_by (once 6 used)
+  among =
+      let E = is_late false in
+      let L = is_late true in
+      let l = map (about_rule 1) ls in
+      let f = map (about_rule 2) fs in
+      let r = map (about_rule 3) rs in
+      let u = map about_field names in
+      let front = five_first E l f r (once 4 b4) (once 5 b5) [] (once 7 b7) (once 8 b8) u (once 10 b10) (once 11 b11)
+      (all_told E (about_rule 1) ls (λ x. refl)) (all_told E (about_rule 2) fs (λ x. refl)) (all_told E (about_rule 3) rs (λ x. refl))
+      (once_before 4 b4 refl) (once_before 5 b5 refl) refl (once_not false 7 b7 refl) (once_not false 8 b8 refl) (none_told E about_field names (λ x. refl))
+      (once_not false 10 b10 refl) (once_not false 11 b11 refl) in
+      let back = five_last L l f r (once 4 b4) (once 5 b5) [] (once 7 b7) (once 8 b8) u (once 10 b10) (once 11 b11)
+      (none_told L (about_rule 1) ls (λ x. refl)) (none_told L (about_rule 2) fs (λ x. refl)) (none_told L (about_rule 3) rs (λ x. refl))
+      (once_not true 4 b4 refl) (once_not true 5 b5 refl) refl (once_behind 7 b7 refl) (once_behind 8 b8 refl) (all_told L about_field names (λ x. refl))
+      (once_behind 10 b10 refl) (once_behind 11 b11 refl) in
+      ap (λ x. x ++ once 6 used ++ filter L (all_by [])) front
+      ∙ ap (λ x. (l ++ f ++ r ++ once 4 b4 ++ once 5 b5) ++ once 6 used ++ x) back
+      ∙ parted l f r (once 4 b4) (once 5 b5) (once 6 used) (once 7 b7) (once 8 b8) u (once 10 b10) (once 11 b11)
+
+eleven_len : (a b c d e f g h i j k : List Found) (n : ℕ) → length f ≡ n → length (a ++ b ++ c ++ d ++ e ++ [] ++ g ++ h ++ i ++ j ++ k) + n ≡ length (a ++ b ++ c ++ d ++ e ++ f ++ g ++ h ++ i ++ j ++ k)
+eleven_len a b c d e f g h i j k n is = simp length-append (omega (arith, is))
+
+once_len : (b : Bool) → length (once 6 b) ≡ (if b then 1 else 0)
+once_len true = refl
+once_len false = refl
+
+used_among_by : (reading : Reading) (fields : List Pair) (size : ℕ) (bad used : Bool) → with_used (findings_by reading fields size bad false) used ≡ findings_by reading fields size bad used
+unfolding findings_by
+used_among_by reading fields size bad used = search among
+
+used_count_by : (reading : Reading) (fields : List Pair) (size : ℕ) (bad used : Bool)
+    → length (findings_by reading fields size bad false) + (if used then 1 else 0) ≡ length (findings_by reading fields size bad used)
+unfolding findings_by
+used_count_by reading fields size bad used = search (eleven_len, once_len)
+
+pub used_among : (fields : List Pair) (size : ℕ) (bad used : Bool) → with_used (findings_of fields size bad false) used ≡ findings_of fields size bad used
+unfolding findings_of
+used_among fields size bad used = used_among_by (reading_of fields) fields size bad used
+
+pub used_count : (fields : List Pair) (size : ℕ) (bad used : Bool) → length (findings_of fields size bad false) + (if used then 1 else 0) ≡ length (findings_of fields size bad used)
+unfolding findings_of
+used_count fields size bad used = used_count_by (reading_of fields) fields size bad used

@@ -1,0 +1,46 @@
+-- What `check` tells of no records, and of some.
+use Rattle.std.proofs.Common.{◌≡◌, ℕ, ◌+◌, ◌<◌, List, [], ◌∷◌, length, codes, refl, sym, ap, ◌∙◌, arith}
+use Rattle.std.specs.Fmt.{digits}
+use Rattle.std.proofs.lemmas.List.{append-nil, length-map}
+use Rattle.warc_reading.specs.Archive.{contents}
+use Rattle.warc_checking.specs.Checking.{check_text, findings_of_archive, findings_of_records, line_text, no_records}
+use Rattle.warc_checking.specs.Examining.{AreCheckable, records_text}
+use Rattle.warc_reading.specs.Row.{Placed, Row, row_of}
+
+none_line : line_text no_records ≡ codes "- N12\n"
+unfolding line_text digits
+none_line = refl
+
+text_of_none : (records : List Placed) → length records ≡ 0 → check_text (contents records) ≡ codes "- N12\n"
+unfolding check_text
+text_of_none [] is = append-nil (line_text no_records) ∙ none_line
+text_of_none (p ∷ ps) is = let h : length ps + 1 ≡ 0 = omega (arith, is) in absurd (omega (arith, h))
+
+text_of_some : (records : List Placed) → 0 < length records → check_text (contents records) ≡ records_text (contents records)
+unfolding check_text
+text_of_some [] some = absurd (omega (arith, some))
+text_of_some (p ∷ ps) some = refl
+
+number_of_none : (records : List Placed) → length records ≡ 0 → length (findings_of_archive (contents records)) ≡ 1
+number_of_none [] is = refl
+number_of_none (p ∷ ps) is = let h : length ps + 1 ≡ 0 = omega (arith, is) in absurd (omega (arith, h))
+
+findings_of_some : (records : List Placed) → 0 < length records → findings_of_archive (contents records) ≡ findings_of_records (contents records)
+findings_of_some [] some = absurd (omega (arith, some))
+findings_of_some (p ∷ ps) some = refl
+
+module _ (bytes : List ℕ) (records : List Placed) (rows : List Row) (can : AreCheckable bytes records rows) where
+  as_many : length rows ≡ length records
+  as_many = ap length can.rows_are ∙ length-map records row_of
+
+  pub none_text : length rows ≡ 0 → check_text (contents records) ≡ codes "- N12\n"
+  none_text is = text_of_none records (sym as_many ∙ is)
+
+  pub none_number : length rows ≡ 0 → length (findings_of_archive (contents records)) ≡ 1
+  none_number is = number_of_none records (sym as_many ∙ is)
+
+  pub some_text : 0 < length rows → check_text (contents records) ≡ records_text (contents records)
+  some_text lt = text_of_some records (omega (arith, as_many, lt))
+
+  pub some_findings : 0 < length rows → findings_of_archive (contents records) ≡ findings_of_records (contents records)
+  some_findings lt = findings_of_some records (omega (arith, as_many, lt))

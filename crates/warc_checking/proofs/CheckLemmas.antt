@@ -1,0 +1,56 @@
+-- The lines of findings, and what a record's row tells of it.
+use Rattle.std.proofs.Common.{◌≡◌, ℕ, ◌++◌, List, [], ◌∷◌, codes, decimal, unwrap_or, append_assoc, ◌+◌, ◌<◌, length, map, take, drop, get_or, refl, sym, ap, ◌∙◌, subst, Result}
+use Rattle.std.proofs.lemmas.Grind.{flat_map-append}
+use Rattle.std.proofs.lemmas.List.{append-nil, map-append, take-append-drop, take_more}
+use Rattle.std.specs.List.{concat, flat_map}
+use Rattle.warc_frame.specs.Device.{Staged}
+use Rattle.warc_frame.specs.Putting.{Puts}
+use Rattle.warc_frame.specs.Seen.{Seen}
+use Rattle.warc_frame.specs.declared.send.SendFault.{SendFault}
+use Rattle.warc_record.specs.Findings.{Found}
+use Rattle.warc_record.specs.Good.{SaysAll}
+use Rattle.warc_record.specs.Ids.{id_key}
+use Rattle.warc_record.specs.Readings.{reading_of}
+use Rattle.warc_reading.specs.Row.{Placed, Row, row_of}
+use Rattle.warc_checking.specs.Checking.{about_record, record_key, line_text, numbered_line}
+use Rattle.warc_checking.specs.Examining.{record_text}
+
+-- the same text
+pub puts_same : {X : Type 0} {old new : Seen} {waits waiting : Staged} {answer : Result X SendFault} {a b : List ℕ} → a ≡ b → Puts old new waits waiting answer a
+    → Puts old new waits waiting answer b
+puts_same {X} {old} {new} {waits} {waiting} {answer} same puts = let P : List ℕ → Type 0 = λ l. Puts old new waits waiting answer l in subst P same puts
+
+-- the id in a good record's row has its key
+pub key_by_row : (p : Placed) (row : Row) → row ≡ row_of p → SaysAll (reading_of p.content.fields) → record_key p.content ≡ id_key row.id
+key_by_row p row same says =
+    says.id_is ∙ sym says.id_reads ∙ ap id_key (sym (ap (λ o. unwrap_or o []) says.id_text_is)) ∙ sym (ap (λ (r : Row). id_key r.id) same)
+
+six : (a b c d e f : List ℕ) → concat (a ∷ b ∷ c ∷ d ∷ e ∷ f ∷ []) ≡ a ++ b ++ c ++ (d ++ e) ++ f
+six a b c d e f = simp (append_assoc, append-nil)
+
+-- the pieces that a line is put together from
+pub finding_line : (position number : ℕ) (a c d e : List ℕ) → a ≡ decimal position → c ≡ decimal number
+    → concat (a ∷ codes " N" ∷ c ∷ d ∷ e ∷ codes "\n" ∷ []) ≡ numbered_line (decimal position) number (d ++ e)
+finding_line position number a c d e is_a is_c = six a (codes " N") c d e (codes "\n") ∙ rw (is_a, is_c) refl
+
+pub text_append : (position : ℕ) (xs ys : List Found) → record_text position (xs ++ ys) ≡ record_text position xs ++ record_text position ys
+text_append position xs ys = ap (flat_map line_text) (map-append (about_record position) xs ys) ∙ flat_map-append line_text (map (about_record position) xs) (map (about_record position) ys)
+
+module _ {X : Type 0} (seen : X → Found) where
+  -- one more finding
+  pub findings_more : (position : ℕ) (xs : List X) (i : ℕ) (d : X) (output : List ℕ) → i < length xs
+      → (output ++ record_text position (map seen (take i xs))) ++ line_text (about_record position (seen (get_or xs i d))) ≡ output ++ record_text position (map seen (take (i + 1) xs))
+  findings_more position xs i d output lt =
+      let item = seen (get_or xs i d) in
+      let more : map seen (take (i + 1) xs) ≡ map seen (take i xs) ++ item ∷ [] = ap (map seen) (take_more xs i d lt) ∙ map-append seen (take i xs) (get_or xs i d ∷ []) in
+      let line : record_text position (item ∷ []) ≡ line_text (about_record position item) = append-nil (line_text (about_record position item)) in
+      append_assoc output (record_text position (map seen (take i xs))) (line_text (about_record position item))
+      ∙ ap (λ l. output ++ l) (ap (λ l. record_text position (map seen (take i xs)) ++ l) (sym line) ∙ sym (text_append position (map seen (take i xs)) (item ∷ [])) ∙ ap (record_text position) (sym more))
+
+  -- the findings so far, and the others
+  pub findings_rest : (position : ℕ) (xs : List X) (i : ℕ) (output : List ℕ)
+      → (output ++ record_text position (map seen (take i xs))) ++ record_text position (map seen (drop i xs)) ≡ output ++ record_text position (map seen xs)
+  findings_rest position xs i output =
+      append_assoc output (record_text position (map seen (take i xs))) (record_text position (map seen (drop i xs)))
+      ∙ ap (λ l. output ++ l) (sym (text_append position (map seen (take i xs)) (map seen (drop i xs)))
+      ∙ ap (record_text position) (sym (map-append seen (take i xs) (drop i xs)) ∙ ap (map seen) (take-append-drop i xs)))

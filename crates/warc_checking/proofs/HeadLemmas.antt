@@ -1,0 +1,46 @@
+-- What is read where a record's head stands.
+use Rattle.std.proofs.Common.{◌≡◌, ℕ, ◌+◌, ◌-◌, true, true≢false, List, length, take, drop, slice_range, Option, Some, None, Result, Ok, Err, OnOk, IfOk, IfErr, MatchResult, is_ok, sym, ap, ◌∙◌, arith}
+use Rattle.warc_frame.specs.Reading.{Head, any_fields, head_of}
+use Rattle.warc_frame.specs.declared.fault.Fault.{Fault}
+use Rattle.warc_checking.specs.Examining.{HasFailed, HasHead}
+use Rattle.warc_reading.specs.Row.{Placed, Row, row_of}
+use Rattle.warc_checking.specs.declared.heads.Halt.{Halt}
+use Rattle.warc_checking.specs.declared.heads.Halt.TheVariants.{Memory}
+
+-- how long the head is, by the row
+pub len_by_row : (bytes : List ℕ) (p : Placed) (row : Row) (has : HasHead bytes p) → row ≡ row_of p → row.block_start ≡ row.offset + has.len
+len_by_row bytes p row has same = ap (λ (r : Row). r.block_start) same ∙ has.start ∙ ap (λ (r : Row). r.offset + has.len) (sym same)
+
+pub len_is : (o : Option ℕ) (len n : ℕ) → o ≡ Some n → o ≡ Some len → len ≡ n
+len_is o len n a b = cc
+
+pub len_is_there : (o : Option ℕ) (n : ℕ) → o ≡ Some n → o ≡ None → ⊥
+len_is_there o n a b = cc
+
+-- the text that was read there is read as the head
+pub reads_head : (bytes text : List ℕ) (p : Placed) (row : Row) (len : ℕ) (has : HasHead bytes p) → row ≡ row_of p → len ≡ has.len
+    → text ≡ take len (drop row.offset bytes) → length text ≡ len
+    → head_of any_fields text ≡ Ok (record { version = p.content.version; fields = p.content.fields; len = length text; block_len = row.block_len })
+reads_head bytes text p row len has same len_is text_is size =
+    let at : row.offset ≡ p.offset = ap (λ (r : Row). r.offset) same in
+    let block : row.block_len ≡ length p.content.block = ap (λ (r : Row). r.block_len) same in
+    let whole : len ≡ p.block_start - p.offset = omega (arith, len_is, has.start) in
+    let is : text ≡ slice_range bytes p.offset p.block_start = text_is ∙ ap (λ q. take len (drop q bytes)) at ∙ ap (λ n. take n (drop p.offset bytes)) whole in
+    let n : has.len ≡ length text = sym (size ∙ len_is) in
+    let to : ℕ → ℕ → Result Head Fault = λ m k. Ok (record { version = p.content.version; fields = p.content.fields; len = m; block_len = k }) in
+    ap (head_of any_fields) is ∙ has.reads ∙ ap (λ m. to m (length p.content.block)) n ∙ ap (to (length text)) (sym block)
+
+-- a fact of an answer that is Ok
+pub of_ok : {X E : Type 0} (r : Result X E) {P : Type 0} → is_ok r ≡ true → OnOk r P → P
+of_ok (Ok x) is p = p
+of_ok (Err e) is p = absurd (true≢false (sym is))
+
+pub read_or_memory : {X : Type 0} (r : Result X Halt) (P : X → Type 0) → MatchResult r P (λ halt. halt ≡ Memory) → IfOk r P
+read_or_memory (Ok x) P is = is
+read_or_memory (Err e) P is = tt
+
+-- want of memory isn't a failure of the source
+pub only_memory : {X : Type 0} (r : Result X Halt) (P : X → Type 0) (old new : ℕ) → MatchResult r P (λ halt. halt ≡ Memory) → new ≡ old
+    → IfErr r (λ halt. HasFailed halt old new)
+only_memory (Ok x) P old new is same = tt
+only_memory (Err e) P old new is same = rw is same

@@ -1,0 +1,14 @@
+pub mod AmongLemmas
+pub mod ArchiveTextLemmas
+pub mod CheckLemmas
+pub mod CountLemmas
+pub mod HeadLemmas
+pub mod MetLemmas
+pub mod NextLemmas
+pub mod NotingLemmas
+pub mod PlaceLemmas
+pub mod ReadLemmas
+pub mod RecordsLemmas
+pub mod SizeLemmas
+pub mod TallyLemmas
+mod WorkedValues

@@ -1,0 +1,89 @@
+-- The next record of those whose findings are told.
+use Rattle.std.proofs.Common.{◌≡◌, ℕ, ◌+◌, ◌-◌, ◌^◌, ◌++◌, min, Bool, List, [], length, map, take, Some, if◌then◌else◌, unwrap_or, refl, sym, ap, ◌∙◌, arith}
+use Rattle.std.proofs.lemmas.Option.{slice_get-map}
+use Rattle.std.specs.List.{slice_get}
+use Rattle.std.specs.Prelude.{option_map}
+use Rattle.warc_frame.specs.Count.{capped}
+use Rattle.warc_frame.specs.Record.{Record}
+use Rattle.warc_reading.specs.Archive.{contents}
+use Rattle.warc_reading.specs.Row.{Placed, Row}
+use Rattle.warc_record.specs.Blocks.{has_bad_digest}
+use Rattle.warc_record.specs.Findings.{Found, findings_of}
+use Rattle.warc_record.specs.Good.{GoodHeadsRead}
+use Rattle.warc_record.specs.Ids.{id_key}
+use Rattle.warc_record.specs.declared.checks.ArchiveFacts.{ArchiveFacts}
+use Rattle.warc_checking.specs.Checking.{findings_behind, is_used, record_key}
+use Rattle.warc_checking.specs.Examining.{findings_of_first, first_text, record_text}
+use Rattle.warc_checking.specs.Found.{IsFound, Judged, own_findings}
+use Rattle.warc_checking.specs.Noted.{AreNoted, IsNext, found_at, with_used}
+use Rattle.warc_checking.specs.Used.{HasMet, Ids, IsTally}
+use Rattle.warc_checking.proofs.AmongLemmas.{used_among, used_count}
+use Rattle.warc_checking.proofs.CheckLemmas.{key_by_row}
+use Rattle.warc_checking.proofs.PlaceLemmas.{HeadsAreRead, checkable_archive}
+use Rattle.warc_checking.proofs.RecordsLemmas.{content_at, number_more, record_at, text_more}
+use Rattle.warc_checking.proofs.TallyLemmas.{alone}
+
+found_there : (records : List Placed) (i : ℕ) (p : Placed) → slice_get records i ≡ Some p → found_at (map own_findings (contents records)) i ≡ own_findings p.content
+found_there records i p at =
+    ap (λ o. unwrap_or o []) (slice_get-map own_findings (contents records) i ∙ ap (option_map own_findings) (content_at records i p at))
+
+-- the record at a place, where the ids of those before it were met
+pub next_at : (bytes : List ℕ) (records : List Placed) (rows : List Row) (found : List (List Found)) (i : ℕ) (row : Row) (met : Ids) → GoodHeadsRead → AreNoted bytes records rows found
+    → IsTally (length rows) rows met.counts → slice_get rows i ≡ Some row → HasMet (take i (contents records)) met
+    → (p : Placed) × (slice_get records i ≡ Some p) × IsNext (take i (contents records)) p row (found_at found i) met
+next_at bytes records rows found i row met law noted tally is has =
+    let (p, at, row_is, head) = record_at bytes records rows i row noted.can is in (
+      p,
+      at,
+      record {
+        row_is = row_is;
+        good = head.good;
+        found_is = ap (λ l. found_at l i) noted.found_is ∙ found_there records i p at;
+        has = has;
+        lone = alone bytes records rows i row met law noted.can tally is;
+      },
+    )
+
+-- the findings of the next record, whose id is used or isn't
+module _ (law : GoodHeadsRead) (before : List Record) (p : Placed) (row : Row) (found : List Found) (met : Ids) (next : IsNext before p row found met) (used : Bool)
+    (is : used ≡ is_used before (id_key row.id)) where
+  used_is : used ≡ is_used before (record_key p.content)
+  used_is = is ∙ ap (is_used before) (sym (key_by_row p row next.row_is (law p.content.fields next.good)))
+
+  pub next_found : with_used found used ≡ findings_behind before p.content
+  next_found =
+      let r = p.content in
+      ap (λ f. with_used f used) next.found_is ∙ used_among r.fields (length r.block) (has_bad_digest r) used
+      ∙ ap (λ b. findings_of r.fields (length r.block) (has_bad_digest r) b) used_is
+
+  pub next_count : length found + (if used then 1 else 0) ≡ length (findings_behind before p.content)
+  next_count =
+      let r = p.content in
+      ap (λ f. length f + (if used then 1 else 0)) next.found_is ∙ used_count r.fields (length r.block) (has_bad_digest r) used
+      ∙ ap (λ b. length (findings_of r.fields (length r.block) (has_bad_digest r) b)) used_is
+
+abbrev facts_of : List Record → Record → ArchiveFacts
+facts_of before r = record { bad_digest = has_bad_digest r; used_id = is_used before (record_key r) }
+
+-- the lines of one more record, and their number
+pub next_text : (records : List Placed) (i : ℕ) (p : Placed) (output : List ℕ) → slice_get records i ≡ Some p
+    → (output ++ first_text i (contents records)) ++ record_text i (findings_behind (take i (contents records)) p.content) ≡ output ++ first_text (i + 1) (contents records)
+next_text records i p output at =
+    let before = take i (contents records) in
+    text_more records i p p.content.fields (length p.content.block) (facts_of before p.content) output at (record { fields_are = refl; bad_digest = refl; used_id = refl }) refl
+
+capped_more : (a b m : ℕ) → min (a + min b m) m ≡ min (a + b) m
+capped_more a b m = omega arith
+
+pub next_number : (records : List Placed) (i : ℕ) (p : Placed) → slice_get records i ≡ Some p
+    → capped (capped (length (findings_of_first i (contents records))) + capped (length (findings_behind (take i (contents records)) p.content))) ≡ capped (length (findings_of_first (i + 1) (contents records)))
+next_number records i p at =
+    let before = take i (contents records) in
+    capped_more (capped (length (findings_of_first i (contents records)))) (length (findings_behind before p.content)) (2 ^ 64 - 1)
+    ∙ number_more records i p p.content.fields (length p.content.block) (facts_of before p.content) at (record { fields_are = refl; bad_digest = refl; used_id = refl }) refl
+
+-- what is kept of an archive, whatever it is called
+pub noted_by : {S : Type 0} → HeadsAreRead → (bytes : List ℕ) (judged : Judged S) (is : IsFound bytes judged) (rows : List Row) (found : List (List Found)) → rows ≡ judged.listing.rows → found ≡ judged.found
+    → AreNoted bytes is.listed.are.records rows found
+noted_by law bytes judged is rows found same also =
+    record { can = checkable_archive law bytes judged.listing.rows is.listed rows same; found_is = also ∙ is.found_is }

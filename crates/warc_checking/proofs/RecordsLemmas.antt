@@ -1,0 +1,144 @@
+-- The findings of the first records, and one more.
+use Rattle.std.proofs.Common.{◌≡◌, ℕ, zero, suc, ◌+◌, ◌-◌, ◌^◌, ◌<◌, ◌≤◌, false, min, List, [], ◌∷◌, ◌++◌, length, map, take, drop, Some, Result, Ok, Err, append_assoc, length-append, take_all, refl, sym, ap, subst, ◌∙◌, arith}
+use Rattle.std.proofs.lemmas.Grind.{flat_map-append}
+use Rattle.std.proofs.lemmas.List.{append-nil, length-map, length-take-le, take-append-drop}
+use Rattle.std.specs.Result.{IsErrAnd}
+use Rattle.std.specs.List.{enumerate_from, flat_map, slice_get}
+use Rattle.warc_field.specs.Area.{Pair}
+use Rattle.warc_frame.specs.Count.{capped, raised}
+use Rattle.warc_frame.specs.Send.{sent_of}
+use Rattle.warc_frame.specs.declared.fault.OutFault.{OutFault}
+use Rattle.warc_frame.specs.declared.fault.OutFault.TheVariants.{Read as ReadFailed, Write as WriteFailed, Memory as OutOfMemory}
+use Rattle.warc_frame.specs.Record.{Record}
+use Rattle.warc_record.specs.declared.checks.ArchiveFacts.{ArchiveFacts}
+use Rattle.warc_reading.specs.Archive.{contents}
+use Rattle.warc_checking.specs.Checking.{Line, findings_at, findings_behind, findings_of_records, line_text}
+use Rattle.warc_checking.specs.Examining.{AreCheckable, HasFailed, HasHead, IsExamined, findings_of_first, first_text, found_by, halted, record_text, records_text}
+use Rattle.warc_frame.specs.Failing.{HasFailedBy, MayHaveFailedBy, is_read}
+use Rattle.warc_checking.specs.declared.heads.Halt.{Halt}
+use Rattle.warc_checking.specs.declared.heads.Halt.TheVariants.{Read, Memory}
+use Rattle.warc_reading.specs.Row.{Placed, Row, row_of}
+use Rattle.warc_checking.specs.Used.{HasMet, Ids}
+
+-- the record of a row
+pub placed : (records : List Placed) (i : ℕ) (row : Row) → slice_get (map row_of records) i ≡ Some row → (p : Placed) × (slice_get records i ≡ Some p) × (row ≡ row_of p)
+placed [] i row is = absurd (cc is)
+placed (x ∷ xs) zero row is = (x, refl, cc is)
+placed (x ∷ xs) (suc i) row is = placed xs i row is
+
+pub record_at : (bytes : List ℕ) (records : List Placed) (rows : List Row) (i : ℕ) (row : Row) → AreCheckable bytes records rows → slice_get rows i ≡ Some row
+    → (p : Placed) × (slice_get records i ≡ Some p) × (row ≡ row_of p) × HasHead bytes p
+record_at bytes records rows i row can is =
+    let found = placed records i row (sym (ap (λ l. slice_get l i) can.rows_are) ∙ is) in
+    (found.0, found.1, found.2, can.heads i found.0 found.1)
+
+pub content_at : (records : List Placed) (i : ℕ) (p : Placed) → slice_get records i ≡ Some p → slice_get (contents records) i ≡ Some p.content
+content_at [] i p is = absurd (cc is)
+content_at (x ∷ xs) zero p is = let same : x ≡ p = cc is in ap (λ (q : Placed). Some q.content) same
+content_at (x ∷ xs) (suc i) p is = content_at xs i p is
+
+below : {X : Type 0} (xs : List X) (i : ℕ) (x : X) → slice_get xs i ≡ Some x → i < length xs
+below [] i x is = absurd (cc is)
+below (y ∷ ys) zero x is = omega arith
+below (y ∷ ys) (suc i) x is = let lt = below ys i x is in omega (arith, lt)
+
+take_suc : {X : Type 0} (xs : List X) (i : ℕ) (x : X) → slice_get xs i ≡ Some x → take (suc i) xs ≡ take i xs ++ x ∷ []
+take_suc [] i x is = absurd (cc is)
+take_suc (y ∷ ys) zero x is = let same : y ≡ x = cc is in ap (λ z. z ∷ []) same
+take_suc (y ∷ ys) (suc i) x is = ap (λ l. y ∷ l) (take_suc ys i x is)
+
+pub take_one : {X : Type 0} (xs : List X) (i : ℕ) (x : X) → slice_get xs i ≡ Some x → take (i + 1) xs ≡ take i xs ++ x ∷ []
+take_one xs i x is = let e : i + 1 ≡ suc i = omega arith in ap (λ n. take n xs) e ∙ take_suc xs i x is
+
+enumerate_from-append : {X : Type 0} (n : ℕ) (xs ys : List X) → enumerate_from n (xs ++ ys) ≡ enumerate_from n xs ++ enumerate_from (n + length xs) ys
+enumerate_from-append n [] ys = ap (λ k. enumerate_from k ys) (omega arith)
+enumerate_from-append n (x ∷ xs) ys =
+    let e : n + 1 + length xs ≡ n + length (x ∷ xs) = omega arith in
+    ap (λ l. (n, x) ∷ l) (enumerate_from-append (n + 1) xs ys ∙ ap (λ k. enumerate_from (n + 1) xs ++ enumerate_from k ys) e)
+
+enumerate_one : {X : Type 0} (xs : List X) (i : ℕ) (x : X) → slice_get xs i ≡ Some x → enumerate_from 0 (take (i + 1) xs) ≡ enumerate_from 0 (take i xs) ++ (i, x) ∷ []
+enumerate_one xs i x is =
+    let size : 0 + length (take i xs) ≡ i = omega (arith, length-take-le i xs (omega (arith, below xs i x is))) in
+    ap (enumerate_from 0) (take_one xs i x is) ∙ enumerate_from-append 0 (take i xs) (x ∷ []) ∙ ap (λ k. enumerate_from 0 (take i xs) ++ enumerate_from k (x ∷ [])) size
+
+-- the findings of one more record
+first_more : (rs : List Record) (i : ℕ) (r : Record) → slice_get rs i ≡ Some r → findings_of_first (i + 1) rs ≡ findings_of_first i rs ++ findings_at rs i r
+first_more rs i r is =
+    let f : ℕ × Record → List Line = λ p. findings_at rs p.0 p.1 in
+    ap (flat_map f) (enumerate_one rs i r is) ∙ flat_map-append f (enumerate_from 0 (take i rs)) ((i, r) ∷ []) ∙ ap (λ l. findings_of_first i rs ++ l) (append-nil (findings_at rs i r))
+
+-- what was found of an examined record
+found_is : (before : List Record) (r : Record) (fields : List Pair) (block_len : ℕ) (facts : ArchiveFacts) → IsExamined before r fields facts → block_len ≡ length r.block
+    → found_by fields block_len facts ≡ findings_behind before r
+found_is before r fields block_len facts is len = rw (is.fields_are, len, is.bad_digest, is.used_id) refl
+
+pub text_more : (records : List Placed) (i : ℕ) (p : Placed) (fields : List Pair) (block_len : ℕ) (facts : ArchiveFacts) (output : List ℕ) → slice_get records i ≡ Some p
+    → IsExamined (take i (contents records)) p.content fields facts → block_len ≡ length p.content.block
+    → (output ++ first_text i (contents records)) ++ record_text i (found_by fields block_len facts) ≡ output ++ first_text (i + 1) (contents records)
+text_more records i p fields block_len facts output at is len =
+    let rs = contents records in
+    let found = found_is (take i rs) p.content fields block_len facts is len in
+    let more = ap (flat_map line_text) (first_more rs i p.content (content_at records i p at)) ∙ flat_map-append line_text (findings_of_first i rs) (findings_at rs i p.content) in
+    append_assoc output (first_text i rs) (record_text i (found_by fields block_len facts))
+    ∙ ap (λ l. output ++ l) (ap (λ l. first_text i rs ++ record_text i l) found ∙ sym more)
+
+saturated : (a b m : ℕ) → min (min a m + b) m ≡ min (a + b) m
+saturated a b m = omega arith
+
+pub number_more : (records : List Placed) (i : ℕ) (p : Placed) (fields : List Pair) (block_len : ℕ) (facts : ArchiveFacts) → slice_get records i ≡ Some p
+    → IsExamined (take i (contents records)) p.content fields facts → block_len ≡ length p.content.block
+    → capped (capped (length (findings_of_first i (contents records))) + length (found_by fields block_len facts)) ≡ capped (length (findings_of_first (i + 1) (contents records)))
+number_more records i p fields block_len facts at is len =
+    let rs = contents records in
+    let found = found_is (take i rs) p.content fields block_len facts is len in
+    let size : length (findings_at rs i p.content) ≡ length (found_by fields block_len facts) = length-map (findings_behind (take i rs) p.content) _ ∙ ap length (sym found) in
+    let more : length (findings_of_first (i + 1) rs) ≡ length (findings_of_first i rs) + length (found_by fields block_len facts) =
+    ap length (first_more rs i p.content (content_at records i p at)) ∙ length-append (findings_of_first i rs) (findings_at rs i p.content) ∙ ap (λ n. length (findings_of_first i rs) + n) size in
+    saturated (length (findings_of_first i rs)) (length (found_by fields block_len facts)) (2 ^ 64 - 1) ∙ ap capped (sym more)
+
+-- the ids of one more record
+pub met_one : (records : List Placed) (i : ℕ) (p : Placed) (met : Ids) → slice_get records i ≡ Some p → HasMet (take i (contents records) ++ p.content ∷ []) met
+    → HasMet (take (i + 1) (contents records)) met
+met_one records i p met at has =
+    let P : List Record → Type 0 = λ rs. HasMet rs met in
+    subst P (sym (take_one (contents records) i p.content (content_at records i p at))) has
+
+-- the lines of the others
+abbrev pub rest_text : ℕ → List Record → List ℕ
+rest_text n rs = flat_map line_text (flat_map (λ p. findings_at rs p.0 p.1) (enumerate_from (0 + length (take n rs)) (drop n rs)))
+
+pub text_rest : (rs : List Record) (n : ℕ) (output : List ℕ) → (output ++ first_text n rs) ++ rest_text n rs ≡ output ++ records_text rs
+text_rest rs n output =
+    let f : ℕ × Record → List Line = λ p. findings_at rs p.0 p.1 in
+    let lines : findings_of_records rs ≡ findings_of_first n rs ++ flat_map f (enumerate_from (0 + length (take n rs)) (drop n rs)) =
+    ap (λ l. flat_map f (enumerate_from 0 l)) (sym (take-append-drop n rs)) ∙ ap (flat_map f) (enumerate_from-append 0 (take n rs) (drop n rs))
+    ∙ flat_map-append f (enumerate_from 0 (take n rs)) (enumerate_from (0 + length (take n rs)) (drop n rs)) in
+    append_assoc output (first_text n rs) (rest_text n rs)
+    ∙ ap (λ l. output ++ l) (sym (ap (flat_map line_text) lines ∙ flat_map-append line_text (findings_of_first n rs) (flat_map f (enumerate_from (0 + length (take n rs)) (drop n rs)))))
+
+-- the first records are all where they are so many
+pub first_all : (bytes : List ℕ) (records : List Placed) (rows : List Row) (n : ℕ) → AreCheckable bytes records rows → length rows ≤ n
+    → findings_of_first n (contents records) ≡ findings_of_records (contents records)
+first_all bytes records rows n can past =
+    let size : length (contents records) ≤ n =
+    omega (arith, past, ap length can.rows_are, length-map records row_of, length-map records (λ (p : Placed). p.content)) in
+    ap (λ l. flat_map (λ p. findings_at (contents records) p.0 p.1) (enumerate_from 0 l)) (take_all n (contents records) size)
+
+-- an output that ends at a record, after so many bytes
+pub sent_halted : (halt : Halt) (e : OutFault) (n m : ℕ) → e ≡ halted halt n → n ≡ m → m ≡ sent_of e
+sent_halted Read e n m is same = sym (ap sent_of is ∙ same)
+sent_halted Memory e n m is same = sym (ap sent_of is ∙ same)
+
+pub failed_halted : (X : Type 0) (halt : Halt) (e : OutFault) (n old before new : ℕ) → e ≡ halted halt n → before ≡ old → HasFailed halt before new → HasFailedBy {X = X} (Err e) old new
+failed_halted X Read e n old before new is same has = let P : OutFault → Type 0 = λ f. HasFailedBy {X = X} (Err f) old new in subst P (sym is) (has ∙ ap raised same)
+failed_halted X Memory e n old before new is same has = let P : OutFault → Type 0 = λ f. HasFailedBy {X = X} (Err f) old new in subst P (sym is) (has ∙ same)
+
+-- an output that ended by no read over a source that hasn't failed
+unread : (X : Type 0) (e : OutFault) (old new : ℕ) → is_read e ≡ false → new ≡ old → MayHaveFailedBy {X = X} (Err e) old new × HasFailedBy {X = X} (Err e) old new
+unread X (ReadFailed sent) old new none same = absurd (cc none)
+unread X (WriteFailed sent) old new none same = (same, same)
+unread X (OutOfMemory sent) old new none same = (same, same)
+
+pub unread_sound : {X : Type 0} (r : Result X OutFault) (e : OutFault) (old new : ℕ) → IsErrAnd r (λ f. f ≡ e) → is_read e ≡ false → new ≡ old → MayHaveFailedBy r old new × HasFailedBy r old new
+unread_sound (Ok x) e old new is none same = absurd is
+unread_sound {X} (Err f) e old new is none same = unread X f old new (ap is_read is ∙ none) same

@@ -1,0 +1,114 @@
+use Rattle.std.proofs.Common.{rules, List, subst, ◌≡◌, ◌+◌, ◌++◌, ℕ, Some, length, take, arith, sym, ap, ◌∙◌}
+use Rattle.std.specs.List.{flat_map, slice_get}
+use Rattle.warc_frame.specs.Count.{capped}
+use Rattle.warc_reading.specs.Archive.{contents}
+use Rattle.warc_checking.specs.Checking.{line_text}
+use Rattle.warc_checking.specs.Examining.{findings_of_first, first_text}
+use Rattle.warc_reading.specs.Row.{Row}
+use Rattle.warc_frame.proofs.LawLemmas.{same_out, same_staged}
+use Rattle.warc_checking.proofs.ReadLemmas.{reads_all, reads_more}
+use Rattle.warc_checking.proofs.RecordsLemmas.{failed_halted, first_all, met_one, number_more, record_at, rest_text, sent_halted, text_more, text_rest, unread_sound}
+use Rattle.warc_checking.specs.Used.{IsTally}
+use Rattle.warc_checking.proofs.TallyLemmas.{alone}
+use Rattle.warc_checking.proofs.check.put_records.Goals as goal
+
+pub returns-clause-out : goal.returns-clause-out
+returns-clause-out g c = λ bytes records start output held can is.
+    let all = first_all bytes records c.args.rows.now c.checking.position can (search rules) in
+    same_staged (ap (λ l. output ++ flat_map line_text l) all) (c.checking.invariant.staged bytes records start output held can is)
+
+pub returns-clause-number : goal.returns-clause-number
+returns-clause-number g c = λ bytes records held can.
+    let all = first_all bytes records c.args.rows.now c.checking.position can (search rules) in
+    c.checking.invariant.number bytes records held can ∙ ap (λ l. capped (length l)) all
+
+pub returns-in-Err-clause-cut : goal.returns-in-Err-clause-cut
+returns-in-Err-clause-cut g c = λ bytes records start output held can is.
+    let rs = contents records in
+    let i = c.checking.position in
+    let gone = c.staged_went_out.ensures start _ (output ++ first_text i rs) c.checking.buffer (c.checking.invariant.staged bytes records start output held can is) in
+    let out = same_out (text_rest rs i output) (c.went_out_of_longer.ensures start _ (output ++ first_text i rs) (rest_text i rs) _ gone) in
+    rw (sym (sent_halted c.in-Err.halt c.after.result c.sent.result c.checking.buffer.sent c.after.ensures c.sent.ensures)) out
+
+pub returns-in-Err-clause-failed : goal.returns-in-Err-clause-failed
+returns-in-Err-clause-failed g c = λ bytes records held can.
+    let row_is : slice_get c.args.rows.now c.checking.position ≡ Some c.in-Some.row = sym c.get.ensures ∙ c.in-Some.is in
+    let at = record_at bytes records c.args.rows.now c.checking.position c.in-Some.row can row_is in
+    failed_halted ℕ c.in-Err.halt c.after.result c.sent.result _ _ _ c.after.ensures c.checking.invariant.sound
+    (c.in-Err.ensures.failed bytes at.0 (c.checking.invariant.kept ∙ held) at.3 at.2)
+
+pub returns-in_err-number-clause-cut : goal.returns-in_err-number-clause-cut
+returns-in_err-number-clause-cut g c = λ bytes records start output held can is.
+    let rs = contents records in
+    let i = c.checking.position in
+    let row_is : slice_get c.args.rows.now i ≡ Some c.in-Some.row = sym c.get.ensures ∙ c.in-Some.is in
+    let at = record_at bytes records c.args.rows.now i c.in-Some.row can row_is in
+    let examined = c.in-Ok.ensures.read bytes at.0 (take i rs) (c.checking.invariant.kept ∙ held) at.3 at.2 (c.checking.invariant.met bytes records held can)
+    (alone bytes records c.args.rows.now i c.in-Some.row c.checking.met c.good_heads_read.ensures can c.checking.invariant.tally row_is) in
+    let len = ap (λ (r : Row). r.block_len) (c.row.view_is ∙ at.2) in
+    let cut = c.in_err-number.ensures.cut start (output ++ first_text i rs) (c.checking.invariant.staged bytes records start output held can is) in
+    let longer = c.went_out_of_longer.ensures start _ _ (rest_text (i + 1) rs) _ cut in
+    let more = text_more records i at.0 c.in-Ok.examined.fields c.row.inside.block_len c.in-Ok.examined.facts output at.1 examined len in
+    let whole = same_out (ap (λ l. l ++ rest_text (i + 1) rs) more ∙ text_rest rs (i + 1) output) longer in
+    search rules
+
+pub returns-in_err-number-clause-may : goal.returns-in_err-number-clause-may
+returns-in_err-number-clause-may g c =
+    let sound = c.in-Ok.ensures.sound ∙ c.checking.invariant.sound in
+    (unread_sound _ _ _ _ c.from_residual.ensures.1 c.in_err-number.ensures.unread sound).0
+
+pub returns-in_err-number-clause-failed : goal.returns-in_err-number-clause-failed
+returns-in_err-number-clause-failed g c = λ bytes records held can.
+    let sound = c.in-Ok.ensures.sound ∙ c.checking.invariant.sound in
+    (unread_sound _ _ _ _ c.from_residual.ensures.1 c.in_err-number.ensures.unread sound).1
+
+pub returns-clause-heads : goal.returns-clause-heads
+returns-clause-heads g c = reads_all c.args.rows.now c.checking.position _ _ c.checking.invariant.heads
+
+pub returns-in-Err-clause-heads : goal.returns-in-Err-clause-heads
+returns-in-Err-clause-heads g c =
+    let row_is : slice_get c.args.rows.now c.checking.position ≡ Some c.in-Some.row = sym c.get.ensures ∙ c.in-Some.is in
+    let more = reads_more c.args.rows.now c.checking.position c.in-Some.row _ _ _ row_is c.checking.invariant.heads c.examine.ensures.heads in
+    reads_all c.args.rows.now (c.checking.position + 1) _ _ more
+
+pub returns-in_err-number-clause-heads : goal.returns-in_err-number-clause-heads
+returns-in_err-number-clause-heads g c =
+    let row_is : slice_get c.args.rows.now c.checking.position ≡ Some c.in-Some.row = sym c.get.ensures ∙ c.in-Some.is in
+    let more = reads_more c.args.rows.now c.checking.position c.in-Some.row _ _ _ row_is c.checking.invariant.heads c.examine.ensures.heads in
+    reads_all c.args.rows.now (c.checking.position + 1) _ _ more
+
+pub checking-preserved : goal.checking-preserved
+checking-preserved g c =
+    let i = c.checking.position in
+    let row_is : slice_get c.args.rows.now i ≡ Some c.in-Some.row = sym c.get.ensures ∙ c.in-Some.is in
+    let P : List ℕ → Type 0 = λ l. IsTally (length c.args.rows.now) c.args.rows.now l in
+    record {
+      tally = subst P (sym c.examine.ensures.counts) c.checking.invariant.tally;
+      room = omega (arith, c.checking.invariant.room, c.examine.auto.buf);
+      staged = λ bytes records start output held can is.
+          let rs = contents records in
+          let at = record_at bytes records c.args.rows.now i c.in-Some.row can row_is in
+          let examined = c.in-Ok.ensures.read bytes at.0 (take i rs) (c.checking.invariant.kept ∙ held) at.3 at.2 (c.checking.invariant.met bytes records held can)
+          (alone bytes records c.args.rows.now i c.in-Some.row c.checking.met c.good_heads_read.ensures can c.checking.invariant.tally row_is) in
+          let len = ap (λ (r : Row). r.block_len) (c.row.view_is ∙ at.2) in
+          same_staged (text_more records i at.0 c.in-Ok.examined.fields c.row.inside.block_len c.in-Ok.examined.facts output at.1 examined len)
+          (c.in_ok-number.ensures.out start (output ++ first_text i rs) (c.checking.invariant.staged bytes records start output held can is));
+      met = λ bytes records held can.
+          let rs = contents records in
+          let at = record_at bytes records c.args.rows.now i c.in-Some.row can row_is in
+          met_one records i at.0 c.examine.new.met at.1
+          (c.in-Ok.ensures.met bytes at.0 (take i rs) (c.checking.invariant.kept ∙ held) at.3 at.2 (c.checking.invariant.met bytes records held can));
+      number = λ bytes records held can.
+          let rs = contents records in
+          let at = record_at bytes records c.args.rows.now i c.in-Some.row can row_is in
+          let examined = c.in-Ok.ensures.read bytes at.0 (take i rs) (c.checking.invariant.kept ∙ held) at.3 at.2 (c.checking.invariant.met bytes records held can)
+          (alone bytes records c.args.rows.now i c.in-Some.row c.checking.met c.good_heads_read.ensures can c.checking.invariant.tally row_is) in
+          let len = ap (λ (r : Row). r.block_len) (c.row.view_is ∙ at.2) in
+          c.saturating_add-count.ensures ∙ ap (λ n. capped (n + c.in_ok-number.number)) (c.checking.invariant.number bytes records held can)
+          ∙ ap (λ n. capped (capped (length (findings_of_first i rs)) + n)) c.in_ok-number.ensures.number
+          ∙ number_more records i at.0 c.in-Ok.examined.fields c.row.inside.block_len c.in-Ok.examined.facts at.1 examined len;
+      heads = reads_more c.args.rows.now i c.in-Some.row _ _ _ row_is c.checking.invariant.heads c.examine.ensures.heads;
+      kept = search rules;
+      sound = search rules;
+      silent = search rules;
+    }

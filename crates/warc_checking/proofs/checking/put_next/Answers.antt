@@ -1,0 +1,29 @@
+use Rattle.std.proofs.Common.{ap, ◌++◌, ◌∙◌}
+use Rattle.warc_frame.proofs.LawLemmas.{same_out, same_staged}
+use Rattle.warc_frame.specs.Count.{capped}
+use Rattle.warc_reading.specs.Row.{Row}
+use Rattle.warc_record.specs.Ids.{id_key}
+use Rattle.warc_checking.specs.Checking.{is_used}
+use Rattle.warc_checking.specs.Examining.{record_text}
+use Rattle.warc_checking.proofs.NextLemmas.{next_count, next_found}
+use Rattle.warc_checking.proofs.checking.put_next.Goals as goal
+
+pub returns-in-Ok-put-clause-out : goal.returns-in-Ok-put-clause-out
+returns-in-Ok-put-clause-out g c = λ before p start output next is.
+    let id = ap (λ (r : Row). id_key r.id) c.row.view_is in
+    let used = c.in-Ok.ensures.used before next.has (rw id next.lone) ∙ ap (is_used before) id in
+    let found = next_found c.good_heads_read.ensures before p _ _ _ next c.in-Ok.used used in
+    same_staged (ap (λ l. output ++ record_text c.args.position l) found) (c.in-Ok-put.ensures.puts.out start output is)
+
+pub returns-in-Ok-put-clause-number : goal.returns-in-Ok-put-clause-number
+returns-in-Ok-put-clause-number g c = λ before p next.
+    let id = ap (λ (r : Row). id_key r.id) c.row.view_is in
+    let used = c.in-Ok.ensures.used before next.has (rw id next.lone) ∙ ap (is_used before) id in
+    c.in-Ok-put.ensures.number ∙ ap capped (next_count c.good_heads_read.ensures before p _ _ _ next c.in-Ok.used used)
+
+pub returns-in-Err-clause-cut : goal.returns-in-Err-clause-cut
+returns-in-Err-clause-cut g c = λ before p start output next is.
+    let id = ap (λ (r : Row). id_key r.id) c.row.view_is in
+    let used = c.in-Ok.ensures.used before next.has (rw id next.lone) ∙ ap (is_used before) id in
+    let found = next_found c.good_heads_read.ensures before p _ _ _ next c.in-Ok.used used in
+    same_out (ap (λ l. output ++ record_text c.args.position l) found) (c.in-Err.ensures.puts.cut start output is)

@@ -1,0 +1,17 @@
+use Rattle.std.proofs.Common.{◌≡◌, None, ap, ◌∙◌}
+use Rattle.std.proofs.lemmas.Result.{IfOk-weaker}
+use Rattle.warc_record.specs.Heads.{head_fault}
+use Rattle.warc_checking.proofs.HeadLemmas.{only_memory, read_or_memory}
+use Rattle.warc_checking.proofs.heads.read_again.Goals as goal
+
+pub returns-clause-read : goal.returns-clause-read
+returns-clause-read g c = λ bytes p held has same.
+    let head = c.in-Ok.ensures.read bytes p held has same in
+    let good : head_fault c.in-Ok.head.fields ≡ None = ap head_fault head.fields ∙ has.good in
+    IfOk-weaker c.typed.result _ _ (λ x e. e ∙ head.fields) (read_or_memory c.typed.result _ (c.typed.ensures.read good))
+
+pub returns-clause-failed : goal.returns-clause-failed
+returns-clause-failed g c = λ bytes p held has same.
+    let head = c.in-Ok.ensures.read bytes p held has same in
+    let good : head_fault c.in-Ok.head.fields ≡ None = ap head_fault head.fields ∙ has.good in
+    only_memory c.typed.result _ _ _ (c.typed.ensures.read good) c.in-Ok.ensures.sound

@@ -1,0 +1,318 @@
+//! What is wrong with records though they are readable: their findings, a line each.
+ghost use Rattle.std.specs.Prelude.{◌≡◌, ℕ, ◌++◌, ◌≤◌, List, [], ◌∷◌, Option, Some, false, IfOk, IfErr, OnOk, codes, decimal, length, map, is_err, if◌then◌else◌};
+ghost use Rattle.std.specs.Io.KnownBytes.{append_known};
+ghost use Rattle.warc_frame.specs.Count.{capped, raised};
+ghost use Rattle.warc_frame.specs.Record.{Record, max_head};
+ghost use Rattle.warc_frame.specs.Send.{IsStaged, WentOut, sent_of};
+ghost use Rattle.warc_record.specs.Findings.{finding_seen};
+ghost use Rattle.warc_reading.specs.Archive.{contents};
+ghost use Rattle.warc_reading.specs.Row.{Placed, row_of};
+ghost use Rattle.warc_checking.specs.Checks.{Checks};
+ghost use Rattle.warc_checking.specs.Checking.{about_record, check_text, findings_of_archive, findings_of_records, line_text, numbered_line};
+ghost use Rattle.warc_checking.specs.Examining.{HasFailed, HasHead, AreCheckable, IsExamined, MayHaveFailed, found_by, record_text, records_text};
+ghost use Rattle.warc_checking.specs.Heads.{ReadsHeads};
+ghost use Rattle.warc_checking.specs.Used.{HasMet, IsAlone, IsTally};
+ghost use Rattle.warc_record.specs.Ids.{id_key};
+ghost use Rattle.warc_frame.specs.Putting.{Puts};
+ghost use Rattle.warc_frame.specs.Failing.{HasFailedBy, MayHaveFailedBy, failed_by, is_read};
+
+use crate::heads::{Halt, head_buffer, read_again};
+use crate::used::Met;
+use itoa::Buffer;
+use std::alloc::Allocator;
+use warc_field::Fields;
+use warc_frame::laws::{head_of_spelled, staged_went_out, went_out_of_longer};
+use warc_frame::{OutBuffer, OutFault, SendFault, Sink, Source, put_all};
+use warc_reading::{Row, Rows};
+use warc_record::laws::good_heads_read;
+use warc_record::{ArchiveFacts, Finding, all_findings};
+
+/// A record's fields, read again, and what the archive tells of it.
+#[derive(Drop)]
+struct Examined<A: Allocator> {
+    fields: Fields<A>,
+    facts: ArchiveFacts,
+}
+
+/// Reads a record again, and adds its id to those that were met.
+fn examine<S: Source, A: Allocator + Copy>(
+    alloc: A,
+    source: &mut S,
+    row: &Row<'_>,
+    met: &mut Met<A>,
+    buf: &mut [u8],
+) -> Result<Examined<A>, Halt>
+    requires { max_head ≤ length buf.old }
+    ensures read { (bytes : List ℕ) (p : Placed) (before : List Record) → (S.tapped source.old).holds ≡ Some bytes →
+        HasHead bytes p → row.now ≡ row_of p → HasMet before met.old → IsAlone before met.old (id_key row.now.id) → IfOk
+        result (λ x. IsExamined before p.content x.fields x.facts) }
+    ensures met { (bytes : List ℕ) (p : Placed) (before : List Record) → (S.tapped source.old).holds ≡ Some bytes →
+        HasHead bytes p → row.now ≡ row_of p → HasMet before met.old → OnOk result (HasMet (before ++ p.content ∷ [])
+        met.new) }
+    ensures counts { met.new.counts ≡ met.old.counts }
+    ensures kept { (S.tapped source.new).holds ≡ (S.tapped source.old).holds }
+    ensures sound { OnOk result ((S.tapped source.new).faults ≡ (S.tapped source.old).faults) }
+    ensures heads { ReadsHeads (row.now ∷ []) (S.tapped source.old) (S.tapped source.new) }
+    ensures may { IfErr result (λ halt. MayHaveFailed halt (S.tapped source.old).faults (S.tapped source.new).faults) }
+    ensures failed { (bytes : List ℕ) (p : Placed) → (S.tapped source.old).holds ≡ Some bytes → HasHead bytes p →
+        row.now ≡ row_of p → IfErr result (λ halt. HasFailed halt (S.tapped source.old).faults
+        (S.tapped source.new).faults) }
+{
+    good_heads_read();
+    let reread = match read_again(alloc, source, row, buf) {
+        Ok(reread) => reread,
+        Err(halt) => return Err(halt),
+    };
+    let Ok(used_id) = met.meet(alloc, row.id) else {
+        return Err(Halt::Memory);
+    };
+    let bad_digest = row.verdict.is_bad();
+    Ok(Examined {
+        fields: reread.fields,
+        facts: ArchiveFacts {
+            bad_digest,
+            used_id,
+        },
+    })
+}
+
+/// Adds a finding's line to the output, by the position of its record, its number, and a field's name
+/// with what stands before it.
+pub(crate) fn put_parts<'a, W: Sink>(
+    position: u64,
+    number: u8,
+    space: &'a [u8],
+    field: &'a [u8],
+    buffer: &mut OutBuffer,
+    out: &mut W,
+) -> Result<(), SendFault>
+    ensures { Puts (W.seen out.old) (W.seen out.new) buffer.old buffer.new result (numbered_line (decimal position)
+        number (space.now ++ field.now)) }
+{
+    let (mut first, mut second) = (Buffer::new(), Buffer::new());
+    let pieces = [
+        first.format(position).as_bytes(),
+        b" N",
+        second.format(number).as_bytes(),
+        space,
+        field,
+        b"\n",
+    ];
+    put_all(&pieces, buffer, out)
+}
+
+/// Adds a finding's line to the output, by the position of its record.
+#[tactic(auto, unfolding(crate::specs::Checking::line_text))]
+pub(crate) fn put_finding<W: Sink>(
+    position: u64,
+    finding: &Finding<'_>,
+    buffer: &mut OutBuffer,
+    out: &mut W,
+) -> Result<(), SendFault>
+    ensures { Puts (W.seen out.old) (W.seen out.new) buffer.old buffer.new result (line_text (about_record position
+        (finding_seen finding.now))) }
+{
+    match finding.field {
+        Some(name) => put_parts(position, finding.number, b" ", name, buffer, out),
+        None => put_parts(position, finding.number, b"", b"", buffer, out),
+    }
+}
+
+/// Adds the lines of a record's findings to the output, by its position.
+fn put_findings<W: Sink>(
+    position: u64,
+    found: &[Finding<'_>],
+    buffer: &mut OutBuffer,
+    out: &mut W,
+) -> Result<(), SendFault>
+    ensures { Puts (W.seen out.old) (W.seen out.new) buffer.old buffer.new result (record_text position
+        (map finding_seen found.now)) }
+{
+    went_out_of_longer();
+    'putting: for finding in found {
+        put_finding(position, finding, buffer, out)?;
+    }
+    Ok(())
+}
+
+/// Adds the lines of an examined record to the output, and answers their number.
+fn put_examined<A: Allocator + Copy, W: Sink>(
+    alloc: A,
+    examined: Examined<A>,
+    position: u64,
+    block_len: u64,
+    buffer: &mut OutBuffer,
+    out: &mut W,
+) -> Result<usize, OutFault>
+    ensures out { (start : Option (List ℕ)) (output : List ℕ) → IsStaged start output (W.seen out.old).tells buffer.old
+        → OnOk result (IsStaged start (output ++ record_text position (found_by examined.fields block_len
+        examined.facts)) (W.seen out.new).tells buffer.new) }
+    ensures cut { (start : Option (List ℕ)) (output : List ℕ) → IsStaged start output (W.seen out.old).tells buffer.old
+        → IfErr result (λ e. WentOut start (output ++ record_text position (found_by examined.fields block_len
+        examined.facts)) (W.seen out.new).tells (sent_of e)) }
+    ensures number { IfOk result (λ n. n ≡ length (found_by examined.fields block_len examined.facts)) }
+    ensures cause { (W.seen out.new).faults ≡ failed_by result (W.seen out.old).faults }
+    ensures unread { IfErr result (λ e. is_read e ≡ false) }
+{
+    staged_went_out();
+    went_out_of_longer();
+    let Ok(found) = all_findings(alloc, &examined.fields, block_len, examined.facts) else {
+        return Err(OutFault::Memory(buffer.sent()));
+    };
+    match put_findings(position, &found, buffer, out) {
+        Ok(()) => Ok(found.len()),
+        Err(fault) => Err(OutFault::Write(fault.sent)),
+    }
+}
+
+/// Adds the lines of all records' findings to the output, and answers their number, up to 2^64 - 1.
+/// Each record's head is read again through a buffer that any head fits.
+fn put_records<S: Source, A: Allocator + Copy, W: Sink>(
+    alloc: A,
+    source: &mut S,
+    rows: &Rows<A>,
+    met: &mut Met<A>,
+    head: &mut [u8],
+    buffer: &mut OutBuffer,
+    out: &mut W,
+) -> Result<usize, OutFault>
+    requires head { max_head ≤ length head.old }
+    requires tally { IsTally (length rows.now) rows.now met.old.counts }
+    requires met { HasMet [] met.old }
+    ensures out { (bytes : List ℕ) (records : List Placed) (start : Option (List ℕ)) (output : List ℕ) →
+        (S.tapped source.old).holds ≡ Some bytes → AreCheckable bytes records rows.now → IsStaged start output
+        (W.seen out.old).tells buffer.old → OnOk result (IsStaged start (output ++ records_text (contents records))
+        (W.seen out.new).tells buffer.new) }
+    ensures number { (bytes : List ℕ) (records : List Placed) → (S.tapped source.old).holds ≡ Some bytes → AreCheckable
+        bytes records rows.now → IfOk result (λ n. n ≡ capped (length (findings_of_records (contents records)))) }
+    ensures cut { (bytes : List ℕ) (records : List Placed) (start : Option (List ℕ)) (output : List ℕ) →
+        (S.tapped source.old).holds ≡ Some bytes → AreCheckable bytes records rows.now → IsStaged start output
+        (W.seen out.old).tells buffer.old → IfErr result (λ e. WentOut start (output ++ records_text (contents records))
+        (W.seen out.new).tells (sent_of e)) }
+    ensures kept { (S.tapped source.new).holds ≡ (S.tapped source.old).holds }
+    ensures cause { (W.seen out.new).faults ≡ failed_by result (W.seen out.old).faults }
+    ensures heads { ReadsHeads rows.now (S.tapped source.old) (S.tapped source.new) }
+    ensures may { MayHaveFailedBy result (S.tapped source.old).faults (S.tapped source.new).faults }
+    ensures failed { (bytes : List ℕ) (records : List Placed) → (S.tapped source.old).holds ≡ Some bytes → AreCheckable
+        bytes records rows.now → HasFailedBy result (S.tapped source.old).faults (S.tapped source.new).faults }
+{
+    staged_went_out();
+    went_out_of_longer();
+    good_heads_read();
+    let mut count = 0usize;
+    'checking: for position in 0..rows.len() {
+        let Some(row) = rows.get(position) else {
+            unreachable!()
+        };
+        let examined = match examine(alloc, source, &row, met, head) {
+            Ok(examined) => examined,
+            Err(halt) => return Err(halt.after(buffer.sent())),
+        };
+        let number = put_examined(alloc, examined, position as u64, row.block_len, buffer, out)?;
+        count = count.saturating_add(number);
+    }
+    Ok(count)
+}
+
+/// Adds the line that there is no record to the output, and answers that it is one.
+pub(crate) fn put_none<W: Sink>(buffer: &mut OutBuffer, out: &mut W) -> Result<usize, OutFault>
+    ensures out { (start : Option (List ℕ)) (output : List ℕ) → IsStaged start output (W.seen out.old).tells buffer.old
+        → OnOk result (IsStaged start (output ++ codes "- N12\n") (W.seen out.new).tells buffer.new) }
+    ensures cut { (start : Option (List ℕ)) (output : List ℕ) → IsStaged start output (W.seen out.old).tells buffer.old
+        → IfErr result (λ e. WentOut start (output ++ codes "- N12\n") (W.seen out.new).tells (sent_of e)) }
+    ensures number { IfOk result (λ n. n ≡ 1) }
+    ensures cause { (W.seen out.new).faults ≡ failed_by result (W.seen out.old).faults }
+    ensures unread { IfErr result (λ e. is_read e ≡ false) }
+{
+    match buffer.put(out, b"- N12\n") {
+        Ok(()) => Ok(1),
+        Err(fault) => Err(OutFault::Write(fault.sent)),
+    }
+}
+
+/// Adds the lines of all findings to the output, or that there is no record.
+fn put_archive<S: Source, A: Allocator + Copy, W: Sink>(
+    alloc: A,
+    source: &mut S,
+    rows: &Rows<A>,
+    buffer: &mut OutBuffer,
+    out: &mut W,
+) -> Result<usize, OutFault>
+    ensures out { (bytes : List ℕ) (records : List Placed) (start : Option (List ℕ)) (output : List ℕ) →
+        (S.tapped source.old).holds ≡ Some bytes → AreCheckable bytes records rows.now → IsStaged start output
+        (W.seen out.old).tells buffer.old → OnOk result (IsStaged start (output ++ check_text (contents records))
+        (W.seen out.new).tells buffer.new) }
+    ensures number { (bytes : List ℕ) (records : List Placed) → (S.tapped source.old).holds ≡ Some bytes → AreCheckable
+        bytes records rows.now → IfOk result (λ n. n ≡ capped (length (findings_of_archive (contents records)))) }
+    ensures cut { (bytes : List ℕ) (records : List Placed) (start : Option (List ℕ)) (output : List ℕ) →
+        (S.tapped source.old).holds ≡ Some bytes → AreCheckable bytes records rows.now → IsStaged start output
+        (W.seen out.old).tells buffer.old → IfErr result (λ e. WentOut start (output ++ check_text (contents records))
+        (W.seen out.new).tells (sent_of e)) }
+    ensures kept { (S.tapped source.new).holds ≡ (S.tapped source.old).holds }
+    ensures cause { (W.seen out.new).faults ≡ failed_by result (W.seen out.old).faults }
+    ensures heads { ReadsHeads rows.now (S.tapped source.old) (S.tapped source.new) }
+    ensures may { MayHaveFailedBy result (S.tapped source.old).faults (S.tapped source.new).faults }
+    ensures failed { (bytes : List ℕ) (records : List Placed) → (S.tapped source.old).holds ≡ Some bytes → AreCheckable
+        bytes records rows.now → HasFailedBy result (S.tapped source.old).faults (S.tapped source.new).faults }
+{
+    staged_went_out();
+    went_out_of_longer();
+    if rows.len() == 0 {
+        return put_none(buffer, out);
+    }
+    let Ok(mut head) = head_buffer(alloc) else {
+        return Err(OutFault::Memory(buffer.sent()));
+    };
+    let Ok(mut met) = Met::new(alloc, rows) else {
+        return Err(OutFault::Memory(buffer.sent()));
+    };
+    put_records(alloc, source, rows, &mut met, &mut head, buffer, out)
+}
+
+/// Writes a line for each finding of the records, in their order, or that there is no record. The
+/// answer is the number of lines, up to 2^64 - 1. Each record's head is read again.
+fn tell_reread<S: Source, A: Allocator + Copy, W: Sink>(
+    alloc: A,
+    source: &mut S,
+    rows: &Rows<A>,
+    out: &mut W,
+) -> Result<usize, OutFault>
+    ensures told { (bytes : List ℕ) (records : List Placed) → (S.tapped source.old).holds ≡ Some bytes → AreCheckable
+        bytes records rows.now → OnOk result ((W.seen out.new).tells ≡ append_known (W.seen out.old).tells (check_text
+        (contents records))) }
+    ensures number { (bytes : List ℕ) (records : List Placed) → (S.tapped source.old).holds ≡ Some bytes → AreCheckable
+        bytes records rows.now → IfOk result (λ n. n ≡ capped (length (findings_of_archive (contents records)))) }
+    ensures cut { (bytes : List ℕ) (records : List Placed) → (S.tapped source.old).holds ≡ Some bytes → AreCheckable
+        bytes records rows.now → IfErr result (λ e. WentOut (W.seen out.old).tells (check_text (contents records))
+        (W.seen out.new).tells (sent_of e)) }
+    ensures kept { (S.tapped source.new).holds ≡ (S.tapped source.old).holds }
+    ensures cause { (W.seen out.new).faults ≡ failed_by result (W.seen out.old).faults }
+    ensures heads { ReadsHeads rows.now (S.tapped source.old) (S.tapped source.new) }
+    ensures may { MayHaveFailedBy result (S.tapped source.old).faults (S.tapped source.new).faults }
+    ensures failed { (bytes : List ℕ) (records : List Placed) → (S.tapped source.old).holds ≡ Some bytes → AreCheckable
+        bytes records rows.now → HasFailedBy result (S.tapped source.old).faults (S.tapped source.new).faults }
+{
+    let mut buffer = OutBuffer::new();
+    let number = put_archive(alloc, source, rows, &mut buffer, out)?;
+    match buffer.flush(out) {
+        Ok(()) => Ok(number),
+        Err(fault) => Err(OutFault::Write(fault.sent)),
+    }
+}
+
+/// Writes a line for each finding of the records of an archive with these rows, in their order, or that there is no
+/// record, and answers how many lines there are. Each record's head is read again.
+///
+/// A read that fails, or a source that doesn't give what the rows tell of, is `Read`; a write that fails is `Write`,
+/// and a refused growth of the memory `Memory`. Each tells how many bytes went out, which are the first of the output.
+pub fn check_rows<S: Source, A: Allocator + Copy, W: Sink>(
+    alloc: A,
+    source: &mut S,
+    rows: &Rows<A>,
+    out: &mut W,
+) -> Result<usize, OutFault>
+    ensures { Checks rows.now (S.tapped source.old) (S.tapped source.new) (W.seen out.old) (W.seen out.new) result }
+{
+    head_of_spelled();
+    tell_reread(alloc, source, rows, out)
+}

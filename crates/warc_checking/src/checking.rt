@@ -1,0 +1,228 @@
+//! An archive whose records are judged as they are read: the findings of each are kept beside its row, so that they are
+//! told without reading anything again.
+ghost use Rattle.std.specs.Prelude.{◌≡◌, ℕ, ◌++◌, List, [], ◌∷◌, Option, false, IfErr, IfOk, OnOk, length};
+ghost use Rattle.warc_frame.specs.Count.{capped};
+ghost use Rattle.warc_frame.specs.Failing.{failed_by, is_read};
+ghost use Rattle.warc_frame.specs.Record.{Record};
+ghost use Rattle.warc_frame.specs.Send.{IsStaged, WentOut, sent_of};
+ghost use Rattle.warc_reading.specs.Archive.{contents};
+ghost use Rattle.warc_reading.specs.Opening.{Opens};
+ghost use Rattle.warc_reading.specs.Row.{Placed};
+ghost use Rattle.warc_checking.specs.Checking.{check_text, findings_behind, findings_of_archive, findings_of_records};
+ghost use Rattle.warc_checking.specs.Checks.{TellsFound};
+ghost use Rattle.warc_checking.specs.Examining.{record_text, records_text};
+ghost use Rattle.warc_checking.specs.Found.{IsFound, judged_of, source_judged};
+ghost use Rattle.warc_checking.specs.Noted.{AreNoted, IsNext, found_at};
+ghost use Rattle.warc_checking.specs.Used.{HasMet, IsTally};
+ghost use Rattle.std.specs.Io.KnownBytes.{append_known};
+
+use crate::check::put_none;
+use crate::noting::Noted;
+use crate::used::Met;
+use std::alloc::{Allocator, Global};
+use std::marker::Model;
+use warc_frame::laws::{head_of_spelled, staged_went_out, went_out_of_longer};
+use warc_frame::{Fault, OutBuffer, OutFault, Sink, Source};
+use warc_reading::{Row, Rows, read_on};
+use warc_record::laws::good_heads_read;
+
+/// Adds the lines of a record's findings to the output, and answers their number, up to 2^64 - 1. Its id is added to
+/// those that were met.
+fn put_next<A: Allocator + Copy, W: Sink>(
+    alloc: A,
+    position: usize,
+    row: &Row<'_>,
+    noted: &Noted<A>,
+    met: &mut Met<A>,
+    buffer: &mut OutBuffer,
+    out: &mut W,
+) -> Result<usize, OutFault>
+    ensures out { (before : List Record) (p : Placed) (start : Option (List ℕ)) (output : List ℕ) →
+        IsNext before p row.now (found_at noted.now position) met.old → IsStaged start output (W.seen out.old).tells
+        buffer.old → OnOk result (IsStaged start (output ++ record_text position (findings_behind before p.content))
+        (W.seen out.new).tells buffer.new) }
+    ensures cut { (before : List Record) (p : Placed) (start : Option (List ℕ)) (output : List ℕ) →
+        IsNext before p row.now (found_at noted.now position) met.old → IsStaged start output (W.seen out.old).tells
+        buffer.old → IfErr result (λ e. WentOut start (output ++ record_text position
+        (findings_behind before p.content)) (W.seen out.new).tells (sent_of e)) }
+    ensures number { (before : List Record) (p : Placed) → IsNext before p row.now (found_at noted.now position) met.old
+        → IfOk result (λ n. n ≡ capped (length (findings_behind before p.content))) }
+    ensures met { (before : List Record) (p : Placed) → IsNext before p row.now (found_at noted.now position) met.old →
+        OnOk result (HasMet (before ++ p.content ∷ []) met.new) }
+    ensures counts { met.new.counts ≡ met.old.counts }
+    ensures cause { (W.seen out.new).faults ≡ failed_by result (W.seen out.old).faults }
+    ensures unread { IfErr result (λ e. is_read e ≡ false) }
+{
+    good_heads_read();
+    staged_went_out();
+    went_out_of_longer();
+    let Ok(used) = met.meet(alloc, row.id) else {
+        return Err(OutFault::Memory(buffer.sent()));
+    };
+    match noted.put(position, used, buffer, out) {
+        Ok(number) => Ok(number),
+        Err(fault) => Err(OutFault::Write(fault.sent)),
+    }
+}
+
+/// Adds the lines of all records' findings to the output, and answers their number, up to 2^64 - 1.
+fn put_each<A: Allocator + Copy, W: Sink>(
+    alloc: A,
+    rows: &Rows<A>,
+    noted: &Noted<A>,
+    met: &mut Met<A>,
+    buffer: &mut OutBuffer,
+    out: &mut W,
+) -> Result<usize, OutFault>
+    requires tally { IsTally (length rows.now) rows.now met.old.counts }
+    requires met { HasMet [] met.old }
+    ensures out { (bytes : List ℕ) (records : List Placed) (start : Option (List ℕ)) (output : List ℕ) →
+        AreNoted bytes records rows.now noted.now → IsStaged start output (W.seen out.old).tells buffer.old →
+        OnOk result (IsStaged start (output ++ records_text (contents records)) (W.seen out.new).tells buffer.new) }
+    ensures number { (bytes : List ℕ) (records : List Placed) → AreNoted bytes records rows.now noted.now →
+        IfOk result (λ n. n ≡ capped (length (findings_of_records (contents records)))) }
+    ensures cut { (bytes : List ℕ) (records : List Placed) (start : Option (List ℕ)) (output : List ℕ) →
+        AreNoted bytes records rows.now noted.now → IsStaged start output (W.seen out.old).tells buffer.old →
+        IfErr result (λ e. WentOut start (output ++ records_text (contents records)) (W.seen out.new).tells
+        (sent_of e)) }
+    ensures cause { (W.seen out.new).faults ≡ failed_by result (W.seen out.old).faults }
+    ensures unread { IfErr result (λ e. is_read e ≡ false) }
+{
+    went_out_of_longer();
+    good_heads_read();
+    let mut count = 0usize;
+    'telling: for position in 0..rows.len() {
+        let Some(row) = rows.get(position) else {
+            unreachable!()
+        };
+        let number = put_next(alloc, position, &row, noted, met, buffer, out)?;
+        count = count.saturating_add(number);
+    }
+    Ok(count)
+}
+
+/// Adds the lines of all findings to the output, or that there is no record.
+fn put_rows<A: Allocator + Copy, W: Sink>(
+    alloc: A,
+    rows: &Rows<A>,
+    noted: &Noted<A>,
+    buffer: &mut OutBuffer,
+    out: &mut W,
+) -> Result<usize, OutFault>
+    ensures out { (bytes : List ℕ) (records : List Placed) (start : Option (List ℕ)) (output : List ℕ) →
+        AreNoted bytes records rows.now noted.now → IsStaged start output (W.seen out.old).tells buffer.old →
+        OnOk result (IsStaged start (output ++ check_text (contents records)) (W.seen out.new).tells buffer.new) }
+    ensures number { (bytes : List ℕ) (records : List Placed) → AreNoted bytes records rows.now noted.now →
+        IfOk result (λ n. n ≡ capped (length (findings_of_archive (contents records)))) }
+    ensures cut { (bytes : List ℕ) (records : List Placed) (start : Option (List ℕ)) (output : List ℕ) →
+        AreNoted bytes records rows.now noted.now → IsStaged start output (W.seen out.old).tells buffer.old →
+        IfErr result (λ e. WentOut start (output ++ check_text (contents records)) (W.seen out.new).tells
+        (sent_of e)) }
+    ensures cause { (W.seen out.new).faults ≡ failed_by result (W.seen out.old).faults }
+    ensures unread { IfErr result (λ e. is_read e ≡ false) }
+{
+    staged_went_out();
+    went_out_of_longer();
+    if rows.len() == 0 {
+        return put_none(buffer, out);
+    }
+    let Ok(mut met) = Met::new(alloc, rows) else {
+        return Err(OutFault::Memory(buffer.sent()));
+    };
+    put_each(alloc, rows, noted, &mut met, buffer, out)
+}
+
+/// Writes a line for each finding of the records, in their order, or that there is no record. The answer is the number
+/// of lines, up to 2^64 - 1.
+fn tell_rows<A: Allocator + Copy, W: Sink>(
+    alloc: A,
+    rows: &Rows<A>,
+    noted: &Noted<A>,
+    out: &mut W,
+) -> Result<usize, OutFault>
+    ensures told { (bytes : List ℕ) (records : List Placed) → AreNoted bytes records rows.now noted.now →
+        OnOk result ((W.seen out.new).tells ≡ append_known (W.seen out.old).tells (check_text (contents records))) }
+    ensures number { (bytes : List ℕ) (records : List Placed) → AreNoted bytes records rows.now noted.now →
+        IfOk result (λ n. n ≡ capped (length (findings_of_archive (contents records)))) }
+    ensures cut { (bytes : List ℕ) (records : List Placed) → AreNoted bytes records rows.now noted.now →
+        IfErr result (λ e. WentOut (W.seen out.old).tells (check_text (contents records)) (W.seen out.new).tells
+        (sent_of e)) }
+    ensures cause { (W.seen out.new).faults ≡ failed_by result (W.seen out.old).faults }
+    ensures unread { IfErr result (λ e. is_read e ≡ false) }
+{
+    let mut buffer = OutBuffer::new();
+    let number = put_rows(alloc, rows, noted, &mut buffer, out)?;
+    match buffer.flush(out) {
+        Ok(()) => Ok(number),
+        Err(fault) => Err(OutFault::Write(fault.sent)),
+    }
+}
+
+/// An archive, whose records are listed and were judged as they were read. Contracts see its listing, and the findings
+/// that each record alone tells.
+#[derive(Drop)]
+pub struct Checked<S: Source, A: Allocator = Global> {
+    source: S,
+    rows: Rows<A>,
+    noted: Noted<A>,
+}
+
+impl<S: Source, A: Allocator> Model for Checked<S, A> {
+    ghost use Rattle.warc_checking.specs.Found.{Judged};
+
+    ghost Value = { Judged S };
+
+    ghost view = { λ a. record { listing = record { source = a.source; rows = a.rows }; found = a.noted } };
+}
+
+impl<S: Source, A: Allocator> Checked<S, A> {
+    /// How many records there are.
+    pub fn count(&self) -> usize
+        ensures { result ≡ length self.now.listing.rows }
+    {
+        self.rows.len()
+    }
+
+    /// Gives the source back.
+    pub fn into_source(self) -> S
+        ensures { result ≡ self.listing.source }
+    {
+        self.source
+    }
+}
+
+impl<S: Source, A: Allocator + Copy> Checked<S, A> {
+    /// Reads the source as a listing is read, and keeps beside each row what its record has wrong: 16 bytes for each
+    /// record, and for each finding 24 bytes and its field's name.
+    pub fn open(alloc: A, source: S) -> Result<Checked<S, A>, (Fault, S)>
+        ensures { Opens IsFound (S.tapped source) (S.tapped (source_judged result)) (judged_of result) }
+    {
+        let mut source = source;
+        let noted = Noted::new(alloc);
+        let (answer, rows, noted) = read_on(alloc, &mut source, Rows::new(alloc), noted);
+        match answer {
+            Ok(()) => Ok(Checked {
+                source,
+                rows,
+                noted,
+            }),
+            Err(fault) => Err((fault, source)),
+        }
+    }
+
+    /// Writes a line for each finding, as a listing does, and answers how many there are. The source is asked for
+    /// nothing: what ends it early is a write that fails, `Write`, or a refused growth of the memory, `Memory`. Each
+    /// tells how many bytes went out, which are the first of the output.
+    pub fn check<W: Sink>(&self, out: &mut W) -> Result<usize, OutFault>
+        ensures tells { (bytes : List ℕ) (is : IsFound bytes self.now) → TellsFound (contents is.listed.are.records)
+            (W.seen out.old) (W.seen out.new) result }
+        ensures cause { (W.seen out.new).faults ≡ failed_by result (W.seen out.old).faults }
+
+        // No read is told, since none is made.
+        ensures unread { IfErr result (λ e. is_read e ≡ false) }
+    {
+        head_of_spelled();
+        let alloc = self.rows.allocator();
+        tell_rows(alloc, &self.rows, &self.noted, out)
+    }
+}

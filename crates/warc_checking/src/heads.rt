@@ -1,0 +1,163 @@
+//! The heads of records, read again through the source.
+ghost use Rattle.std.specs.Prelude.{◌≡◌, ℕ, ◌+◌, ◌-◌, ◌^◌, ◌<◌, ◌≤◌, ◌⊎◌, List, [], ◌∷◌, length, take, drop, Ok, Some, None, IfOk, IfErr, IfSome, OnOk, OnErr, MatchResult};
+ghost use Rattle.warc_frame.specs.Count.{raised};
+ghost use Rattle.warc_frame.specs.Reading.{any_fields, head_of};
+ghost use Rattle.warc_frame.specs.Record.{Record, max_head};
+ghost use Rattle.warc_record.specs.Heads.{head_fault};
+ghost use Rattle.warc_record.specs.Readings.{reading_of};
+ghost use Rattle.warc_record.specs.Seen.{said};
+ghost use Rattle.warc_checking.specs.Heads.{ReadsHeads};
+ghost use Rattle.warc_reading.specs.Row.{Placed, row_of};
+ghost use Rattle.warc_checking.specs.Examining.{HasFailed, HasHead, IsHeadOf, MayHaveFailed, halt_of, halted};
+
+use std::alloc::{AllocError, Allocator};
+use warc_field::Fields;
+use warc_frame::{FaultKind, Head, MAX_HEAD, OutFault, Source, read_head, read_range};
+use warc_reading::Row;
+use warc_record::{Typed, type_head};
+
+/// Why a head isn't read again.
+#[derive(Clone, Copy, PartialEq, Eq, Debug)]
+pub enum Halt {
+    /// A read failed, or the source doesn't give what it gave before.
+    Read,
+    /// A growth of the memory was refused.
+    Memory,
+}
+
+impl Halt {
+    /// The same as the end of an output of which so many bytes went out.
+    pub fn after(self, sent: u64) -> OutFault
+        ensures { result ≡ halted self sent }
+    {
+        match self {
+            Halt::Read => OutFault::Read(sent),
+            Halt::Memory => OutFault::Memory(sent),
+        }
+    }
+}
+
+/// A record's fields, read again, and what they say.
+#[derive(Drop)]
+pub struct Reread<A: Allocator> {
+    pub fields: Fields<A>,
+    pub typed: Typed<A>,
+}
+
+/// Why a head isn't read again, from what reading it answered.
+fn halt_of(kind: FaultKind) -> Halt
+    ensures { result ≡ halt_of kind }
+{
+    match kind {
+        FaultKind::Memory => Halt::Memory,
+        _ => Halt::Read,
+    }
+}
+
+/// The head that a text is, where it is a whole one with a block of this length.
+fn head_in<A: Allocator + Copy>(alloc: A, text: &[u8], block_len: u64) -> Result<Head<A>, Halt>
+    ensures { (r : Record) → head_of any_fields text.now
+        ≡ Ok (record { version = r.version; fields = r.fields; len = length text.now; block_len = block_len })
+        → MatchResult result (IsHeadOf r) (λ halt. halt ≡ Halt.Memory) }
+{
+    let head = match read_head(alloc, text) {
+        Ok(head) => head,
+        Err(fault) => return Err(halt_of(fault.kind)),
+    };
+    if head.len != text.len() || head.block_len != block_len {
+        return Err(Halt::Read);
+    }
+    Ok(head)
+}
+
+/// What a head says that is good.
+fn typed<A: Allocator + Copy>(alloc: A, head: Head<A>) -> Result<Reread<A>, Halt>
+    ensures said { IfOk result (λ x. said x.typed ≡ reading_of x.fields) }
+    ensures read { head_fault head.fields ≡ None →
+        MatchResult result (λ x. x.fields ≡ head.fields) (λ halt. halt ≡ Halt.Memory) }
+{
+    match type_head(alloc, &head.fields) {
+        Ok(typed) => Ok(Reread {
+            fields: head.fields,
+            typed,
+        }),
+        Err(kind) => Err(halt_of(kind)),
+    }
+}
+
+/// The length of a record's head, where it is at most this.
+fn head_len(row: &Row<'_>, most: usize) -> Option<usize>
+    ensures within { IfSome result (λ len. (len ≤ most) × (row.now.offset + len ≡ row.now.block_start)) }
+    ensures only { (len : ℕ) → row.now.block_start ≡ row.now.offset + len → len ≤ most → result ≡ Some len }
+{
+    if row.block_start < row.offset || row.block_start - row.offset > most as u64 {
+        return None;
+    }
+    Some((row.block_start - row.offset) as usize)
+}
+
+/// A buffer that any head fits.
+pub fn head_buffer<A: Allocator>(alloc: A) -> Result<Vec<u8, A>, AllocError>
+    ensures { IfOk result (λ v. max_head ≤ length v.items) }
+{
+    vec![in alloc; 0u8; MAX_HEAD]
+}
+
+/// Reads a record's head again, through a buffer that any head fits.
+pub fn reread_head<S: Source, A: Allocator + Copy>(
+    alloc: A,
+    source: &mut S,
+    row: &Row<'_>,
+    buf: &mut [u8],
+) -> Result<Head<A>, Halt>
+    requires { max_head ≤ length buf.old }
+    ensures read { (bytes : List ℕ) (p : Placed) → (S.tapped source.old).holds ≡ Some bytes → HasHead bytes p → row.now
+        ≡ row_of p → IfOk result (IsHeadOf p.content) }
+    ensures order { OnOk result (row.now.offset ≤ row.now.block_start) }
+    ensures kept { (S.tapped source.new).holds ≡ (S.tapped source.old).holds }
+    ensures sound { OnOk result ((S.tapped source.new).faults ≡ (S.tapped source.old).faults) }
+    ensures heads { ReadsHeads (row.now ∷ []) (S.tapped source.old) (S.tapped source.new) }
+    ensures may { IfErr result (λ halt. MayHaveFailed halt (S.tapped source.old).faults (S.tapped source.new).faults) }
+
+    // Over bytes that hold the head it stops for a failed read or for want of memory alone.
+    ensures failed { (bytes : List ℕ) (p : Placed) → (S.tapped source.old).holds ≡ Some bytes → HasHead bytes p →
+        row.now ≡ row_of p → IfErr result (λ halt. HasFailed halt (S.tapped source.old).faults
+        (S.tapped source.new).faults) }
+{
+    let Some(len) = head_len(row, buf.len()) else {
+        return Err(Halt::Read);
+    };
+    let text = &mut buf[..len];
+    if read_range(source, row.offset, text).is_err() {
+        return Err(Halt::Read);
+    }
+    head_in(alloc, text, row.block_len)
+}
+
+/// Reads a record's head again, through a buffer that any head fits, and what it says.
+pub fn read_again<S: Source, A: Allocator + Copy>(
+    alloc: A,
+    source: &mut S,
+    row: &Row<'_>,
+    buf: &mut [u8],
+) -> Result<Reread<A>, Halt>
+    requires { max_head ≤ length buf.old }
+    ensures said { IfOk result (λ x. said x.typed ≡ reading_of x.fields) }
+    ensures read { (bytes : List ℕ) (p : Placed) → (S.tapped source.old).holds ≡ Some bytes → HasHead bytes p → row.now
+        ≡ row_of p → IfOk result (λ x. x.fields ≡ p.content.fields) }
+    ensures kept { (S.tapped source.new).holds ≡ (S.tapped source.old).holds }
+    ensures sound { OnOk result ((S.tapped source.new).faults ≡ (S.tapped source.old).faults) }
+    ensures heads { ReadsHeads (row.now ∷ []) (S.tapped source.old) (S.tapped source.new) }
+    ensures may { IfErr result (λ halt. MayHaveFailed halt (S.tapped source.old).faults (S.tapped source.new).faults) }
+
+    // Over bytes that hold the head it stops for a failed read or for want of memory alone.
+    ensures failed { (bytes : List ℕ) (p : Placed) → (S.tapped source.old).holds ≡ Some bytes → HasHead bytes p →
+        row.now ≡ row_of p → IfErr result (λ halt. HasFailed halt (S.tapped source.old).faults
+        (S.tapped source.new).faults) }
+{
+    let head = match reread_head(alloc, source, row, buf) {
+        Ok(head) => head,
+        Err(halt) => return Err(halt),
+    };
+    typed(alloc, head)
+}
