@@ -16,7 +16,7 @@ use Rattle.warc_frame.specs.declared.fault.Fault.{Fault}
 use Rattle.warc_frame.specs.declared.fault.FaultKind.{FaultKind}
 use Rattle.warc_frame.specs.declared.fault.FaultKind.TheVariants.{Read, Memory}
 use Rattle.warc_frame.specs.declared.fault.OutFault.{OutFault}
-use Rattle.warc_frame.specs.declared.fault.OutFault.TheVariants.{Write, Memory as NoMemory}
+use Rattle.warc_frame.specs.declared.fault.OutFault.TheVariants.{Read as NoRead, Write, Memory as NoMemory}
 use Rattle.warc_value.specs.Dates.{Instant, instant_of}
 use Rattle.warc.specs.Extracting.{IsExtract, extract_result, extracted}
 use Rattle.warc_record.specs.Kinds.{kind_named}
@@ -304,11 +304,17 @@ pub record IsNotMade (d : Draft) (old new : Devices) (status : ℕ) : Type 0 whe
   pub told : Tells (told_line (make_fault_text fault)) old.err new.err
   pub status_is : status ≡ 3
 
+-- a read or a growth of the memory failed, and no write: nothing went out
+abbrev pub IsUnsent : OutFault → Type 0
+IsUnsent (NoRead sent) = sent ≡ 0
+IsUnsent (Write sent) = ⊥
+IsUnsent (NoMemory sent) = sent ≡ 0
+
 -- the file wasn't read: a read or a growth of the memory failed
 pub record IsNotRead (old new : Devices) (status : ℕ) : Type 0 where
   pub fault : OutFault
   pub source : HasFailedBy {X = ℕ} (Err fault) old.source.faults new.source.faults
-  pub none : sent_of fault ≡ 0
+  pub unsent : IsUnsent fault
   pub untouched : new.out ≡ old.out
   pub told : Tells (told_line (out_fault_text fault)) old.err new.err
   pub status_is : status ≡ 3

@@ -3,10 +3,9 @@ ghost use Rattle.std.specs.Option.{IfSome};
 ghost use Rattle.std.specs.Prelude.{◌≡◌, ℕ, ◌+◌, ◌<◌, nat_lt, List, length, take, Err, Some, is_none, IfOk, IfErr};
 ghost use Rattle.warc_frame.specs.Failing.{HasFailedBy};
 ghost use Rattle.warc_frame.specs.Record.{max_block};
-ghost use Rattle.warc_frame.specs.Send.{sent_of};
 ghost use Rattle.warc_write.specs.Making.{Makes, made, make_fault_text};
 ghost use Rattle.warc_commands.specs.Devices.{devices};
-ghost use Rattle.warc_commands.specs.Program.{MakeEnds, Tells, plan_of, told_line};
+ghost use Rattle.warc_commands.specs.Program.{IsUnsent, MakeEnds, Tells, plan_of, told_line};
 
 use crate::program::{DONE, FAILED, line_of, tell, tell_cut};
 use crate::words::Draft;
@@ -30,7 +29,7 @@ fn read_through<S: Source, A: Allocator>(
         (λ read. read.items ≡ take most bytes) }
     ensures kept { (S.tapped source.new).holds ≡ (S.tapped source.old).holds }
     ensures failed { HasFailedBy result (S.tapped source.old).faults (S.tapped source.new).faults }
-    ensures none { IfErr result (λ fault. sent_of fault ≡ 0) }
+    ensures unsent { IfErr result IsUnsent }
 {
     let mut read = Vec::new(alloc);
     'reading: while (read.len() as u64) < most {
@@ -57,7 +56,7 @@ fn has_byte_at<S: Source>(source: &mut S, at: u64) -> Result<bool, OutFault>
         nat_lt at (length bytes)) }
     ensures kept { (S.tapped source.new).holds ≡ (S.tapped source.old).holds }
     ensures failed { HasFailedBy result (S.tapped source.old).faults (S.tapped source.new).faults }
-    ensures none { IfErr result (λ fault. sent_of fault ≡ 0) }
+    ensures unsent { IfErr result IsUnsent }
 {
     let mut byte = [0u8];
     match source.read_at(at, &mut byte) {
@@ -73,7 +72,7 @@ fn is_long<S: Source>(source: &mut S) -> Result<bool, OutFault>
         max_block (length bytes)) }
     ensures kept { (S.tapped source.new).holds ≡ (S.tapped source.old).holds }
     ensures failed { HasFailedBy result (S.tapped source.old).faults (S.tapped source.new).faults }
-    ensures none { IfErr result (λ fault. sent_of fault ≡ 0) }
+    ensures unsent { IfErr result IsUnsent }
 {
     let mut at = PIECE as u64;
     'asking: while at < MAX_BLOCK {
@@ -96,7 +95,7 @@ fn read_block<S: Source, A: Allocator + Copy>(
         read. read.items ≡ take (max_block + 1) bytes)) }
     ensures kept { (S.tapped source.new).holds ≡ (S.tapped source.old).holds }
     ensures failed { HasFailedBy result (S.tapped source.old).faults (S.tapped source.new).faults }
-    ensures none { IfErr result (λ fault. sent_of fault ≡ 0) }
+    ensures unsent { IfErr result IsUnsent }
 {
     if is_long(source)? {
         return Ok(None);
