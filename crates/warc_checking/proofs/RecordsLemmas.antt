@@ -134,7 +134,8 @@ failed_halted X Read e n old before new is same has = let P : OutFault → Type 
 failed_halted X Memory e n old before new is same has = let P : OutFault → Type 0 = λ f. HasFailedBy {X = X} (Err f) old new in subst P (sym is) (has ∙ same)
 
 -- an output that ended by no read over a source that hasn't failed
-unread : (X : Type 0) (e : OutFault) (old new : ℕ) → is_read e ≡ false → new ≡ old → MayHaveFailedBy {X = X} (Err e) old new × HasFailedBy {X = X} (Err e) old new
+-- the source has failed as often as before by an end that tells no read
+pub unread : (X : Type 0) (e : OutFault) (old new : ℕ) → is_read e ≡ false → new ≡ old → MayHaveFailedBy {X = X} (Err e) old new × HasFailedBy {X = X} (Err e) old new
 unread X (ReadFailed sent) old new none same = absurd (cc none)
 unread X (WriteFailed sent) old new none same = (same, same)
 unread X (OutOfMemory sent) old new none same = (same, same)

@@ -106,14 +106,3 @@ told_as {line} {other} {old} {new} same told = let P : List ℕ → Type 0 = λ 
 pub status_by : (ls : List Line) → min (length ls) 1 ≡ status_of_findings ls
 status_by [] = refl
 status_by (l ∷ ls) = omega arith
-
--- a fault that isn't a read's leaves the source as it was
-pub unread_failed : (f : OutFault) (old new : ℕ) → is_read f ≡ false → new ≡ old → HasFailedBy {X = ℕ} (Err f) old new
-unread_failed (Read sent) old new not same = absurd (cc not)
-unread_failed (Write sent) old new not same = same
-unread_failed (Memory sent) old new not same = same
-
-pub unread_may : (f : OutFault) (old new : ℕ) → is_read f ≡ false → new ≡ old → MayHaveFailedBy {X = ℕ} (Err f) old new
-unread_may (Read sent) old new not same = absurd (cc not)
-unread_may (Write sent) old new not same = same
-unread_may (Memory sent) old new not same = same

@@ -1,7 +1,8 @@
 use Rattle.std.proofs.Common.{inl, inr, min, refl, ap, ◌∙◌}
 use Rattle.warc_reading.specs.Archive.{contents}
 use Rattle.warc_checking.specs.Checking.{findings_of_archive}
-use Rattle.warc_commands.proofs.ProgramLemmas.{good_records_of, not_opened, status_by, unread_failed, unread_may}
+use Rattle.warc_commands.proofs.ProgramLemmas.{good_records_of, not_opened, status_by}
+use Rattle.warc_checking.proofs.RecordsLemmas.{unread}
 use Rattle.warc_commands.proofs.program.check.Goals as goal
 
 pub returns-in-Err-clause-ends : goal.returns-in-Err-clause-ends
@@ -36,9 +37,9 @@ returns-in-Err-check-clause-ends g c =
               records = contents archive.listed.are.records;
               are = good_records_of archive.listed;
               front = (c.in-Err-check.ensures.tells bytes archive).cut;
-              source = unread_failed c.in-Err-check.fault _ _ c.in-Err-check.ensures.unread same;
+              source = (unread _ c.in-Err-check.fault _ _ c.in-Err-check.ensures.unread same).1;
             };
-        source = unread_may c.in-Err-check.fault _ _ c.in-Err-check.ensures.unread same;
+        source = (unread _ c.in-Err-check.fault _ _ c.in-Err-check.ensures.unread same).0;
         failed = c.in-Err-check.ensures.cause;
         told = c.tell_cut.ensures.told;
         status_is = c.tell_cut.ensures.status;
