@@ -1,10 +1,13 @@
 -- What `check` tells of no records, and of some.
-use Rattle.std.proofs.Common.{◌≡◌, ℕ, ◌+◌, ◌<◌, List, [], ◌∷◌, length, codes, refl, sym, ap, ◌∙◌, arith}
+use Rattle.std.proofs.Common.{◌≡◌, ℕ, ◌+◌, ◌<◌, List, [], ◌∷◌, Result, length, codes, refl, sym, ap, subst, ◌∙◌, arith}
 use Rattle.std.specs.Fmt.{digits}
 use Rattle.std.proofs.lemmas.List.{append-nil, length-map}
+use Rattle.warc_frame.specs.Device.{Staged}
+use Rattle.warc_frame.specs.Seen.{Seen}
+use Rattle.warc_frame.specs.declared.fault.OutFault.{OutFault}
 use Rattle.warc_reading.specs.Archive.{contents}
 use Rattle.warc_checking.specs.Checking.{check_text, findings_of_archive, findings_of_records, line_text, no_records}
-use Rattle.warc_checking.specs.Examining.{AreCheckable, records_text}
+use Rattle.warc_checking.specs.Examining.{AreCheckable, PutsCheck, PutsFound, PutsLines, records_text}
 use Rattle.warc_reading.specs.Row.{Placed, Row, row_of}
 
 none_line : line_text no_records ≡ codes "- N12\n"
@@ -44,3 +47,22 @@ module _ (bytes : List ℕ) (records : List Placed) (rows : List Row) (can : Are
 
   pub some_findings : 0 < length rows → findings_of_archive (contents records) ≡ findings_of_records (contents records)
   some_findings lt = findings_of_some records (omega (arith, as_many, lt))
+
+-- the line that there is no record is what `check` tells of none
+pub puts_none : {old new : Seen} {waits waiting : Staged} {answer : Result ℕ OutFault} (bytes : List ℕ) (records : List Placed) (rows : List Row)
+    → AreCheckable bytes records rows → length rows ≡ 0 → PutsLines (codes "- N12\n") 1 old new waits waiting answer
+    → PutsCheck (contents records) old new waits waiting answer
+puts_none {old} {new} {waits} {waiting} {answer} bytes records rows can none puts =
+    let P : List ℕ → ℕ → Type 0 = λ text count. PutsLines text count old new waits waiting answer in
+    let Q : List ℕ → Type 0 = λ text. P text (length (findings_of_archive (contents records))) in
+    subst Q (sym (none_text bytes records rows can none)) (subst (P (codes "- N12\n")) (sym (none_number bytes records rows can none)) puts)
+
+-- the lines of findings are what it tells of some
+pub puts_some : {old new : Seen} {waits waiting : Staged} {answer : Result ℕ OutFault} (bytes : List ℕ) (records : List Placed) (rows : List Row)
+    → AreCheckable bytes records rows → 0 < length rows → PutsFound (contents records) old new waits waiting answer
+    → PutsCheck (contents records) old new waits waiting answer
+puts_some {old} {new} {waits} {waiting} {answer} bytes records rows can some puts =
+    let P : List ℕ → ℕ → Type 0 = λ text count. PutsLines text count old new waits waiting answer in
+    let Q : List ℕ → Type 0 = λ text. P text (length (findings_of_archive (contents records))) in
+    let count = ap (λ l. length l) (sym (some_findings bytes records rows can some)) in
+    subst Q (sym (some_text bytes records rows can some)) (subst (P (records_text (contents records))) count puts)

@@ -1,8 +1,11 @@
 -- What a record's head is when it is read again, and what reading it again may answer. States of the code: no
 -- public clause cites them.
-use Rattle.std.specs.Prelude.{◌≡◌, ℕ, ◌+◌, ◌≤◌, ◌⊎◌, List, length, map, take, slice_get, slice_range, Ok, Some, None}
+use Rattle.std.specs.Prelude.{◌≡◌, ℕ, ◌+◌, ◌++◌, ◌≤◌, ◌⊎◌, List, length, map, take, slice_get, slice_range, Result, Ok, Option, Some, None, IfErr, IfOk, OnOk}
 use Rattle.std.specs.List.{enumerate_from, flat_map}
-use Rattle.warc_frame.specs.Count.{raised}
+use Rattle.warc_frame.specs.Count.{capped, raised}
+use Rattle.warc_frame.specs.Device.{Staged}
+use Rattle.warc_frame.specs.Seen.{Seen}
+use Rattle.warc_frame.specs.Send.{IsStaged, WentOut, sent_of}
 use Rattle.warc_frame.specs.Reading.{any_fields, head_of}
 use Rattle.warc_frame.specs.Record.{Record, max_head}
 use Rattle.warc_frame.specs.declared.reading.Head.{Head}
@@ -16,7 +19,7 @@ use Rattle.warc_record.specs.Findings.{Found, findings_of}
 use Rattle.warc_record.specs.declared.checks.ArchiveFacts.{ArchiveFacts}
 use Rattle.warc_field.specs.Area.{Pair}
 use Rattle.warc_reading.specs.Row.{Placed, Row, row_of}
-use Rattle.warc_checking.specs.Checking.{Line, about_record, findings_at, findings_of_records, is_used, record_key, line_text}
+use Rattle.warc_checking.specs.Checking.{Line, about_record, check_text, findings_at, findings_of_archive, findings_of_records, is_used, record_key, line_text}
 use Rattle.warc_checking.specs.declared.heads.Halt.{Halt}
 use Rattle.warc_checking.specs.declared.heads.Halt.TheVariants.{Read, Memory}
 
@@ -94,3 +97,23 @@ halted Memory sent = OutOfMemory sent
 abbrev pub halt_of : FaultKind → Halt
 halt_of NoMemory = Memory
 halt_of kind = Read
+
+-- lines are put behind what waits for an output, and counted, up to 2^64 - 1: they wait or went out behind it, or a front
+-- of it all went out
+pub record PutsLines (text : List ℕ) (count : ℕ) (old new : Seen) (waits waiting : Staged) (answer : Result ℕ OutFault)
+    : Type 0 where
+  pub out : (start : Option (List ℕ)) (output : List ℕ) → IsStaged start output old.tells waits
+      → OnOk answer (IsStaged start (output ++ text) new.tells waiting)
+  pub cut : (start : Option (List ℕ)) (output : List ℕ) → IsStaged start output old.tells waits
+      → IfErr answer (λ e. WentOut start (output ++ text) new.tells (sent_of e))
+  pub number : IfOk answer (λ n. n ≡ capped count)
+
+-- the lines of the findings of records, and how many they are
+abbrev pub PutsFound : List Record → Seen → Seen → Staged → Staged → Result ℕ OutFault → Type 0
+PutsFound records old new waits waiting answer =
+    PutsLines (records_text records) (length (findings_of_records records)) old new waits waiting answer
+
+-- the same, or the line that there is no record
+abbrev pub PutsCheck : List Record → Seen → Seen → Staged → Staged → Result ℕ OutFault → Type 0
+PutsCheck records old new waits waiting answer =
+    PutsLines (check_text records) (length (findings_of_archive records)) old new waits waiting answer

@@ -7,13 +7,15 @@ ghost use Rattle.warc_frame.specs.Send.{IsStaged, WentOut, sent_of};
 ghost use Rattle.warc_record.specs.Findings.{finding_seen};
 ghost use Rattle.warc_reading.specs.Archive.{contents};
 ghost use Rattle.warc_reading.specs.Row.{Placed, row_of};
-ghost use Rattle.warc_checking.specs.Checks.{Checks};
+ghost use Rattle.warc_checking.specs.Checks.{AreCutOff, AreTold, Checks};
 ghost use Rattle.warc_checking.specs.Checking.{about_record, check_text, findings_of_archive, findings_of_records, line_text, numbered_line};
-ghost use Rattle.warc_checking.specs.Examining.{HasFailed, HasHead, AreCheckable, IsExamined, MayHaveFailed, found_by, record_text, records_text};
+ghost use Rattle.warc_checking.specs.Examining.{AreCheckable, HasFailed, HasHead, IsExamined, MayHaveFailed, PutsCheck, PutsFound, PutsLines};
+ghost use Rattle.warc_checking.specs.Examining.{found_by, record_text};
 ghost use Rattle.warc_checking.specs.Heads.{ReadsHeads};
 ghost use Rattle.warc_checking.specs.Used.{HasMet, IsAlone, IsTally};
 ghost use Rattle.warc_record.specs.Ids.{id_key};
 ghost use Rattle.warc_frame.specs.Putting.{Puts};
+ghost use Rattle.warc_frame.specs.Seen.{IfHeld};
 ghost use Rattle.warc_frame.specs.Failing.{HasFailedBy, MayHaveFailedBy, failed_by, is_read};
 
 use crate::heads::{Halt, head_buffer, read_again};
@@ -179,16 +181,8 @@ fn put_records<S: Source, A: Allocator + Copy, W: Sink>(
     requires head { max_head ≤ length head.old }
     requires tally { IsTally (length rows.now) rows.now met.old.counts }
     requires met { HasMet [] met.old }
-    ensures out { (bytes : List ℕ) (records : List Placed) (start : Option (List ℕ)) (output : List ℕ) →
-        (S.tapped source.old).holds ≡ Some bytes → AreCheckable bytes records rows.now → IsStaged start output
-        (W.seen out.old).tells buffer.old → OnOk result (IsStaged start (output ++ records_text (contents records))
-        (W.seen out.new).tells buffer.new) }
-    ensures number { (bytes : List ℕ) (records : List Placed) → (S.tapped source.old).holds ≡ Some bytes → AreCheckable
-        bytes records rows.now → IfOk result (λ n. n ≡ capped (length (findings_of_records (contents records)))) }
-    ensures cut { (bytes : List ℕ) (records : List Placed) (start : Option (List ℕ)) (output : List ℕ) →
-        (S.tapped source.old).holds ≡ Some bytes → AreCheckable bytes records rows.now → IsStaged start output
-        (W.seen out.old).tells buffer.old → IfErr result (λ e. WentOut start (output ++ records_text (contents records))
-        (W.seen out.new).tells (sent_of e)) }
+    ensures puts { IfHeld (S.tapped source.old).holds (λ bytes. (records : List Placed) → AreCheckable bytes records rows.now
+        → PutsFound (contents records) (W.seen out.old) (W.seen out.new) buffer.old buffer.new result) }
     ensures kept { (S.tapped source.new).holds ≡ (S.tapped source.old).holds }
     ensures cause { (W.seen out.new).faults ≡ failed_by result (W.seen out.old).faults }
     ensures heads { ReadsHeads rows.now (S.tapped source.old) (S.tapped source.new) }
@@ -216,11 +210,7 @@ fn put_records<S: Source, A: Allocator + Copy, W: Sink>(
 
 /// Adds the line that there is no record to the output, and answers that it is one.
 pub(crate) fn put_none<W: Sink>(buffer: &mut OutBuffer, out: &mut W) -> Result<usize, OutFault>
-    ensures out { (start : Option (List ℕ)) (output : List ℕ) → IsStaged start output (W.seen out.old).tells buffer.old
-        → OnOk result (IsStaged start (output ++ codes "- N12\n") (W.seen out.new).tells buffer.new) }
-    ensures cut { (start : Option (List ℕ)) (output : List ℕ) → IsStaged start output (W.seen out.old).tells buffer.old
-        → IfErr result (λ e. WentOut start (output ++ codes "- N12\n") (W.seen out.new).tells (sent_of e)) }
-    ensures number { IfOk result (λ n. n ≡ 1) }
+    ensures puts { PutsLines (codes "- N12\n") 1 (W.seen out.old) (W.seen out.new) buffer.old buffer.new result }
     ensures cause { (W.seen out.new).faults ≡ failed_by result (W.seen out.old).faults }
     ensures unread { IfErr result (λ e. is_read e ≡ false) }
 {
@@ -238,16 +228,8 @@ fn put_archive<S: Source, A: Allocator + Copy, W: Sink>(
     buffer: &mut OutBuffer,
     out: &mut W,
 ) -> Result<usize, OutFault>
-    ensures out { (bytes : List ℕ) (records : List Placed) (start : Option (List ℕ)) (output : List ℕ) →
-        (S.tapped source.old).holds ≡ Some bytes → AreCheckable bytes records rows.now → IsStaged start output
-        (W.seen out.old).tells buffer.old → OnOk result (IsStaged start (output ++ check_text (contents records))
-        (W.seen out.new).tells buffer.new) }
-    ensures number { (bytes : List ℕ) (records : List Placed) → (S.tapped source.old).holds ≡ Some bytes → AreCheckable
-        bytes records rows.now → IfOk result (λ n. n ≡ capped (length (findings_of_archive (contents records)))) }
-    ensures cut { (bytes : List ℕ) (records : List Placed) (start : Option (List ℕ)) (output : List ℕ) →
-        (S.tapped source.old).holds ≡ Some bytes → AreCheckable bytes records rows.now → IsStaged start output
-        (W.seen out.old).tells buffer.old → IfErr result (λ e. WentOut start (output ++ check_text (contents records))
-        (W.seen out.new).tells (sent_of e)) }
+    ensures puts { IfHeld (S.tapped source.old).holds (λ bytes. (records : List Placed) → AreCheckable bytes records rows.now
+        → PutsCheck (contents records) (W.seen out.old) (W.seen out.new) buffer.old buffer.new result) }
     ensures kept { (S.tapped source.new).holds ≡ (S.tapped source.old).holds }
     ensures cause { (W.seen out.new).faults ≡ failed_by result (W.seen out.old).faults }
     ensures heads { ReadsHeads rows.now (S.tapped source.old) (S.tapped source.new) }
@@ -278,13 +260,11 @@ fn tell_reread<S: Source, A: Allocator + Copy, W: Sink>(
     out: &mut W,
 ) -> Result<usize, OutFault>
     ensures told { (bytes : List ℕ) (records : List Placed) → (S.tapped source.old).holds ≡ Some bytes → AreCheckable
-        bytes records rows.now → OnOk result ((W.seen out.new).tells ≡ append_known (W.seen out.old).tells (check_text
-        (contents records))) }
+        bytes records rows.now → AreTold (contents records) result (W.seen out.old) (W.seen out.new) }
     ensures number { (bytes : List ℕ) (records : List Placed) → (S.tapped source.old).holds ≡ Some bytes → AreCheckable
         bytes records rows.now → IfOk result (λ n. n ≡ capped (length (findings_of_archive (contents records)))) }
     ensures cut { (bytes : List ℕ) (records : List Placed) → (S.tapped source.old).holds ≡ Some bytes → AreCheckable
-        bytes records rows.now → IfErr result (λ e. WentOut (W.seen out.old).tells (check_text (contents records))
-        (W.seen out.new).tells (sent_of e)) }
+        bytes records rows.now → AreCutOff (contents records) result (W.seen out.old) (W.seen out.new) }
     ensures kept { (S.tapped source.new).holds ≡ (S.tapped source.old).holds }
     ensures cause { (W.seen out.new).faults ≡ failed_by result (W.seen out.old).faults }
     ensures heads { ReadsHeads rows.now (S.tapped source.old) (S.tapped source.new) }

@@ -9,8 +9,8 @@ ghost use Rattle.warc_reading.specs.Archive.{contents};
 ghost use Rattle.warc_reading.specs.Opening.{Opens};
 ghost use Rattle.warc_reading.specs.Row.{Placed};
 ghost use Rattle.warc_checking.specs.Checking.{check_text, findings_behind, findings_of_archive, findings_of_records};
-ghost use Rattle.warc_checking.specs.Checks.{TellsFound};
-ghost use Rattle.warc_checking.specs.Examining.{record_text, records_text};
+ghost use Rattle.warc_checking.specs.Checks.{AreCutOff, AreTold, TellsFound};
+ghost use Rattle.warc_checking.specs.Examining.{PutsCheck, PutsFound, record_text};
 ghost use Rattle.warc_checking.specs.Found.{IsFound, judged_of, source_judged};
 ghost use Rattle.warc_checking.specs.Noted.{AreNoted, IsNext, found_at};
 ghost use Rattle.warc_checking.specs.Used.{HasMet, IsTally};
@@ -76,15 +76,8 @@ fn put_each<A: Allocator + Copy, W: Sink>(
 ) -> Result<usize, OutFault>
     requires tally { IsTally (length rows.now) rows.now met.old.counts }
     requires met { HasMet [] met.old }
-    ensures out { (bytes : List ℕ) (records : List Placed) (start : Option (List ℕ)) (output : List ℕ) →
-        AreNoted bytes records rows.now noted.now → IsStaged start output (W.seen out.old).tells buffer.old →
-        OnOk result (IsStaged start (output ++ records_text (contents records)) (W.seen out.new).tells buffer.new) }
-    ensures number { (bytes : List ℕ) (records : List Placed) → AreNoted bytes records rows.now noted.now →
-        IfOk result (λ n. n ≡ capped (length (findings_of_records (contents records)))) }
-    ensures cut { (bytes : List ℕ) (records : List Placed) (start : Option (List ℕ)) (output : List ℕ) →
-        AreNoted bytes records rows.now noted.now → IsStaged start output (W.seen out.old).tells buffer.old →
-        IfErr result (λ e. WentOut start (output ++ records_text (contents records)) (W.seen out.new).tells
-        (sent_of e)) }
+    ensures puts { (bytes : List ℕ) (records : List Placed) → AreNoted bytes records rows.now noted.now →
+        PutsFound (contents records) (W.seen out.old) (W.seen out.new) buffer.old buffer.new result }
     ensures cause { (W.seen out.new).faults ≡ failed_by result (W.seen out.old).faults }
     ensures unread { IfErr result (λ e. is_read e ≡ false) }
 {
@@ -109,15 +102,8 @@ fn put_rows<A: Allocator + Copy, W: Sink>(
     buffer: &mut OutBuffer,
     out: &mut W,
 ) -> Result<usize, OutFault>
-    ensures out { (bytes : List ℕ) (records : List Placed) (start : Option (List ℕ)) (output : List ℕ) →
-        AreNoted bytes records rows.now noted.now → IsStaged start output (W.seen out.old).tells buffer.old →
-        OnOk result (IsStaged start (output ++ check_text (contents records)) (W.seen out.new).tells buffer.new) }
-    ensures number { (bytes : List ℕ) (records : List Placed) → AreNoted bytes records rows.now noted.now →
-        IfOk result (λ n. n ≡ capped (length (findings_of_archive (contents records)))) }
-    ensures cut { (bytes : List ℕ) (records : List Placed) (start : Option (List ℕ)) (output : List ℕ) →
-        AreNoted bytes records rows.now noted.now → IsStaged start output (W.seen out.old).tells buffer.old →
-        IfErr result (λ e. WentOut start (output ++ check_text (contents records)) (W.seen out.new).tells
-        (sent_of e)) }
+    ensures puts { (bytes : List ℕ) (records : List Placed) → AreNoted bytes records rows.now noted.now →
+        PutsCheck (contents records) (W.seen out.old) (W.seen out.new) buffer.old buffer.new result }
     ensures cause { (W.seen out.new).faults ≡ failed_by result (W.seen out.old).faults }
     ensures unread { IfErr result (λ e. is_read e ≡ false) }
 {
@@ -141,12 +127,11 @@ fn tell_rows<A: Allocator + Copy, W: Sink>(
     out: &mut W,
 ) -> Result<usize, OutFault>
     ensures told { (bytes : List ℕ) (records : List Placed) → AreNoted bytes records rows.now noted.now →
-        OnOk result ((W.seen out.new).tells ≡ append_known (W.seen out.old).tells (check_text (contents records))) }
+        AreTold (contents records) result (W.seen out.old) (W.seen out.new) }
     ensures number { (bytes : List ℕ) (records : List Placed) → AreNoted bytes records rows.now noted.now →
         IfOk result (λ n. n ≡ capped (length (findings_of_archive (contents records)))) }
     ensures cut { (bytes : List ℕ) (records : List Placed) → AreNoted bytes records rows.now noted.now →
-        IfErr result (λ e. WentOut (W.seen out.old).tells (check_text (contents records)) (W.seen out.new).tells
-        (sent_of e)) }
+        AreCutOff (contents records) result (W.seen out.old) (W.seen out.new) }
     ensures cause { (W.seen out.new).faults ≡ failed_by result (W.seen out.old).faults }
     ensures unread { IfErr result (λ e. is_read e ≡ false) }
 {

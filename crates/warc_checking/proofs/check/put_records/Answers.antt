@@ -12,23 +12,28 @@ use Rattle.warc_checking.specs.Used.{IsTally}
 use Rattle.warc_checking.proofs.TallyLemmas.{alone}
 use Rattle.warc_checking.proofs.check.put_records.Goals as goal
 
-pub returns-clause-out : goal.returns-clause-out
-returns-clause-out g c = λ bytes records start output held can is.
+pub returns-clause-puts : goal.returns-clause-puts
+returns-clause-puts g c = λ bytes held records can.
     let all = first_all bytes records c.args.rows.now c.checking.position can (search rules) in
-    same_staged (ap (λ l. output ++ flat_map line_text l) all) (c.checking.invariant.staged bytes records start output held can is)
+    record {
+      out = λ start output is.
+          same_staged (ap (λ l. output ++ flat_map line_text l) all) (c.checking.invariant.staged bytes records start output held can is);
+      cut = λ start output is. search rules;
+      number = c.checking.invariant.number bytes records held can ∙ ap (λ l. capped (length l)) all;
+    }
 
-pub returns-clause-number : goal.returns-clause-number
-returns-clause-number g c = λ bytes records held can.
-    let all = first_all bytes records c.args.rows.now c.checking.position can (search rules) in
-    c.checking.invariant.number bytes records held can ∙ ap (λ l. capped (length l)) all
-
-pub returns-in-Err-clause-cut : goal.returns-in-Err-clause-cut
-returns-in-Err-clause-cut g c = λ bytes records start output held can is.
+pub returns-in-Err-clause-puts : goal.returns-in-Err-clause-puts
+returns-in-Err-clause-puts g c = λ bytes held records can.
     let rs = contents records in
     let i = c.checking.position in
-    let gone = c.staged_went_out.ensures start _ (output ++ first_text i rs) c.checking.buffer (c.checking.invariant.staged bytes records start output held can is) in
-    let out = same_out (text_rest rs i output) (c.went_out_of_longer.ensures start _ (output ++ first_text i rs) (rest_text i rs) _ gone) in
-    rw (sym (sent_halted c.in-Err.halt c.after.result c.sent.result c.checking.buffer.sent c.after.ensures c.sent.ensures)) out
+    record {
+      out = λ start output is. search rules;
+      cut = λ start output is.
+          let gone = c.staged_went_out.ensures start _ (output ++ first_text i rs) c.checking.buffer (c.checking.invariant.staged bytes records start output held can is) in
+          let out = same_out (text_rest rs i output) (c.went_out_of_longer.ensures start _ (output ++ first_text i rs) (rest_text i rs) _ gone) in
+          rw (sym (sent_halted c.in-Err.halt c.after.result c.sent.result c.checking.buffer.sent c.after.ensures c.sent.ensures)) out;
+      number = search rules;
+    }
 
 pub returns-in-Err-clause-failed : goal.returns-in-Err-clause-failed
 returns-in-Err-clause-failed g c = λ bytes records held can.
@@ -37,8 +42,8 @@ returns-in-Err-clause-failed g c = λ bytes records held can.
     failed_halted ℕ c.in-Err.halt c.after.result c.sent.result _ _ _ c.after.ensures c.checking.invariant.sound
     (c.in-Err.ensures.failed bytes at.0 (c.checking.invariant.kept ∙ held) at.3 at.2)
 
-pub returns-in_err-number-clause-cut : goal.returns-in_err-number-clause-cut
-returns-in_err-number-clause-cut g c = λ bytes records start output held can is.
+pub returns-in_err-number-clause-puts : goal.returns-in_err-number-clause-puts
+returns-in_err-number-clause-puts g c = λ bytes held records can.
     let rs = contents records in
     let i = c.checking.position in
     let row_is : slice_get c.args.rows.now i ≡ Some c.in-Some.row = sym c.get.ensures ∙ c.in-Some.is in
@@ -46,11 +51,16 @@ returns-in_err-number-clause-cut g c = λ bytes records start output held can is
     let examined = c.in-Ok.ensures.read bytes at.0 (take i rs) (c.checking.invariant.kept ∙ held) at.3 at.2 (c.checking.invariant.met bytes records held can)
     (alone bytes records c.args.rows.now i c.in-Some.row c.checking.met c.good_heads_read.ensures can c.checking.invariant.tally row_is) in
     let len = ap (λ (r : Row). r.block_len) (c.row.view_is ∙ at.2) in
-    let cut = c.in_err-number.ensures.cut start (output ++ first_text i rs) (c.checking.invariant.staged bytes records start output held can is) in
-    let longer = c.went_out_of_longer.ensures start _ _ (rest_text (i + 1) rs) _ cut in
-    let more = text_more records i at.0 c.in-Ok.examined.fields c.row.inside.block_len c.in-Ok.examined.facts output at.1 examined len in
-    let whole = same_out (ap (λ l. l ++ rest_text (i + 1) rs) more ∙ text_rest rs (i + 1) output) longer in
-    search rules
+    record {
+      out = λ start output is. search rules;
+      cut = λ start output is.
+          let cut = c.in_err-number.ensures.cut start (output ++ first_text i rs) (c.checking.invariant.staged bytes records start output held can is) in
+          let longer = c.went_out_of_longer.ensures start _ _ (rest_text (i + 1) rs) _ cut in
+          let more = text_more records i at.0 c.in-Ok.examined.fields c.row.inside.block_len c.in-Ok.examined.facts output at.1 examined len in
+          let whole = same_out (ap (λ l. l ++ rest_text (i + 1) rs) more ∙ text_rest rs (i + 1) output) longer in
+          search rules;
+      number = search rules;
+    }
 
 pub returns-in_err-number-clause-may : goal.returns-in_err-number-clause-may
 returns-in_err-number-clause-may g c =

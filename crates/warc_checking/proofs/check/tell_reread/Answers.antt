@@ -4,15 +4,15 @@ use Rattle.warc_checking.proofs.check.tell_reread.Goals as goal
 pub returns-in_err-number-clause-cut : goal.returns-in_err-number-clause-cut
 returns-in_err-number-clause-cut g c = λ bytes records held can.
     let start = (g.W.Sink.seen c.args.out.now).tells in
-    let cut = c.in_err-number.ensures.cut bytes records start [] held can (c.new-buffer.ensures.begins start) in
+    let cut = (c.in_err-number.ensures.puts bytes held records can).cut start [] (c.new-buffer.ensures.begins start) in
     search rules
 
 pub returns-in-Ok-clause-told : goal.returns-in-Ok-clause-told
 returns-in-Ok-clause-told g c = λ bytes records held can.
     let start = (g.W.Sink.seen c.args.out.now).tells in
-    c.in-Ok.ensures.told start _ (c.in_ok-number.ensures.out bytes records start [] held can (c.new-buffer.ensures.begins start))
+    c.in-Ok.ensures.told start _ ((c.in_ok-number.ensures.puts bytes held records can).out start [] (c.new-buffer.ensures.begins start))
 
 pub returns-in-Err-clause-cut : goal.returns-in-Err-clause-cut
 returns-in-Err-clause-cut g c = λ bytes records held can.
     let start = (g.W.Sink.seen c.args.out.now).tells in
-    c.in-Err.ensures.cut start _ (c.in_ok-number.ensures.out bytes records start [] held can (c.new-buffer.ensures.begins start))
+    c.in-Err.ensures.cut start _ ((c.in_ok-number.ensures.puts bytes held records can).out start [] (c.new-buffer.ensures.begins start))

@@ -10,26 +10,31 @@ use Rattle.warc_checking.proofs.NextLemmas.{next_at, next_number, next_text}
 use Rattle.warc_checking.proofs.RecordsLemmas.{first_all, met_one, rest_text, text_rest}
 use Rattle.warc_checking.proofs.checking.put_each.Goals as goal
 
-pub returns-clause-out : goal.returns-clause-out
-returns-clause-out g c = λ bytes records start output noted is.
+pub returns-clause-puts : goal.returns-clause-puts
+returns-clause-puts g c = λ bytes records noted.
     let all = first_all bytes records c.args.rows.now c.telling.position noted.can (search rules) in
-    same_staged (ap (λ l. output ++ flat_map line_text l) all) (c.telling.invariant.staged bytes records start output noted is)
+    record {
+      out = λ start output is.
+          same_staged (ap (λ l. output ++ flat_map line_text l) all) (c.telling.invariant.staged bytes records start output noted is);
+      cut = λ start output is. search rules;
+      number = c.telling.invariant.number bytes records noted ∙ ap (λ l. capped (length l)) all;
+    }
 
-pub returns-clause-number : goal.returns-clause-number
-returns-clause-number g c = λ bytes records noted.
-    let all = first_all bytes records c.args.rows.now c.telling.position noted.can (search rules) in
-    c.telling.invariant.number bytes records noted ∙ ap (λ l. capped (length l)) all
-
-pub returns-in_err-number-clause-cut : goal.returns-in_err-number-clause-cut
-returns-in_err-number-clause-cut g c = λ bytes records start output noted is.
+pub returns-in_err-number-clause-puts : goal.returns-in_err-number-clause-puts
+returns-in_err-number-clause-puts g c = λ bytes records noted.
     let rs = contents records in
     let i = c.telling.position in
     let row_is : slice_get c.args.rows.now i ≡ Some c.in-Some.row = sym c.get.ensures ∙ c.in-Some.is in
     let (p, at, next) = next_at bytes records _ _ i _ _ c.good_heads_read.ensures noted c.telling.invariant.tally row_is (c.telling.invariant.met bytes records noted) in
-    let cut = c.in_err-number.ensures.cut (take i rs) p start (output ++ first_text i rs) next (c.telling.invariant.staged bytes records start output noted is) in
-    let longer = c.went_out_of_longer.ensures start _ _ (rest_text (i + 1) rs) _ cut in
-    let whole = same_out (ap (λ l. l ++ rest_text (i + 1) rs) (next_text records i p output at) ∙ text_rest rs (i + 1) output) longer in
-    search rules
+    record {
+      out = λ start output is. search rules;
+      cut = λ start output is.
+          let cut = c.in_err-number.ensures.cut (take i rs) p start (output ++ first_text i rs) next (c.telling.invariant.staged bytes records start output noted is) in
+          let longer = c.went_out_of_longer.ensures start _ _ (rest_text (i + 1) rs) _ cut in
+          let whole = same_out (ap (λ l. l ++ rest_text (i + 1) rs) (next_text records i p output at) ∙ text_rest rs (i + 1) output) longer in
+          search rules;
+      number = search rules;
+    }
 
 pub telling-preserved : goal.telling-preserved
 telling-preserved g c =

@@ -4,15 +4,18 @@ use Rattle.warc_checking.proofs.checking.tell_rows.Goals as goal
 pub returns-in_err-number-clause-cut : goal.returns-in_err-number-clause-cut
 returns-in_err-number-clause-cut g c = λ bytes records noted.
     let start = (g.W.Sink.seen c.args.out.now).tells in
-    let cut = c.in_err-number.ensures.cut bytes records start [] noted (c.new-buffer.ensures.begins start) in
+    let cut = (c.in_err-number.ensures.puts bytes records noted).cut start [] (c.new-buffer.ensures.begins start) in
     search rules
 
 pub returns-in-Ok-clause-told : goal.returns-in-Ok-clause-told
 returns-in-Ok-clause-told g c = λ bytes records noted.
     let start = (g.W.Sink.seen c.args.out.now).tells in
-    c.in-Ok.ensures.told start _ (c.in_ok-number.ensures.out bytes records start [] noted (c.new-buffer.ensures.begins start))
+    c.in-Ok.ensures.told start _ ((c.in_ok-number.ensures.puts bytes records noted).out start [] (c.new-buffer.ensures.begins start))
 
 pub returns-in-Err-clause-cut : goal.returns-in-Err-clause-cut
 returns-in-Err-clause-cut g c = λ bytes records noted.
     let start = (g.W.Sink.seen c.args.out.now).tells in
-    c.in-Err.ensures.cut start _ (c.in_ok-number.ensures.out bytes records start [] noted (c.new-buffer.ensures.begins start))
+    c.in-Err.ensures.cut start _ ((c.in_ok-number.ensures.puts bytes records noted).out start [] (c.new-buffer.ensures.begins start))
+
+pub returns-in-Ok-clause-number : goal.returns-in-Ok-clause-number
+returns-in-Ok-clause-number g c = λ bytes records noted. (c.in_ok-number.ensures.puts bytes records noted).number
