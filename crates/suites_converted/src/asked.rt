@@ -10,14 +10,14 @@ use warc_value::read_date;
 use warc_vectors::Row;
 
 /// A target and a date.
-pub(crate) type Asked<'a> = (&'a [u8], &'a str);
+pub type Asked<'a> = (&'a [u8], &'a str);
 
 /// The first instant that a date can name, and the last.
 const ENDS: [&str; 2] = ["0000", "9999-12-31T23:59:59.999999999Z"];
 
 /// What a replay gives: the body, and what is said of it.
 #[derive(Drop)]
-pub(crate) struct Given {
+pub struct Given {
     body: Vec<u8>,
     answer: Result<Answer, ReplayFault>,
 }
@@ -38,7 +38,7 @@ fn add_asked<'a>(
 }
 
 /// Each target of the records as of each of their dates, and as of the first and the last instant of all.
-pub(crate) fn asked_of<'a>(alloc: Global, rows: &[Row<'a>]) -> Result<Vec<Asked<'a>>, AllocError> {
+pub fn asked_of<'a>(alloc: Global, rows: &[Row<'a>]) -> Result<Vec<Asked<'a>>, AllocError> {
     let mut asked = Vec::new(alloc);
     for row in rows {
         add_asked(&mut asked, bare(row.target.as_bytes()), rows)?;
@@ -63,7 +63,7 @@ fn replayed(
 }
 
 /// What an archive gives for each target as of the date beside it.
-pub(crate) fn all_given(
+pub fn all_given(
     alloc: Global,
     archive: &mut Archive<MemSource>,
     asked: &[Asked<'_>],
@@ -76,11 +76,7 @@ pub(crate) fn all_given(
 }
 
 /// What the archive of these bytes gives.
-pub(crate) fn answers_of(
-    alloc: Global,
-    text: Vec<u8>,
-    asked: &[Asked<'_>],
-) -> Result<Vec<Given>, Fail> {
+pub fn answers_of(alloc: Global, text: Vec<u8>, asked: &[Asked<'_>]) -> Result<Vec<Given>, Fail> {
     match Archive::open(alloc, MemSource::new(text, usize::MAX)) {
         Ok(mut archive) => all_given(alloc, &mut archive, asked),
         Err((fault, _source)) => Err(fault.into()),
@@ -92,7 +88,7 @@ fn is_same(one: &Given, other: &Given) -> bool {
 }
 
 /// How many of the replays give a body. An error says that they aren't the same.
-pub(crate) fn same_bodies(before: &[Given], after: &[Given]) -> Result<usize, Fail> {
+pub fn same_bodies(before: &[Given], after: &[Given]) -> Result<usize, Fail> {
     if before.len() != after.len() {
         return Err("another number of answers".into());
     }

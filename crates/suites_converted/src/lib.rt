@@ -1,10 +1,6 @@
-//! Every archive of the suites, asked before it is moved to WARC 1.1 and after: by the command `convert`, and by the
-//! library.
+//! Every archive of the suites, asked before it is moved to WARC 1.1 by the command `convert` and after.
 #![tactic(auto)]
 
-#[cfg(test)]
-mod asked;
+pub mod asked;
 #[cfg(test)]
 mod converted;
-#[cfg(test)]
-mod moved;

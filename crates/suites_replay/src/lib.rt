@@ -1,21 +1,16 @@
-//! Tests of replays, extracted blocks and records taken again: by the commands of the program, and by calls. What is
-//! expected comes from the rules of docs/FORMAT.md.
+//! Tests of replays and extracted blocks by the commands of the program. What is expected comes from the rules of
+//! docs/FORMAT.md.
 #![tactic(auto)]
 
-#[cfg(test)]
-mod calls;
 #[cfg(test)]
 mod captures;
 #[cfg(test)]
 mod extracts;
 #[cfg(test)]
-mod failures;
-#[cfg(test)]
 mod responses;
 #[cfg(test)]
 mod revisits;
-#[cfg(test)]
-mod runs;
+pub mod runs;
 #[cfg(test)]
 mod segments;
 #[cfg(test)]

@@ -7,10 +7,10 @@ use warc_frame::{MemSink, MemSource, Sink, Source};
 use warc_vectors::{Case, Row, archive_text};
 
 /// The target of the one resource record.
-pub(crate) const U: &str = "http://a.example/x";
+pub const U: &str = "http://a.example/x";
 
 /// The line and the status of a run whose output goes to a sink.
-pub(crate) fn told<S: Source + Drop, A: Allocator + Copy, W: Sink>(
+pub fn told<S: Source + Drop, A: Allocator + Copy, W: Sink>(
     heap: A,
     alloc: Global,
     command: &Command<'_>,
@@ -23,7 +23,7 @@ pub(crate) fn told<S: Source + Drop, A: Allocator + Copy, W: Sink>(
 }
 
 /// Whether the command over these bytes ends so, with reads of 1 byte, of 7 bytes and of all.
-pub(crate) fn ends(
+pub fn ends(
     alloc: Global,
     command: &Command<'_>,
     bytes: &[u8],
@@ -43,7 +43,7 @@ pub(crate) fn ends(
 }
 
 /// A replay of a URI as of a date.
-pub(crate) fn asked<'a>(uri: &'a str, date: &'a str) -> Command<'a> {
+pub fn asked<'a>(uri: &'a str, date: &'a str) -> Command<'a> {
     Command::Replay {
         archive: "a.warc",
         uri,
@@ -52,7 +52,7 @@ pub(crate) fn asked<'a>(uri: &'a str, date: &'a str) -> Command<'a> {
 }
 
 /// Whether a replay of these records writes the body and says this of it, but for its length.
-pub(crate) fn gives(
+pub fn gives(
     alloc: Global,
     rows: &[Row<'_>],
     command: &Command<'_>,
@@ -65,7 +65,7 @@ pub(crate) fn gives(
 }
 
 /// Whether a replay of these records writes nothing, for this reason.
-pub(crate) fn lacks(
+pub fn lacks(
     alloc: Global,
     rows: &[Row<'_>],
     command: &Command<'_>,
@@ -78,7 +78,7 @@ pub(crate) fn lacks(
 
 /// What is said of the first of these archives that doesn't give the body to a replay, or of which something else is
 /// said.
-pub(crate) fn first_not_given(
+pub fn first_not_given(
     alloc: Global,
     cases: &[Case],
     command: &Command<'_>,
@@ -93,7 +93,7 @@ pub(crate) fn first_not_given(
 }
 
 /// The reason of the first of these archives that doesn't lack a body for it.
-pub(crate) fn first_not_lacking(
+pub fn first_not_lacking(
     alloc: Global,
     cases: &[Case],
     command: &Command<'_>,

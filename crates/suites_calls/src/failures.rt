@@ -1,8 +1,8 @@
 //! Replays where a read or a write fails behind the opening.
 
-use crate::runs::{U, asked, told};
 use std::alloc::Global;
 use std::test::Fail;
+use suites_replay::runs::{U, asked, told};
 use warc::Archive;
 use warc_answer::{Answer, ReplayFault};
 use warc_frame::{MemSink, MemSource, OutFault, Sink, Source};

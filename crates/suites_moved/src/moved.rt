@@ -1,8 +1,8 @@
 //! Small archives, asked before they are moved to WARC 1.1 by the library and after.
 
-use crate::asked::{Asked, Given, all_given, answers_of, same_bodies};
 use std::alloc::Global;
 use std::test::Fail;
+use suites_converted::asked::{Asked, Given, all_given, answers_of, same_bodies};
 use suites_migration::migration::migrate;
 use warc::Archive;
 use warc_frame::MemSource;

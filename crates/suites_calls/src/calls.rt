@@ -1,8 +1,8 @@
 //! What an archive gives by calls.
 
-use crate::runs::U;
 use std::alloc::Global;
 use std::test::Fail;
+use suites_replay::runs::U;
 use warc::{Archive, ExtractFault, TakeFault};
 use warc_answer::{Answer, Reason, ReplayFault};
 use warc_frame::{Framed, MemSink, MemSource};
