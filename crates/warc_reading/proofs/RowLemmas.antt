@@ -6,7 +6,7 @@ use Rattle.std.proofs.lemmas.List.Sums.{sum_by-cons}
 use Rattle.warc_reading.specs.Archive.{IsArchiveOf, SpellsFrom}
 use Rattle.warc_reading.specs.Row.{Placed, Row, row_of}
 use Rattle.warc_reading.specs.Keeping.{texts_len}
-use Rattle.warc_reading.specs.Rows.{row_at, packed_row, unpacked, IsWithin, IsPackedOf, AreFlat, AreKept, ArePacked, AreWithin}
+use Rattle.warc_reading.specs.Rows.{row_at, packed_row, unpacked, whole, IsWithin, IsPackedOf, AreFlat, AreKept, ArePacked, AreWithin}
 use Rattle.warc_reading.specs.declared.rows.Entry.{Entry}
 use Rattle.warc_reading.specs.declared.rows.Packed.{Packed}
 
@@ -225,7 +225,7 @@ flat_cut texts es i e ts fs is flat cut first =
     let P : ℕ → Type 0 = λ n. AreFlat n (take i es) in
     rw (cut, first) (subst P (sym size) front, rows_first texts e.kind_start es i le front.within)
 
--- ---- entries in 40 bytes
+-- ---- entries in 32 bytes
 
 pub rows_unpacked : (texts : List ℕ) (ps : List Packed) → map (row_at texts) (map unpacked ps) ≡ map (packed_row texts) ps
 rows_unpacked texts [] = refl
@@ -245,7 +245,7 @@ entry_at (x ∷ ps) (suc i) p is = entry_at ps i p is
 
 -- rows and texts that were cut
 pub cut_kept : (texts : List ℕ) (ps : List Packed) (i : ℕ) (p : Packed) (ts : List ℕ) (qs : List Packed) → slice_get ps i ≡ Some p → AreKept (length texts) ps
-    → ts ≡ take p.start texts → qs ≡ take i ps → AreKept (length ts) qs × (map (packed_row ts) qs ≡ take i (map (packed_row texts) ps))
+    → ts ≡ take (whole p.start) texts → qs ≡ take i ps → AreKept (length ts) qs × (map (packed_row ts) qs ≡ take i (map (packed_row texts) ps))
 cut_kept texts ps i p ts qs is kept cut first =
     let entries : map unpacked qs ≡ take i (map unpacked ps) = ap (map unpacked) first ∙ sym (take-map unpacked i ps) in
     let (flat, rows) = flat_cut texts (map unpacked ps) i (unpacked p) ts (map unpacked qs) (entry_at ps i p is) kept.flat cut entries in

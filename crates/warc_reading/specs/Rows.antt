@@ -1,9 +1,10 @@
 -- What the flat lists of an archive hold. States of the code: no public clause cites them.
-use Rattle.std.specs.Prelude.{◌≡◌, ℕ, ◌+◌, ◌-◌, ◌^◌, ◌≤◌, List, [], ◌∷◌, length, map, min, slice_range}
+use Rattle.std.specs.Prelude.{◌≡◌, ℕ, ◌+◌, ◌-◌, ◌*◌, ◌^◌, ◌≤◌, List, [], ◌∷◌, length, map, min, slice_range}
 use Rattle.std.specs.List.{AllByRecursion}
 use Rattle.warc_reading.specs.Row.{Row}
 use Rattle.warc_reading.specs.declared.rows.Entry.{Entry}
 use Rattle.warc_reading.specs.declared.rows.Packed.{Packed}
+use Rattle.warc_reading.specs.declared.rows.Compact.{Compact}
 
 -- the row of an entry, its texts lying one behind another in the bytes
 abbrev pub row_at : List ℕ → Entry → Row
@@ -44,29 +45,33 @@ pub record AreFlat (count : ℕ) (entries : List Entry) : Type 0 where
 abbrev pub reach : ℕ → ℕ → ℕ
 reach start len = min (start + len) (2 ^ 64 - 1)
 
--- the entry that is kept in 40 bytes
+-- the number whose six bytes these are
+unfoldable pub whole : Compact → ℕ
+whole s = s.low + s.middle * 2 ^ 16 + s.high * 2 ^ 32
+
+-- the entry that is kept in 32 bytes
 abbrev pub unpacked : Packed → Entry
 unpacked p = record {
-  offset = p.offset;
-  block_start = reach p.offset p.head_len;
-  block_len = p.block_len;
+  offset = whole p.offset;
+  block_start = reach (whole p.offset) p.head_len;
+  block_len = whole p.block_len;
   verdict = p.verdict;
   is_truncated = p.is_truncated;
-  kind_start = p.start;
-  kind_end = reach p.start p.kind_len;
-  date_end = reach (reach p.start p.kind_len) p.date_len;
-  id_end = reach (reach (reach p.start p.kind_len) p.date_len) p.id_len;
-  target_end = reach (reach (reach (reach p.start p.kind_len) p.date_len) p.id_len) p.target_len;
+  kind_start = whole p.start;
+  kind_end = reach (whole p.start) p.kind_len;
+  date_end = reach (reach (whole p.start) p.kind_len) p.date_len;
+  id_end = reach (reach (reach (whole p.start) p.kind_len) p.date_len) p.id_len;
+  target_end = reach (reach (reach (reach (whole p.start) p.kind_len) p.date_len) p.id_len) p.target_len;
 }
 
--- what is kept in 40 bytes of a row whose texts begin there
+-- what is kept in 32 bytes of a row whose texts begin there
 pub record IsPackedOf (start : ℕ) (row : Row) (p : Packed) : Type 0 where
-  pub offset : p.offset ≡ row.offset
-  pub head : reach p.offset p.head_len ≡ row.block_start
-  pub block : p.block_len ≡ row.block_len
+  pub offset : whole p.offset ≡ row.offset
+  pub head : reach (whole p.offset) p.head_len ≡ row.block_start
+  pub block : whole p.block_len ≡ row.block_len
   pub verdict : p.verdict ≡ row.verdict
   pub truncated : p.is_truncated ≡ row.is_truncated
-  pub begin : p.start ≡ start
+  pub begin : whole p.start ≡ start
   pub kind : p.kind_len ≡ length row.kind
   pub date : p.date_len ≡ length row.date
   pub id : p.id_len ≡ length row.id

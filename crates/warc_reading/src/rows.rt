@@ -3,7 +3,7 @@ ghost use Rattle.std.specs.Prelude.{◌≡◌, ℕ, ◌+◌, ◌≤◌, ◌^◌,
 ghost use Rattle.std.specs.List.{slice_get, sum_by};
 ghost use Rattle.warc_reading.specs.Archive.{IsArchiveOf};
 ghost use Rattle.warc_reading.specs.Keeping.{texts_len};
-ghost use Rattle.warc_reading.specs.Rows.{unpacked, IsPackedOf};
+ghost use Rattle.warc_reading.specs.Rows.{IsPackedOf, unpacked, whole};
 
 use std::alloc::{AllocError, Allocator};
 use std::marker::Model;
@@ -69,13 +69,46 @@ struct Entry {
     target_end: usize,
 }
 
-/// An entry in 40 bytes: of its head and its texts it keeps the lengths.
+/// A number below 2^48 in six bytes, as any offset in an archive is.
+#[derive(Clone, Copy)]
+struct Compact {
+    low: u16,
+    middle: u16,
+    high: u16,
+}
+
+impl Compact {
+    /// The number, if it is below 2^48.
+    #[tactic(auto, unfolding(crate::specs::Rows::whole))]
+    fn of(number: u64) -> Option<Compact>
+        ensures { IfSome result (λ s. whole s ≡ number) }
+    {
+        let Ok(high) = u16::try_from(number / 4_294_967_296) else {
+            return None;
+        };
+        Some(Compact {
+            low: (number % 65_536) as u16,
+            middle: (number / 65_536 % 65_536) as u16,
+            high,
+        })
+    }
+
+    /// The number.
+    #[tactic(auto, unfolding(crate::specs::Rows::whole))]
+    fn value(self) -> u64
+        ensures { result ≡ whole self }
+    {
+        self.low as u64 + self.middle as u64 * 65_536 + self.high as u64 * 4_294_967_296
+    }
+}
+
+/// An entry in 32 bytes: of its head and its texts it keeps the lengths.
 #[derive(Clone, Copy)]
 struct Packed {
-    offset: u64,
-    block_len: u64,
-    start: usize,
     head_len: u32,
+    offset: Compact,
+    block_len: Compact,
+    start: Compact,
     kind_len: u16,
     date_len: u16,
     id_len: u16,
@@ -105,16 +138,16 @@ fn distance(from: u64, to: u64) -> Option<u32>
 }
 
 impl Packed {
-    /// The entry of a row whose texts begin at a place of the list. `None`: a head of 2^32 bytes or more, or a text of
-    /// 2^16 or more, which no good record has.
+    /// The entry of a row whose texts begin at a place of the list. `None`: an offset or a length of 2^48 or more, a head
+    /// of 2^32 bytes or more, or a text of 2^16 or more, which no good record has.
     fn of(start: usize, row: &Row<'_>) -> Option<Packed>
         ensures { IfSome result (IsPackedOf start row.now) }
     {
         Some(Packed {
-            offset: row.offset,
-            block_len: row.block_len,
-            start,
             head_len: distance(row.offset, row.block_start)?,
+            offset: Compact::of(row.offset)?,
+            block_len: Compact::of(row.block_len)?,
+            start: Compact::of(start as u64)?,
             kind_len: short(row.kind.len())?,
             date_len: short(row.date.len())?,
             id_len: short(row.id.len())?,
@@ -128,16 +161,18 @@ impl Packed {
     fn entry(self) -> Entry
         ensures { result ≡ unpacked self }
     {
-        let kind_end = self.start.saturating_add(self.kind_len as usize);
+        let offset = self.offset.value();
+        let kind_start = self.start.value() as usize;
+        let kind_end = kind_start.saturating_add(self.kind_len as usize);
         let date_end = kind_end.saturating_add(self.date_len as usize);
         let id_end = date_end.saturating_add(self.id_len as usize);
         Entry {
-            offset: self.offset,
-            block_start: self.offset.saturating_add(self.head_len as u64),
-            block_len: self.block_len,
+            offset,
+            block_start: offset.saturating_add(self.head_len as u64),
+            block_len: self.block_len.value(),
             verdict: self.verdict,
             is_truncated: self.is_truncated,
-            kind_start: self.start,
+            kind_start,
             kind_end,
             date_end,
             id_end,
@@ -239,7 +274,7 @@ impl<A: Allocator> Rows<A> {
         ensures { self.new ≡ take count self.old }
     {
         if let Some(entry) = self.entries.get(count) {
-            let end = entry.start;
+            let end = entry.start.value() as usize;
             self.texts.truncate(end);
             self.entries.truncate(count);
         }

@@ -1,4 +1,4 @@
-use Rattle.std.proofs.Common.{inl, inr, min, refl, ap, ◌∙◌}
+use Rattle.std.proofs.Common.{ℕ, inl, inr, min, refl, ap, ◌∙◌}
 use Rattle.warc_reading.specs.Archive.{contents}
 use Rattle.warc_checking.specs.Checking.{findings_of_archive}
 use Rattle.warc_commands.proofs.ProgramLemmas.{good_records_of, not_opened, status_by}
@@ -37,9 +37,9 @@ returns-in-Err-check-clause-ends g c =
               records = contents archive.listed.are.records;
               are = good_records_of archive.listed;
               front = (c.in-Err-check.ensures.tells bytes archive).cut;
-              source = (unread _ c.in-Err-check.fault _ _ c.in-Err-check.ensures.unread same).1;
+              source = (unread ℕ c.in-Err-check.fault _ _ c.in-Err-check.ensures.unread same).1;
             };
-        source = (unread _ c.in-Err-check.fault _ _ c.in-Err-check.ensures.unread same).0;
+        source = (unread ℕ c.in-Err-check.fault _ _ c.in-Err-check.ensures.unread same).0;
         failed = c.in-Err-check.ensures.cause;
         told = c.tell_cut.ensures.told;
         status_is = c.tell_cut.ensures.status;
