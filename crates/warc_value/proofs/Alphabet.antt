@@ -1,7 +1,8 @@
 -- What each byte stands for in base32, tried one by one.
-use Rattle.std.proofs.Common.{◌≡◌, ℕ, zero, suc, ◌+◌, ◌-◌, ◌<◌, Bool, true, false, ◌&&◌, nat_eq, nat_le, Option, Some, None, refl, arith, if◌then◌else◌}
+use Rattle.std.proofs.Common.{◌≡◌, ℕ, zero, suc, ◌<◌, ◌≤◌, Bool, true, false, ◌&&◌, nat_eq, nat_lt, get_or, Option, Some, None, refl, arith, if◌then◌else◌}
 use Rattle.std.proofs.lemmas.Grind.{common_steps}
 use Rattle.warc_value.specs.Base32.{symbol_value}
+use Rattle.warc_value.specs.declared.symbols.TheConstants.{VALUES}
 
 -- a test passes each number below another one
 abbrev pub all_below : (ℕ → Bool) → ℕ → Bool
@@ -20,17 +21,19 @@ code_of (Some n) = suc n
 pub same_code : (a b : Option ℕ) → nat_eq (code_of a) (code_of b) ≡ true → a ≡ b
 same_code a b h = grind (arith, common_steps)
 
--- the same by ranges
-abbrev pub value_by_ranges : ℕ → Option ℕ
-value_by_ranges c =
-    if nat_le 65 c && nat_le c 90 then Some (c - 65)
-    else if nat_le 97 c && nat_le c 122 then Some (c - 97)
-    else if nat_le 50 c && nat_le c 55 then Some (c - 50 + 26)
-    else None
+-- the same by the code's table
+abbrev pub value_of_entry : ℕ → Option ℕ
+value_of_entry n = if nat_lt n 32 then Some n else None
 
-pub symbol_value-ranges : (c : ℕ) → c < 256 → symbol_value c ≡ value_by_ranges c
+pub entry_stands : (n : ℕ) → n < 32 → value_of_entry n ≡ Some n
+entry_stands n below = grind (arith, common_steps)
+
+pub entry_is_none : (n : ℕ) → 32 ≤ n → value_of_entry n ≡ None
+entry_is_none n above = grind (arith, common_steps)
+
+pub symbol_value-table : (c : ℕ) → c < 256 → symbol_value c ≡ value_of_entry (get_or VALUES c 0)
 unfolding symbol_value
-symbol_value-ranges c below = same_code _ _ (passes_below (λ c. nat_eq (code_of (symbol_value c)) (code_of (value_by_ranges c))) 256 refl c below)
+symbol_value-table c below = same_code _ _ (passes_below (λ c. nat_eq (code_of (symbol_value c)) (code_of (value_of_entry (get_or VALUES c 0)))) 256 refl c below)
 
 -- both of two tests
 pub both-left : (a b : Bool) → (a && b) ≡ true → a ≡ true

@@ -1,17 +1,15 @@
 -- Written digests and dates are values.
-use Rattle.std.proofs.Common.{◌≡◌, inl, inr, ℕ, ◌<◌, ◌&&◌, ◌==◌, nat_lt, Bool, true, false, not, cond, List, [], ◌∷◌, ◌++◌, length, codes, All, find, Option, Some, None, IsSome, is_some, option_map, refl, sym, ap, ◌∙◌, arith, true≢false, if◌then◌else◌}
+use Rattle.std.proofs.Common.{◌≡◌, inl, inr, ℕ, ◌<◌, ◌&&◌, ◌==◌, nat_lt, Bool, true, false, cond, List, [], ◌∷◌, ◌++◌, length, codes, All, find, Option, Some, None, IsSome, option_map, refl, sym, ap, ◌∙◌, arith, true≢false, if◌then◌else◌}
 use Rattle.std.specs.Prelude.{option_and_then}
 use Rattle.std.specs.List.{list_all, list_any, zip}
 use Rattle.std.specs.Char.{is_ascii_digit}
 use Rattle.std.proofs.lemmas.Bool.{and_parts, and_from, cases_Bool, eqb-true}
-use Rattle.std.proofs.lemmas.Bool.Decides.{nat_tests}
 use Rattle.std.proofs.lemmas.Grind.{common_steps}
 use Rattle.std.proofs.lemmas.List.Folds.{list_all-append}
 use Rattle.warc_field.specs.Text.{is_value}
 use Rattle.warc_field.proofs.VisibleLemmas.{visible_text_is_value}
-use Rattle.warc_value.specs.Base32.{alphabet, symbol_value, is_symbol, base32_of, decoded_of, unbase32_of, bytes_of}
-use Rattle.warc_value.specs.Dates.{Instant, fits_place, fits, forms, date_of, date_in, instant_of, instant_if_valid}
-use Rattle.warc_value.specs.declared.date.Date.{Date}
+use Rattle.warc_value.specs.Base32.{is_symbol, base32_of}
+use Rattle.warc_value.specs.Dates.{fits_place, fits, forms, date_of, date_in, instant_of, instant_if_valid}
 use Rattle.warc_value.proofs.LawLemmas.{base32_symbols, symbol_is_visible}
 
 abbrev is_visible : ℕ → Bool
