@@ -1,10 +1,10 @@
 -- Where the first CRLF CRLF of a text stands.
-use Rattle.std.proofs.Common.{◌≡◌, ℕ, zero, suc, ◌+◌, ◌<◌, ◌≤◌, Bool, true, false, not, cond, ◌&&◌, ◌==◌, List, [], ◌∷◌, ◌++◌, Option, Some, None, length, get_or, refl, sym, ap, subst, ◌∙◌, arith, inl, inr, ◌⊎◌, ⊎_elim}
+use Rattle.std.proofs.Common.{◌≡◌, ℕ, zero, suc, ◌+◌, ◌-◌, ◌<◌, ◌≤◌, Bool, true, false, not, cond, ◌&&◌, ◌==◌, List, [], ◌∷◌, ◌++◌, Option, Some, None, length, drop, get_or, refl, sym, ap, subst, ◌∙◌, arith, inl, inr, ◌⊎◌, ⊎_elim}
 use Rattle.std.specs.Prelude.{option_map}
 use Rattle.std.specs.List.{list_all}
-use Rattle.std.proofs.lemmas.List.{get_or_past}
+use Rattle.std.proofs.lemmas.List.{get_or_past, get_or-drop, length-drop}
 use Rattle.std.proofs.lemmas.Bool.{cases_lt, and_parts, eqb-true, false_from_ne_true}
-use Rattle.memchr.specs.Find.{OccursAt, FindsNeedle}
+use Rattle.memchr.specs.Find.{Nowhere, OccursAt}
 use Rattle.warc_field.specs.Lines.{crlf_at, empty_at, is_crlf}
 use Rattle.warc_frame.specs.Reading.{empty_line}
 
@@ -60,10 +60,54 @@ occurs-empty t k h =
     let d : get_or t (suc (suc (suc k))) 0 ≡ 10 = ap (λ n. get_or t n 0) (let e : suc (suc (suc k)) ≡ k + 3 = omega arith in e) ∙ h.reads 3 (omega arith) in
     rw (a, b, c, d)
 
--- what the search for a CRLF CRLF answers
-pub empty_line-is : (t : List ℕ) (r : Option ℕ) → FindsNeedle t (13 ∷ 10 ∷ 13 ∷ 10 ∷ []) 0 r → r ≡ empty_line t
-empty_line-is t None h = sym (empty_line-none t (λ k. false_from_ne_true _ (λ is. let here = empty-occurs t k is in h k (omega arith) (omega (arith, here.fits)) here)))
-empty_line-is t (Some n) h = sym (empty_line-first t n (occurs-empty t n h.1) (λ k l. false_from_ne_true _ (λ is. let first = h.0 in first.before k (omega arith) l (empty-occurs t k is))))
+-- behind its CR an empty line reads on as LF CR LF
+pub empty-behind : (t : List ℕ) (from m k : ℕ) → from + m ≡ k + 1 → empty_at t k ≡ true → OccursAt (drop from t) (10 ∷ 13 ∷ 10 ∷ []) m
+empty-behind t from m k e h =
+    let whole = empty-occurs t k h in
+    record {
+      fits = omega (arith, e, whole.fits, length-drop from t);
+      reads = λ j l. get_or-drop from t (m + j) 0
+          ∙ ap (λ n. get_or t n 0) (let i : from + (m + j) ≡ k + suc j = omega (arith, e) in i)
+          ∙ whole.reads (suc j) (omega (arith, l));
+    }
+
+pub behind-empty : (t : List ℕ) (from m k : ℕ) → from + m ≡ k + 1 → OccursAt (drop from t) (10 ∷ 13 ∷ 10 ∷ []) m → get_or t k 0 ≡ 13 → empty_at t k ≡ true
+behind-empty t from m k e h cr =
+    let byte : (j : ℕ) → j < 3 → get_or t (k + suc j) 0 ≡ get_or (10 ∷ 13 ∷ 10 ∷ []) j 0 = λ j l.
+    ap (λ n. get_or t n 0) (let i : k + suc j ≡ from + (m + j) = omega (arith, e) in i) ∙ sym (get_or-drop from t (m + j) 0) ∙ h.reads j l in
+    occurs-empty t k (record {
+      fits = omega (arith, e, h.fits, length-drop from t);
+      reads = below_four (λ j. get_or t (k + j) 0 ≡ get_or (13 ∷ 10 ∷ 13 ∷ 10 ∷ []) j 0)
+          (ap (λ n. get_or t n 0) (let i : k + 0 ≡ k = omega arith in i) ∙ cr)
+          (byte 0 (omega arith)) (byte 1 (omega arith)) (byte 2 (omega arith));
+    })
+
+-- no empty line begins before a place, where none begins before another and no LF CR LF stands behind a CR up to it
+pub none-up_to : (t : List ℕ) (from step k : ℕ) → ((j : ℕ) → j + 1 < from → empty_at t j ≡ false)
+    → ((j : ℕ) → j < step → ¬ OccursAt (drop from t) (10 ∷ 13 ∷ 10 ∷ []) j) → k + 1 < from + step → empty_at t k ≡ false
+none-up_to t from step k before none below = ⊎_elim (before k)
+    (λ past. false_from_ne_true _ (λ is. none (k + 1 - from) (omega (arith, past, below)) (empty-behind t from (k + 1 - from) k (omega (arith, past)) is)))
+    (cases_lt (k + 1) from)
+
+pub none-past : (t : List ℕ) (from step k : ℕ) → ((j : ℕ) → j + 1 < from → empty_at t j ≡ false)
+    → ((j : ℕ) → j < step → ¬ OccursAt (drop from t) (10 ∷ 13 ∷ 10 ∷ []) j) → (0 < from + step → get_or t (from + step - 1) 0 ≡ 13 → ⊥)
+    → k + 1 < from + step + 1 → empty_at t k ≡ false
+none-past t from step k before none other below = ⊎_elim (none-up_to t from step k before none)
+    (λ past. false_from_ne_true _ (λ is.
+    let at : k ≡ from + step - 1 = omega (arith, past, below) in
+    let both = and_parts _ _ is in
+    let cr = crlf_bytes (get_or t k 0) (get_or t (suc k) 0) both.0 in
+    other (omega (arith, past)) (ap (λ n. get_or t n 0) (sym at) ∙ cr.0)))
+    (cases_lt (k + 1) (from + step))
+
+-- none begins anywhere, where no LF CR LF stands from the place on
+pub nowhere : (t : List ℕ) (from : ℕ) → ((j : ℕ) → j + 1 < from → empty_at t j ≡ false)
+    → Nowhere (OccursAt (drop from t) (10 ∷ 13 ∷ 10 ∷ [])) 0 (length (drop from t) + 1) → (k : ℕ) → empty_at t k ≡ false
+nowhere t from before none k = ⊎_elim (before k)
+    (λ past. false_from_ne_true _ (λ is.
+    let here = empty-behind t from (k + 1 - from) k (omega (arith, past)) is in
+    none (k + 1 - from) (omega arith) (omega (arith, here.fits)) here))
+    (cases_lt (k + 1) from)
 
 pub suc_some : (o : Option ℕ) (p : ℕ) → option_map suc o ≡ Some p → (q : ℕ) × (o ≡ Some q) × (suc q ≡ p)
 suc_some None p h = absurd cc

@@ -41,6 +41,23 @@ fn ends_at(kept: &[u8], piece: &[u8], place: usize) -> bool
     byte_at(kept, piece, end - 3) == b'\r'
 }
 
+/// Where the first CRLF CRLF stands. It is looked for by its LF CR LF: in lines of fields no CR stands behind an LF, so
+/// that the place is looked at alone.
+pub(crate) fn find_empty_line(text: &[u8]) -> Option<usize>
+    ensures value { result ≡ empty_line text.now }
+    ensures within { IfSome result (λ at. at + 4 ≤ length text.now) }
+{
+    let mut from = 0;
+    while let Some(step) = memmem::find(&text[from..], b"\n\r\n") {
+        let at = from + step;
+        if at > 0 && text[at - 1] == b'\r' {
+            return Some(at - 1);
+        }
+        from = at + 1;
+    }
+    None
+}
+
 /// How many bytes of the piece end the first CRLF CRLF, where the kept bytes hold none. Only those that begin in the
 /// kept bytes are looked for byte by byte.
 pub(crate) fn find_end(kept: &[u8], piece: &[u8]) -> Option<usize>
@@ -55,7 +72,7 @@ pub(crate) fn find_end(kept: &[u8], piece: &[u8]) -> Option<usize>
             return Some(place + 1);
         }
     }
-    let place = memmem::find(piece, b"\r\n\r\n")?;
+    let place = find_empty_line(piece)?;
     Some(place + 4)
 }
 

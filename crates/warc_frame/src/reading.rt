@@ -2,14 +2,13 @@ ghost use Rattle.std.specs.Prelude.{◌≡◌, ◌≢◌, ◌<◌, ◌+◌, ◌�
 ghost use Rattle.warc_frame.specs.declared.version.Version.{Version};
 ghost use Rattle.warc_frame.specs.Record.{Record, canonical_len, block_len, fault_kind_of, max_block, max_head};
 ghost use Rattle.warc_frame.specs.Spelling.{Spells};
-ghost use Rattle.warc_frame.specs.Reading.{any_fields, begins, block_at, empty_line, head_front, head_len, head_of, record_of, version_of, AnswersAs, OrMemory};
+ghost use Rattle.warc_frame.specs.Reading.{any_fields, begins, block_at, head_front, head_len, head_of, record_of, version_of, AnswersAs, OrMemory};
 ghost use Rattle.warc_frame.specs.Faults.{IsFrameFault};
 
-use crate::ends::{begins_as, version_across};
+use crate::ends::{begins_as, find_empty_line, version_across};
 use crate::fault::{Fault, FaultKind};
 use crate::framed::{Framed, FramedFault};
 use crate::version::Version;
-use memchr::memmem;
 use std::alloc::Allocator;
 use warc_field::{AreaFault, Fields, canonical_len, decimal, read_area};
 
@@ -31,14 +30,6 @@ pub struct Head<A: Allocator> {
     pub len: usize,
     /// How many bytes the block behind it has, as its `Content-Length` says: at most 2^40.
     pub block_len: u64,
-}
-
-/// Where the first CRLF CRLF stands.
-fn find_empty_line(text: &[u8]) -> Option<usize>
-    ensures value { result ≡ empty_line text.now }
-    ensures within { IfSome result (λ at. at + 4 ≤ length text.now) }
-{
-    memmem::find(text, b"\r\n\r\n")
 }
 
 /// The part of a text in which its head must end.

@@ -1,6 +1,6 @@
 use Rattle.std.proofs.Common.{◌≡◌, ℕ, ◌+◌, ◌-◌, ◌++◌, length, sym, ap, ◌∙◌, arith, add-zero, Some}
 use Rattle.warc_frame.proofs.StreamEnds.{none_in_front, found_behind, first_in_piece, none_in_piece}
-use Rattle.warc_frame.proofs.EmptyLineLemmas.{empty_line-is, empty-len}
+use Rattle.warc_frame.proofs.EmptyLineLemmas.{empty-len}
 use Rattle.warc_frame.proofs.ends.find_end.Goals as goal
 
 pub loop-place-init : goal.loop-place-init
@@ -16,9 +16,9 @@ returns-then-ends_at-clause-end c =
 pub returns-in_err-place-clause-end : goal.returns-in_err-place-clause-end
 returns-in_err-place-clause-end c =
     rw c.from_residual.ensures
-    (none_in_piece c.args.kept.now c.args.piece.now c.loop-place.place c.loop-place.invariant (omega arith) (sym (empty_line-is c.args.piece.now c.find.result c.find.ensures) ∙ c.in_err-place.was))
+    (none_in_piece c.args.kept.now c.args.piece.now c.loop-place.place c.loop-place.invariant (omega arith) (sym c.find_empty_line.ensures.value ∙ c.in_err-place.was))
 
 pub returns-clause-end : goal.returns-clause-end
 returns-clause-end c =
-    let found = sym (empty_line-is c.args.piece.now c.find.result c.find.ensures) ∙ c.in_ok-place.was in
+    let found = sym c.find_empty_line.ensures.value ∙ c.in_ok-place.was in
     first_in_piece c.args.kept.now c.args.piece.now c.loop-place.place c.in_ok-place.place c.loop-place.invariant (omega arith) found (empty-len c.args.piece.now c.in_ok-place.place found)
