@@ -1,5 +1,5 @@
 //! A small buffer before a sink.
-ghost use Rattle.std.specs.Prelude.{◌≡◌, ℕ, ◌+◌, ◌<◌, List, [], ◌++◌, length, map, Option, Result, OnOk, IfErr, is_err, if◌then◌else◌};
+ghost use Rattle.std.specs.Prelude.{◌≡◌, ℕ, ◌+◌, ◌<◌, ◌≤◌, List, [], ◌++◌, length, map, Option, Result, OnOk, IfErr, is_err, if◌then◌else◌};
 ghost use Rattle.std.specs.Io.KnownBytes.{append_known};
 ghost use Rattle.std.specs.List.{concat};
 ghost use Rattle.warc_frame.specs.Count.{raised, capped};
@@ -98,36 +98,42 @@ impl OutBuffer {
         answer
     }
 
-    /// Sends what waits in the buffer where so many bytes don't fit behind it.
-    fn make_room<W: Sink>(&mut self, out: &mut W, len: usize) -> Result<(), SendFault>
-        ensures out { (start : Option (List ℕ)) (output : List ℕ) → IsStaged start output (W.seen out.old).tells
-            self.old → OnOk result (IsStaged start output (W.seen out.new).tells self.new) }
-        ensures cut { (start : Option (List ℕ)) (output : List ℕ) → IsStaged start output (W.seen out.old).tells
-            self.old → IfErr result (λ e. WentOut start output (W.seen out.new).tells e.sent) }
-        ensures room { OnOk result (SIZE < length self.new.bytes + len → self.new.bytes ≡ []) }
-        ensures failed { IfErr result (λ e. self.new ≡ record { bytes = []; sent = e.sent }) }
-        ensures cause { (W.seen out.new).faults ≡ (if is_err result then raised (W.seen out.old).faults else
-            (W.seen out.old).faults) }
+    /// Copies a piece for which there is room behind the bytes that wait.
+    #[inline]
+    fn append(&mut self, piece: &[u8])
+        requires { length self.old.bytes + length piece.now ≤ SIZE }
+        ensures { self.new ≡ record { bytes = self.old.bytes ++ piece.now; sent = self.old.sent } }
     {
-        if len > SIZE - self.len {
-            return self.flush(out);
+        let end = self.len + piece.len();
+        self.bytes[self.len..end].copy_from_slice(piece);
+        self.len = end;
+    }
+
+    /// Adds a piece for which there is no room: sends what waits before it, and the piece too where it is longer than
+    /// the buffer.
+    fn put_behind<W: Sink>(&mut self, out: &mut W, piece: &[u8]) -> Result<(), SendFault>
+        ensures puts { Puts (W.seen out.old) (W.seen out.new) self.old self.new result piece.now }
+        ensures failed { IfErr result (λ e. self.new ≡ record { bytes = []; sent = e.sent }) }
+    {
+        self.flush(out)?;
+        if piece.len() > SIZE {
+            return send_counted(out, piece, &mut self.sent);
         }
+        self.append(piece);
         Ok(())
     }
 
     /// Adds a piece to the output. One that is longer than the buffer goes through without being
     /// copied. After a failed write the buffer is empty.
+    #[inline]
     pub fn put<W: Sink>(&mut self, out: &mut W, piece: &[u8]) -> Result<(), SendFault>
         ensures puts { Puts (W.seen out.old) (W.seen out.new) self.old self.new result piece.now }
         ensures failed { IfErr result (λ e. self.new ≡ record { bytes = []; sent = e.sent }) }
     {
-        self.make_room(out, piece.len())?;
         if piece.len() > SIZE - self.len {
-            return send_counted(out, piece, &mut self.sent);
+            return self.put_behind(out, piece);
         }
-        let end = self.len + piece.len();
-        self.bytes[self.len..end].copy_from_slice(piece);
-        self.len = end;
+        self.append(piece);
         Ok(())
     }
 }
