@@ -38,7 +38,7 @@ AddsRow {A} old rows = (c : Current A) (bytes : List ℕ) → old.current ≡ So
 -- what is wanted of that record is kept beside its row
 abbrev pub AddsBeside : {A L : Type 0} → (L → List Placed → Type 0) → Reading A L → L → Type 0
 AddsBeside {A} K old beside = (c : Current A) (bytes : List ℕ) (records : List Placed) (p : Placed) → old.current ≡ Some c → HasSeen c.digest bytes → K old.beside records → length old.rows ≡ length records
-    → c.fields ≡ p.content.fields → head_fault p.content.fields ≡ None → place_by c bytes ≡ place_of p → K beside (records ++ p ∷ [])
+    → c.head ≡ p.content.fields → head_fault p.content.fields ≡ None → place_by c bytes ≡ place_of p → K beside (records ++ p ∷ [])
 
 end_kept : {A L : Type 0} {K : L → List Placed → Type 0} (text more : List ℕ) (rs : List Record) (o : Option Unclosed) (rows : List Row) (beside : L) (begin : ℕ) (cur : Option (Current A)) (new : Reading A L)
     → HasRead K text (record { records = rs; unclosed = o }) (record { rows = rows; beside = beside; begin = begin; current = cur }) → IsWhole o

@@ -168,7 +168,7 @@ head_kept {A} {L} {K} text more rs u old new c has exact none rows beside begin 
 -- bytes of a block were told
 abbrev pub TakesPart : {A : Type 0} → List ℕ → Option (Current A) → Option (Current A) → Type 0
 TakesPart {A} part old new = (c : Current A) → old ≡ Some c → (d : Current A) × (new ≡ Some d)
-    × (d.fields ≡ c.fields) × (d.block_start ≡ c.block_start) × (d.block_len ≡ c.block_len) × (d.digest.wanted ≡ c.digest.wanted)
+    × (d.head ≡ c.head) × (d.block_start ≡ c.block_start) × (d.block_len ≡ c.block_len) × (d.digest.wanted ≡ c.digest.wanted)
     × ((bytes : List ℕ) → HasSeen c.digest bytes → HasSeen d.digest (bytes ++ part))
 
 matches_part : {A : Type 0} (begin : ℕ) (rest more part : List ℕ) (o : Option Unclosed) (old new : Option (Current A)) → IsSome o → Matches begin rest o old → TakesPart part old new
@@ -227,7 +227,7 @@ place_is p c start len of =
 pub end_kept_by : {A L : Type 0} {K : L → List Placed → Type 0} (text more : List ℕ) (rs : List Record) (u : Unclosed) (old new : Reading A L) (c : Current A) (has : HasRead K text (record { records = rs; unclosed = Some u }) old)
     → IsCurrent (length has.front) has.rest u c → length u.bytes ≡ u.block_len → IsExact (text ++ more) (record { records = rs ++ record { version = u.version; fields = u.fields; block = u.bytes } ∷ []; unclosed = None })
     → new.begin ≡ length (text ++ more) → new.current ≡ None → new.rows ≡ old.rows ++ row_by old.begin c u.bytes ∷ []
-    → ((records : List Placed) (p : Placed) → K old.beside records → length old.rows ≡ length records → c.fields ≡ p.content.fields → head_fault p.content.fields ≡ None → place_by c u.bytes ≡ place_of p → K new.beside (records ++ p ∷ []))
+    → ((records : List Placed) (p : Placed) → K old.beside records → length old.rows ≡ length records → c.head ≡ p.content.fields → head_fault p.content.fields ≡ None → place_by c u.bytes ≡ place_of p → K new.beside (records ++ p ∷ []))
     → HasRead K (text ++ more) (record { records = rs ++ record { version = u.version; fields = u.fields; block = u.bytes } ∷ []; unclosed = None }) new
 end_kept_by {A} {L} {K} text more rs u old new c has is whole exact begin current rows keeps =
     let r : Record = record { version = u.version; fields = u.fields; block = u.bytes } in

@@ -34,7 +34,7 @@ HasSeen digest bytes = IfChecked digest.wanted (HasTaken digest.running bytes)
 -- what is kept of a good head
 pub record IsHead {A : Type 0} (fields : List Pair) (c : Current A) : Type 0 where
   pub good : head_fault fields ≡ None
-  pub fields_are : c.fields ≡ fields
+  pub fields_are : c.head ≡ fields
   pub wanted : c.digest.wanted ≡ digest_wanted fields
 
 -- the record that is being read begins at this offset, and of it these bytes were taken and this was told
@@ -96,11 +96,11 @@ row_by begin c bytes = record {
   block_start = c.block_start;
   block_len = c.block_len;
   verdict = verdict_of c.digest.wanted bytes;
-  is_truncated = (reading_of c.fields).truncated;
-  kind = unwrap_or (reading_of c.fields).type_text [];
-  date = unwrap_or (reading_of c.fields).date_text [];
-  id = unwrap_or (reading_of c.fields).id_text [];
-  target = unwrap_or (reading_of c.fields).target [];
+  is_truncated = (reading_of c.head).truncated;
+  kind = unwrap_or (reading_of c.head).type_text [];
+  date = unwrap_or (reading_of c.head).date_text [];
+  id = unwrap_or (reading_of c.head).id_text [];
+  target = unwrap_or (reading_of c.head).target [];
 }
 
 -- where its block stands, and what was found of it
@@ -109,7 +109,7 @@ place_by c bytes = record {
   start = c.block_start;
   len = c.block_len;
   verdict = verdict_of c.digest.wanted bytes;
-  truncated = (reading_of c.fields).truncated;
+  truncated = (reading_of c.head).truncated;
 }
 
 -- these are the rows of the records that bytes spell, and beside the rows is kept what is wanted of them

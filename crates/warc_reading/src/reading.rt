@@ -16,7 +16,7 @@ use crate::rows::{Row, Rows};
 use std::alloc::{AllocError, Allocator};
 use warc_field::Fields;
 use warc_frame::{Decoder, Event, Fault, FaultKind, Source};
-use warc_record::{head_texts, judge_head};
+use warc_record::{GoodHead, judge_head};
 use warc_segment::Place;
 use warc_value::{Running, Verdict, Wanted};
 
@@ -64,7 +64,7 @@ impl BlockDigest {
 /// The record that is being read: what its head says, and where its block lies.
 #[derive(Drop)]
 struct Current<A: Allocator> {
-    fields: Fields<A>,
+    head: GoodHead<A>,
     block_start: u64,
     block_len: u64,
     digest: BlockDigest,
@@ -123,9 +123,10 @@ impl<A: Allocator + Copy, L: Keep<A> + Drop> Reading<A, L> {
             × (c.block_start ≡ block_start) × (c.block_len ≡ block_len)) }
         ensures fault { IfErr result (λ kind. head_fault fields ≡ Some kind) }
     {
-        let digest = BlockDigest::new(judge_head(&fields)?);
+        let head = judge_head(fields)?;
+        let digest = BlockDigest::new(head.wanted());
         self.current = Some(Current {
-            fields,
+            head,
             block_start,
             block_len,
             digest,
@@ -139,7 +140,7 @@ impl<A: Allocator + Copy, L: Keep<A> + Drop> Reading<A, L> {
         ensures beside { self.new.beside ≡ self.old.beside }
         ensures begin { self.new.begin ≡ self.old.begin }
         ensures current { (c : Kept A) → self.old.current ≡ Some c → (d : Kept A) × (self.new.current ≡ Some d)
-            × (d.fields ≡ c.fields) × (d.block_start ≡ c.block_start) × (d.block_len ≡ c.block_len)
+            × (d.head ≡ c.head) × (d.block_start ≡ c.block_start) × (d.block_len ≡ c.block_len)
             × (d.digest.wanted ≡ c.digest.wanted)
             × ((bytes : List ℕ) → HasSeen c.digest bytes → HasSeen d.digest (bytes ++ part.now)) }
     {
@@ -157,7 +158,7 @@ impl<A: Allocator + Copy, L: Keep<A> + Drop> Reading<A, L> {
         ensures extends { Extends self.old.rows self.new.rows }
         ensures beside { (c : Kept A) (bytes : List ℕ) (records : List Placed) (p : Placed) →
             self.old.current ≡ Some c → HasSeen c.digest bytes → L.keeps self.old.beside records →
-            length self.old.rows ≡ length records → c.fields ≡ p.content.fields →
+            length self.old.rows ≡ length records → c.head ≡ p.content.fields →
             head_fault p.content.fields ≡ None → place_by c bytes ≡ place_of p →
             OnOk result (L.keeps self.new.beside (records ++ p ∷ [])) }
         ensures left { (records : List Placed) → L.keeps self.old.beside records →
@@ -165,13 +166,13 @@ impl<A: Allocator + Copy, L: Keep<A> + Drop> Reading<A, L> {
     {
         if let Some(current) = self.current.take() {
             let Current {
-                fields,
+                head,
                 block_start,
                 block_len,
                 digest,
             } = current;
             let verdict = digest.verdict();
-            let texts = head_texts(&fields);
+            let texts = head.texts();
             let position = self.rows.len();
             self.rows.push(&Row {
                 offset: self.begin,
@@ -190,7 +191,7 @@ impl<A: Allocator + Copy, L: Keep<A> + Drop> Reading<A, L> {
                 verdict,
                 truncated: texts.is_truncated,
             };
-            self.beside.keep(alloc, position, &fields, place)?;
+            self.beside.keep(alloc, position, head.fields(), place)?;
         }
         self.begin = end;
         Ok(())

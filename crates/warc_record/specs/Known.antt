@@ -3,6 +3,7 @@ use Rattle.std.specs.Prelude.{◌≡◌, ℕ, Bool, ◌==◌, ◌<◌, nat_lt, t
 use Rattle.warc_field.specs.Area.{Pair, count_of, first_value}
 use Rattle.warc_record.specs.declared.known.Known.{Known}
 use Rattle.warc_record.specs.declared.known.Spot.{Spot}
+use Rattle.warc_record.specs.declared.known.Places.{Places}
 use Rattle.warc_record.specs.declared.known.Spot.TheVariants.{Absent, Once, Repeated}
 use Rattle.warc_record.specs.declared.known.Known.TheVariants.{«Type», RecordId, Date, TargetUri, ConcurrentTo, IpAddress, RefersTo, RefersToTargetUri, RefersToDate, Filename, Profile, WarcinfoId, SegmentNumber, SegmentOriginId, SegmentTotalLength, BlockDigest, PayloadDigest, Truncated, IdentifiedPayloadType, ContentType}
 
@@ -78,6 +79,10 @@ spot_place Absent = None
 spot_place (Once place) = Some place
 spot_place (Repeated place) = Some place
 
+-- the value of the field at a place
+abbrev pub value_at : List Pair → ℕ → Option (List ℕ)
+value_at fields place = option_map (λ (field : Pair). field.1) (slice_get fields place)
+
 -- its value, and whether there is another
 abbrev pub spot_value : Spot → List Pair → Option (List ℕ)
 spot_value spot fields = option_map (λ (field : Pair). field.1) (option_and_then (slice_get fields) (spot_place spot))
@@ -108,3 +113,12 @@ abbrev pub next_spot : Spot → ℕ → Spot
 next_spot Absent place = Once place
 next_spot (Once first) place = Repeated first
 next_spot (Repeated first) place = Repeated first
+
+-- where the first fields stand of the names by which a good head is read again: a place past the end of an absent one
+pub record ArePlaces (fields : List Pair) (places : Places) : Type 0 where
+  pub kind : value_at fields places.kind ≡ first_value (codes "WARC-Type") fields
+  pub date : value_at fields places.date ≡ first_value (codes "WARC-Date") fields
+  pub id : value_at fields places.id ≡ first_value (codes "WARC-Record-ID") fields
+  pub target : value_at fields places.target ≡ first_value (codes "WARC-Target-URI") fields
+  pub digest : value_at fields places.digest ≡ first_value (codes "WARC-Block-Digest") fields
+  pub truncated : value_at fields places.truncated ≡ first_value (codes "WARC-Truncated") fields

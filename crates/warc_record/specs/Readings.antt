@@ -25,9 +25,12 @@ unless_empty text = if length text == 0 then None else Some text
 abbrev pub present_value : List ℕ → List Pair → Option (List ℕ)
 present_value name fields = option_and_then unless_empty (first_value name fields)
 
--- the bare text of that value, absent where it is empty too
+-- the bare text of a value, absent where it is empty too, and that of the first field of a name
+abbrev pub bare_present : Option (List ℕ) → Option (List ℕ)
+bare_present value = option_and_then (λ text. unless_empty (bare_text text)) (option_and_then unless_empty value)
+
 abbrev pub present_bare : List ℕ → List Pair → Option (List ℕ)
-present_bare name fields = option_and_then (λ value. unless_empty (bare_text value)) (present_value name fields)
+present_bare name fields = bare_present (first_value name fields)
 
 -- the key of the id that the value of a field holds, its date's instant, its number
 abbrev pub key_in : List ℕ → List Pair → Option (List ℕ)

@@ -1,20 +1,22 @@
-ghost use Rattle.std.specs.Prelude.{◌≡◌, [], IfOk, MatchResult, Some, None, true, codes, option_map, unwrap_or};
+ghost use Rattle.std.specs.Prelude.{◌≡◌, [], IfOk, MatchResult, Some, None, true, codes, option_and_then, option_map, unwrap_or};
+ghost use Rattle.std.specs.Option.{option_copied};
 ghost use Rattle.warc_field.specs.Area.{first_value};
 ghost use Rattle.warc_value.specs.Dates.{instant_of};
 ghost use Rattle.warc_frame.specs.FaultText.{name_of};
 ghost use Rattle.warc_record.specs.Ids.{is_id};
-ghost use Rattle.warc_record.specs.Readings.{both, present_bare, instant_in, reference_of, segment_of, digest_wanted, reading_of, target_of};
-ghost use Rattle.warc_record.specs.Known.{known_name};
+ghost use Rattle.warc_record.specs.Readings.{bare_present, both, present_bare, instant_in, unless_empty, reference_of, segment_of, digest_wanted, reading_of, target_of};
+ghost use Rattle.warc_record.specs.Known.{ArePlaces, known_name, value_at};
 ghost use Rattle.warc_record.specs.Heads.{count_fault, type_fault, id_fault, head_fault};
 ghost use Rattle.warc_record.specs.Seen.{pair_said, reference_said, segment_said, said, RefusesFor};
 
 use crate::ids::{IdKey, bare, id_key, is_bare_id};
-use crate::known::{ByName, Known};
+use crate::known::{ByName, Known, Places};
 use crate::readings::{
     SegmentNumber, bare_in, is_known_profile, key_in, number_in, present, segment_number, text_in,
 };
 use crate::types::Kind;
 use std::alloc::{AllocError, Allocator, Global};
+use std::marker::Model;
 use warc_field::{Fields, Value, is_name};
 use warc_frame::{FaultKind, Mandatory};
 use warc_value::{Moment, Wanted, read_date};
@@ -261,21 +263,30 @@ pub fn type_head<A: Allocator + Copy>(alloc: A, fields: &Fields<A>) -> Result<Ty
     }
 }
 
-/// The digest that a head wants of its block, or the first refusal of its type, its id and its date, in the order of
-/// `type_head`. It takes no memory.
-pub fn judge_head<A: Allocator>(fields: &Fields<A>) -> Result<Wanted, FaultKind>
+/// The places in a good head, or the first refusal of its type, its id and its date.
+fn judge<A: Allocator>(fields: &ByName<'_, A>) -> Result<Places, FaultKind>
     ensures { MatchResult result
-        (λ wanted. (head_fault fields.now ≡ None) × (wanted ≡ digest_wanted fields.now))
+        (λ places. (head_fault fields.now ≡ None) × ArePlaces fields.now places)
         (λ fault. head_fault fields.now ≡ Some fault) }
 {
-    let fields = &ByName::new(fields);
     type_text(fields)?;
     id_text(fields)?;
     let date_text = only(fields, Known::Date, Mandatory::Date)?;
     match read_date(date_text.bytes()) {
-        Some(_) => Ok(wanted_in(fields)),
+        Some(_) => Ok(fields.places()),
         None => Err(FaultKind::Date),
     }
+}
+
+/// The head that these fields are, or the first refusal of its type, its id and its date, in the order of `type_head`.
+/// It takes no memory.
+pub fn judge_head<A: Allocator>(fields: Fields<A>) -> Result<GoodHead<A>, FaultKind>
+    ensures { MatchResult result
+        (λ head. (head_fault fields ≡ None) × (head ≡ fields))
+        (λ fault. head_fault fields ≡ Some fault) }
+{
+    let places = judge(&ByName::new(&fields))?;
+    Ok(GoodHead { fields, places })
 }
 
 /// The texts of a head that are listed, each empty where it is absent, and whether the record is marked as truncated.
@@ -288,40 +299,91 @@ pub struct HeadTexts<'a> {
     pub is_truncated: bool,
 }
 
-/// The value of the first field of the name, empty where there is none.
-fn first_or_empty<'a, A: Allocator>(fields: &ByName<'a, A>, name: Known) -> &'a [u8]
-    ensures { result.now ≡ unwrap_or (first_value (known_name name) fields.now) [] }
+/// The value of the field at a place, where one stands there that isn't empty.
+fn present_at<A: Allocator>(fields: &Fields<A>, place: usize) -> Option<&Value<A>>
+    ensures { option_copied result ≡ option_and_then unless_empty (value_at fields.now place) }
 {
-    match fields.first(name) {
-        Some(value) => value.bytes(),
+    let (_, value) = fields.get(place)?;
+    if value.bytes().is_empty() {
+        None
+    } else {
+        Some(value)
+    }
+}
+
+/// The value of the field at a place, empty where none stands there.
+fn value_or_empty<A: Allocator>(fields: &Fields<A>, place: usize) -> &[u8]
+    ensures { result.now ≡ unwrap_or (value_at fields.now place) [] }
+{
+    match fields.get(place) {
+        Some((_, value)) => value.bytes(),
         None => b"",
     }
 }
 
-/// The bare text of the head's target, empty where it is absent.
-fn bare_target<'a, A: Allocator>(fields: &ByName<'a, A>) -> &'a [u8]
-    ensures { result.now ≡ unwrap_or (target_of fields.now) [] }
+/// The bare text of the field at a place, empty where none stands there.
+fn bare_or_empty<A: Allocator>(fields: &Fields<A>, place: usize) -> &[u8]
+    ensures { result.now ≡ unwrap_or (bare_present (value_at fields.now place)) [] }
 {
-    match present(fields, Known::TargetUri) {
+    match present_at(fields, place) {
         Some(value) => bare(value.bytes()),
         None => b"",
     }
 }
 
-/// What of a head is listed: the values of its type, date and id as they stand, and its target without brackets.
-pub fn head_texts<A: Allocator>(fields: &Fields<A>) -> HeadTexts<'_>
-    ensures kind { result.kind.now ≡ unwrap_or (reading_of fields.now).type_text [] }
-    ensures date { result.date.now ≡ unwrap_or (reading_of fields.now).date_text [] }
-    ensures id { result.id.now ≡ unwrap_or (reading_of fields.now).id_text [] }
-    ensures target { result.target.now ≡ unwrap_or (reading_of fields.now).target [] }
-    ensures truncated { result.is_truncated ≡ (reading_of fields.now).truncated }
-{
-    let fields = &ByName::new(fields);
-    HeadTexts {
-        kind: first_or_empty(fields, Known::Type),
-        date: first_or_empty(fields, Known::Date),
-        id: first_or_empty(fields, Known::RecordId),
-        target: bare_target(fields),
-        is_truncated: present(fields, Known::Truncated).is_some(),
+/// A good head: its fields, and where those stand that it is read by again. Contracts see the list of its fields.
+#[derive(Drop)]
+pub struct GoodHead<A: Allocator = Global> {
+    fields: Fields<A>,
+    places: Places,
+}
+
+impl<A: Allocator> Model for GoodHead<A> {
+    ghost use Rattle.std.specs.Prelude.{◌≡◌, List, ℕ, None};
+    ghost use Rattle.warc_record.specs.Heads.{head_fault};
+    ghost use Rattle.warc_record.specs.Known.{ArePlaces};
+
+    ghost Value = { List (List ℕ × List ℕ) };
+
+    ghost view = { λ h. h.fields };
+
+    ghost invariant = { λ h. record { good : head_fault h.fields ≡ None; places : ArePlaces h.fields h.places } };
+}
+
+impl<A: Allocator> GoodHead<A> {
+    /// Its fields.
+    pub fn fields(&self) -> &Fields<A>
+        ensures fields { result.now ≡ self.now }
+        ensures good { head_fault self.now ≡ None }
+    {
+        &self.fields
+    }
+
+    /// The digest that it wants of its block.
+    pub fn wanted(&self) -> Wanted
+        ensures { result ≡ digest_wanted self.now }
+    {
+        match present_at(&self.fields, self.places.digest) {
+            Some(value) => Wanted::of(value),
+            None => Wanted::Unchecked,
+        }
+    }
+
+    /// What of it is listed: the values of its type, date and id as they stand, and its target without brackets.
+    pub fn texts(&self) -> HeadTexts<'_>
+        ensures kind { result.kind.now ≡ unwrap_or (reading_of self.now).type_text [] }
+        ensures date { result.date.now ≡ unwrap_or (reading_of self.now).date_text [] }
+        ensures id { result.id.now ≡ unwrap_or (reading_of self.now).id_text [] }
+        ensures target { result.target.now ≡ unwrap_or (reading_of self.now).target [] }
+        ensures truncated { result.is_truncated ≡ (reading_of self.now).truncated }
+    {
+        let (fields, places) = (&self.fields, self.places);
+        HeadTexts {
+            kind: value_or_empty(fields, places.kind),
+            date: value_or_empty(fields, places.date),
+            id: value_or_empty(fields, places.id),
+            target: bare_or_empty(fields, places.target),
+            is_truncated: present_at(fields, places.truncated).is_some(),
+        }
     }
 }

@@ -4,7 +4,7 @@ ghost use Rattle.std.specs.Char.{to_ascii_lowercase};
 ghost use Rattle.std.specs.Option.{option_copied};
 ghost use Rattle.warc_field.specs.Area.{Pair, count_of, first_value};
 ghost use Rattle.warc_field.specs.Text.{same};
-ghost use Rattle.warc_record.specs.Known.{known_name, known_place, known_by, next_spot, spot_place, AreSpots};
+ghost use Rattle.warc_record.specs.Known.{known_name, known_place, known_by, next_spot, spot_place, value_at, ArePlaces, AreSpots};
 
 use std::alloc::Allocator;
 use std::marker::Model;
@@ -202,6 +202,18 @@ impl Spot {
     }
 }
 
+/// Where the fields stand that a good head is read by again, each the first of its name. That of an absent one is past
+/// the end.
+#[derive(Clone, Copy)]
+pub(crate) struct Places {
+    pub(crate) kind: usize,
+    pub(crate) date: usize,
+    pub(crate) id: usize,
+    pub(crate) target: usize,
+    pub(crate) digest: usize,
+    pub(crate) truncated: usize,
+}
+
 /// A head's fields, found by the names that it is read by. Contracts see the list of fields.
 #[derive(Drop)]
 pub(crate) struct ByName<'a, A: Allocator> {
@@ -261,6 +273,30 @@ impl<'a, A: Allocator> ByName<'a, A> {
         ensures { result.now ≡ self.now }
     {
         self.fields.as_slice()
+    }
+
+    /// The place of the first field of this name, or the number of fields where there is none.
+    fn place(&self, known: Known) -> usize
+        ensures { value_at self.now result ≡ first_value (known_name known) self.now }
+    {
+        match self.spots[known.place()].first() {
+            Some(place) => place,
+            None => self.fields.len(),
+        }
+    }
+
+    /// Where the fields stand that a good head is read by again.
+    pub(crate) fn places(&self) -> Places
+        ensures { ArePlaces self.now result }
+    {
+        Places {
+            kind: self.place(Known::Type),
+            date: self.place(Known::Date),
+            id: self.place(Known::RecordId),
+            target: self.place(Known::TargetUri),
+            digest: self.place(Known::BlockDigest),
+            truncated: self.place(Known::Truncated),
+        }
     }
 
     /// The value of the first field of this name.

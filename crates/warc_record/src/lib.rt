@@ -13,7 +13,7 @@ mod types;
 
 pub use checks::{ArchiveFacts, Finding, all_findings, findings};
 pub use head::{
-    HeadTexts, NamedPair, Reference, Segment, Typed, head_texts, judge_head, type_head, wanted,
+    GoodHead, HeadTexts, NamedPair, Reference, Segment, Typed, judge_head, type_head, wanted,
 };
 pub use ids::{IdKey, bare, id_key, urn_uuid};
 pub use readings::SegmentNumber;

@@ -1,0 +1,27 @@
+use Rattle.std.proofs.Common.{rules, ◌≡◌, List, [], ◌∷◌, ◌++◌, Option, Some, ap, sym, subst, ◌∙◌}
+use Rattle.warc_segment.specs.declared.place.Place.{Place}
+use Rattle.warc_reading.specs.Indexed.{place_of}
+use Rattle.warc_reading.specs.Row.{Placed}
+use Rattle.warc_reading.specs.Stream.{HasSeen, place_by}
+use Rattle.warc_reading.specs.declared.reading.Current.{Current as Kept}
+use Rattle.warc_reading.proofs.reading.Reading.end_record.Goals.{in-Some+in_ok-push+in_ok-keep, in_default}
+use Rattle.warc_reading.proofs.reading.Reading.end_record.Goals as goal
+
+pub returns-clause-extends : goal.returns-clause-extends
+returns-clause-extends g c = elim c.match-take.branch [
+  | in-Some+in_ok-push+in_ok-keep w ↦ (_, ap (λ r. r.rows) w.self-is ∙ w.in_ok-push.ensures.ok)
+  | in_default w ↦ search rules
+]
+
+pub returns-clause-beside : goal.returns-clause-beside
+returns-clause-beside g c = elim c.match-take.branch [
+  | in-Some+in_ok-push+in_ok-keep w ↦ λ kept bytes records p is seen keeps count head good place.
+      let same : ◌≡◌ {A = Kept g.row.A.Denot} w.in-Some.current kept = let e : ◌≡◌ {A = Option (Kept g.row.A.Denot)} (Some w.in-Some.current) (Some kept) = w.in-Some.ensures.value ∙ is in cc in
+      let taken : HasSeen w.in-Some.current.digest bytes = subst (λ (x : Kept g.row.A.Denot). HasSeen x.digest bytes) (sym same) seen in
+      let fields = w.fields.ensures.fields ∙ ap (λ (x : Kept g.row.A.Denot). x.head) same ∙ head in
+      let stands : ◌≡◌ {A = Place} (record { start = w.in-Some.current.block_start; len = w.in-Some.current.block_len; verdict = w.verdict-verdict.result; truncated = w.texts-texts.result.is_truncated }) (place_of p)
+      = rw (w.verdict-verdict.ensures bytes taken, w.texts-texts.ensures.truncated) (ap (λ (x : Kept g.row.A.Denot). place_by x bytes) same ∙ place) in
+      let now = w.in_ok-keep.ensures.ok records p keeps (w.len-position.ensures ∙ count) fields good stands in
+      subst (λ r. g.L.Keep.keeps r.beside (records ++ p ∷ [])) (sym w.self-is) now
+  | in_default w ↦ search rules
+]
