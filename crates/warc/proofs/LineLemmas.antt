@@ -1,4 +1,4 @@
--- Lines and the pieces that they are put together from.
+-- Lines and the columns that they are put together from.
 use Rattle.std.proofs.Common.{◌≡◌, ℕ, ◌+◌, ◌<◌, List, [], ◌∷◌, ◌++◌, length, take, drop, get_or, append_assoc, decimal, refl, sym, ap, ◌∙◌, arith, Some}
 use Rattle.std.proofs.lemmas.Grind.{flat_map-append}
 use Rattle.std.proofs.lemmas.List.{append-nil, take_more, length-take-le, take-append-drop}
@@ -7,14 +7,14 @@ use Rattle.std.specs.List.{concat, enumerate_from, flat_map, join_with_byte, sli
 use Rattle.warc.specs.Listing.{line_of, listing, shown}
 use Rattle.warc_reading.specs.Row.{Row}
 
-seven : (a b c d e f g : List ℕ) → concat (a ∷ (9 ∷ []) ∷ b ∷ (9 ∷ []) ∷ c ∷ (9 ∷ []) ∷ d ∷ (9 ∷ []) ∷ e ∷ (9 ∷ []) ∷ f ∷ (9 ∷ []) ∷ g ∷ (10 ∷ []) ∷ [])
+seven : (a b c d e f g : List ℕ) → concat ((a ++ 9 ∷ []) ∷ (b ++ 9 ∷ []) ∷ (c ++ 9 ∷ []) ∷ (d ++ 9 ∷ []) ∷ (e ++ 9 ∷ []) ∷ (f ++ 9 ∷ []) ∷ (g ++ 10 ∷ []) ∷ [])
     ≡ join_with_byte 9 (a ∷ b ∷ c ∷ d ∷ e ∷ f ∷ g ∷ []) ++ 10 ∷ []
 seven a b c d e f g = simp append_assoc
 
--- the pieces that a line is put together from
+-- the columns that a line is put together from
 pub line_from : (position : ℕ) (row : Row) (a b c d e f g : List ℕ) → a ≡ decimal position → b ≡ decimal row.offset → c ≡ decimal row.block_len
     → d ≡ row.kind → e ≡ row.date → f ≡ row.id → g ≡ shown row.target
-    → concat (a ∷ (9 ∷ []) ∷ b ∷ (9 ∷ []) ∷ c ∷ (9 ∷ []) ∷ d ∷ (9 ∷ []) ∷ e ∷ (9 ∷ []) ∷ f ∷ (9 ∷ []) ∷ g ∷ (10 ∷ []) ∷ []) ≡ line_of position row
+    → concat ((a ++ 9 ∷ []) ∷ (b ++ 9 ∷ []) ∷ (c ++ 9 ∷ []) ∷ (d ++ 9 ∷ []) ∷ (e ++ 9 ∷ []) ∷ (f ++ 9 ∷ []) ∷ (g ++ 10 ∷ []) ∷ []) ≡ line_of position row
 unfolding line_of
 line_from position row a b c d e f g is_a is_b is_c is_d is_e is_f is_g =
     seven a b c d e f g ∙ rw (is_a, is_b, is_c, is_d, is_e, is_f, is_g) refl

@@ -26,7 +26,7 @@ pub use reading::{Head, MAX_BLOCK, MAX_HEAD, read_head, read_one};
 pub use send::{SendFault, send_all};
 pub use sink::{MemSink, OutSink, Sink, WriteFault, is_failed};
 pub use source::{FileSource, MemSource, ReadFault, Source};
-pub use staging::{OutBuffer, put_all};
+pub use staging::{OutBuffer, put_all, put_columns};
 pub use stream::{Decoder, Event, MAX_ARCHIVE};
 pub use version::Version;
 pub use writing::write_one;

@@ -1,5 +1,5 @@
 //! A small buffer before a sink.
-ghost use Rattle.std.specs.Prelude.{◌≡◌, ℕ, ◌+◌, ◌<◌, ◌≤◌, List, [], ◌++◌, length, map, Option, Result, OnOk, IfErr, is_err, if◌then◌else◌};
+ghost use Rattle.std.specs.Prelude.{◌≡◌, ℕ, ◌+◌, ◌<◌, ◌≤◌, List, [], ◌∷◌, ◌++◌, length, map, Option, Result, OnOk, IfErr, is_err, if◌then◌else◌};
 ghost use Rattle.std.specs.Io.KnownBytes.{append_known};
 ghost use Rattle.std.specs.List.{concat};
 ghost use Rattle.warc_frame.specs.Count.{raised, capped};
@@ -109,6 +109,16 @@ impl OutBuffer {
         self.len = end;
     }
 
+    /// Writes a byte for which there is room behind the bytes that wait.
+    #[inline]
+    fn append_byte(&mut self, byte: u8)
+        requires { length self.old.bytes < SIZE }
+        ensures { self.new ≡ record { bytes = self.old.bytes ++ byte ∷ []; sent = self.old.sent } }
+    {
+        self.bytes[self.len] = byte;
+        self.len += 1;
+    }
+
     /// Adds a piece for which there is no room: sends what waits before it, and the piece too where it is longer than
     /// the buffer.
     fn put_behind<W: Sink>(&mut self, out: &mut W, piece: &[u8]) -> Result<(), SendFault>
@@ -136,6 +146,36 @@ impl OutBuffer {
         self.append(piece);
         Ok(())
     }
+
+    /// Adds a piece to the output, and a byte behind it, with one look for room where there is enough for both. After a
+    /// failed write the buffer is empty.
+    #[inline]
+    fn put_ended<W: Sink>(&mut self, out: &mut W, piece: &[u8], end: u8) -> Result<(), SendFault>
+        ensures { Puts (W.seen out.old) (W.seen out.new) self.old self.new result (piece.now ++ end ∷ []) }
+    {
+        if piece.len() < SIZE - self.len {
+            self.append(piece);
+            self.append_byte(end);
+            return Ok(());
+        }
+        self.put(out, piece)?;
+        self.put(out, &[end])
+    }
+}
+
+/// Adds the columns to the output, each with the byte that ends it behind it. After a failed write the buffer is empty.
+pub fn put_columns<W: Sink>(
+    columns: &[(&[u8], u8)],
+    buffer: &mut OutBuffer,
+    out: &mut W,
+) -> Result<(), SendFault>
+    ensures { Puts (W.seen out.old) (W.seen out.new) buffer.old buffer.new result
+        (concat (map (λ c. c.0.now ++ c.1 ∷ []) columns.now)) }
+{
+    'putting: for column in columns {
+        buffer.put_ended(out, column.0, column.1)?;
+    }
+    Ok(())
 }
 
 /// Adds the pieces to the output, one after another. After a failed write the buffer is empty.

@@ -17,4 +17,4 @@ returns g c =
     (ap (λ (r : Row). r.date) inside)
     (ap (λ (r : Row). r.id) inside)
     (c.shown_as.ensures ∙ ap (λ (r : Row). shown r.target) inside) in
-    puts_same line c.put_all.ensures
+    puts_same line c.put_columns.ensures
