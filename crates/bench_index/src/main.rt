@@ -65,56 +65,46 @@ fn heads(
     Ok(heads)
 }
 
-fn push_all(filling: &mut Filling, heads: &[Typed]) -> Result<(), AllocError> {
-    for head in heads {
-        filling.push(head)?;
-    }
-    Ok(())
+/// What records can be given to.
+trait Take {
+    /// Takes all these records.
+    fn take_all(&mut self, heads: &[Typed]) -> Result<(), AllocError>;
 }
 
-fn add_all(index: &mut Index, heads: &[Typed]) -> Result<(), AllocError> {
-    for head in heads {
-        index.add(head)?;
+impl Take for Filling {
+    fn take_all(&mut self, heads: &[Typed]) -> Result<(), AllocError> {
+        for head in heads {
+            self.push(head)?;
+        }
+        Ok(())
     }
-    Ok(())
 }
 
-/// An index of records that come at once, and the nanoseconds that it took.
-fn filled<R: Clock>(
+impl Take for Index {
+    fn take_all(&mut self, heads: &[Typed]) -> Result<(), AllocError> {
+        for head in heads {
+            self.add(head)?;
+        }
+        Ok(())
+    }
+}
+
+/// Gives so many records to an index. Returns the nanoseconds that it took.
+fn feed<R: Clock, I: Take>(
     rt: &R,
     alloc: Global,
+    index: &mut I,
     count: usize,
     is_equal: bool,
-) -> io::Result<(Index, u128)> {
-    let mut filling = Filling::new(alloc);
+) -> io::Result<u128> {
     let mut taken = 0u128;
     for first in (0..count).step_by(BATCH) {
         let heads = heads(alloc, first, BATCH.min(count - first), is_equal)?;
         let start = Instant::now(rt)?;
-        push_all(&mut filling, &heads)?;
+        index.take_all(&heads)?;
         taken = taken.saturating_add(start.elapsed(rt)?.as_nanos());
     }
-    let start = Instant::now(rt)?;
-    let index = filling.into_index();
-    Ok((index, taken.saturating_add(start.elapsed(rt)?.as_nanos())))
-}
-
-/// An index of records that come one by one, and the nanoseconds that it took.
-fn added<R: Clock>(
-    rt: &R,
-    alloc: Global,
-    count: usize,
-    is_equal: bool,
-) -> io::Result<(Index, u128)> {
-    let mut index = Index::new(alloc);
-    let mut taken = 0u128;
-    for first in (0..count).step_by(BATCH) {
-        let heads = heads(alloc, first, BATCH.min(count - first), is_equal)?;
-        let start = Instant::now(rt)?;
-        add_all(&mut index, &heads)?;
-        taken = taken.saturating_add(start.elapsed(rt)?.as_nanos());
-    }
-    Ok((index, taken))
+    Ok(taken)
 }
 
 /// How many of the targets are found, with what each leads to.
@@ -157,21 +147,89 @@ fn look_up<R: Print + Clock>(
     println!(rt; "found {found} in {each} ns each")
 }
 
+/// Prints what each of so many records took to fill or add, and looks each up.
+fn tell<R: Print + Clock>(
+    rt: &R,
+    alloc: Global,
+    index: &Index,
+    count: usize,
+    is_equal: bool,
+    done: &str,
+    taken: u128,
+) -> io::Result<()> {
+    let each = per(taken, count);
+    println!(rt; "{count} {done} in {each} ns each")?;
+    look_up(rt, alloc, index, count, is_equal)
+}
+
+// An index is costly to let go where a proof is made: each function that owns one has one way out.
+
+/// Measures an index of records that come at once.
+fn measure_filled<R: Print + Clock>(
+    rt: &R,
+    alloc: Global,
+    count: usize,
+    is_equal: bool,
+) -> io::Result<()> {
+    let mut filling = Filling::new(alloc);
+    let filled = feed(rt, alloc, &mut filling, count, is_equal);
+    let start = Instant::now(rt);
+    let index = filling.into_index();
+    tell_filled(rt, alloc, &index, count, is_equal, filled, start)
+}
+
+/// Tells of an index what its heads took, and what it took from the start on to make it of them.
+fn tell_filled<R: Print + Clock>(
+    rt: &R,
+    alloc: Global,
+    index: &Index,
+    count: usize,
+    is_equal: bool,
+    filled: io::Result<u128>,
+    start: io::Result<Instant>,
+) -> io::Result<()> {
+    let made = start?.elapsed(rt)?.as_nanos();
+    tell(
+        rt,
+        alloc,
+        index,
+        count,
+        is_equal,
+        "filled",
+        filled?.saturating_add(made),
+    )
+}
+
+/// Measures an index of records that come one by one.
+fn measure_added<R: Print + Clock>(
+    rt: &R,
+    alloc: Global,
+    count: usize,
+    is_equal: bool,
+) -> io::Result<()> {
+    let mut index = Index::new(alloc);
+    match feed(rt, alloc, &mut index, count, is_equal) {
+        Ok(taken) => tell(rt, alloc, &index, count, is_equal, "added", taken),
+        Err(error) => Err(error),
+    }
+}
+
+/// The bytes of the texts that an index of so many records keeps.
+fn kept<R: Clock>(rt: &R, alloc: Global, count: usize) -> io::Result<u64> {
+    let mut filling = Filling::new(alloc);
+    let filled = feed(rt, alloc, &mut filling, count, false);
+    let kept = filling.into_index().kept();
+    filled.map(|_taken| kept)
+}
+
 fn measure<R: Print + Clock>(
     rt: &R,
     alloc: Global,
     count: usize,
     is_equal: bool,
 ) -> io::Result<()> {
-    let (index, taken) = filled(rt, alloc, count, is_equal)?;
-    let each = per(taken, count);
-    println!(rt; "{count} filled in {each} ns each")?;
-    look_up(rt, alloc, &index, count, is_equal)?;
-    drop(index);
-    let (index, taken) = added(rt, alloc, count, is_equal)?;
-    let each = per(taken, count);
-    println!(rt; "{count} added in {each} ns each")?;
-    look_up(rt, alloc, &index, count, is_equal)
+    measure_filled(rt, alloc, count, is_equal)?;
+    measure_added(rt, alloc, count, is_equal)
 }
 
 fn main(rt: HostRuntime) -> io::Result<()> {
@@ -182,8 +240,7 @@ fn main(rt: HostRuntime) -> io::Result<()> {
     };
     match words.get(2) {
         Some(word) if word.as_str() == "memory" => {
-            let (index, _taken) = filled(&rt, rt.alloc(), count, false)?;
-            let kept = index.kept();
+            let kept = kept(&rt, rt.alloc(), count)?;
             println!(rt; "{kept}")
         }
         Some(_) => measure(&rt, rt.alloc(), count, true),
