@@ -1,17 +1,19 @@
 -- Digits, and the forms of dates by their lengths.
 use Rattle.std.proofs.Common.{◌≡◌, ℕ, zero, suc, ◌+◌, ◌-◌, ◌*◌, ◌^◌, ◌<◌, ◌≤◌, ◌==◌, Bool, true, false, ◌&&◌, ◌||◌, not, ◌⊎◌, inl, inr, nat_eq, nat_le, nat_lt, get_or, take, drop, length, List, [], ◌∷◌, ◌++◌, Option, Some, None, refl, drop-cons, add-one, add-zero, zero-add, arith, sym, ◌∙◌, ap, subst, if◌then◌else◌, codes, lit<, pow-add, mul-le-mul_right, le_of_lt}
 use Rattle.std.proofs.lemmas.Grind.{common_steps, pow_more}
-use Rattle.std.proofs.lemmas.List.{drop_all, length-take, length-drop, get_or-take, get_or-drop}
+use Rattle.std.proofs.lemmas.List.{drop_all, length-take, length-take-le, length-drop, take_all, take_more, get_or-take, get_or-drop}
 use Rattle.std.proofs.lemmas.List.Folds.{list_all-append}
 use Rattle.std.proofs.Math.Seq.{take-add}
-use Rattle.std.proofs.lemmas.Bool.{cases_lt, leb-true, lt-ltb}
+use Rattle.std.proofs.lemmas.Bool.{cases_lt, leb-true, lt-ltb, eqb-true}
+use Rattle.std.proofs.Math.Bool.{and_assoc}
 use Rattle.std.proofs.Math.Nat.{pow-le-pow_right}
 use Rattle.std.proofs.lemmas.Int.Digits.{digits_value_more}
-use Rattle.std.specs.List.{list_all, list_any}
+use Rattle.std.specs.List.{list_all, list_any, zip}
 use Rattle.std.specs.Char.{is_ascii_digit, digit_value}
 use Rattle.std.specs.Str.Parse.{digits_value}
 use Rattle.std.specs.Prelude.{is_some, option_map}
 use Rattle.warc_value.specs.declared.date.Date.{Date}
+use Rattle.warc_value.specs.declared.date.TheConstants.{LEAST, GREATEST}
 use Rattle.warc_value.proofs.Alphabet.{all_below, passes_below, both-left, both-right}
 use Rattle.warc_value.specs.Dates.{fits_place, is_form_length, forms, fits, date_in, date_of, number_or}
 
@@ -243,27 +245,80 @@ date_of-is text =
           ]
     ]
 
+-- a text of this length has one of the forms where its bytes may stand at their places
 pub has_form-length : (text : List ℕ) → has_length (length text) ≡ false → false ≡ is_some (date_of text)
 has_form-length text wrong = rw (date_of-is text, wrong) refl
 
-pub has_form-misfit : (text : List ℕ) → fits_from (length text) 0 text ≡ false → false ≡ is_some (date_of text)
-has_form-misfit text wrong = let is = date_of-is text in grind (arith, common_steps)
+pub has_form-fits : (text : List ℕ) → has_length (length text) ≡ true → fits_from (length text) 0 text ≡ is_some (date_of text)
+has_form-fits text has = let is = date_of-is text in grind (arith, common_steps)
 
-pub has_form-fit : (text : List ℕ) → has_length (length text) ≡ true → fits_from (length text) 0 text ≡ true → true ≡ is_some (date_of text)
-has_form-fit text has fit = rw (date_of-is text, has, fit) refl
+and_true : (a : Bool) → (a && true) ≡ a
+and_true true = refl
+and_true false = refl
 
--- a place more
-pub fits_from-more : (n at : ℕ) (text : List ℕ) → at < length text → fits_place (place_of n at) (get_or text at 0) ≡ true → fits_from n at (drop at text) ≡ fits_from n (at + 1) (drop (at + 1) text)
+-- one byte more
+pub fits_from-more : (n at : ℕ) (bs : List ℕ) (b : ℕ) → fits_from n at (bs ++ (b ∷ [])) ≡ (fits_from n at bs && fits_place (place_of n (at + length bs)) b)
 unfolding fits_from
-fits_from-more n at text below fit = rw (drop-cons text at 0 below, fit) (ap (λ (k : ℕ). fits_from n (at + 1) (drop k text)) (sym (add-one at)))
+fits_from-more n at [] b = rw add-zero (and_true (fits_place (place_of n at) b))
+fits_from-more n at (x ∷ bs) b =
+    let e : at + 1 + length bs ≡ at + suc (length bs) = omega arith in
+    rw (← e, fits_from-more n (at + 1) bs b) (sym (and_assoc (fits_place (place_of n at) x) (fits_from n (at + 1) bs) (fits_place (place_of n (at + 1 + length bs)) b)))
 
-pub fits_from-misfit : (n at : ℕ) (text : List ℕ) → at < length text → fits_place (place_of n at) (get_or text at 0) ≡ false → fits_from n at (drop at text) ≡ false
-unfolding fits_from
-fits_from-misfit n at text below wrong = rw (drop-cons text at 0 below, wrong) refl
+zip-none : (xs : List ℕ) → zip {K = ℕ} {X = ℕ} xs [] ≡ []
+zip-none [] = refl
+zip-none (x ∷ xs) = refl
 
-pub fits_from-end : (n at : ℕ) (text : List ℕ) → length text ≤ at → fits_from n at (drop at text) ≡ true
+-- before its last place, a form has the longest one's
+place-in_front : (n at k : ℕ) → (n ≤ 10) ⊎ (at + suc k < n) → place_of n at ≡ get_or places at 0
+place-in_front n at k front = elim front [ inl short ↦ grind (arith, common_steps) | inr early ↦ grind (arith, common_steps) ]
+
+pub fits_from-zip : (n at : ℕ) (bs : List ℕ) → at + length bs ≤ 29 → (n ≤ 10) ⊎ (at + length bs < n) → fits_from n at bs ≡ list_all (λ (pair : ℕ × ℕ). fits_place pair.0 pair.1) (zip (drop at places) bs)
 unfolding fits_from
-fits_from-end n at text past = rw (drop_all at text past) refl
+fits_from-zip n at [] few front = rw (zip-none (drop at places)) refl
+fits_from-zip n at (b ∷ bs) few front =
+    let inside : at < 29 = omega arith in
+    let later : (n ≤ 10) ⊎ (at + 1 + length bs < n) = elim front [ inl short ↦ inl short | inr early ↦ inr (omega arith) ] in
+    let rest = subst (λ (k : ℕ). fits_from n (at + 1) bs ≡ list_all (λ (pair : ℕ × ℕ). fits_place pair.0 pair.1) (zip (drop k places) bs)) (add-one at) (fits_from-zip n (at + 1) bs (omega arith) later) in
+    rw (drop-cons places at 0 inside, place-in_front n at (length bs) front) (ap (λ (fit : Bool). fits_place (get_or places at 0) b && fit) rest)
+
+-- a digit stands there
+abbrev pub is_letter : ℕ → Bool
+is_letter place = list_any (λ letter. letter == place) (codes "YMDhmsf")
+
+between_same : (place b : ℕ) → (nat_le place b && nat_le b place) ≡ nat_eq b place
+between_same place b = elim (equal_or b place) [ inl e ↦ grind (arith, common_steps) | inr e ↦ grind (arith, common_steps) ]
+
+-- the least and the greatest byte of a place
+in_range : (letter : Bool) (place least greatest b : ℕ) → is_letter place ≡ letter
+    → (if letter then nat_eq least 48 && nat_eq greatest 57 else nat_eq least place && nat_eq greatest place) ≡ true
+    → (nat_le least b && nat_le b greatest) ≡ fits_place place b
+in_range true place least greatest b e bounds =
+    let l : least ≡ 48 = eqb-true _ _ (both-left _ _ bounds) in
+    let g : greatest ≡ 57 = eqb-true _ _ (both-right _ _ bounds) in
+    rw (l, g, e) refl
+in_range false place least greatest b e bounds =
+    let l : least ≡ place = eqb-true _ _ (both-left _ _ bounds) in
+    let g : greatest ≡ place = eqb-true _ _ (both-right _ _ bounds) in
+    rw (l, g, e) (between_same place b)
+
+abbrev pub has_bounds : ℕ → ℕ → ℕ → Bool
+has_bounds place least greatest = if is_letter place then nat_eq least 48 && nat_eq greatest 57 else nat_eq least place && nat_eq greatest place
+
+pub place-range : (at b : ℕ) → at < 29 → (nat_le (get_or LEAST at 0) b && nat_le b (get_or GREATEST at 0)) ≡ fits_place (get_or places at 0) b
+place-range at b inside =
+    in_range _ (get_or places at 0) (get_or LEAST at 0) (get_or GREATEST at 0) b refl
+    (passes_below (λ at. has_bounds (get_or places at 0) (get_or LEAST at 0) (get_or GREATEST at 0)) 29 refl at inside)
+
+-- a byte more in the first places
+pub fit-more : (bs : List ℕ) (at : ℕ) (fit : Bool) → length bs ≤ 29 → at < length bs → fit ≡ fits_from 0 0 (take at bs)
+    → (fit && (nat_le (get_or LEAST at 0) (get_or bs at 0) && nat_le (get_or bs at 0) (get_or GREATEST at 0))) ≡ fits_from 0 0 (take (at + 1) bs)
+fit-more bs at fit few below so_far =
+    let e : length (take at bs) ≡ at = length-take-le at bs (omega arith) in
+    let more = fits_from-more 0 0 (take at bs) (get_or bs at 0) in
+    rw (take_more bs at 0 below, more, e, zero-add, ← so_far, place-range at (get_or bs at 0) (omega arith)) refl
+
+pub fit-whole : (bs : List ℕ) (at : ℕ) → length bs ≤ 29 → length bs ≤ at → fits_from 0 0 (take at bs) ≡ list_all (λ (pair : ℕ × ℕ). fits_place pair.0 pair.1) (zip places bs)
+fit-whole bs at few past = rw (take_all at bs past) (fits_from-zip 0 0 bs (omega arith) (inl (omega arith)))
 
 -- the same by the forms themselves
 pub length-matches : (n : ℕ) → is_form_length n ≡ has_length n
@@ -278,10 +333,6 @@ implies a b = not a || b
 
 holds : (a b : Bool) → implies a b ≡ true → a ≡ true → b ≡ true
 holds a b e h = rw h at e
-
--- a digit stands there
-abbrev pub is_letter : ℕ → Bool
-is_letter place = list_any (λ letter. letter == place) (codes "YMDhmsf")
 
 letter-digit : (place b : ℕ) → is_letter place ≡ true → fits_place place b ≡ true → is_ascii_digit b ≡ true
 letter-digit place b letter fit = rw letter at fit
@@ -314,6 +365,24 @@ all-two_letters = refl
 has_length-few : (n : ℕ) → has_length n ≡ true → n < 31
 unfolding has_length
 has_length-few n has = elim (cases_lt n 31) [ inl a ↦ a | inr b ↦ grind (arith, common_steps) ]
+
+-- a text of a form without a time, and of a form with one
+pub short-fits : (text : List ℕ) → has_length (length text) ≡ true → length text ≤ 10
+    → list_all (λ (pair : ℕ × ℕ). fits_place pair.0 pair.1) (zip places text) ≡ is_some (date_of text)
+short-fits text has short = sym (fits_from-zip (length text) 0 text (omega arith) (inl short)) ∙ has_form-fits text has
+
+pub long-fits : (text : List ℕ) → has_length (length text) ≡ true → 10 < length text
+    → (list_all (λ (pair : ℕ × ℕ). fits_place pair.0 pair.1) (zip places (take (length text - 1) text)) && nat_eq (get_or text (length text - 1) 0) 90) ≡ is_some (date_of text)
+long-fits text has long =
+    let n = length text in
+    let few : n < 31 = has_length-few n has in
+    let front : List ℕ = take (n - 1) text in
+    let e : length front ≡ n - 1 = length-take-le (n - 1) text (omega arith) in
+    let whole : text ≡ front ++ get_or text (n - 1) 0 ∷ [] = sym (take_all (n - 1 + 1) text (omega arith)) ∙ take_more text (n - 1) 0 (omega arith) in
+    let fits_front = fits_from-zip n 0 front (omega arith) (inr (omega arith)) in
+    let last : place_of n (0 + length front) ≡ 90 = grind (arith, common_steps) in
+    let parts : fits_from n 0 (front ++ get_or text (n - 1) 0 ∷ []) ≡ (fits_from n 0 front && fits_place (place_of n (0 + length front)) (get_or text (n - 1) 0)) = fits_from-more n 0 front (get_or text (n - 1) 0) in
+    rw (← fits_front) (sym (ap (λ (bs : List ℕ). fits_from n 0 bs) whole ∙ parts ∙ rw last refl) ∙ has_form-fits text has)
 
 letters-at : (n at : ℕ) → has_length n ≡ true → at < n → at < 19 → (is_letter (get_or places at 0) && is_letter (get_or places (at + 1) 0)) ≡ true
     → (nat_le (at + 2) n && (is_letter (place_of n at) && is_letter (place_of n (at + 1)))) ≡ true

@@ -1,5 +1,5 @@
-ghost use Rattle.std.specs.Prelude.{◌≡◌, ◌<◌, ◌≤◌, ◌+◌, ◌-◌, ◌^◌, take, drop, length, ◌*◌, nat_lt, is_some, true, Some, None, IsSome, IfSome, ◌↔◌, pos, ◌+ℤ◌, if◌then◌else◌};
-ghost use Rattle.std.specs.List.{list_all};
+ghost use Rattle.std.specs.Prelude.{◌≡◌, ◌<◌, ◌≤◌, ◌+◌, ◌-◌, ◌^◌, take, drop, length, codes, ◌*◌, nat_lt, is_some, true, Some, None, IsSome, IfSome, ◌↔◌, pos, ◌+ℤ◌, if◌then◌else◌};
+ghost use Rattle.std.specs.List.{list_all, zip};
 ghost use Rattle.std.specs.Char.{is_ascii_digit};
 ghost use Rattle.std.specs.Str.Parse.{digits_value};
 ghost use Rattle.jiff_core.specs.Calendar.{IsCivilDate, days_from_civil};
@@ -20,18 +20,25 @@ struct Date {
     nanosecond: u32,
 }
 
-/// The longest form without its `Z`; a letter stands for a digit. Every other form is a front of it, with a `Z`
+/// The least byte of each place of the longest form without its `Z`. Every other form is a front of it, with a `Z`
 /// behind a time.
-const PLACES: [u8; 29] = *b"YYYY-MM-DDThh:mm:ss.fffffffff";
+const LEAST: [u8; 29] = *b"0000-00-00T00:00:00.000000000";
 
-/// Whether this byte may stand where a form has that character.
-fn fits(place: u8, byte: u8) -> bool
-    ensures { result ≡ fits_place place byte }
+/// The greatest byte of each of these places.
+const GREATEST: [u8; 29] = *b"9999-99-99T99:99:99.999999999";
+
+/// Whether bytes may stand in the first of these places. The loop has no way out before its end, so that the compiler
+/// takes sixteen bytes at a time.
+fn fit_places(bytes: &[u8]) -> bool
+    requires { length bytes.now ≤ 29 }
+    ensures { result
+        ≡ list_all (λ pair. fits_place pair.0 pair.1) (zip (codes "YYYY-MM-DDThh:mm:ss.fffffffff") bytes.now) }
 {
-    match place {
-        b'Y' | b'M' | b'D' | b'h' | b'm' | b's' | b'f' => byte.is_ascii_digit(),
-        _ => byte == place,
+    let mut fit = true;
+    for (at, byte) in bytes.iter().enumerate() {
+        fit &= (LEAST[at] <= *byte) & (*byte <= GREATEST[at]);
     }
+    fit
 }
 
 /// Whether some form has so many characters.
@@ -49,14 +56,11 @@ fn has_form(text: &[u8]) -> bool
     if !has_form_length(text.len()) {
         return false;
     }
-    for (at, byte) in text.iter().enumerate() {
-        let is_end_of_time = text.len() > 10 && at + 1 == text.len();
-        let place = if is_end_of_time { b'Z' } else { PLACES[at] };
-        if !fits(place, *byte) {
-            return false;
-        }
+    if text.len() <= 10 {
+        return fit_places(text);
     }
-    true
+    let end = text.len() - 1;
+    fit_places(&text[..end]) && text[end] == b'Z'
 }
 
 /// The number that at most nine digits write.
