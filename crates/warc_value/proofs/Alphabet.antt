@@ -1,5 +1,7 @@
 -- What each byte stands for in base32, tried one by one.
-use Rattle.std.proofs.Common.{◌≡◌, ℕ, zero, suc, ◌<◌, ◌≤◌, Bool, true, false, ◌&&◌, nat_eq, nat_lt, get_or, Option, Some, None, refl, arith, if◌then◌else◌}
+use Rattle.std.proofs.Common.{◌≡◌, ℕ, zero, suc, ◌<◌, ◌≤◌, Bool, true, false, ◌&&◌, nat_eq, nat_le, get_or, Option, Some, None, refl, arith}
+use Rattle.std.specs.Prelude.{unwrap_or}
+use Rattle.std.proofs.lemmas.Bool.{eqb-true, leb-true}
 use Rattle.std.proofs.lemmas.Grind.{common_steps}
 use Rattle.warc_value.specs.Base32.{symbol_value}
 use Rattle.warc_value.specs.declared.symbols.TheConstants.{VALUES}
@@ -21,19 +23,12 @@ code_of (Some n) = suc n
 pub same_code : (a b : Option ℕ) → nat_eq (code_of a) (code_of b) ≡ true → a ≡ b
 same_code a b h = grind (arith, common_steps)
 
--- the same by the code's table
-abbrev pub value_of_entry : ℕ → Option ℕ
-value_of_entry n = if nat_lt n 32 then Some n else None
-
-pub entry_stands : (n : ℕ) → n < 32 → value_of_entry n ≡ Some n
-entry_stands n below = grind (arith, common_steps)
-
-pub entry_is_none : (n : ℕ) → 32 ≤ n → value_of_entry n ≡ None
-entry_is_none n above = grind (arith, common_steps)
-
-pub symbol_value-table : (c : ℕ) → c < 256 → symbol_value c ≡ value_of_entry (get_or VALUES c 0)
+pub symbol_value-table : (c : ℕ) → c < 256 → get_or VALUES c 0 ≡ unwrap_or (symbol_value c) 1_048_576
 unfolding symbol_value
-symbol_value-table c below = same_code _ _ (passes_below (λ c. nat_eq (code_of (symbol_value c)) (code_of (value_of_entry (get_or VALUES c 0)))) 256 refl c below)
+symbol_value-table c below = eqb-true _ _ (passes_below (λ c. nat_eq (get_or VALUES c 0) (unwrap_or (symbol_value c) 1_048_576)) 256 refl c below)
+
+pub entry-most : (c : ℕ) → c < 256 → get_or VALUES c 0 ≤ 1_048_576
+entry-most c below = leb-true _ _ (passes_below (λ c. nat_le (get_or VALUES c 0) 1_048_576) 256 refl c below)
 
 -- both of two tests
 pub both-left : (a b : Bool) → (a && b) ≡ true → a ≡ true

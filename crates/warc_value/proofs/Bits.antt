@@ -36,7 +36,7 @@ pub same-eight : (f : ℕ → ℕ) (rest : List ℕ) {a b c d e g h i a' b' c' d
     → f a ∷ f b ∷ f c ∷ f d ∷ f e ∷ f g ∷ f h ∷ f i ∷ rest ≡ f a' ∷ f b' ∷ f c' ∷ f d' ∷ f e' ∷ f g' ∷ f h' ∷ f i' ∷ rest
 same-eight f rest p q r s t u v w = cc
 
-five_items : (xs : List ℕ) → length xs ≡ 5 → xs ≡ get_or xs 0 0 ∷ get_or xs 1 0 ∷ get_or xs 2 0 ∷ get_or xs 3 0 ∷ get_or xs 4 0 ∷ []
+pub five_items : (xs : List ℕ) → length xs ≡ 5 → xs ≡ get_or xs 0 0 ∷ get_or xs 1 0 ∷ get_or xs 2 0 ∷ get_or xs 3 0 ∷ get_or xs 4 0 ∷ []
 five_items xs h = text_from_reads xs _ h (refl, (refl, (refl, (refl, (refl, tt)))))
 
 -- five bytes before others, as eight characters before the others'
@@ -109,10 +109,10 @@ fourth-byte e f g hf hg = omega arith
 fifth-byte : (g h : ℕ) → h < 32 → g / 4 % 2 * 128 + (g / 2 % 2 * 64 + (g / 1 % 2 * 32 + (h / 16 % 2 * 16 + (h / 8 % 2 * 8 + (h / 4 % 2 * 4 + (h / 2 % 2 * 2 + (h / 1 % 2 * 1 + 0))))))) ≡ g % 8 * 32 + h
 fifth-byte g h hh = omega arith
 
-same-five : (rest : List ℕ) {a b c d e a' b' c' d' e' : ℕ} → a ≡ a' → b ≡ b' → c ≡ c' → d ≡ d' → e ≡ e' → a ∷ b ∷ c ∷ d ∷ e ∷ rest ≡ a' ∷ b' ∷ c' ∷ d' ∷ e' ∷ rest
+pub same-five : (rest : List ℕ) {a b c d e a' b' c' d' e' : ℕ} → a ≡ a' → b ≡ b' → c ≡ c' → d ≡ d' → e ≡ e' → a ∷ b ∷ c ∷ d ∷ e ∷ rest ≡ a' ∷ b' ∷ c' ∷ d' ∷ e' ∷ rest
 same-five rest p q r s t = cc
 
-eight_items : (xs : List ℕ) → length xs ≡ 8 → xs ≡ get_or xs 0 0 ∷ get_or xs 1 0 ∷ get_or xs 2 0 ∷ get_or xs 3 0 ∷ get_or xs 4 0 ∷ get_or xs 5 0 ∷ get_or xs 6 0 ∷ get_or xs 7 0 ∷ []
+pub eight_items : (xs : List ℕ) → length xs ≡ 8 → xs ≡ get_or xs 0 0 ∷ get_or xs 1 0 ∷ get_or xs 2 0 ∷ get_or xs 3 0 ∷ get_or xs 4 0 ∷ get_or xs 5 0 ∷ get_or xs 6 0 ∷ get_or xs 7 0 ∷ []
 eight_items xs h = text_from_reads xs _ h (refl, (refl, (refl, (refl, (refl, (refl, (refl, (refl, tt))))))))
 
 bytes_of-nil : bytes_of [] ≡ []

@@ -95,7 +95,7 @@ base32_is_undone bytes long small =
     rw (length_is, read.symbols, read.back) refl
 
 -- A character that stands for a number is that number's, but for its case.
-symbol_of-symbol_value : (c n : ℕ) → symbol_value c ≡ Some n → (n < 32) × (symbol_of n ≡ to_ascii_uppercase c)
+pub symbol_of-symbol_value : (c n : ℕ) → symbol_value c ≡ Some n → (n < 32) × (symbol_of n ≡ to_ascii_uppercase c)
 unfolding symbol_value symbol_of
 symbol_of-symbol_value c n is =
     let at = position-Some (λ symbol. nat_eq symbol (to_ascii_uppercase c)) alphabet n 0 is in

@@ -1,4 +1,5 @@
 pub mod Bits
+pub mod Twenty
 pub mod Alphabet
 pub mod DateLemmas
 pub mod DayLemmas

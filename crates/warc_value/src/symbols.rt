@@ -1,5 +1,6 @@
-ghost use Rattle.std.specs.Prelude.{◌≡◌, ◌<◌, ◌≤◌, length, IfSome};
-ghost use Rattle.warc_value.specs.Base32.{symbol_of, symbol_value, base32_of, decoded_of, unbase32_of};
+ghost use Rattle.std.specs.Prelude.{◌≡◌, ◌<◌, ◌≤◌, length, unwrap_or, Some, None, IfSome, IsSome, IsNone, if◌then◌else◌};
+ghost use Rattle.std.specs.List.{list_all, flat_map};
+ghost use Rattle.warc_value.specs.Base32.{bits_of, number_of_bits, symbol_of, symbol_value, is_symbol, base32_of, decoded_of, unbase32_of};
 
 /// The characters that stand for 0 to 31.
 const SYMBOLS: [u8; 32] = *b"ABCDEFGHIJKLMNOPQRSTUVWXYZ234567";
@@ -13,28 +14,34 @@ fn symbol(bits: u8) -> u8
     SYMBOLS[bits as usize]
 }
 
-/// The five bits that each byte stands for in either case, 32 for a byte that stands for none.
-const VALUES: [u8; 256] = [
-    32, 32, 32, 32, 32, 32, 32, 32, 32, 32, 32, 32, 32, 32, 32, 32, 32, 32, 32, 32, 32, 32, 32, 32,
-    32, 32, 32, 32, 32, 32, 32, 32, 32, 32, 32, 32, 32, 32, 32, 32, 32, 32, 32, 32, 32, 32, 32, 32,
-    32, 32, 26, 27, 28, 29, 30, 31, 32, 32, 32, 32, 32, 32, 32, 32, 32, 0, 1, 2, 3, 4, 5, 6, 7, 8,
-    9, 10, 11, 12, 13, 14, 15, 16, 17, 18, 19, 20, 21, 22, 23, 24, 25, 32, 32, 32, 32, 32, 32, 0,
-    1, 2, 3, 4, 5, 6, 7, 8, 9, 10, 11, 12, 13, 14, 15, 16, 17, 18, 19, 20, 21, 22, 23, 24, 25, 32,
-    32, 32, 32, 32, 32, 32, 32, 32, 32, 32, 32, 32, 32, 32, 32, 32, 32, 32, 32, 32, 32, 32, 32, 32,
-    32, 32, 32, 32, 32, 32, 32, 32, 32, 32, 32, 32, 32, 32, 32, 32, 32, 32, 32, 32, 32, 32, 32, 32,
-    32, 32, 32, 32, 32, 32, 32, 32, 32, 32, 32, 32, 32, 32, 32, 32, 32, 32, 32, 32, 32, 32, 32, 32,
-    32, 32, 32, 32, 32, 32, 32, 32, 32, 32, 32, 32, 32, 32, 32, 32, 32, 32, 32, 32, 32, 32, 32, 32,
-    32, 32, 32, 32, 32, 32, 32, 32, 32, 32, 32, 32, 32, 32, 32, 32, 32, 32, 32, 32, 32, 32, 32, 32,
-    32, 32, 32, 32, 32, 32, 32, 32, 32, 32, 32, 32,
+/// What the table has for a byte that stands for nothing: 2^20, more than any four characters write.
+const NONE: u32 = 1_048_576;
+
+/// The five bits that each byte stands for in either case, or `NONE`.
+const VALUES: [u32; 256] = [
+    NONE, NONE, NONE, NONE, NONE, NONE, NONE, NONE, NONE, NONE, NONE, NONE, NONE, NONE, NONE, NONE,
+    NONE, NONE, NONE, NONE, NONE, NONE, NONE, NONE, NONE, NONE, NONE, NONE, NONE, NONE, NONE, NONE,
+    NONE, NONE, NONE, NONE, NONE, NONE, NONE, NONE, NONE, NONE, NONE, NONE, NONE, NONE, NONE, NONE,
+    NONE, NONE, 26, 27, 28, 29, 30, 31, NONE, NONE, NONE, NONE, NONE, NONE, NONE, NONE, NONE, 0, 1,
+    2, 3, 4, 5, 6, 7, 8, 9, 10, 11, 12, 13, 14, 15, 16, 17, 18, 19, 20, 21, 22, 23, 24, 25, NONE,
+    NONE, NONE, NONE, NONE, NONE, 0, 1, 2, 3, 4, 5, 6, 7, 8, 9, 10, 11, 12, 13, 14, 15, 16, 17, 18,
+    19, 20, 21, 22, 23, 24, 25, NONE, NONE, NONE, NONE, NONE, NONE, NONE, NONE, NONE, NONE, NONE,
+    NONE, NONE, NONE, NONE, NONE, NONE, NONE, NONE, NONE, NONE, NONE, NONE, NONE, NONE, NONE, NONE,
+    NONE, NONE, NONE, NONE, NONE, NONE, NONE, NONE, NONE, NONE, NONE, NONE, NONE, NONE, NONE, NONE,
+    NONE, NONE, NONE, NONE, NONE, NONE, NONE, NONE, NONE, NONE, NONE, NONE, NONE, NONE, NONE, NONE,
+    NONE, NONE, NONE, NONE, NONE, NONE, NONE, NONE, NONE, NONE, NONE, NONE, NONE, NONE, NONE, NONE,
+    NONE, NONE, NONE, NONE, NONE, NONE, NONE, NONE, NONE, NONE, NONE, NONE, NONE, NONE, NONE, NONE,
+    NONE, NONE, NONE, NONE, NONE, NONE, NONE, NONE, NONE, NONE, NONE, NONE, NONE, NONE, NONE, NONE,
+    NONE, NONE, NONE, NONE, NONE, NONE, NONE, NONE, NONE, NONE, NONE, NONE, NONE, NONE, NONE, NONE,
+    NONE, NONE, NONE, NONE, NONE, NONE, NONE, NONE, NONE, NONE,
 ];
 
-/// The five bits that a character stands for.
-fn value(symbol: u8) -> Option<u8>
-    ensures value { result ≡ symbol_value symbol }
-    ensures below { IfSome result (λ bits. bits < 32) }
+/// The five bits that a character stands for, or `NONE`.
+fn value(symbol: u8) -> u64
+    ensures value { result ≡ unwrap_or (symbol_value symbol) 1_048_576 }
+    ensures most { result ≤ 1_048_576 }
 {
-    let bits = VALUES[symbol as usize];
-    if bits < 32 { Some(bits) } else { None }
+    VALUES[symbol as usize] as u64
 }
 
 /// Five bytes as eight characters.
@@ -68,31 +75,36 @@ pub fn base32(bytes: &[u8; 20]) -> [u8; 32]
     text
 }
 
-/// Eight characters as five bytes, unless one stands for nothing.
-fn decode_group(group: &[u8]) -> Option<[u8; 5]>
-    requires { length group.now ≡ 8 }
-    ensures bytes { result ≡ decoded_of group.now }
-    ensures len { IfSome result (λ bytes. length bytes ≡ 5) }
+/// The twenty bits that four characters write, unless one stands for nothing.
+fn twenty_bits(symbols: &[u8]) -> Option<u64>
+    requires { length symbols.now ≡ 4 }
+    ensures bits { result ≡ (if list_all is_symbol symbols.now
+        then Some (number_of_bits (flat_map (λ c. bits_of 5 (unwrap_or (symbol_value c) 0)) symbols.now)) else None) }
+    ensures below { IfSome result (λ bits. bits < 1_048_576) }
 {
-    let (a, b, c, d) = (
-        value(group[0])?,
-        value(group[1])?,
-        value(group[2])?,
-        value(group[3])?,
-    );
-    let (e, f, g, h) = (
-        value(group[4])?,
-        value(group[5])?,
-        value(group[6])?,
-        value(group[7])?,
-    );
-    Some([
-        a * 8 + b / 4,
-        b % 4 * 64 + c * 2 + d / 16,
-        d % 16 * 16 + e / 2,
-        e % 2 * 128 + f * 4 + g / 8,
-        g % 8 * 32 + h,
-    ])
+    let (a, b) = (value(symbols[0]), value(symbols[1]));
+    let (c, d) = (value(symbols[2]), value(symbols[3]));
+    let bits = ((a * 32 + b) * 32 + c) * 32 + d;
+    if bits < NONE as u64 { Some(bits) } else { None }
+}
+
+/// Writes the five bytes that eight characters write, unless one stands for nothing.
+fn decode_group(symbols: &[u8], bytes: &mut [u8]) -> Option<()>
+    requires symbols { length symbols.now ≡ 8 }
+    requires bytes { length bytes.old ≡ 5 }
+    ensures bytes { IsSome result → Some bytes.new ≡ decoded_of symbols.now }
+    ensures none { IsNone result → None ≡ decoded_of symbols.now }
+    ensures kept { IsNone result → bytes.new ≡ bytes.old }
+{
+    let front = twenty_bits(&symbols[..4])?;
+    let back = twenty_bits(&symbols[4..])?;
+    let bits = front * 1_048_576 + back;
+    bytes[0] = (bits / 4_294_967_296) as u8;
+    bytes[1] = (bits / 16_777_216 % 256) as u8;
+    bytes[2] = (bits / 65_536 % 256) as u8;
+    bytes[3] = (bits / 256 % 256) as u8;
+    bytes[4] = (bits % 256) as u8;
+    Some(())
 }
 
 /// The twenty bytes that 32 characters of base32 write, in either case (RFC 4648, section 6); none for any other text.
@@ -104,8 +116,10 @@ pub fn unbase32(text: &[u8]) -> Option<[u8; 20]>
     }
     let mut bytes = [0; 20];
     for group in 0..4 {
-        let decoded = decode_group(&text[8 * group..8 * group + 8])?;
-        bytes[5 * group..5 * group + 5].copy_from_slice(&decoded);
+        decode_group(
+            &text[8 * group..8 * group + 8],
+            &mut bytes[5 * group..5 * group + 5],
+        )?;
     }
     Some(bytes)
 }
