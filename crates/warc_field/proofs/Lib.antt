@@ -9,3 +9,4 @@ pub mod CanonLemmas
 pub mod LawLemmas
 pub mod FaultLemmas
 pub mod VisibleLemmas
+pub mod FieldLemmas

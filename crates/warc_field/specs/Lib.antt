@@ -4,3 +4,4 @@ pub mod Area
 pub mod Decimal
 pub mod FaultText
 pub mod Short
+pub mod Meant

@@ -4,5 +4,5 @@ use Rattle.warc_field.specs.declared.short.Bytes.{Bytes}
 use Rattle.warc_field.specs.declared.short.Bytes.TheVariants.{Short, Long}
 
 abbrev pub held_bytes : {A : Type 0} → Bytes A → List ℕ
-held_bytes (Short bytes) = bytes.items
+held_bytes (Short bytes) = bytes
 held_bytes (Long bytes) = bytes.items

@@ -1,11 +1,13 @@
-ghost use Rattle.std.specs.Prelude.{◌≡◌, IfOk, IfErr, List, Some, None, Ok, option_map, IfSome, position, length, ◌<◌};
+ghost use Rattle.std.specs.Prelude.{◌≡◌, IfOk, IfErr, List, Some, None, Ok, option_map, IfSome, position, length, ◌<◌, ◌≤◌};
 ghost use Rattle.warc_field.specs.Area.{Pair, is_colon, value_of, field_of, area_of, Reads, SpellsFields, TellsBadLine, TellsWithin};
 ghost use Rattle.warc_field.specs.FaultText.{area_fault_text};
+ghost use Rattle.warc_field.specs.Meant.{meant, field_meant, IsPut};
+ghost use Rattle.warc_field.specs.Text.{IsField};
 ghost use Rattle.warc_field.specs.declared.area.AreaFault.TheVariants.{Memory};
 
 use crate::lines::{split_line, unfold};
 use crate::list::Fields;
-use crate::text::{Name, Value, holds_value_bytes, is_name, trim, trim_in_place};
+use crate::text::{Value, holds_value_bytes, is_name, trim, trim_in_place};
 use memchr::memchr;
 use std::alloc::{AllocError, Allocator};
 use std::fmt;
@@ -54,16 +56,36 @@ fn read_folded_value<A: Allocator>(alloc: A, rest: &[u8]) -> Result<Option<Value
     }
 }
 
-/// The value that the rest of a line means. One without a control character has no fold in it, and is copied whole.
+/// What the rest of a line means: a part of the line, or what its folded lines mean.
+#[derive(Drop)]
+enum Meaning<'a, A: Allocator> {
+    Plain(&'a [u8]),
+    Folded(Value<A>),
+}
+
+impl<A: Allocator> Meaning<'_, A> {
+    fn bytes(&self) -> &[u8]
+        ensures { result.now ≡ meant self.now }
+    {
+        match self {
+            Meaning::Plain(text) => text,
+            Meaning::Folded(value) => value.bytes(),
+        }
+    }
+}
+
+/// The value that the rest of a line means. One without a control character has no fold in it, and is a part of it.
 #[tactic(auto, using(crate::proofs::TextLemmas::rest_is_value, crate::proofs::TextLemmas::clean_value))]
-fn read_value<A: Allocator>(alloc: A, rest: &[u8]) -> Result<Option<Value<A>>, AllocError>
-    ensures { IfOk result (λ v. v ≡ value_of rest.now) }
+fn read_value<A: Allocator>(alloc: A, rest: &[u8]) -> Result<Option<Meaning<'_, A>>, AllocError>
+    ensures { IfOk result (λ v. option_map meant v ≡ value_of rest.now) }
 {
     let text = trim(rest);
     if holds_value_bytes(text) {
-        Ok(Some(Value::from_checked(alloc, text)?))
-    } else {
-        read_folded_value(alloc, rest)
+        return Ok(Some(Meaning::Plain(text)));
+    }
+    match read_folded_value(alloc, rest)? {
+        Some(value) => Ok(Some(Meaning::Folded(value))),
+        None => Ok(None),
     }
 }
 
@@ -81,8 +103,9 @@ fn first_colon(line: &[u8]) -> Option<usize>
 fn read_field<A: Allocator + Copy>(
     alloc: A,
     line: &[u8],
-) -> Result<Option<(Name<A>, Value<A>)>, AllocError>
-    ensures { IfOk result (λ f. f ≡ field_of line.now) }
+) -> Result<Option<(&[u8], Meaning<'_, A>)>, AllocError>
+    ensures field { IfOk result (λ f. option_map field_meant f ≡ field_of line.now) }
+    ensures valid { IfOk result (λ f. IfSome f (λ field. IsField (field_meant field))) }
 {
     let Some(colon) = first_colon(line) else {
         return Ok(None);
@@ -94,8 +117,23 @@ fn read_field<A: Allocator + Copy>(
     let Some(value) = read_value(alloc, &line[colon + 1..])? else {
         return Ok(None);
     };
-    let name = Name::from_checked(alloc, name)?;
     Ok(Some((name, value)))
+}
+
+/// Puts the field that a line is in the place of another, or behind all. False where it is none.
+fn put_line<A: Allocator + Copy>(
+    line: &[u8],
+    place: usize,
+    fields: &mut Fields<A>,
+) -> Result<bool, AllocError>
+    requires { place ≤ length fields.old }
+    ensures { IfOk result (IsPut (field_of line.now) place fields.old fields.new) }
+{
+    let Some((name, value)) = read_field(fields.allocator(), line)? else {
+        return Ok(false);
+    };
+    fields.put(place, name, value.bytes())?;
+    Ok(true)
 }
 
 /// How many fields an area has room for before it grows: most heads have fewer.
@@ -117,25 +155,42 @@ pub fn read_area<A: Allocator + Copy>(alloc: A, area: &[u8]) -> Result<Fields<A>
     ensures exact { Reads (λ f. f) result (area_of area.now) }
     ensures within { IfErr result (TellsWithin (length area.now)) }
 {
-    read_lines(alloc, area)
+    read_area_in(Fields::new(alloc), area)
 }
 
-/// The same, by the computing definition alone.
-fn read_lines<A: Allocator + Copy>(alloc: A, area: &[u8]) -> Result<Fields<A>, AreaFault>
+/// The same, in the memory of fields that are no longer wanted: a head that is read behind another one like it takes
+/// none.
+pub fn read_area_in<A: Allocator + Copy>(
+    spare: Fields<A>,
+    area: &[u8],
+) -> Result<Fields<A>, AreaFault>
     ensures exact { Reads (λ f. f) result (area_of area.now) }
     ensures within { IfErr result (TellsWithin (length area.now)) }
 {
-    let mut fields = Fields::with_room(alloc, ROOM)?;
+    let mut fields = spare;
+    fields.reserve_first(ROOM)?;
+    read_lines(area, &mut fields)?;
+    Ok(fields)
+}
+
+/// Puts the fields of an area's lines in the place of others, by the computing definition alone.
+fn read_lines<A: Allocator + Copy>(area: &[u8], fields: &mut Fields<A>) -> Result<(), AreaFault>
+    ensures exact { Reads (λ _. fields.new) result (area_of area.now) }
+    ensures within { IfErr result (TellsWithin (length area.now)) }
+{
+    let mut count = 0;
     let mut rest = area;
     while let Some((line, more)) = split_line(rest) {
-        let Some((name, value)) = read_field(alloc, line)? else {
+        let is_field = put_line(line, count, fields)?;
+        if !is_field {
             return Err(AreaFault::Line(area.len() - rest.len()));
-        };
-        fields.push(name, value)?;
+        }
+        count += 1;
         rest = more;
     }
     if rest.is_empty() {
-        Ok(fields)
+        fields.truncate(count);
+        Ok(())
     } else {
         Err(AreaFault::Line(area.len() - rest.len()))
     }

@@ -10,7 +10,7 @@ mod short;
 mod text;
 mod write;
 
-pub use area::{AreaFault, read_area};
+pub use area::{AreaFault, read_area, read_area_in};
 pub use list::Fields;
 pub use number::decimal;
 pub use text::{Name, TextFault, Value, is_name, is_value, trim};

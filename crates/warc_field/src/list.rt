@@ -1,7 +1,8 @@
-ghost use Rattle.std.specs.Prelude.{◌≡◌, ◌≤◌, [], ◌∷◌, ◌++◌, OnOk, OnErr, length, IfOk, IsTrue, ◌↔◌, MatchOption, Some, slice_get};
+ghost use Rattle.std.specs.Prelude.{◌≡◌, ◌+◌, ◌<◌, ◌≤◌, [], ◌∷◌, ◌++◌, OnOk, OnErr, length, take, true, IsTrue, ◌↔◌};
+ghost use Rattle.std.specs.Prelude.{MatchOption, Some, slice_get};
 ghost use Rattle.std.specs.Option.{option_copied};
 ghost use Rattle.warc_field.specs.Area.{count_of, first_value};
-ghost use Rattle.warc_field.specs.Text.{AreFields};
+ghost use Rattle.warc_field.specs.Text.{AreFields, IsField, is_name, is_value};
 
 use crate::text::{Name, Value};
 use std::alloc::{AllocError, Allocator, Global};
@@ -24,6 +25,48 @@ impl<A: Allocator> Model for Fields<A> {
     ghost invariant = { λ f. AreFields f.pairs.items };
 }
 
+/// Puts a name and a value, known to be ones, in the place of others. `Err`: no memory for them.
+fn set_pair<A: Allocator + Copy>(
+    pair: &mut (Name<A>, Value<A>),
+    alloc: A,
+    name: &[u8],
+    value: &[u8],
+) -> Result<(), AllocError>
+    requires name { is_name name.now ≡ true }
+    requires value { is_value value.now ≡ true }
+    ensures pair { OnOk result (pair.new ≡ (name.now, value.now)) }
+    ensures field { IsField pair.new }
+{
+    let _valued = pair.1.bytes();
+    pair.0.set(alloc, name)?;
+    pair.1.set(alloc, value)
+}
+
+impl<A: Allocator + Copy> Fields<A> {
+    /// Where its memory comes from.
+    pub(crate) fn allocator(&self) -> A {
+        *self.pairs.allocator()
+    }
+
+    /// Puts a field in the place of the one at a place, or behind the last. `Err`: no memory for it.
+    pub(crate) fn put(&mut self, place: usize, name: &[u8], value: &[u8]) -> Result<(), AllocError>
+        requires place { place ≤ length self.old }
+        requires name { is_name name.now ≡ true }
+        requires value { is_value value.now ≡ true }
+        ensures front { OnOk result (take (place + 1) self.new ≡ take place self.old ++ (name.now, value.now) ∷ []) }
+        ensures within { OnOk result (place < length self.new) }
+    {
+        let alloc = self.allocator();
+        if place < self.pairs.len() {
+            return set_pair(&mut self.pairs[place], alloc, name, value);
+        }
+        let name = Name::from_checked(alloc, name)?;
+        let value = Value::from_checked(alloc, value)?;
+        self.push(name, value)?;
+        Ok(())
+    }
+}
+
 impl<A: Allocator> Fields<A> {
     /// No fields yet. It takes no memory.
     pub fn new(alloc: A) -> Fields<A>
@@ -34,13 +77,21 @@ impl<A: Allocator> Fields<A> {
         }
     }
 
-    /// No fields yet, and room for so many.
-    pub(crate) fn with_room(alloc: A, count: usize) -> Result<Fields<A>, AllocError>
-        ensures { IfOk result (λ fields. fields ≡ []) }
+    /// Makes room for so many fields, unless there is some. The fields stay.
+    pub(crate) fn reserve_first(&mut self, count: usize) -> Result<(), AllocError>
+        ensures { self.new ≡ self.old }
     {
-        Ok(Fields {
-            pairs: Vec::with_capacity(alloc, count)?,
-        })
+        if self.pairs.capacity() == 0 {
+            self.pairs.reserve(count)?;
+        }
+        Ok(())
+    }
+
+    /// Keeps the first so many fields.
+    pub(crate) fn truncate(&mut self, count: usize)
+        ensures { self.new ≡ take count self.old }
+    {
+        self.pairs.truncate(count);
     }
 
     /// Adds a field at the end. Where memory is refused the fields stay as they were, and the given one is dropped.

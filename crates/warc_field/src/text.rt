@@ -1,4 +1,4 @@
-ghost use Rattle.std.specs.Prelude.{◌≡◌, ◌≤◌, ◌-◌, ◌<◌, ◌↔◌, IsTrue, IfOk, IsOk, IsErrOf, length, Some, true, false};
+ghost use Rattle.std.specs.Prelude.{◌≡◌, ◌≤◌, ◌-◌, ◌<◌, ◌↔◌, IsTrue, IfOk, IsOk, IsErrOf, OnOk, OnErr, length, Some, true, false};
 ghost use Rattle.std.specs.List.{list_all, prefix_len, suffix_len};
 ghost use Rattle.warc_field.specs.FaultText.{text_fault_text};
 ghost use Rattle.warc_field.specs.declared.text.TextFault.TheVariants.{Memory};
@@ -177,6 +177,16 @@ impl<A: Allocator> Name<A> {
         })
     }
 
+    /// Puts a name, known to be one, in the place of this one. `Err`: no memory for it; then nothing changes.
+    pub(crate) fn set(&mut self, alloc: A, text: &[u8]) -> Result<(), AllocError>
+        requires { is_name text.now ≡ true }
+        ensures ok { OnOk result (self.new ≡ text.now) }
+        ensures err { OnErr result (self.new ≡ self.old) }
+        ensures named { is_name self.new ≡ true }
+    {
+        self.token.set(alloc, text)
+    }
+
     /// The bytes of the name, in the case that it was given in.
     pub fn bytes(&self) -> &[u8]
         ensures text { result.now ≡ self.now }
@@ -226,6 +236,16 @@ impl<A: Allocator> Value<A> {
         Ok(Value {
             text: Bytes::copied(alloc, text)?,
         })
+    }
+
+    /// Puts a value, known to be one, in the place of this one. `Err`: no memory for it; then nothing changes.
+    pub(crate) fn set(&mut self, alloc: A, text: &[u8]) -> Result<(), AllocError>
+        requires { is_value text.now ≡ true }
+        ensures ok { OnOk result (self.new ≡ text.now) }
+        ensures err { OnErr result (self.new ≡ self.old) }
+        ensures value { is_value self.new ≡ true }
+    {
+        self.text.set(alloc, text)
     }
 
     /// The value that these bytes are, known to be one.

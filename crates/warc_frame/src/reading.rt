@@ -10,7 +10,7 @@ use crate::fault::{Fault, FaultKind};
 use crate::framed::{Framed, FramedFault};
 use crate::version::Version;
 use std::alloc::Allocator;
-use warc_field::{AreaFault, Fields, canonical_len, decimal, read_area};
+use warc_field::{AreaFault, Fields, canonical_len, decimal, read_area_in};
 
 /// The most bytes of a head.
 pub const MAX_HEAD: usize = 65_536;
@@ -85,10 +85,11 @@ pub(crate) fn read_block_len<A: Allocator>(fields: &Fields<A>) -> Result<u64, Fr
     }
 }
 
-/// What a head says whose version and length are known: its fields, and how long the block is.
+/// What a head says whose version and length are known: its fields, and how long the block is. It is read in the memory
+/// of fields that are no longer wanted.
 #[tactic(auto, using(crate::proofs::HeadLemmas::head_room, crate::proofs::HeadLemmas::head_within), unfolding(crate::specs::Reading::head_of))]
 pub(crate) fn read_fields<A: Allocator + Copy>(
-    alloc: A,
+    spare: Fields<A>,
     version: Version,
     len: usize,
     text: &[u8],
@@ -101,7 +102,7 @@ pub(crate) fn read_fields<A: Allocator + Copy>(
     ensures within { IfOk result (λ h. (h.len ≤ length text.now) × (h.block_len ≤ max_block)) }
     ensures by { IfErr result (λ f. f.offset ≤ length text.now) }
 {
-    let fields = match read_area(alloc, &text[VERSION_LINE..len - 2]) {
+    let fields = match read_area_in(spare, &text[VERSION_LINE..len - 2]) {
         Ok(fields) => fields,
         Err(AreaFault::Line(at)) => return Err(FaultKind::Field.at((VERSION_LINE + at) as u64)),
         Err(AreaFault::Memory) => return Err(FaultKind::Memory.at(0)),
@@ -141,7 +142,7 @@ pub fn read_head<A: Allocator + Copy>(alloc: A, text: &[u8]) -> Result<Head<A>, 
         }
         return Err(FaultKind::Truncated.at(text.len() as u64));
     };
-    read_fields(alloc, version, len, text)
+    read_fields(Fields::new(alloc), version, len, text)
 }
 
 /// The block behind a head, if two CRLFs close it.

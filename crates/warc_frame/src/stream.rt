@@ -12,6 +12,7 @@ use crate::reading::{MAX_HEAD, read_fields};
 use crate::version::Version;
 use std::alloc::{Allocator, Global};
 use std::marker::Model;
+use std::mem;
 use warc_field::Fields;
 
 /// The most bytes of an archive, and so the offset at which none may stand.
@@ -53,6 +54,8 @@ pub struct Decoder<A: Allocator = Global> {
     left: u64,
     /// How many bytes of the two CRLFs behind the block were taken.
     matched: usize,
+    /// Fields that are no longer wanted: the next head is read in their memory.
+    spare: Fields<A>,
 }
 
 impl<A: Allocator> Model for Decoder<A> {
@@ -83,7 +86,15 @@ impl<A: Allocator + Copy> Decoder<A> {
             head: Vec::new(alloc),
             left: 0,
             matched: 0,
+            spare: Fields::new(alloc),
         }
+    }
+
+    /// Takes fields that are no longer wanted, so that the next head is read in their memory. It changes nothing else.
+    pub fn recycle(&mut self, fields: Fields<A>)
+        ensures { self.new ≡ self.old }
+    {
+        self.spare = fields;
     }
 
     /// The offset behind the bytes taken.
@@ -194,13 +205,14 @@ impl<A: Allocator + Copy> Decoder<A> {
     {
         let start = self.position - self.head.len() as u64;
         let alloc = *self.head.allocator();
+        let spare = mem::replace(&mut self.spare, Fields::new(alloc));
         let read = if self.head.is_empty() {
-            read_fields(alloc, version, end.len(), end)
+            read_fields(spare, version, end.len(), end)
         } else {
             if self.head.extend_from_slice(end).is_err() {
                 return Err(FaultKind::Memory.at(start));
             }
-            read_fields(alloc, version, self.head.len(), &self.head)
+            read_fields(spare, version, self.head.len(), &self.head)
         };
         self.head.clear();
         match read {

@@ -1,5 +1,5 @@
 -- Reading on in a source behind records that are kept.
-use Rattle.std.proofs.Common.{◌≡◌, ◌≢◌, ℕ, ◌+◌, ◌-◌, ◌<◌, ◌≤◌, inl, inr, Bool, true, false, List, [], ◌∷◌, ◌++◌, length, take, drop, map, if◌then◌else◌, Option, None, Some, Result, Ok, Err, MatchResult, IfErr, OnErr, refl, sym, ap, subst, ◌∙◌, arith, length-append}
+use Rattle.std.proofs.Common.{◌≡◌, ◌≢◌, ℕ, ◌+◌, ◌<◌, ◌≤◌, inl, inr, Bool, true, false, List, [], ◌∷◌, ◌++◌, length, take, drop, if◌then◌else◌, Option, None, Some, Result, Ok, Err, MatchResult, IfErr, OnErr, refl, sym, ap, subst, ◌∙◌, arith, length-append}
 use Rattle.std.proofs.Math.Seq.{drop-append_seam, take-add, take-append_seam, take-append-add}
 use Rattle.std.proofs.lemmas.List.{append_assoc, append-nil, drop-drop, length-drop, length-map, length-take}
 use Rattle.warc_frame.specs.Count.{raised}
@@ -7,11 +7,10 @@ use Rattle.warc_frame.specs.Decoding.{Finishes, IsAt, PhaseIs, State}
 use Rattle.warc_frame.specs.Device.{Gives}
 use Rattle.warc_frame.specs.Ranges.{IsReadAt}
 use Rattle.warc_frame.specs.Reading.{fault}
-use Rattle.warc_frame.specs.Record.{Record, max_archive}
+use Rattle.warc_frame.specs.Record.{max_archive}
 use Rattle.warc_frame.specs.Seen.{Tapped}
 use Rattle.warc_frame.specs.Told.{Lies, Told, nothing}
 use Rattle.warc_frame.specs.declared.fault.Fault.{Fault}
-use Rattle.warc_frame.specs.declared.fault.FaultKind.{FaultKind}
 use Rattle.warc_frame.specs.declared.fault.FaultKind.TheVariants.{Memory, Read, Truncated}
 use Rattle.warc_frame.proofs.JudgedLemmas.{judged_cut}
 use Rattle.warc_frame.proofs.LawLemmas.{no_fault_where_spelled}
@@ -26,7 +25,6 @@ use Rattle.warc_reading.specs.declared.reading.Reading.{Reading}
 use Rattle.warc_reading.proofs.GoodLemmas.{accepted}
 use Rattle.warc_reading.proofs.IndexedLemmas.{opens_with, refuses_with}
 use Rattle.warc_reading.proofs.OpeningLemmas.{near_more, opens_ended, opens_refused, opens_unread, read_there}
-use Rattle.warc_reading.proofs.RefusalLemmas.{stays_not_read}
 use Rattle.warc_reading.proofs.SourceLemmas.{ends, front_grows, not_raised, raised_by_one}
 use Rattle.warc_reading.proofs.StreamLemmas.{accepts_told, kept_whole, spells_all}
 

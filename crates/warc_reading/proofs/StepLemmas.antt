@@ -41,14 +41,14 @@ AddsBeside {A} K old beside = (c : Current A) (bytes : List ℕ) (records : List
     → c.head ≡ p.content.fields → head_fault p.content.fields ≡ None → place_by c bytes ≡ place_of p → K beside (records ++ p ∷ [])
 
 end_kept : {A L : Type 0} {K : L → List Placed → Type 0} (text more : List ℕ) (rs : List Record) (o : Option Unclosed) (rows : List Row) (beside : L) (begin : ℕ) (cur : Option (Current A)) (new : Reading A L)
-    → HasRead K text (record { records = rs; unclosed = o }) (record { rows = rows; beside = beside; begin = begin; current = cur }) → IsWhole o
+    → HasRead K text (record { records = rs; unclosed = o }) (record { rows = rows; beside = beside; begin = begin; current = cur; spare = tt }) → IsWhole o
     → IsExact (text ++ more) (record { records = rs ++ ended o; unclosed = None }) → new.begin ≡ length (text ++ more) → new.current ≡ None
-    → AddsRow (record { rows = rows; beside = beside; begin = begin; current = cur }) new.rows → AddsBeside K (record { rows = rows; beside = beside; begin = begin; current = cur }) new.beside
+    → AddsRow (record { rows = rows; beside = beside; begin = begin; current = cur; spare = tt }) new.rows → AddsBeside K (record { rows = rows; beside = beside; begin = begin; current = cur; spare = tt }) new.beside
     → HasRead K (text ++ more) (record { records = rs ++ ended o; unclosed = None }) new
 end_kept text more rs None rows beside begin cur new has whole exact at none adds keeps = absurd whole
 end_kept text more rs (Some u) rows beside begin None new has whole exact at none adds keeps = absurd has.current
 end_kept text more rs (Some u) rows beside begin (Some c) new has whole exact at none adds keeps =
-    end_kept_by text more rs u (record { rows = rows; beside = beside; begin = begin; current = Some c }) new c has has.current whole exact at none (adds c u.bytes refl has.current.seen)
+    end_kept_by text more rs u (record { rows = rows; beside = beside; begin = begin; current = Some c; spare = tt }) new c has has.current whole exact at none (adds c u.bytes refl has.current.seen)
     (λ records p kept size same good placed. keeps c u.bytes records p refl has.current.seen kept size same good placed)
 
 module _ {A B L : Type 0} {K : L → List Placed → Type 0} (text piece : List ℕ) (told : Told) (d : State) (took : ℕ) (event : Event B) (takes : Takes 0 text told d piece took event) (old new : Reading A L)

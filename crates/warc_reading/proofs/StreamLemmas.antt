@@ -9,10 +9,9 @@ use Rattle.warc_frame.specs.Told.{AcceptsOpen, AcceptsTold, IsExact, Told, Unclo
 use Rattle.warc_frame.specs.declared.fault.Fault.{Fault}
 use Rattle.warc_frame.proofs.LawLemmas.{fronts_are_same, heads_are_stable, reading_is_spelling-read}
 use Rattle.warc_record.specs.Heads.{head_fault}
-use Rattle.warc_record.specs.Readings.{reading_of}
 use Rattle.warc_reading.specs.Archive.{SpellsFrom, contents}
-use Rattle.warc_reading.specs.Indexed.{place_of, place_with}
-use Rattle.warc_reading.specs.Row.{Placed, row_of, row_with}
+use Rattle.warc_reading.specs.Indexed.{place_of}
+use Rattle.warc_reading.specs.Row.{Placed, row_of}
 use Rattle.warc_reading.specs.Stream.{HasRead, HasSeen, IsCurrent, IsHead, IsKeptOf, Matches, place_by, row_by}
 use Rattle.warc_reading.proofs.GoodLemmas.{are_good}
 use Rattle.warc_reading.specs.declared.reading.Current.{Current}

@@ -1,11 +1,10 @@
 -- What is kept of an archive while it is read as a stream. States of the code: no public clause cites them.
-use Rattle.std.specs.Prelude.{◌≡◌, ℕ, ◌+◌, ◌<◌, ◌≤◌, ◌⊎◌, Bool, List, [], ◌++◌, length, map, take, drop, Option, Some, None, unwrap_or, if◌then◌else◌}
+use Rattle.std.specs.Prelude.{◌≡◌, ℕ, ◌+◌, ◌<◌, ◌≤◌, ◌⊎◌, List, [], ◌++◌, length, map, take, drop, Option, Some, None, unwrap_or}
 use Rattle.warc_field.specs.Area.{Pair}
 use Rattle.warc_value.specs.Digests.{verdict_of}
 use Rattle.warc_value.specs.Running.{HasTaken}
 use Rattle.warc_value.specs.declared.hash.Wanted.{Wanted}
 use Rattle.warc_value.specs.declared.hash.Wanted.TheVariants.{Sha1, Unchecked}
-use Rattle.warc_frame.specs.Count.{raised}
 use Rattle.warc_frame.specs.Decoding.{State, IsAt}
 use Rattle.warc_frame.specs.Faults.{AllAccepted}
 use Rattle.warc_frame.specs.Record.{max_archive}

@@ -4,6 +4,7 @@
 mod beside;
 mod reading;
 mod rows;
+mod spare;
 
 pub use beside::{Gathering, Keep, Lookup, Nothing};
 pub use reading::read_on;

@@ -13,6 +13,7 @@ ghost use Rattle.warc_reading.specs.declared.reading.Current.{Current as Kept};
 
 use crate::beside::Keep;
 use crate::rows::{Row, Rows};
+use crate::spare::Spare;
 use std::alloc::{AllocError, Allocator};
 use warc_field::Fields;
 use warc_frame::{Decoder, Event, Fault, FaultKind, Source};
@@ -78,6 +79,7 @@ struct Reading<A: Allocator, L> {
     beside: L,
     begin: u64,
     current: Option<Current<A>>,
+    spare: Spare<A>,
 }
 
 impl<A: Allocator + Copy, L: Keep<A> + Drop> Reading<A, L> {
@@ -95,6 +97,7 @@ impl<A: Allocator + Copy, L: Keep<A> + Drop> Reading<A, L> {
             beside,
             begin,
             current: None,
+            spare: Spare::none(),
         }
     }
 
@@ -192,6 +195,7 @@ impl<A: Allocator + Copy, L: Keep<A> + Drop> Reading<A, L> {
                 truncated: texts.is_truncated,
             };
             self.beside.keep(alloc, position, head.fields(), place)?;
+            self.spare.keep(head.into_fields());
         }
         self.begin = end;
         Ok(())
@@ -261,6 +265,7 @@ fn take_piece<A: Allocator + Copy, L: Keep<A> + Drop>(
     let mut from = 0;
     'taking: while from < piece.len() {
         from += take_front(alloc, decoder, reading, &piece[from..])?;
+        reading.spare.hand_on(decoder);
     }
     Ok(())
 }

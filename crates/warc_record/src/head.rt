@@ -359,6 +359,13 @@ impl<A: Allocator> GoodHead<A> {
         &self.fields
     }
 
+    /// Its fields, given back.
+    pub fn into_fields(self) -> Fields<A>
+        ensures { result ≡ self }
+    {
+        self.fields
+    }
+
     /// The digest that it wants of its block.
     pub fn wanted(&self) -> Wanted
         ensures { result ≡ digest_wanted self.now }

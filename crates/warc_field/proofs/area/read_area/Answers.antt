@@ -22,10 +22,10 @@ bad_at (Err Memory) area h = tt
 bad_at (Err (Line at)) area h = read-first_bad_line area at h
 
 pub returns-clause-bad : goal.returns-clause-bad
-returns-clause-bad g c = bad_at _ _ c.read_lines.ensures.exact
+returns-clause-bad g c = bad_at _ _ c.read_area_in.ensures.exact
 
 pub returns-clause-found : goal.returns-clause-found
-returns-clause-found g c = found_at _ _ c.read_lines.ensures.exact
+returns-clause-found g c = found_at _ _ c.read_area_in.ensures.exact
 
 pub returns-clause-only : goal.returns-clause-only
-returns-clause-only g c = λ fields spells. only_at _ _ fields c.read_lines.ensures.exact spells
+returns-clause-only g c = λ fields spells. only_at _ _ fields c.read_area_in.ensures.exact spells

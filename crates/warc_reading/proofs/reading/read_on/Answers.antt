@@ -1,6 +1,6 @@
-use Rattle.std.proofs.Common.{◌≡◌, List, length, refl, sym, ap, subst, ◌∙◌}
+use Rattle.std.proofs.Common.{List, subst, ◌∙◌}
 use Rattle.warc_reading.specs.Archive.{IsArchiveOf}
-use Rattle.warc_reading.specs.Row.{Placed, Row}
+use Rattle.warc_reading.specs.Row.{Row}
 use Rattle.warc_reading.specs.Stream.{Extends, IsKeptOf}
 use Rattle.warc_reading.proofs.GrowLemmas.{extends_front, grows_from, grows_untried, kept_again}
 use Rattle.warc_reading.proofs.reading.read_on.Goals as goal

@@ -1,4 +1,4 @@
-use Rattle.std.proofs.Common.{rules, ◌≡◌, ℕ, ◌+◌, ◌<◌, ◌≤◌, ◌^◌, true, false, List, ◌++◌, [], length, take, refl, sym, ap, ◌∙◌, arith, length-append}
+use Rattle.std.proofs.Common.{rules, ℕ, ◌<◌, true, false, List, ◌++◌, [], length, take, refl, ◌∙◌, arith, length-append}
 use Rattle.std.proofs.lemmas.Result.{err_from_is_err_and}
 use Rattle.warc_frame.specs.Told.{nothing}
 use Rattle.warc_reading.proofs.GrowLemmas.{begun, extends_more, extends_none, given_none, given_on, grows_ended, grows_refused, grows_unread, on_err, part_grows, since_left}

@@ -1,11 +1,23 @@
-use Rattle.std.proofs.Common.{rules, ◌≡◌, List, [], ◌∷◌, ◌++◌, Option, Some, ap, sym, subst, ◌∙◌}
+use Rattle.std.proofs.Common.{rules, ◌≡◌, [], ◌∷◌, ◌++◌, Option, Some, ap, sym, subst, ◌∙◌}
 use Rattle.warc_segment.specs.declared.place.Place.{Place}
 use Rattle.warc_reading.specs.Indexed.{place_of}
-use Rattle.warc_reading.specs.Row.{Placed}
-use Rattle.warc_reading.specs.Stream.{HasSeen, place_by}
+use Rattle.warc_reading.specs.Row.{Row}
+use Rattle.warc_reading.specs.Stream.{HasSeen, place_by, row_by}
 use Rattle.warc_reading.specs.declared.reading.Current.{Current as Kept}
 use Rattle.warc_reading.proofs.reading.Reading.end_record.Goals.{in-Some+in_ok-push+in_ok-keep, in_default}
 use Rattle.warc_reading.proofs.reading.Reading.end_record.Goals as goal
+
+pub returns-clause-row : goal.returns-clause-row
+returns-clause-row g c = elim c.match-take.branch [
+  | in-Some+in_ok-push+in_ok-keep w ↦ λ kept bytes is seen.
+      let same : ◌≡◌ {A = Kept g.row.A.Denot} w.in-Some.current kept = let e : ◌≡◌ {A = Option (Kept g.row.A.Denot)} (Some w.in-Some.current) (Some kept) = w.in-Some.ensures.value ∙ is in cc in
+      let taken : HasSeen w.in-Some.current.digest bytes = subst (λ (x : Kept g.row.A.Denot). HasSeen x.digest bytes) (sym same) seen in
+      let row = ap (λ (x : Kept g.row.A.Denot). row_by c.args.self.now.begin x bytes) same in
+      let texts = w.texts-texts.ensures in
+      ap (λ r. r.rows) w.self-is ∙ w.in_ok-push.ensures.ok
+      ∙ rw (w.verdict-verdict.ensures bytes taken, texts.kind, texts.date, texts.id, texts.target, texts.truncated) (ap (λ (r : Row). c.args.self.now.rows ++ r ∷ []) row)
+  | in_default w ↦ search rules
+]
 
 pub returns-clause-extends : goal.returns-clause-extends
 returns-clause-extends g c = elim c.match-take.branch [
