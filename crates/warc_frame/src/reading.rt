@@ -1,16 +1,18 @@
-ghost use Rattle.std.specs.Prelude.{◌≡◌, ◌≢◌, ◌<◌, ◌+◌, ◌≤◌, ℕ, ◌++◌, List, [], Ok, Err, Some, None, length, take, not, nat_lt, OnOk, IfOk, IfErr, IfSome, MatchResult};
+ghost use Rattle.std.specs.Prelude.{◌≡◌, ◌≢◌, ◌<◌, ◌+◌, ◌≤◌, ◌⊎◌, ℕ, ◌++◌, List, [], Ok, Err, Some, None, length, take, not, nat_lt, OnOk, IfOk, IfErr, IfSome, MatchResult};
 ghost use Rattle.warc_frame.specs.declared.version.Version.{Version};
 ghost use Rattle.warc_frame.specs.Record.{Record, canonical_len, block_len, fault_kind_of, max_block, max_head};
 ghost use Rattle.warc_frame.specs.Spelling.{Spells};
 ghost use Rattle.warc_frame.specs.Reading.{any_fields, begins, block_at, head_front, head_len, head_of, record_of, version_of, AnswersAs, OrMemory};
 ghost use Rattle.warc_frame.specs.Faults.{IsFrameFault};
+ghost use Rattle.warc_field.specs.Area.{count_of, first_value};
+ghost use Rattle.warc_frame.specs.declared.framed.FramedFault.TheVariants.{Missing, Repeated};
 
 use crate::ends::{begins_as, find_empty_line, version_across};
 use crate::fault::{Fault, FaultKind};
 use crate::framed::{Framed, FramedFault};
 use crate::version::Version;
 use std::alloc::Allocator;
-use warc_field::{AreaFault, Fields, canonical_len, decimal, read_area_in};
+use warc_field::{AreaFault, Fields, Value, canonical_len, decimal, read_area_in};
 
 /// The most bytes of a head.
 pub const MAX_HEAD: usize = 65_536;
@@ -63,6 +65,27 @@ pub(crate) fn fits_head<A: Allocator>(version: Version, fields: &Fields<A>) -> b
     }
 }
 
+/// The value of the only field of this name: `Missing` where there is none, `Repeated` where a second stands.
+fn only_value<'a, A: Allocator>(
+    fields: &'a Fields<A>,
+    name: &[u8],
+) -> Result<&'a Value<A>, FramedFault>
+    ensures { let count = count_of name.now fields.now in MatchResult result
+        (λ value. (count ≡ 1) × (first_value name.now fields.now ≡ Some value.now))
+        (λ fault. ((count ≡ 0) × (fault ≡ Missing)) ⊎ ((2 ≤ count) × (fault ≡ Repeated))) }
+{
+    let mut found = None;
+    for field in fields.as_slice() {
+        if field.0.is(name) {
+            if found.is_some() {
+                return Err(FramedFault::Repeated);
+            }
+            found = Some(&field.1);
+        }
+    }
+    found.ok_or(FramedFault::Missing)
+}
+
 /// The number of the only `Content-Length`.
 #[tactic(auto, unfolding(crate::specs::Record::block_len))]
 pub(crate) fn read_block_len<A: Allocator>(fields: &Fields<A>) -> Result<u64, FramedFault>
@@ -70,18 +93,10 @@ pub(crate) fn read_block_len<A: Allocator>(fields: &Fields<A>) -> Result<u64, Fr
         (λ fault. block_len fields.now ≡ Err (fault_kind_of fault)) }
     ensures small { IfOk result (λ n. n ≤ max_block) }
 {
-    match fields.count(b"Content-Length") {
-        0 => Err(FramedFault::Missing),
-        1 => {
-            let Some(value) = fields.first(b"Content-Length") else {
-                return Err(FramedFault::Length);
-            };
-            match decimal(value.bytes()) {
-                Some(n) if n <= MAX_BLOCK => Ok(n),
-                _ => Err(FramedFault::Length),
-            }
-        }
-        _ => Err(FramedFault::Repeated),
+    let value = only_value(fields, b"Content-Length")?;
+    match decimal(value.bytes()) {
+        Some(n) if n <= MAX_BLOCK => Ok(n),
+        _ => Err(FramedFault::Length),
     }
 }
 
