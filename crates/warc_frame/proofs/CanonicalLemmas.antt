@@ -1,5 +1,5 @@
 -- How long a head is that is written canonically.
-use Rattle.std.proofs.Common.{◌≡◌, ℕ, ◌+◌, ◌^◌, ◌<◌, ◌≤◌, not, nat_lt, true, false, List, ◌++◌, length, length-append, refl, sym, ap, arith}
+use Rattle.std.proofs.Common.{◌≡◌, ℕ, ◌+◌, ◌*◌, ◌^◌, ◌<◌, ◌≤◌, not, nat_lt, true, false, List, ◌++◌, length, length-append, refl, sym, ap, arith}
 use Rattle.std.proofs.lemmas.Bool.{false_from_ne_true, ltb-true, lt-ltb}
 use Rattle.warc_field.specs.Lines.{crlf}
 use Rattle.warc_field.specs.Area.{Pair, canonical_fields}
@@ -32,3 +32,9 @@ head_passes version fields n e large =
 
 pub head_passes_far : (version : Version) (fields : List Pair) → 2 ^ 64 ≤ length (canonical_fields fields) → false ≡ not (nat_lt max_head (canonical_len version fields))
 head_passes_far version fields large = head_passes version fields (length (canonical_fields fields)) refl (omega (arith, large))
+
+-- nor need it be measured, where a head of at most half the limit spells the fields
+pub short_fits : (version : Version) (fields : List Pair) (len : ℕ) → canonical_len version fields ≤ 2 * len → len ≤ 32768 → true ≡ not (nat_lt max_head (canonical_len version fields))
+short_fits version fields len within small =
+    let fits : nat_lt max_head (canonical_len version fields) ≡ false = false_from_ne_true _ (λ is. absurd (omega (arith, ltb-true _ _ is, within, small))) in
+    sym (ap not fits)

@@ -6,6 +6,7 @@ pub mod EmptyLineLemmas
 pub mod CanonicalLemmas
 pub mod HeadLemmas
 pub mod FramedLemmas
+pub mod LengthLemmas
 pub mod OnlyLemmas
 pub mod RowLemmas
 pub mod ReadLemmas

@@ -1,4 +1,4 @@
-ghost use Rattle.std.specs.Prelude.{◌≡◌, ◌≢◌, ◌<◌, ◌+◌, ◌≤◌, ◌⊎◌, ℕ, ◌++◌, List, [], Ok, Err, Some, None, length, take, not, nat_lt, OnOk, IfOk, IfErr, IfSome, MatchResult};
+ghost use Rattle.std.specs.Prelude.{◌≡◌, ◌≢◌, ◌<◌, ◌+◌, ◌*◌, ◌≤◌, ◌⊎◌, ℕ, ◌++◌, List, [], Ok, Err, Some, None, length, take, not, nat_lt, OnOk, IfOk, IfErr, IfSome, MatchResult};
 ghost use Rattle.warc_frame.specs.declared.version.Version.{Version};
 ghost use Rattle.warc_frame.specs.Record.{Record, canonical_len, block_len, fault_kind_of, max_block, max_head};
 ghost use Rattle.warc_frame.specs.Spelling.{Spells};
@@ -19,6 +19,9 @@ pub const MAX_HEAD: usize = 65_536;
 
 /// The most bytes of a block.
 pub const MAX_BLOCK: u64 = 1 << 40;
+
+/// A head of at most so many bytes fits in the limit when it is written canonically, too.
+const UNMEASURED_HEAD: usize = MAX_HEAD / 2;
 
 /// The length of a version line.
 const VERSION_LINE: usize = 10;
@@ -63,6 +66,16 @@ pub(crate) fn fits_head<A: Allocator>(version: Version, fields: &Fields<A>) -> b
         Some(area) => area <= MAX_HEAD - VERSION_LINE - 2,
         None => false,
     }
+}
+
+/// Whether the canonical head of the fields that a head of `len` bytes spells is short enough. It has at most twice as
+/// many bytes, so most heads aren't measured.
+#[tactic(auto, using(crate::proofs::CanonicalLemmas::short_fits))]
+fn fits_spelled_head<A: Allocator>(version: Version, len: usize, fields: &Fields<A>) -> bool
+    requires { canonical_len version fields.now ≤ 2 * len }
+    ensures { result ≡ not (nat_lt max_head (canonical_len version fields.now)) }
+{
+    len <= UNMEASURED_HEAD || fits_head(version, fields)
 }
 
 /// The value of the only field of this name: `Missing` where there is none, `Repeated` where a second stands.
@@ -122,7 +135,7 @@ pub(crate) fn read_fields<A: Allocator + Copy>(
         Err(AreaFault::Line(at)) => return Err(FaultKind::Field.at((VERSION_LINE + at) as u64)),
         Err(AreaFault::Memory) => return Err(FaultKind::Memory.at(0)),
     };
-    if !fits_head(version, &fields) {
+    if !fits_spelled_head(version, len, &fields) {
         return Err(FaultKind::HeadTooLong.at(0));
     }
     let block_len = match read_block_len(&fields) {

@@ -2,6 +2,7 @@ use Rattle.std.proofs.Common.{◌-◌, ap, arith, drop, length-drop, length-take
 use Rattle.warc_field.specs.Area.{TellsWithin}
 use Rattle.warc_frame.specs.declared.fault.Fault.{Fault}
 use Rattle.warc_frame.proofs.HeadLemmas.{head_room, head_within}
+use Rattle.warc_frame.proofs.LengthLemmas.{spelled_head}
 use Rattle.warc_frame.proofs.reading.read_fields.Goals as goal
 
 pub overflow_sub-len : goal.overflow_sub-len
@@ -30,3 +31,6 @@ returns-in-Err-Line-clause-by g c =
       head_room _ _ _ c.requires.version c.requires.len,
       head_within _ _ c.requires.len,
     )
+
+pub fits_spelled_head-requires : goal.fits_spelled_head-requires
+fits_spelled_head-requires g c = spelled_head _ _ c.args.text.now c.args.len c.in-Ok.ensures.exact (head_room _ _ _ c.requires.version c.requires.len)
