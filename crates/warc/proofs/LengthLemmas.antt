@@ -1,58 +1,15 @@
 -- The values of fields hold together no more bytes than the lines that spell the fields.
-use Rattle.std.proofs.Common.{◌≡◌, ℕ, ◌+◌, ◌-◌, ◌≤◌, ⊎_elim, Bool, true, false, not, List, [], ◌∷◌, ◌++◌, length, drop, Option, Some, if◌then◌else◌, length-append, length-drop, refl, ◌∙◌, ap, arith}
+use Rattle.std.proofs.Common.{◌≡◌, ℕ, ◌+◌, ◌≤◌, ⊎_elim, Bool, true, false, not, List, [], ◌∷◌, ◌++◌, length, Option, Some, if◌then◌else◌, length-append, refl, ◌∙◌, ap, arith}
 use Rattle.std.specs.Prelude.{option_map, unwrap_or, find}
-use Rattle.std.specs.List.{flat_map, list_all, prefix_len, suffix_len}
-use Rattle.std.proofs.lemmas.List.{length-take}
+use Rattle.std.specs.List.{list_all}
 use Rattle.std.proofs.lemmas.Slice.Eq.{bytes_eq-Decides}
 use Rattle.std.proofs.lemmas.Bool.{not-true}
 use Rattle.std.specs.Str.{bytes_eq}
 use Rattle.warc_field.specs.Area.{Pair, IsFieldLine, SpellsFields, first_value}
-use Rattle.warc_field.specs.Lines.{begins_blank, continued, crlf, in_front, is_crlf, joined_parts, parts, unfolded}
-use Rattle.warc_field.specs.Text.{is_blank, lower, same, trimmed}
-use Rattle.warc_field.proofs.LineLemmas.{and_left, and_right, parts-crlf, parts-more, parts-nil, parts-one, true_or_false}
-
--- the bytes of parts, and two for each
-abbrev weight : List (List ℕ) → ℕ
-weight [] = 0
-weight (p ∷ ps) = length p + 2 + weight ps
-
-in_front_weight : (b : ℕ) (ps : List (List ℕ)) → weight (in_front b ps) ≤ weight ps + 1
-in_front_weight b [] = omega arith
-in_front_weight b (p ∷ ps) = omega arith
-
-parts_weight : (t : List ℕ) → weight (parts t) ≤ length t + 2
-parts_weight [] = rw parts-nil (omega arith)
-parts_weight (b ∷ []) = rw (parts-one b) (omega arith)
-parts_weight (b ∷ c ∷ bs) =
-    ⊎_elim
-    (λ is. omega (arith, ap weight (parts-crlf b c bs is), parts_weight bs))
-    (λ no. omega (arith, ap weight (parts-more b c bs no), in_front_weight b (parts (c ∷ bs)), parts_weight (c ∷ bs)))
-    (true_or_false (is_crlf b c))
-
-continued_by : (blank : Bool) (p : List ℕ) (n : ℕ) → length (if blank then 32 ∷ drop n p else crlf ++ p) ≤ length p + 2
-continued_by true p n = omega (arith, length-drop n p)
-continued_by false p n = omega arith
-
-later_weight : (ps : List (List ℕ)) → length (flat_map continued ps) ≤ weight ps
-later_weight [] = omega arith
-later_weight (p ∷ ps) =
-    omega (arith, continued_by (begins_blank p) p (prefix_len is_blank p), later_weight ps, length-append (continued p) (flat_map continued ps))
-
-joined_weight : (ps : List (List ℕ)) (n : ℕ) → weight ps ≤ n + 2 → length (joined_parts ps) ≤ n
-joined_weight [] n le = omega arith
-joined_weight (p ∷ ps) n le = omega (arith, le, later_weight ps, length-append p (flat_map continued ps))
-
--- unfolding and trimming make no text longer
-unfolded_len : (t : List ℕ) → length (unfolded t) ≤ length t
-unfolding unfolded
-unfolded_len t = joined_weight (parts t) (length t) (parts_weight t)
-
-trimmed_len : (t : List ℕ) → length (trimmed t) ≤ length t
-unfolding trimmed
-trimmed_len t =
-    let front = prefix_len is_blank t in
-    let rest = drop front t in
-    omega (arith, length-drop front t, length-take (length rest - suffix_len is_blank rest) rest)
+use Rattle.warc_field.specs.Lines.{crlf, unfolded}
+use Rattle.warc_field.specs.Text.{lower, same, trimmed}
+use Rattle.warc_field.proofs.LengthLemmas.{trimmed_len, unfolded_len}
+use Rattle.warc_field.proofs.LineLemmas.{and_left, and_right, true_or_false}
 
 line_len : (f : Pair) (line : List ℕ) → IsFieldLine f line → length f.1 ≤ length line
 line_len f line is =

@@ -4,6 +4,7 @@ pub mod AreaLemmas
 pub mod SpellLemmas
 pub mod WorkedValues
 pub mod TextLemmas
+pub mod LengthLemmas
 pub mod TokenLemmas
 pub mod CanonLemmas
 pub mod LawLemmas
