@@ -128,6 +128,10 @@ fn help_and_version_are_asked_for(rt: HostRuntime) {
                 "<archive>  The path of the archive; /dev/stdin is standard input, also a pipe"
             )
         );
+        assert!(rt;
+            text.as_str()
+                .contains("also a pipe, as from 'gunzip -c a.warc.gz'")
+        );
         assert!(rt; text.as_str().contains("A line has seven columns"));
         assert!(rt; text.as_str().contains("Exit status: 0 listed; 2"));
     }

@@ -221,7 +221,7 @@ Example: warc write resource http://a.example/x 2020-01-01T00:00:00Z 00000000-00
 
 const ARCHIVE: Word = Word {
     name: "archive",
-    help: "The path of the archive; /dev/stdin is standard input, also a pipe",
+    help: "The path of the archive; /dev/stdin is standard input, also a pipe, as from 'gunzip -c a.warc.gz'",
 };
 
 const ID: Word = Word {
