@@ -98,8 +98,8 @@ abbrev pub halt_of : FaultKind → Halt
 halt_of NoMemory = Memory
 halt_of kind = Read
 
--- lines are put behind what waits for an output, and counted, up to 2^64 - 1: they wait or went out behind it, or a front
--- of it all went out
+-- lines are put behind what waits for an output, and counted, up to 2^64 - 1: they wait or went out behind it, or a
+-- front of it all went out
 pub record PutsLines (text : List ℕ) (count : ℕ) (old new : Seen) (waits waiting : Staged) (answer : Result ℕ OutFault)
     : Type 0 where
   pub out : (start : Option (List ℕ)) (output : List ℕ) → IsStaged start output old.tells waits

@@ -181,7 +181,8 @@ fn put_records<S: Source, A: Allocator + Copy, W: Sink>(
     requires head { max_head ≤ length head.old }
     requires tally { IsTally (length rows.now) rows.now met.old.counts }
     requires met { HasMet [] met.old }
-    ensures puts { IfHeld (S.tapped source.old).holds (λ bytes. (records : List Placed) → AreCheckable bytes records rows.now
+    ensures puts { IfHeld (S.tapped source.old).holds (λ bytes. (records : List Placed)
+        → AreCheckable bytes records rows.now
         → PutsFound (contents records) (W.seen out.old) (W.seen out.new) buffer.old buffer.new result) }
     ensures kept { (S.tapped source.new).holds ≡ (S.tapped source.old).holds }
     ensures cause { (W.seen out.new).faults ≡ failed_by result (W.seen out.old).faults }
@@ -228,7 +229,8 @@ fn put_archive<S: Source, A: Allocator + Copy, W: Sink>(
     buffer: &mut OutBuffer,
     out: &mut W,
 ) -> Result<usize, OutFault>
-    ensures puts { IfHeld (S.tapped source.old).holds (λ bytes. (records : List Placed) → AreCheckable bytes records rows.now
+    ensures puts { IfHeld (S.tapped source.old).holds (λ bytes. (records : List Placed)
+        → AreCheckable bytes records rows.now
         → PutsCheck (contents records) (W.seen out.old) (W.seen out.new) buffer.old buffer.new result) }
     ensures kept { (S.tapped source.new).holds ≡ (S.tapped source.old).holds }
     ensures cause { (W.seen out.new).faults ≡ failed_by result (W.seen out.old).faults }

@@ -45,8 +45,8 @@ faults_after Read n = raised n
 faults_after kind n = n
 
 -- reading on in a source to its end, or to a refusal: it still holds what it held, and has failed once more exactly
--- where the refusal is a read fault, at the offset asked last. No offset above 2^48 is asked for, and at most 2^48 reads
--- and one are made
+-- where the refusal is a read fault, at the offset asked last. No offset above 2^48 is asked for, and at most 2^48
+-- reads and one are made
 pub record ReadsOn {X : Type 0} (old new : Tapped) (answer : Result X Fault) : Type 0 where
   pub kept : new.holds ≡ old.holds
   pub cause : MatchResult answer (λ x. new.faults ≡ old.faults) (λ f. new.faults ≡ faults_after f.kind old.faults)

@@ -138,8 +138,8 @@ fn distance(from: u64, to: u64) -> Option<u32>
 }
 
 impl Packed {
-    /// The entry of a row whose texts begin at a place of the list. `None`: an offset or a length of 2^48 or more, a head
-    /// of 2^32 bytes or more, or a text of 2^16 or more, which no good record has.
+    /// The entry of a row whose texts begin at a place of the list. `None`: an offset or a length of 2^48 or more, a
+    /// head of 2^32 bytes or more, or a text of 2^16 or more, which no good record has.
     fn of(start: usize, row: &Row<'_>) -> Option<Packed>
         ensures { IfSome result (IsPackedOf start row.now) }
     {
