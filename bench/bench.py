@@ -4,7 +4,7 @@
 Usage: bench.py PROGRAM FOLDER
 
 The archives are made in FOLDER once and kept; each record carries the digest of its block, so that opening hashes all
-blocks. Each command runs five times, the commands interleaved, and the least time counts. Printed per archive and
+blocks. Each command runs nine times, the commands interleaved, and the least time counts. Printed per archive and
 command: seconds, ratios, bytes and records a second, peak memory.
 """
 import os
@@ -12,7 +12,7 @@ import sys
 
 from shared import make, run
 
-RUNS = 5
+RUNS = 9
 ARCHIVES = [
     # name, number of records, bytes of a block
     ("quarter", 250_000, 3),
