@@ -1,6 +1,5 @@
 pub mod EntryLemmas
 pub mod BlockLemmas
-pub mod PairLemmas
 pub mod RankLemmas
 pub mod StepLemmas
 pub mod OrderLemmas

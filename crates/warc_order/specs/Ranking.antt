@@ -1,5 +1,5 @@
 -- What the code keeps, and how: slots in an order that a test on slots gives. Callers need none of it.
-use Rattle.std.specs.Prelude.{◌≡◌, ℕ, ◌<◌, ◌≤◌, Bool, true, false, if◌then◌else◌, List, [], ◌∷◌, ◌++◌, length, map, take, filter, nat_lt, slice_index, slice_get, zero, suc, Option, Some, None}
+use Rattle.std.specs.Prelude.{◌≡◌, ℕ, ◌<◌, ◌≤◌, Bool, true, false, if◌then◌else◌, List, [], ◌∷◌, ◌++◌, length, map, take, slice_get, zero, suc, Option, Some, None}
 use Rattle.std.specs.List.{AllPairs, Contains}
 use Rattle.std.specs.Ordering.{is_lt, is_gt}
 use Rattle.std.specs.declared.cmp.Ordering.{Ordering}
@@ -68,22 +68,6 @@ flattened (l ∷ ls) = l ++ flattened ls
 pub record Held : Type 0 where
   pub list : List Slot
   pub room : ℕ
-
--- heads and indices side by side
-abbrev pub paired : List ℕ → List ℕ → List Slot
-paired [] indices = []
-paired (h ∷ heads) [] = []
-paired (h ∷ heads) (p ∷ indices) = record { head = h; index = p } ∷ paired heads indices
-
--- of the first i pairs of hs and ps, the n whose indices are below a number stand at the front of ks and qs, and the
--- pairs from i on as they stood
-pub record IsKept (below : ℕ) (hs ps ks qs : List ℕ) (i n : ℕ) : Type 0 where
-  pub few : n ≤ i
-  pub heads : length ks ≡ length hs
-  pub indices : length qs ≡ length ps
-  pub front : paired (take n ks) (take n qs) ≡ filter (λ e. nat_lt e.index below) (take i (paired hs ps))
-  pub rest_heads : (k : ℕ) → i ≤ k → slice_index ks k ≡ slice_index hs k
-  pub rest_indices : (k : ℕ) → i ≤ k → slice_index qs k ≡ slice_index ps k
 
 -- the slots of each block
 abbrev pub lists_of : List Held → List (List Slot)

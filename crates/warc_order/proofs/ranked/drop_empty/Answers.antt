@@ -1,4 +1,4 @@
-use Rattle.std.proofs.Common.{ℕ, arith, ◌≡◌, rules, ap, ◌∙◌, true, false, [], length, ◌<◌}
+use Rattle.std.proofs.Common.{arith, ◌≡◌, rules, ap, ◌∙◌, true, false, [], length, ◌<◌}
 use Rattle.std.specs.Prelude.{nat_lt}
 use Rattle.std.proofs.lemmas.Fn.{filter_same}
 use Rattle.std.proofs.lemmas.List.{nil_from_length}

@@ -1,4 +1,4 @@
-use Rattle.std.proofs.Common.{◌≡◌, sym, ◌∙◌}
+use Rattle.std.proofs.Common.{sym, ◌∙◌}
 use Rattle.warc_order.specs.Ranking.{flattened, lists_of}
 use Rattle.warc_order.proofs.RankLemmas.{find-end}
 use Rattle.warc_order.proofs.ranked.first_in.Goals as goal

@@ -1,8 +1,7 @@
-use Rattle.std.proofs.Common.{ℕ, arith, ◌≡◌, ◌<◌, length, sym, subst, ◌∙◌}
+use Rattle.std.proofs.Common.{arith, ◌≡◌, ◌<◌, length, sym, subst, ◌∙◌}
 use Rattle.std.specs.Prelude.{nat_lt}
 use Rattle.std.proofs.lemmas.List.{length-map, length-set}
 use Rattle.std.proofs.lemmas.List.Elements.{All-set}
-use Rattle.warc_order.specs.declared.slot.Slot.{Slot}
 use Rattle.warc_order.specs.Ranking.{Held, lists_of, IsWide}
 use Rattle.warc_order.proofs.BlockLemmas.{keep_more}
 use Rattle.warc_order.proofs.ranked.keep_all_below.Goals as goal

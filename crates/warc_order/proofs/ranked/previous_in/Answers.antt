@@ -1,6 +1,6 @@
 use Rattle.std.proofs.Common.{◌≡◌, arith, length, ◌∙◌}
 use Rattle.std.proofs.lemmas.List.{length-map}
-use Rattle.warc_order.specs.Ranking.{flattened, lists_of}
+use Rattle.warc_order.specs.Ranking.{lists_of}
 use Rattle.warc_order.proofs.StepLemmas.{previous_found}
 use Rattle.warc_order.proofs.ranked.previous_in.Goals as goal
 

@@ -1,6 +1,6 @@
-use Rattle.std.proofs.Common.{◌≡◌, ap, ◌∙◌}
+use Rattle.std.proofs.Common.{ap, ◌∙◌}
 use Rattle.std.specs.Ordering.{is_lt}
-use Rattle.warc_order.specs.Ranking.{flattened, lists_of, find_last, slot_in}
+use Rattle.warc_order.specs.Ranking.{flattened, lists_of, find_last}
 use Rattle.warc_order.proofs.StepLemmas.{some_last, none_past, ranked_of_strict}
 use Rattle.warc_order.proofs.ranked.Ranked.last_before.Goals as goal
 

@@ -1,6 +1,6 @@
-use Rattle.std.proofs.Common.{◌≡◌, ap, ◌∙◌, not, find}
+use Rattle.std.proofs.Common.{ap, ◌∙◌, not, find}
 use Rattle.std.specs.Ordering.{is_le}
-use Rattle.warc_order.specs.Ranking.{flattened, lists_of, slot_in}
+use Rattle.warc_order.specs.Ranking.{flattened, lists_of}
 use Rattle.warc_order.proofs.StepLemmas.{some_first, none_first, ranked_of_strict}
 use Rattle.warc_order.proofs.ranked.Ranked.next_after.Goals as goal
 

@@ -1,4 +1,4 @@
-use Rattle.std.proofs.Common.{rules, ◌≡◌, ◌∙◌, ap, sym, filter}
+use Rattle.std.proofs.Common.{rules, ◌∙◌, ap, sym, filter}
 use Rattle.std.specs.Prelude.{nat_lt}
 use Rattle.std.proofs.lemmas.Fn.{filter_same}
 use Rattle.warc_order.specs.declared.slot.Slot.{Slot}
