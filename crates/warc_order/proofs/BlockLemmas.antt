@@ -1,6 +1,6 @@
 -- Lists one after another.
 use Rattle.std.proofs.Common.{◌≡◌, ℕ, zero, suc, ◌+◌, ◌-◌, ◌<◌, ◌≤◌, Bool, true, false, List, [], ◌∷◌, ◌++◌, length, take, drop, get_or, set, map, Some, None, refl, sym, ap, ◌∙◌, inl, inr, arith, append_assoc, length-append, true≢false, All, slice_get, filter, insert}
-use Rattle.std.proofs.lemmas.List.{take_all, append-nil, take_more, get_or_append_left, get_or-append-add, get_or_default, take-append-drop, map-set, take-map, drop-map, map-append, get_or-map, length-map, length-set, set-set, get_or-set_same, length-take-le, length-drop, drop_more, get_or_at, take_more_set, drop-set-lt}
+use Rattle.std.proofs.lemmas.List.{take_all, append-nil, take_more, get_or_append_left, get_or-append-add, get_or_default, take-append-drop, map-set, take-map, drop-map, map-append, get_or-map, length-map, length-set, set-set, get_or-set_same, length-take-le, length-drop, drop_more, get_or_at}
 use Rattle.std.proofs.Math.Seq.{take-add}
 use Rattle.std.proofs.lemmas.List.Edits.{insert-append_left, insert-append_right, map_over_more}
 use Rattle.std.proofs.lemmas.List.Elements.{All-head, All-tail, All-append, All-take, All-drop, All-cons, All-weaker, filter-append}
@@ -8,7 +8,7 @@ use Rattle.std.proofs.lemmas.Bool.{cases_lt, cases_Bool}
 use Rattle.std.proofs.lemmas.Option.{slice_get_read, slice_get_past}
 use Rattle.std.specs.List.Sorted.{IsPartitionedBy, IsPartitionPoint}
 use Rattle.warc_order.specs.declared.slot.Slot.{Slot}
-use Rattle.warc_order.specs.Ranking.{Held, flattened, blank, lists_of, start_of, IsBlock, IsWide}
+use Rattle.warc_order.specs.Ranking.{Held, flattened, blank, lists_of, start_of, HoldsSome, IsBlock, IsWide}
 
 -- ---- where a list begins
 
@@ -196,11 +196,10 @@ map-insert f xs i x = rw (map-append f (take i xs) (x ∷ drop i xs), take-map f
 
 -- ---- the blocks
 
-pub somes : (limit : ℕ) (bs : List (Held)) → All (IsBlock limit) bs → (k : ℕ) → k < length bs →
-    0 < length (get_or (lists_of bs) k [])
-somes limit [] all k h = absurd (omega arith)
-somes limit (b ∷ bs) all zero h = (All-head (IsBlock limit) b bs all).some
-somes limit (b ∷ bs) all (suc k) h = somes limit bs (All-tail (IsBlock limit) b bs all) k (omega arith)
+pub somes : (bs : List Held) → All HoldsSome bs → (k : ℕ) → k < length bs → 0 < length (get_or (lists_of bs) k [])
+somes [] all k h = absurd (omega arith)
+somes (b ∷ bs) all zero h = All-head HoldsSome b bs all
+somes (b ∷ bs) all (suc k) h = somes bs (All-tail HoldsSome b bs all) k (omega arith)
 
 pub items_at : (bs : List (Held)) (b : ℕ) (old : Held) → b < length bs → old ≡ get_or bs b old →
     get_or (lists_of bs) b [] ≡ old.list
@@ -284,6 +283,14 @@ flattened-kept (b ∷ bs) p none = elim (cases_Bool (p b)) [
   | inr left ↦ rw (left, none b left) (flattened-kept bs p none)
 ]
 
+pub some_kept : (bs : List Held) (p : Held → Bool) → ((b : Held) → p b ≡ true → 0 < length b.list) →
+    All HoldsSome (filter p bs)
+some_kept [] p some = λ k d h. absurd (omega arith)
+some_kept (b ∷ bs) p some = elim (cases_Bool (p b)) [
+  | inl kept ↦ rw kept (All-cons HoldsSome b (filter p bs) (some b kept) (some_kept bs p some))
+  | inr left ↦ rw left (some_kept bs p some)
+]
+
 pub blocks_kept : (limit : ℕ) (bs : List (Held)) (p : Held → Bool) → ((b : Held) → p b ≡ true → 0 < length b.list) →
     All (IsWide limit) bs → All (IsBlock limit) (filter p bs)
 blocks_kept limit [] p some all = λ k d h. absurd (omega arith)
@@ -299,12 +306,12 @@ blocks_kept limit (b ∷ bs) p some all = elim (cases_Bool (p b)) [
   | inr left ↦ rw left (blocks_kept limit bs p some (All-tail (IsWide limit) b bs all))
 ]
 
-pub wide_from_blocks : (limit : ℕ) (bs : List (Held)) → All (IsBlock limit) bs → All (IsWide limit) bs
-wide_from_blocks limit bs all = All-weaker (IsBlock limit) (IsWide limit) (λ b it. record {
-  few = it.few;
-  room =
-      it.room;
-}) bs all
+pub few_kept : (old new : Held) → IsWide 512 old → length new.list ≤ length old.list → new.room ≡ old.room →
+    IsWide 512 new
+few_kept old new wide le same =
+    let few : length old.list < 512 = wide.few in
+    let room : 512 ≤ old.room = wide.room in
+    record { few = omega arith; room = omega arith }
 
 pub halves_are_blocks : (m : ℕ) (new front tail : Held) → 0 < m → m < 512 → length new.list ≡ 512 →
     front.list ≡ take m new.list → tail.list ≡ drop m new.list → 512 ≤ front.room → 512 ≤ tail.room →
@@ -374,67 +381,33 @@ keep_more t ls bs i old new h n e f inv =
     lists_of-set bs i new ∙ (ap (set (lists_of bs) i) (f ∙ ap (filter t) (sym items))
     ∙ filters_more t ls (lists_of bs) i (omega arith) inv)
 
--- ---- blocks that are filled anew
+-- ---- wide blocks that are cut
 
--- the end of the last list
-pub end_at : (ls : List (List Slot)) (b : ℕ) → b + 1 ≡ length ls →
-    start_of ls b + length (get_or ls b []) ≡ length (flattened ls)
-end_at ls b h = sym (start_of-more ls b (omega arith)) ∙ start_of-all ls (b + 1) (omega arith)
-
--- one more block is filled
-pub refilled_more : (bs : List (Held)) (i from to : ℕ) (old new : Held) (ss : List Slot) → i < length bs →
-    old ≡ get_or bs i old → to ≡ from + length (get_or (lists_of bs) i []) → new.list ≡ take (to - from) (drop from ss) →
-    flattened (take i (lists_of bs)) ≡ take from ss →
-    flattened (take (i + 1) (lists_of (set bs i new))) ≡ take to ss
-refilled_more bs i from to old new ss h e t n front =
-    let ls : List (List Slot) = lists_of bs in
-    let l : i < length ls = rw length-map h in
+-- one more piece behind others
+pub pieces_more : (bs : List Held) (b : Held) (old ss : List Slot) (from to : ℕ) → from ≤ to → to ≤ length ss →
+    b.list ≡ take (to - from) (drop from ss) → flattened (lists_of bs) ≡ old ++ take from ss →
+    flattened (lists_of (bs ++ b ∷ [])) ≡ old ++ take to ss
+pieces_more bs b old ss from to le within piece front =
     let apart : to ≡ from + (to - from) = omega arith in
-    ap (λ us. flattened (take (i + 1) us)) (lists_of-set bs i new) ∙ (ap flattened (take_more_set ls i new.list l)
-    ∙ (flattened-append (take i ls) (new.list ∷ []) ∙ (ap (λ us. flattened (take i ls) ++ us) (append-nil new.list)
-    ∙ (ap (λ us. us ++ new.list) front ∙ (ap (λ us. take from ss ++ us) n ∙ (sym (take-add from (to - from) ss)
+    ap flattened (map-append (λ (v : Held). v.list) bs (b ∷ []))
+    ∙ (flattened-append (lists_of bs) (b.list ∷ []) ∙ (ap (λ us. flattened (lists_of bs) ++ us) (append-nil b.list)
+    ∙ (ap (λ us. us ++ b.list) front ∙ (append_assoc old (take from ss) b.list
+    ∙ ap (λ us. old ++ us) (ap (λ us. take from ss ++ us) piece ∙ (sym (take-add from (to - from) ss)
     ∙ ap (λ m. take m ss) (sym apart)))))))
 
--- from a list on
-cut_off : (bs : List (Held)) (i : ℕ) → i < length bs → length (flattened (drop i (lists_of bs))) ≡
-    length (get_or (lists_of bs) i []) + length (flattened (drop (i + 1) (lists_of bs)))
-cut_off bs i h =
-    let ls : List (List Slot) = lists_of bs in
-    let l : i < length ls = rw length-map h in
-    ap (λ us. length (flattened us)) (drop_more ls i [] l) ∙ length-append (get_or ls i []) (flattened (drop (i + 1)
-    ls))
-
--- what is left to fill
-pub left_more : (bs : List (Held)) (i from to : ℕ) (new : Held) (ss : List Slot) → i < length bs →
-    to ≡ from + length (get_or (lists_of bs) i []) → from + length (flattened (drop i (lists_of bs))) ≡ length ss →
-    to + length (flattened (drop (i + 1) (lists_of (set bs i new)))) ≡ length ss
-left_more bs i from to new ss h t count =
-    let back : drop (i + 1) (lists_of (set bs i new)) ≡ drop (i + 1) (lists_of bs) =
-    ap (drop (i + 1)) (lists_of-set bs i new) ∙ drop-set-lt (i + 1) (lists_of bs) i new.list (omega arith) in
-    let cut = cut_off bs i h in
-    ap (λ us. to + length (flattened us)) back ∙ omega (arith, cut, t, count)
-
--- a block that is filled anew has as many slots as before
-pub refilled_block : (bs : List (Held)) (i from to : ℕ) (old new : Held) (ss : List Slot) → i < length bs →
-    old ≡ get_or bs i old → to ≡ from + length (get_or (lists_of bs) i []) →
-    from + length (flattened (drop i (lists_of bs))) ≡ length ss → new.list ≡ take (to - from) (drop from ss) →
-    new.room ≡ old.room → IsBlock 512 old → IsBlock 512 new
-refilled_block bs i from to old new ss h e t count n room was =
-    let cut = cut_off bs i h in
-    let items : length (get_or (lists_of bs) i []) ≡ length old.list = ap length (items_at bs i old h e) in
+-- a piece is a block
+pub piece_is_block : (b : Held) (ss : List Slot) (from to : ℕ) → from < to → to ≤ length ss → to ≤ from + 384 →
+    b.list ≡ take (to - from) (drop from ss) → 512 ≤ b.room → IsBlock 512 b
+piece_is_block b ss from to lt within few piece room =
     let rest : length (drop from ss) ≡ length ss - from = length-drop from ss in
-    let len : length new.list ≡ to - from = ap length n ∙ length-take-le (to - from) (drop from ss) (omega (
-      arith,
-      cut,
-      t,
-      count,
-      rest,
-    )) in
-    let some = was.some in
-    let few = was.few in
-    let wide = was.room in
-    record {
-      some = omega (arith, len, items, t, some);
-      few = omega (arith, len, items, t, few);
-      room = omega (arith, room, wide);
-    }
+    let n : length b.list ≡ to - from = ap length piece ∙ length-take-le (to - from) (drop from ss) (omega arith) in
+    record { some = omega arith; few = omega arith; room = room }
+
+-- the lists of one more block
+pub flattened-more : (bs : List Held) (i : ℕ) → i < length bs → (d : Held) →
+    flattened (take (i + 1) (lists_of bs)) ≡ flattened (take i (lists_of bs)) ++ (get_or bs i d).list
+flattened-more bs i h d =
+    let l : i < length (lists_of bs) = rw length-map h in
+    ap flattened (take_more (lists_of bs) i [] l) ∙ (flattened-append (take i (lists_of bs)) (get_or (lists_of bs) i [] ∷
+    []) ∙ ap (λ us. flattened (take i (lists_of bs)) ++ us) (append-nil (get_or (lists_of bs) i [])
+    ∙ get_or-map (λ (v : Held). v.list) bs i d [] h))

@@ -1,5 +1,5 @@
 -- The slots around a place, and around one of an order.
-use Rattle.std.proofs.Common.{◌≡◌, ℕ, zero, suc, ◌+◌, ◌-◌, ◌<◌, ◌≤◌, Bool, true, false, not, List, [], ◌∷◌, length, get_or, Option, Some, None, refl, sym, ap, ◌∙◌, inl, inr, arith, true≢false, find, slice_get, All, IfSome, IfNone}
+use Rattle.std.proofs.Common.{◌≡◌, ℕ, zero, suc, ◌+◌, ◌-◌, ◌<◌, ◌≤◌, Bool, true, false, not, List, [], length, get_or, Option, Some, None, refl, sym, ap, ◌∙◌, inl, inr, arith, true≢false, find, slice_get, All, IfSome, IfNone}
 use Rattle.std.proofs.lemmas.Bool.{cases_lt}
 use Rattle.std.proofs.lemmas.Cmp.{tied_itself}
 use Rattle.std.specs.Cmp.{IsTotalOrder}
@@ -9,8 +9,7 @@ use Rattle.std.specs.declared.cmp.Ordering.TheVariants.{Less, Equal, Greater}
 use Rattle.warc_order.specs.declared.slot.Slot.{Slot}
 use Rattle.warc_order.specs.declared.ranked.Standing.{Standing}
 use Rattle.std.proofs.lemmas.List.{get_or_default}
-use Rattle.std.proofs.lemmas.List.Elements.{All-head, All-tail}
-use Rattle.warc_order.specs.Ranking.{Held, IsBlock, lists_of, blank, flattened, start_of, IsRanked, IsStrict, IsFirstOf, IsLastOf, find_last, before_in, slot_in}
+use Rattle.warc_order.specs.Ranking.{blank, flattened, start_of, IsRanked, IsStrict, IsFirstOf, IsLastOf, find_last, before_in, slot_in}
 use Rattle.warc_order.proofs.BlockLemmas.{at_place, start_of-more, start_of-within}
 use Rattle.warc_order.proofs.RankLemmas.{EndsAt, find-end, last_from-end, lt_is_gt, first_found, none_found, last_found, none_last, last_of_first}
 
@@ -139,9 +138,3 @@ previous_found compare total ls b o s strict h k is =
     sym (last_from-end (λ p. is_lt (compare p s)) None (flattened ls) (start_of ls b + o) (omega arith)
     (ends_before compare total (flattened ls) (start_of ls b + o) s strict lt (stands_there ls b o s h k is))
     ∙ before_is (flattened ls) (start_of ls b + o))
-
-pub fews : (limit : ℕ) (bs : List Held) → All (IsBlock limit) bs → (k : ℕ) → k < length bs →
-    length (get_or (lists_of bs) k []) < limit
-fews limit [] all k h = absurd (omega arith)
-fews limit (b ∷ bs) all zero h = (All-head (IsBlock limit) b bs all).few
-fews limit (b ∷ bs) all (suc k) h = fews limit bs (All-tail (IsBlock limit) b bs all) k (omega arith)

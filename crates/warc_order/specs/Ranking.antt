@@ -77,6 +77,10 @@ lists_of blocks = map (λ b. b.list) blocks
 abbrev pub start_of : List (List Slot) → ℕ → ℕ
 start_of lists b = length (flattened (take b lists))
 
+-- a block holds some indices
+abbrev pub HoldsSome : Held → Type 0
+HoldsSome b = 0 < length b.list
+
 -- a block holds some indices, fewer than `limit`, and has room for so many
 pub record IsBlock (limit : ℕ) (b : Held) : Type 0 where
   pub some : 0 < length b.list

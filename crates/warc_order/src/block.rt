@@ -1,7 +1,7 @@
 //! Some slots, side by side.
 
 ghost use Rattle.std.specs.Prelude.{◌≡◌, ℕ, ◌<◌, ◌≤◌, true, false, [], length, take, drop, slice_index_or};
-ghost use Rattle.std.specs.Prelude.{OnOk, filter, insert, nat_lt, vec_capacity};
+ghost use Rattle.std.specs.Prelude.{OnOk, IfOk, filter, insert, nat_lt, vec_capacity};
 ghost use Rattle.std.specs.List.Sorted.{IsPartitionedBy};
 ghost use Rattle.warc_order.specs.Ranking.{blank};
 
@@ -52,6 +52,19 @@ impl<A: Allocator> Block<A> {
         self.slots.len()
     }
 
+    /// The slots of a vector. It takes no memory.
+    pub(crate) fn of(slots: Vec<Slot, A>) -> Block<A>
+        ensures { result.list ≡ slots.items }
+    {
+        Block { slots }
+    }
+
+    pub(crate) fn slots(&self) -> &[Slot]
+        ensures { result.now ≡ self.now.list }
+    {
+        &self.slots
+    }
+
     pub(crate) fn at(&self, i: usize) -> Slot
         requires { i < length self.now.list }
         ensures { result ≡ slice_index_or self.now.list i blank }
@@ -98,19 +111,6 @@ impl<A: Allocator> Block<A> {
         self.slots.truncate(middle);
     }
 
-    /// Puts other slots in the place of all, for which there is room.
-    pub(crate) fn refill(&mut self, slots: &[Slot])
-        requires { length slots.now ≤ self.old.room }
-        ensures list { self.new.list ≡ slots.now }
-        ensures room { self.new.room ≡ self.old.room }
-    {
-        self.slots.truncate(0);
-        for slot in slots {
-            let end = self.len();
-            self.insert(end, *slot);
-        }
-    }
-
     /// Drops the slots whose indices aren't below a number.
     pub(crate) fn keep_below(&mut self, count: usize)
         ensures list { self.new.list ≡ filter (λ e. nat_lt e.index count) self.old.list }
@@ -128,6 +128,16 @@ impl<A: Allocator + Copy> Block<A> {
         Block {
             slots: Vec::new(alloc),
         }
+    }
+
+    /// Some slots, with room for `room`.
+    pub(crate) fn holding(alloc: A, slots: &[Slot], room: usize) -> Result<Block<A>, AllocError>
+        ensures list { IfOk result (λ block. block.list ≡ slots.now) }
+        ensures room { IfOk result (λ block. room ≤ block.room) }
+    {
+        let mut held = Vec::with_capacity(alloc, room)?;
+        held.extend_from_slice(slots)?;
+        Ok(Block { slots: held })
     }
 
     pub(crate) fn allocator(&self) -> A {

@@ -10,7 +10,9 @@
 //! same as after adding them one by one, in about half the time or less. What that takes of memory each push reserves.
 //!
 //! Each look-up halves, and takes no memory; a step from an entry to the next doesn't halve. An entry takes 24 bytes
-//! and its text, and 8 bytes of the order (up to 16 where entries are added one by one, and 16 while they wait).
+//! and its text, and 8 bytes of the order, also while it waits. Where entries are added one by one it takes up to about
+//! 16 of the order, which stands in blocks between half full and full. The first addition to an order that was filled
+//! at once cuts it into such blocks, which takes memory once.
 #![tactic(auto)]
 
 ghost use Rattle.std.specs.Prelude.{◌≡◌, ℕ, ◌+◌, ◌<◌, [], ◌∷◌, ◌++◌, length, filter, nat_lt, OnOk, OnErr, IfOk, IfSome};

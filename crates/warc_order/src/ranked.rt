@@ -1,14 +1,14 @@
 //! Slots kept in an order, in blocks.
-ghost use Rattle.std.specs.Prelude.{◌≡◌, ℕ, ◌+◌, ◌-◌, ◌<◌, ◌≤◌, Bool, true, false, not, [], ◌∷◌, ◌++◌, length, take};
-ghost use Rattle.std.specs.Prelude.{drop, slice_get, slice_set, slice_index, slice_index_or, OnOk, OnErr, IsTrue};
-ghost use Rattle.std.specs.Prelude.{IfSome, IfNone, All, find, filter, insert, map, swap, reverse, nat_lt, vec_len};
-ghost use Rattle.std.specs.Prelude.{vec_capacity};
+ghost use Rattle.std.specs.Prelude.{◌≡◌, ℕ, ◌+◌, ◌^◌, ◌-◌, ◌<◌, ◌≤◌, true, false, not, [], ◌∷◌, ◌++◌, length};
+ghost use Rattle.std.specs.Prelude.{slice_get, slice_index_or, OnOk, OnErr, IsTrue, IfOk, IfSome, IfNone, All};
+ghost use Rattle.std.specs.Prelude.{find, filter, insert, map, nat_lt, vec_len, vec_capacity};
 ghost use Rattle.std.specs.List.Sorted.{IsPartitionedBy, IsPartitionPoint, IsPermutation};
 ghost use Rattle.std.specs.Cmp.{IsTotalOrder};
 ghost use Rattle.std.specs.Ordering.{is_lt, is_gt, is_le};
 ghost use Rattle.std.specs.declared.cmp.Ordering.{Ordering};
-ghost use Rattle.warc_order.specs.Ranking.{flattened, blank, IsRanked, IsFirstOf, IsLastOf, IsStrict, placed, find_last};
-ghost use Rattle.warc_order.specs.Ranking.{before_in, slot_in, lists_of, start_of, IsBlock, IsWide};
+ghost use Rattle.warc_order.specs.Ranking.{flattened, blank, IsRanked, IsFirstOf, IsLastOf, IsStrict, placed};
+ghost use Rattle.warc_order.specs.Ranking.{find_last, before_in, slot_in, lists_of, start_of, HoldsSome, IsBlock};
+ghost use Rattle.warc_order.specs.Ranking.{IsWide};
 
 use crate::block::Block;
 use crate::slot::{Slot, SlotOrder, SlotTest};
@@ -17,8 +17,11 @@ use std::cmp::Ordering;
 use std::marker::Model;
 use std::mem;
 
-/// The most indices of a block.
+/// The most indices of a block that isn't wide.
 const LIMIT: usize = 512;
+
+/// How many indices of a wide block go into one that isn't: it then takes some more before it is full.
+const PIECE: usize = 384;
 
 /// The test of coming before an index.
 #[derive(Drop)]
@@ -134,7 +137,7 @@ fn standing_at<A: Allocator>(blocks: &[Block<A>], block: usize, offset: usize) -
 
 /// The slot behind a place.
 fn slot_behind<A: Allocator>(blocks: &[Block<A>], place: Place) -> Option<Standing>
-    requires blocks { All (IsBlock LIMIT) blocks.now }
+    requires blocks { All HoldsSome blocks.now }
     requires block { place.block < length blocks.now }
     requires within { place.offset ≤ length (slice_index_or (lists_of blocks.now) place.block []) }
     ensures { slot_in result ≡ slice_get (flattened (lists_of blocks.now)) (start_of
@@ -151,7 +154,7 @@ fn slot_behind<A: Allocator>(blocks: &[Block<A>], place: Place) -> Option<Standi
 
 /// The slot before a place.
 fn slot_before<A: Allocator>(blocks: &[Block<A>], place: Place) -> Option<Standing>
-    requires blocks { All (IsBlock LIMIT) blocks.now }
+    requires blocks { All HoldsSome blocks.now }
     requires block { place.block < length blocks.now }
     requires within { place.offset ≤ length (slice_index_or (lists_of blocks.now) place.block []) }
     ensures { slot_in result ≡ before_in (flattened (lists_of blocks.now)) (start_of
@@ -172,6 +175,7 @@ fn slot_before<A: Allocator>(blocks: &[Block<A>], place: Place) -> Option<Standi
 fn stands_at<A: Allocator>(blocks: &[Block<A>], place: Place, slot: Slot) -> bool
     ensures block { IsTrue result → place.block < length blocks.now }
     ensures offset { IsTrue result → place.offset < length (slice_index_or (lists_of blocks.now) place.block []) }
+    ensures fits { IsTrue result → place.offset + 1 < 2 ^ 64 }
     ensures slot { IsTrue result → slice_index_or (slice_index_or
         (lists_of blocks.now) place.block []) place.offset blank ≡ slot }
 {
@@ -183,7 +187,7 @@ fn stands_at<A: Allocator>(blocks: &[Block<A>], place: Place, slot: Slot) -> boo
 /// Where the indices that pass end.
 fn find_place<T: SlotTest, A: Allocator>(blocks: &[Block<A>], test: &T) -> Place
     requires any { 0 < length blocks.now }
-    requires blocks { All (IsBlock LIMIT) blocks.now }
+    requires blocks { All HoldsSome blocks.now }
     requires order { IsPartitionedBy (T.passes test.now) (flattened (lists_of blocks.now)) }
     ensures block { result.block < length blocks.now }
     ensures within { result.offset ≤ length (slice_index_or (lists_of blocks.now) result.block []) }
@@ -199,7 +203,7 @@ fn find_place<T: SlotTest, A: Allocator>(blocks: &[Block<A>], test: &T) -> Place
 
 /// The first slot that fails a test.
 fn first_in<T: SlotTest, A: Allocator>(blocks: &[Block<A>], test: &T) -> Option<Standing>
-    requires blocks { All (IsBlock LIMIT) blocks.now }
+    requires blocks { All HoldsSome blocks.now }
     requires order { IsPartitionedBy (T.passes test.now) (flattened (lists_of blocks.now)) }
     ensures { slot_in result ≡ find (λ p. not (T.passes test.now p)) (flattened (lists_of blocks.now)) }
 {
@@ -212,7 +216,7 @@ fn first_in<T: SlotTest, A: Allocator>(blocks: &[Block<A>], test: &T) -> Option<
 
 /// The last slot that passes a test.
 fn last_in<T: SlotTest, A: Allocator>(blocks: &[Block<A>], test: &T) -> Option<Standing>
-    requires blocks { All (IsBlock LIMIT) blocks.now }
+    requires blocks { All HoldsSome blocks.now }
     requires order { IsPartitionedBy (T.passes test.now) (flattened (lists_of blocks.now)) }
     ensures { slot_in result ≡ find_last (T.passes test.now) (flattened (lists_of blocks.now)) }
 {
@@ -230,7 +234,7 @@ fn next_in<O: SlotOrder, A: Allocator>(
     slot: Slot,
     place: Place,
 ) -> Option<Standing>
-    requires blocks { All (IsBlock LIMIT) blocks.now }
+    requires blocks { All HoldsSome blocks.now }
     requires strict { IsStrict (O.compare order.now) (flattened (lists_of blocks.now)) }
     ensures { slot_in result ≡ find (λ p. not (is_le (O.compare order.now p slot))) (flattened (lists_of blocks.now)) }
 {
@@ -253,7 +257,7 @@ fn previous_in<O: SlotOrder, A: Allocator>(
     slot: Slot,
     place: Place,
 ) -> Option<Standing>
-    requires blocks { All (IsBlock LIMIT) blocks.now }
+    requires blocks { All HoldsSome blocks.now }
     requires strict { IsStrict (O.compare order.now) (flattened (lists_of blocks.now)) }
     ensures { slot_in result ≡ find_last (λ p. is_lt (O.compare order.now p slot)) (flattened (lists_of blocks.now)) }
 {
@@ -313,7 +317,7 @@ fn put<A: Allocator + Copy>(
 /// Where an index goes: behind those that come before it.
 fn place_for<O: SlotOrder, A: Allocator>(blocks: &[Block<A>], order: &O, slot: Slot) -> Place
     requires any { 0 < length blocks.now }
-    requires blocks { All (IsBlock LIMIT) blocks.now }
+    requires blocks { All HoldsSome blocks.now }
     requires ranked { IsRanked (O.compare order.now) (flattened (lists_of blocks.now)) }
     ensures block { result.block < length blocks.now }
     ensures within { result.offset ≤ length (slice_index_or (lists_of blocks.now) result.block []) }
@@ -365,59 +369,57 @@ fn add_in<O: SlotOrder, A: Allocator + Copy>(
     }
 }
 
-/// The place behind all indices.
-fn end_of<A: Allocator>(blocks: &[Block<A>]) -> Place
-    requires { 0 < length blocks.now }
-    ensures block { result.block < length blocks.now }
-    ensures within { result.offset ≤ length (slice_index_or (lists_of blocks.now) result.block []) }
-    ensures end { start_of (lists_of blocks.now) result.block + result.offset ≡ length (flattened
-        (lists_of blocks.now)) }
+/// Adds some slots in blocks of few slots each.
+fn add_pieces<A: Allocator + Copy>(
+    even: &mut Vec<Block<A>, A>,
+    slots: &[Slot],
+) -> Result<(), AllocError>
+    requires { All (IsBlock LIMIT) even.old.items }
+    ensures blocks { OnOk result (All (IsBlock LIMIT) even.new.items) }
+    ensures list { OnOk result (flattened (lists_of even.new.items) ≡
+        flattened (lists_of even.old.items) ++ slots.now) }
 {
-    let block = blocks.len() - 1;
-    let offset = length_of(blocks, block);
-    Place { block, offset }
-}
-
-/// Adds an index behind all others.
-fn append_in<A: Allocator + Copy>(blocks: &mut Vec<Block<A>, A>, slot: Slot, spare: &mut Block<A>)
-    requires blocks { All (IsBlock LIMIT) blocks.old.items }
-    requires room { vec_len blocks.old < vec_capacity blocks.old }
-    requires spare { spare.old.list ≡ [] }
-    requires spare_room { LIMIT ≤ spare.old.room }
-    ensures blocks { All (IsBlock LIMIT) blocks.new.items }
-    ensures spare { spare.new.list ≡ [] }
-    ensures list { flattened (lists_of blocks.new.items) ≡ flattened (lists_of blocks.old.items) ++ slot ∷ [] }
-{
-    if blocks.is_empty() {
-        put_first(blocks, slot, spare);
-    } else {
-        let place = end_of(blocks);
-        put(blocks, place, slot, spare);
-    }
-}
-
-/// Puts other slots in the place of those of all blocks.
-fn refill<A: Allocator>(blocks: &mut Vec<Block<A>, A>, slots: &[Slot])
-    requires blocks { All (IsBlock LIMIT) blocks.old.items }
-    requires same { length (flattened (lists_of blocks.old.items)) ≡ length slots.now }
-    ensures blocks { All (IsBlock LIMIT) blocks.new.items }
-    ensures list { flattened (lists_of blocks.new.items) ≡ slots.now }
-{
+    let alloc = *even.allocator();
     let mut from = 0;
-    for i in 0..blocks.len() {
-        let to = from + length_of(blocks, i);
-        let block = &mut blocks[i];
-        block.refill(&slots[from..to]);
+    while from < slots.len() {
+        let to = from + PIECE.min(slots.len() - from);
+        let block = Block::holding(alloc, &slots[from..to], LIMIT)?;
+        even.push(block)?;
         from = to;
     }
+    Ok(())
+}
+
+/// The slots of some blocks in blocks of few slots each.
+fn even_blocks<A: Allocator + Copy>(
+    alloc: A,
+    blocks: &[Block<A>],
+) -> Result<Vec<Block<A>, A>, AllocError>
+    ensures blocks { IfOk result (λ even. All (IsBlock LIMIT) even.items) }
+    ensures list { IfOk result (λ even. flattened (lists_of even.items) ≡ flattened (lists_of blocks.now)) }
+{
+    let mut even = Vec::new(alloc);
+    for block in blocks {
+        add_pieces(&mut even, block.slots())?;
+    }
+    Ok(even)
+}
+
+/// Cuts wide blocks. `Err`: no memory for it; then nothing changes.
+fn make_even<A: Allocator + Copy>(blocks: &mut Vec<Block<A>, A>) -> Result<(), AllocError>
+    ensures list { flattened (lists_of blocks.new.items) ≡ flattened (lists_of blocks.old.items) }
+    ensures ok { OnOk result (All (IsBlock LIMIT) blocks.new.items) }
+    ensures err { OnErr result (blocks.new.items ≡ blocks.old.items) }
+{
+    *blocks = even_blocks(*blocks.allocator(), blocks)?;
+    Ok(())
 }
 
 /// Drops the indices from a number on in every block.
 fn keep_all_below<A: Allocator>(blocks: &mut Vec<Block<A>, A>, count: usize)
-    requires { All (IsWide LIMIT) blocks.old.items }
     ensures lists { lists_of blocks.new.items ≡ map (λ ps. filter (λ e. nat_lt e.index count) ps)
         (lists_of blocks.old.items) }
-    ensures wide { All (IsWide LIMIT) blocks.new.items }
+    ensures few { All (IsWide LIMIT) blocks.old.items → All (IsWide LIMIT) blocks.new.items }
 {
     for i in 0..blocks.len() {
         let block = &mut blocks[i];
@@ -427,33 +429,40 @@ fn keep_all_below<A: Allocator>(blocks: &mut Vec<Block<A>, A>, count: usize)
 
 /// Drops the blocks that hold nothing.
 fn drop_empty<A: Allocator>(blocks: &mut Vec<Block<A>, A>)
-    requires { All (IsWide LIMIT) blocks.old.items }
     ensures list { flattened (lists_of blocks.new.items) ≡ flattened (lists_of blocks.old.items) }
-    ensures blocks { All (IsBlock LIMIT) blocks.new.items }
+    ensures some { All HoldsSome blocks.new.items }
+    ensures few { All (IsWide LIMIT) blocks.old.items → All (IsBlock LIMIT) blocks.new.items }
 {
     blocks.retain(|b| b.len() > 0);
 }
 
 /// Positions in the order of their slots. It's sorted after each addition: about the logarithm of
-/// the number of indices in comparisons, and a move of at most a block.
+/// the number of indices in comparisons, and a move of at most a block. Slots that were put in order at once are one
+/// wide block, which the first addition cuts.
 #[derive(Drop)]
 pub struct Ranked<A: Allocator = Global> {
     blocks: Vec<Block<A>, A>,
     spare: Block<A>,
+    /// That no block is wide.
+    is_even: bool,
 }
 
 impl<A: Allocator> Model for Ranked<A> {
-    ghost use Rattle.std.specs.Prelude.{◌≡◌, ◌&&◌, nat_lt, nat_le, [], All, vec_len, vec_capacity};
-    ghost use Rattle.warc_order.specs.Ranking.{flattened, Ranking, lists_of, IsBlock};
+    ghost use Rattle.std.specs.Prelude.{◌≡◌, ◌&&◌, nat_lt, nat_le, [], All, IsTrue, vec_len, vec_capacity};
+    ghost use Rattle.warc_order.specs.Ranking.{flattened, Ranking, lists_of, HoldsSome, IsBlock};
 
     ghost Value = { Ranking };
 
     ghost view = { λ s. record {
       list = flattened (lists_of s.blocks.items);
-      ready = nat_lt (vec_len s.blocks) (vec_capacity s.blocks) && nat_le 512 s.spare.room;
+      ready = s.is_even && (nat_lt (vec_len s.blocks) (vec_capacity s.blocks) && nat_le 512 s.spare.room);
     } };
 
-    ghost invariant = { λ s. record { blocks : All (IsBlock 512) s.blocks.items; spare : s.spare.list ≡ [] } };
+    ghost invariant = { λ s. record {
+      blocks : All HoldsSome s.blocks.items;
+      even : IsTrue s.is_even → All (IsBlock 512) s.blocks.items;
+      spare : s.spare.list ≡ [];
+    } };
 }
 
 impl<A: Allocator + Copy> Ranked<A> {
@@ -463,14 +472,37 @@ impl<A: Allocator + Copy> Ranked<A> {
         Ranked {
             blocks: Vec::new(alloc),
             spare: Block::new(alloc),
+            is_even: true,
         }
     }
 
-    /// Makes room for one more index.
+    /// Slots that stand in order, as one block. It takes no memory.
+    pub(crate) fn whole(slots: Vec<Slot, A>, mut blocks: Vec<Block<A>, A>) -> Ranked<A>
+        requires none { blocks.items ≡ [] }
+        requires room { 0 < length slots.items → 0 < vec_capacity blocks }
+        ensures { result.list ≡ slots.items }
+    {
+        let spare = Block::new(*blocks.allocator());
+        let is_even = slots.is_empty();
+        if !is_even {
+            blocks.push_reserved(Block::of(slots));
+        }
+        Ranked {
+            blocks,
+            spare,
+            is_even,
+        }
+    }
+
+    /// Makes room for one more index. `Err`: no memory for it; then no index changes.
     pub fn reserve(&mut self) -> Result<(), AllocError>
         ensures list { self.new.list ≡ self.old.list }
         ensures ready { OnOk result (IsTrue self.new.ready) }
     {
+        if !self.is_even {
+            make_even(&mut self.blocks)?;
+            self.is_even = true;
+        }
         self.blocks.reserve(1)?;
         self.spare.reserve(LIMIT)
     }
@@ -484,22 +516,6 @@ impl<A: Allocator + Copy> Ranked<A> {
         ensures members { IsPermutation (slot ∷ self.old.list) self.new.list }
     {
         add_in(&mut self.blocks, order, slot, &mut self.spare);
-    }
-
-    /// Adds an index for which there is room behind all others.
-    pub fn append_reserved(&mut self, slot: Slot)
-        requires { IsTrue self.old.ready }
-        ensures { self.new.list ≡ self.old.list ++ slot ∷ [] }
-    {
-        append_in(&mut self.blocks, slot, &mut self.spare);
-    }
-
-    /// Puts as many other indices in the place of all. It takes no memory.
-    pub fn refill(&mut self, slots: &[Slot])
-        requires { length self.old.list ≡ length slots.now }
-        ensures { self.new.list ≡ slots.now }
-    {
-        refill(&mut self.blocks, slots);
     }
 
     /// The first slot that fails a test, which those behind it fail too.

@@ -3,6 +3,7 @@ ghost use Rattle.std.specs.Prelude.{◌≡◌, [], ◌∷◌, ◌++◌, filter, 
 ghost use Rattle.std.specs.List.Sorted.{IsPermutation};
 ghost use Rattle.warc_order.specs.Ranking.{IsRanked};
 
+use crate::block::Block;
 use crate::ranked::Ranked;
 use crate::slot::{Slot, SlotOrder};
 use std::alloc::{AllocError, Allocator};
@@ -16,26 +17,29 @@ fn sort<O: SlotOrder>(slots: &mut [Slot], order: &O)
     slots.sort_unstable_by(|a, b| order.compare(*a, *b));
 }
 
-/// Slots as they came, side by side, and the blocks that they will fill in their order: so putting them in order takes
-/// no memory.
+/// Slots as they came, side by side. The vector becomes the one block of their order, for which there is a place: so
+/// putting them in order takes no memory.
 #[derive(Drop)]
 pub(crate) struct Waiting<A: Allocator> {
     slots: Vec<Slot, A>,
-    ranked: Ranked<A>,
+    blocks: Vec<Block<A>, A>,
 }
 
 impl<A: Allocator> Model for Waiting<A> {
-    ghost use Rattle.std.specs.Prelude.{◌≡◌, ◌&&◌, nat_lt, vec_len, vec_capacity};
+    ghost use Rattle.std.specs.Prelude.{◌≡◌, ◌<◌, ◌&&◌, [], length, nat_lt, vec_len, vec_capacity};
     ghost use Rattle.warc_order.specs.Ranking.{Ranking};
 
     ghost Value = { Ranking };
 
     ghost view = { λ s. record {
       list = s.slots.items;
-      ready = nat_lt (vec_len s.slots) (vec_capacity s.slots) && s.ranked.ready;
+      ready = nat_lt (vec_len s.slots) (vec_capacity s.slots) && nat_lt 0 (vec_capacity s.blocks);
     } };
 
-    ghost invariant = { λ s. s.ranked.list ≡ s.slots.items };
+    ghost invariant = { λ s. record {
+      none : s.blocks.items ≡ [];
+      room : 0 < length s.slots.items → 0 < vec_capacity s.blocks;
+    } };
 }
 
 impl<A: Allocator + Copy> Waiting<A> {
@@ -44,7 +48,7 @@ impl<A: Allocator + Copy> Waiting<A> {
     {
         Waiting {
             slots: Vec::new(alloc),
-            ranked: Ranked::new(alloc),
+            blocks: Vec::new(alloc),
         }
     }
 
@@ -54,7 +58,7 @@ impl<A: Allocator + Copy> Waiting<A> {
         ensures ready { OnOk result (IsTrue self.new.ready) }
     {
         self.slots.reserve(1)?;
-        self.ranked.reserve()
+        self.blocks.reserve(1)
     }
 
     /// Adds a slot for which there is room.
@@ -63,7 +67,6 @@ impl<A: Allocator + Copy> Waiting<A> {
         ensures { self.new.list ≡ self.old.list ++ slot ∷ [] }
     {
         self.slots.push_reserved(slot);
-        self.ranked.append_reserved(slot);
     }
 
     /// Drops the slots from an index on. It takes no memory.
@@ -71,7 +74,6 @@ impl<A: Allocator + Copy> Waiting<A> {
         ensures { self.new.list ≡ filter (λ e. nat_lt e.index count) self.old.list }
     {
         self.slots.retain(|slot| (slot.index as usize) < count);
-        self.ranked.forget_after(count);
     }
 
     /// The slots in order.
@@ -79,12 +81,8 @@ impl<A: Allocator + Copy> Waiting<A> {
         ensures ranked { IsRanked (O.compare order.now) result.list }
         ensures members { IsPermutation self.list result.list }
     {
-        let Waiting {
-            mut slots,
-            mut ranked,
-        } = self;
+        let Waiting { mut slots, blocks } = self;
         sort(&mut slots, order);
-        ranked.refill(&slots);
-        ranked
+        Ranked::whole(slots, blocks)
     }
 }

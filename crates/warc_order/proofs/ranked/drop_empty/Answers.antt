@@ -4,8 +4,8 @@ use Rattle.std.proofs.lemmas.Fn.{filter_same}
 use Rattle.std.proofs.lemmas.List.{nil_from_length}
 use Rattle.std.proofs.lemmas.List.Elements.{All-same}
 use Rattle.std.proofs.lemmas.Bool.Decides.{nat_tests}
-use Rattle.warc_order.specs.Ranking.{Held, flattened, lists_of, IsBlock}
-use Rattle.warc_order.proofs.BlockLemmas.{flattened-kept, blocks_kept}
+use Rattle.warc_order.specs.Ranking.{Held, flattened, lists_of, HoldsSome, IsBlock}
+use Rattle.warc_order.proofs.BlockLemmas.{flattened-kept, some_kept, blocks_kept}
 use Rattle.warc_order.proofs.ranked.drop_empty.Goals as goal
 
 empty_items : (b : Held) → nat_lt 0 (length b.list) ≡ false → b.list ≡ []
@@ -20,8 +20,14 @@ returns-clause-list g c =
     c.retain.ensures.filtered)
     ∙ flattened-kept c.args.blocks.now.items (λ b. nat_lt 0 (length b.list)) empty_items
 
-pub returns-clause-blocks : goal.returns-clause-blocks
-returns-clause-blocks g c =
+pub returns-clause-some : goal.returns-clause-some
+returns-clause-some g c =
+    All-same HoldsSome _ _ (filter_same _ (λ b. nat_lt 0 (length b.list)) _ (λ x b f' k. search rules) _ _
+    c.retain.ensures.filtered)
+    (some_kept c.args.blocks.now.items (λ b. nat_lt 0 (length b.list)) some_items)
+
+pub returns-clause-few : goal.returns-clause-few
+returns-clause-few g c wide =
     All-same (IsBlock 512) _ _ (filter_same _ (λ b. nat_lt 0 (length b.list)) _ (λ x b f' k. search rules) _ _
     c.retain.ensures.filtered)
-    (blocks_kept 512 c.args.blocks.now.items (λ b. nat_lt 0 (length b.list)) some_items c.requires)
+    (blocks_kept 512 c.args.blocks.now.items (λ b. nat_lt 0 (length b.list)) some_items wide)

@@ -8,9 +8,9 @@ pub cut_blocks-count-requires : goal.cut_blocks-count-requires
 cut_blocks-count-requires g c =
     let n : length (lists_of c.args.blocks.now) ≡ length c.args.blocks.now = length-map _ _ in
     record {
-      some = somes 512 c.args.blocks.now c.requires.blocks;
+      some = somes c.args.blocks.now c.requires.blocks;
       order = λ i j le lt. order_of_firsts (g.T.SlotTest.passes c.args.test.now) (lists_of c.args.blocks.now) (λ k h.
-          somes 512 c.args.blocks.now c.requires.blocks k (omega (arith, n))) c.requires.order i j le (omega (
+          somes c.args.blocks.now c.requires.blocks k (omega (arith, n))) c.requires.order i j le (omega (
             arith,
             n,
           ));
@@ -26,7 +26,7 @@ pub returns-clause-start : goal.returns-clause-start
 returns-clause-start g c =
     let n : length (lists_of c.args.blocks.now) ≡ length c.args.blocks.now = length-map _ _ in
     start_is_first (g.T.SlotTest.passes c.args.test.now) (lists_of c.args.blocks.now) c.cut_blocks-count.result
-    c.saturating_sub-block.result c.cut_within-offset.result (λ k h. somes 512 c.args.blocks.now c.requires.blocks
+    c.saturating_sub-block.result c.cut_within-offset.result (λ k h. somes c.args.blocks.now c.requires.blocks
     k (omega (arith, n))) record {
       block = omega (arith, n);
       within = c.cut_within-offset.ensures.bound;
@@ -42,7 +42,7 @@ pub returns-clause-point : goal.returns-clause-point
 returns-clause-point g c =
     let n : length (lists_of c.args.blocks.now) ≡ length c.args.blocks.now = length-map _ _ in
     point (g.T.SlotTest.passes c.args.test.now) (lists_of c.args.blocks.now) c.cut_blocks-count.result
-    c.saturating_sub-block.result c.cut_within-offset.result (λ k h. somes 512 c.args.blocks.now c.requires.blocks
+    c.saturating_sub-block.result c.cut_within-offset.result (λ k h. somes c.args.blocks.now c.requires.blocks
     k (omega (arith, n))) c.requires.order record {
       block = omega (arith, n);
       within = c.cut_within-offset.ensures.bound;

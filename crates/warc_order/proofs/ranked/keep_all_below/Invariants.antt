@@ -8,5 +8,5 @@ invariant-loop-i g l = record {
   length : length l.blocks.items ≡ length l.initial.blocks.items;
   lists : lists_of l.blocks.items ≡ map (λ ps. filter (λ e. nat_lt e.index l.count) ps) (take l.i (lists_of
       l.initial.blocks.items)) ++ drop l.i (lists_of l.initial.blocks.items);
-  wide : All (IsWide 512) l.blocks.items;
+  few : All (IsWide 512) l.initial.blocks.items → All (IsWide 512) l.blocks.items;
 }

@@ -1,17 +1,9 @@
-use Rattle.std.proofs.Common.{◌≡◌, ◌<◌, arith, length, ◌∙◌, []}
+use Rattle.std.proofs.Common.{◌≡◌, arith, length, ◌∙◌}
 use Rattle.std.proofs.lemmas.List.{length-map}
-use Rattle.std.specs.List.{slice_index_or}
 use Rattle.warc_order.specs.Ranking.{flattened, lists_of}
 use Rattle.warc_order.proofs.RankLemmas.{upto_ends}
-use Rattle.warc_order.proofs.StepLemmas.{next_found, fews, ranked_of_strict}
+use Rattle.warc_order.proofs.StepLemmas.{next_found, ranked_of_strict}
 use Rattle.warc_order.proofs.ranked.next_in.Goals as goal
-
-pub overflow_add-behind : goal.overflow_add-behind
-overflow_add-behind g c =
-    let few : length (slice_index_or (lists_of c.args.blocks.now) c.args.place.block []) < 512 =
-    fews 512 c.args.blocks.now c.requires.blocks c.args.place.block (c.stands_at.ensures.block c.if-stands_at.true)
-    in
-    omega (arith, (c.stands_at.ensures.offset c.if-stands_at.true))
 
 pub first_in-requires-clause-order : goal.first_in-requires-clause-order
 first_in-requires-clause-order g c =

@@ -9,13 +9,13 @@ use Rattle.warc_order.proofs.ranked.slot_before.Goals as goal
 pub overflow_sub-offset : goal.overflow_sub-offset
 overflow_sub-offset g c =
     let some : 0 < length (slice_index_or (lists_of c.args.blocks.now) (c.args.place.block - 1) []) =
-    somes 512 c.args.blocks.now c.requires.blocks (c.args.place.block - 1) (omega arith) in
+    somes c.args.blocks.now c.requires.blocks (c.args.place.block - 1) (omega arith) in
     omega (arith, c.length_of-offset.ensures)
 
 pub standing_at-requires-then-place-gt0-2-clause-offset : goal.standing_at-requires-then-place-gt0-2-clause-offset
 standing_at-requires-then-place-gt0-2-clause-offset g c =
     let some : 0 < length (slice_index_or (lists_of c.args.blocks.now) (c.args.place.block - 1) []) =
-    somes 512 c.args.blocks.now c.requires.blocks (c.args.place.block - 1) (omega arith) in
+    somes c.args.blocks.now c.requires.blocks (c.args.place.block - 1) (omega arith) in
     omega (arith, c.length_of-offset.ensures)
 
 pub returns-then-place-gt0 : goal.returns-then-place-gt0
@@ -35,7 +35,7 @@ returns-then-place-gt0-2 g c =
     let b : ℕ = c.args.place.block in
     let o : ℕ = c.args.place.offset in
     let some : 0 < length (slice_index_or (lists_of c.args.blocks.now) (b - 1) []) =
-    somes 512 c.args.blocks.now c.requires.blocks (b - 1) (omega arith) in
+    somes c.args.blocks.now c.requires.blocks (b - 1) (omega arith) in
     let last : ℕ = length (slice_index_or (lists_of c.args.blocks.now) (b - 1) []) - 1 in
     let at : start_of (lists_of c.args.blocks.now) b + o ≡ suc (start_of (lists_of c.args.blocks.now) (b - 1) + last) =
     end_before (lists_of c.args.blocks.now) b o (omega arith) (omega (arith, n)) (omega arith) some in

@@ -6,7 +6,7 @@ use Rattle.warc_order.proofs.BlockLemmas.{somes, some_at, next_at, none_at}
 use Rattle.warc_order.proofs.ranked.slot_behind.Goals as goal
 
 pub standing_at-requires-then-place-blocks-clause-offset : goal.standing_at-requires-then-place-blocks-clause-offset
-standing_at-requires-then-place-blocks-clause-offset g c = somes 512 c.args.blocks.now c.requires.blocks
+standing_at-requires-then-place-blocks-clause-offset g c = somes c.args.blocks.now c.requires.blocks
     (c.args.place.block + 1) c.if-place-blocks.true
 
 pub returns-then-place-length_of : goal.returns-then-place-length_of
@@ -21,7 +21,7 @@ returns-then-place-blocks g c =
     ap Some c.standing_at-then-place-blocks.ensures
     ∙ sym (ap (slice_get (flattened (lists_of c.args.blocks.now))) (next_at (lists_of c.args.blocks.now)
     c.args.place.block c.args.place.offset (omega (arith, n)) (omega arith))
-    ∙ some_at (lists_of c.args.blocks.now) (c.args.place.block + 1) 0 (omega (arith, n)) (somes 512 c.args.blocks.now
+    ∙ some_at (lists_of c.args.blocks.now) (c.args.place.block + 1) 0 (omega (arith, n)) (somes c.args.blocks.now
     c.requires.blocks (c.args.place.block + 1) c.if-place-blocks.true))
 
 pub returns-else-place-blocks : goal.returns-else-place-blocks

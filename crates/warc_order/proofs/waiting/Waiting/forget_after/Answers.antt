@@ -1,4 +1,4 @@
-use Rattle.std.proofs.Common.{rules, ◌∙◌, ap, sym, filter}
+use Rattle.std.proofs.Common.{rules, ◌∙◌, ap, filter}
 use Rattle.std.specs.Prelude.{nat_lt}
 use Rattle.std.proofs.lemmas.Fn.{filter_same}
 use Rattle.warc_order.specs.declared.slot.Slot.{Slot}
@@ -8,9 +8,3 @@ pub returns : goal.returns
 returns g c =
     filter_same _ (λ (s : Slot). nat_lt s.index c.args.count) _ (λ x b f' k. search rules) _ _ c.retain.ensures.filtered
     ∙ ap (λ v. filter (λ (s : Slot). nat_lt s.index c.args.count) v.list) c.self.view_is
-
-pub invariant_of-self : goal.invariant_of-self
-invariant_of-self g c =
-    c.forget_after.ensures ∙ (ap (filter (λ (s : Slot). nat_lt s.index c.args.count)) c.self.invariant
-    ∙ sym (filter_same _ (λ (s : Slot). nat_lt s.index c.args.count) _ (λ x b f' k. search rules) _ _
-    c.retain.ensures.filtered))
