@@ -1,3 +1,4 @@
+pub mod ColumnLemmas
 pub mod EntryLemmas
 pub mod BlockLemmas
 pub mod RankLemmas

@@ -6,44 +6,68 @@ use Rattle.std.specs.Ordering.{nat_cmp, ordering_then}
 use Rattle.std.specs.declared.cmp.Ordering.{Ordering}
 use Rattle.warc_order.specs.declared.mark.Mark.{Mark}
 use Rattle.warc_order.specs.declared.slot.Slot.{Slot}
-use Rattle.warc_order.specs.declared.entries.Line.{Line}
 use Rattle.warc_order.specs.Heads.{head_of}
 use Rattle.warc_order.specs.Ranking.{IsRanked}
-use Rattle.warc_order.specs.Entries.{Entry, entry_at}
+use Rattle.warc_order.specs.Entries.{Entry, entry_at, entry_of}
+use Rattle.warc_order.specs.Columns.{Sparse, values}
 
--- ---- entries as lines and bytes
-
--- entries, and how many lines and bytes they take without a growth
-pub record Stock : Type 0 where
-  pub list : List Entry
-  pub free_lines : ℕ
-  pub free_bytes : ℕ
+-- ---- entries as columns and bytes
 
 abbrev pub texts_of : List Entry → List (List ℕ)
 texts_of es = map (λ e. e.text) es
 
--- a line and its text
-abbrev pub told : Line → List ℕ → Entry
-told l text = record { text = text; mark = record { major = l.major; minor = l.minor }; position = l.position }
+-- the bytes of all texts, and of each entry where its text ends, the two numbers of its mark, and its position
+pub record Parts : Type 0 where
+  pub ends : List ℕ
+  pub bytes : List ℕ
+  pub majors : List ℕ
+  pub minors : List ℕ
+  pub positions : List ℕ
 
--- the entries of lines, where the bytes begin at `from`
-abbrev pub entries_of : ℕ → List Line → List ℕ → List Entry
-entries_of from [] bytes = []
-entries_of from (l ∷ ls) bytes = told l (take (l.end - from) bytes) ∷ entries_of l.end ls (drop (l.end - from) bytes)
+-- what the blanks of columns stand for: 0, and the entry's own index
+abbrev pub no_number : ℕ → ℕ
+no_number i = 0
 
--- the line of an entry whose text ends at an offset
-abbrev pub line_of : ℕ → Entry → Line
-line_of end e = record { end = end; minor = e.mark.minor; major = e.mark.major; position = e.position }
+abbrev pub own_index : ℕ → ℕ
+own_index i = i
 
--- the lines of entries, the first text beginning at `from`
-abbrev pub lines_of : ℕ → List Entry → List Line
-lines_of from [] = []
-lines_of from (e ∷ es) = line_of (from + length e.text) e ∷ lines_of (from + length e.text) es
+abbrev pub parts : List ℕ → List ℕ → Sparse ℕ → Sparse ℕ → Sparse ℕ → Parts
+parts ends bytes majors minors positions = record {
+  ends = ends;
+  bytes = bytes;
+  majors = values no_number majors;
+  minors = values no_number minors;
+  positions = values own_index positions;
+}
 
--- lines and bytes hold just these entries
-pub record IsFlat (ls : List Line) (bs : List ℕ) (es : List Entry) : Type 0 where
-  pub lines : ls ≡ lines_of 0 es
-  pub bytes : bs ≡ concat (texts_of es)
+-- where texts end, the first beginning at `from`
+abbrev pub ends_of : ℕ → List Entry → List ℕ
+ends_of from [] = []
+ends_of from (e ∷ es) = (from + length e.text) ∷ ends_of (from + length e.text) es
+
+-- the parts of entries
+abbrev pub parts_of : List Entry → Parts
+parts_of es = record {
+  ends = ends_of 0 es;
+  bytes = concat (texts_of es);
+  majors = map (λ e. e.mark.major) es;
+  minors = map (λ e. e.mark.minor) es;
+  positions = map (λ e. e.position) es;
+}
+
+-- the entries of parts, where the bytes begin at `from`
+abbrev pub entries_from : ℕ → (ends bytes majors minors positions : List ℕ) → List Entry
+entries_from from (end ∷ ends) bytes (major ∷ majors) (minor ∷ minors) (position ∷ positions) =
+    entry_of (take (end - from) bytes) (record { major = major; minor = minor }) position
+    ∷ entries_from end ends (drop (end - from) bytes) majors minors positions
+entries_from from _ bytes _ _ _ = []
+
+abbrev pub entries_of : Parts → List Entry
+entries_of p = entries_from 0 p.ends p.bytes p.majors p.minors p.positions
+
+-- parts hold just these entries
+abbrev pub IsFlat : Parts → List Entry → Type 0
+IsFlat p es = p ≡ parts_of es
 
 -- ---- the order of slots
 

@@ -22,7 +22,7 @@ pub(crate) struct ByText<'a, A: Allocator> {
 impl<A: Allocator + Copy> ByText<'_, A> {
     /// Compares a slot with a key.
     fn compare_key(&self, slot: Slot, head: u32, text: &[u8], mark: Mark) -> Ordering
-        ensures { result ≡ key_cmp (key_at self.now.entries.now.list slot) (record {
+        ensures { result ≡ key_cmp (key_at self.now.entries.now slot) (record {
           head = head;
           text = text.now;
           mark = mark;
@@ -45,10 +45,10 @@ impl<A: Allocator + Copy> SlotOrder for ByText<'_, A> {
     ghost use Rattle.warc_order.specs.declared.mark.Mark.{Mark};
     ghost use Rattle.warc_order.specs.Layout.{Key, key_at, in_order};
 
-    ghost compare = { λ s. in_order s.entries.now.list };
+    ghost compare = { λ s. in_order s.entries.now };
 
     ghost total = { λ s. then_total
-        (on_total (key_at s.entries.now.list) (then_total
+        (on_total (key_at s.entries.now) (then_total
         (then_total (on_total (λ (k : Key). k.head) nat_cmp_total) (on_total (λ (k : Key). k.text) nat_list_cmp_total))
         (on_total (λ (k : Key). k.mark) (then_total (on_total (λ (m : Mark). m.major) nat_cmp_total)
         (on_total (λ (m : Mark). m.minor) nat_cmp_total)))))
@@ -79,7 +79,7 @@ pub(crate) struct Below<'a, A: Allocator> {
 }
 
 impl<A: Allocator + Copy> SlotTest for Below<'_, A> {
-    ghost passes = { λ s slot. is_lt (key_cmp (key_at s.order.entries.now.list slot) (record {
+    ghost passes = { λ s slot. is_lt (key_cmp (key_at s.order.entries.now slot) (record {
       head = s.head;
       text = s.text.now;
       mark = s.mark;
@@ -104,7 +104,7 @@ pub(crate) struct NotAbove<'a, A: Allocator> {
 }
 
 impl<A: Allocator + Copy> SlotTest for NotAbove<'_, A> {
-    ghost passes = { λ s slot. is_le (key_cmp (key_at s.order.entries.now.list slot) (record {
+    ghost passes = { λ s slot. is_le (key_cmp (key_at s.order.entries.now slot) (record {
       head = s.head;
       text = s.text.now;
       mark = s.mark;

@@ -1,24 +1,15 @@
 //! Entries one after another, in the order in which they were added.
 
 ghost use Rattle.std.specs.Prelude.{◌≡◌, ℕ, ◌+◌, ◌<◌, ◌≤◌, [], ◌∷◌, ◌++◌, length, take, filter, nat_lt, slice_range};
-ghost use Rattle.std.specs.Prelude.{OnOk};
+ghost use Rattle.std.specs.Prelude.{OnOk, OnErr};
 ghost use Rattle.std.specs.List.{concat, sum_by};
 ghost use Rattle.warc_order.specs.Entries.{entry_of, entry_at};
 ghost use Rattle.warc_order.specs.Layout.{texts_of, IsGrowing};
 
+use crate::column::Column;
 use crate::mark::Mark;
 use std::alloc::{AllocError, Allocator};
 use std::marker::Model;
-
-/// What is kept of an entry beside its text: 24 bytes.
-#[derive(Clone, Copy, PartialEq, Eq, Debug)]
-pub(crate) struct Line {
-    /// Where the text ends among the bytes of all texts. It begins where the one before it ends.
-    pub(crate) end: usize,
-    pub(crate) minor: u64,
-    pub(crate) major: u32,
-    pub(crate) position: u32,
-}
 
 /// A part of the bytes.
 fn part(bytes: &[u8], start: usize, end: usize) -> &[u8]
@@ -29,69 +20,74 @@ fn part(bytes: &[u8], start: usize, end: usize) -> &[u8]
     &bytes[start..end]
 }
 
-/// Entries in the order in which they were added, and in no other: one vector of lines and one of the bytes of their
-/// texts.
+/// Entries in the order in which they were added, and in no other: the bytes of all texts, and of each entry, side by
+/// side, where its text ends among them, its mark and its position.
 #[derive(Drop)]
 pub struct Entries<A: Allocator> {
-    lines: Vec<Line, A>,
+    /// Each text begins where the one before it ends.
+    ends: Vec<usize, A>,
     bytes: Vec<u8, A>,
+
+    /// A number of 0 is blank.
+    majors: Column<u32, A>,
+    minors: Column<u64, A>,
+
+    /// A position is blank where it is its entry's own index.
+    positions: Column<u32, A>,
 }
 
 impl<A: Allocator> Model for Entries<A> {
-    ghost use Rattle.std.specs.Prelude.{◌-◌, vec_len, vec_capacity};
-    ghost use Rattle.warc_order.specs.Layout.{Stock, IsFlat, entries_of};
+    ghost use Rattle.std.specs.Prelude.{List};
+    ghost use Rattle.warc_order.specs.Entries.{Entry};
+    ghost use Rattle.warc_order.specs.Layout.{parts, entries_of, IsFlat};
 
-    ghost Value = { Stock };
+    ghost Value = { List Entry };
 
-    ghost view = { λ s. record {
-      list = entries_of 0 s.lines.items s.bytes.items;
-      free_lines = vec_capacity s.lines - vec_len s.lines;
-      free_bytes = vec_capacity s.bytes - vec_len s.bytes;
-    } };
+    ghost view = { λ s. entries_of (parts s.ends.items s.bytes.items s.majors s.minors s.positions) };
 
-    ghost invariant = { λ s. IsFlat s.lines.items s.bytes.items (entries_of 0 s.lines.items s.bytes.items) };
+    ghost invariant = { λ s. IsFlat (parts s.ends.items s.bytes.items s.majors s.minors s.positions)
+        (entries_of (parts s.ends.items s.bytes.items s.majors s.minors s.positions)) };
 }
 
 impl<A: Allocator + Copy> Entries<A> {
     /// No entries.
     pub fn new(alloc: A) -> Entries<A>
-        ensures { result.list ≡ [] }
+        ensures { result ≡ [] }
     {
         Entries {
-            lines: Vec::new(alloc),
+            ends: Vec::new(alloc),
             bytes: Vec::new(alloc),
+            majors: Column::new(alloc),
+            minors: Column::new(alloc),
+            positions: Column::new(alloc),
         }
-    }
-
-    pub(crate) fn allocator(&self) -> A {
-        *self.lines.allocator()
     }
 
     /// How many entries there are.
     pub fn len(&self) -> usize
-        ensures { result ≡ length self.now.list }
+        ensures { result ≡ length self.now }
     {
-        self.lines.len()
+        self.ends.len()
     }
 
     /// The sum of the texts' lengths.
     pub fn kept(&self) -> u64
-        ensures { result ≡ sum_by (λ e. length e.text) self.now.list }
+        ensures { result ≡ sum_by (λ e. length e.text) self.now }
     {
         self.bytes.len() as u64
     }
 
     /// Where the text at an index begins.
     fn start(&self, i: usize) -> usize
-        requires { i ≤ length self.now.list }
-        ensures { result ≡ length (concat (texts_of (take i self.now.list))) }
+        requires { i ≤ length self.now }
+        ensures { result ≡ length (concat (texts_of (take i self.now))) }
     {
-        if i == 0 { 0 } else { self.lines[i - 1].end }
+        if i == 0 { 0 } else { self.ends[i - 1] }
     }
 
     /// The text at an index, or the empty text past the end.
     pub fn text(&self, i: usize) -> &[u8]
-        ensures { result.now ≡ (entry_at self.now.list i).text }
+        ensures { result.now ≡ (entry_at self.now i).text }
     {
         if i < self.len() {
             let start = self.start(i);
@@ -104,34 +100,31 @@ impl<A: Allocator + Copy> Entries<A> {
 
     /// The mark at an index, or the least mark past the end.
     pub fn mark(&self, i: usize) -> Mark
-        ensures { result ≡ (entry_at self.now.list i).mark }
+        ensures { result ≡ (entry_at self.now i).mark }
     {
-        if i < self.len() {
-            let line = self.lines[i];
-            Mark {
-                major: line.major,
-                minor: line.minor,
-            }
-        } else {
-            Mark { major: 0, minor: 0 }
+        Mark {
+            major: self.majors.get(i).unwrap_or(0),
+            minor: self.minors.get(i).unwrap_or(0),
         }
     }
 
     /// The position at an index, or 0 past the end.
     pub fn position(&self, i: usize) -> usize
-        ensures { result ≡ (entry_at self.now.list i).position }
+        ensures { result ≡ (entry_at self.now i).position }
     {
-        if i < self.len() {
-            self.lines[i].position as usize
-        } else {
-            0
+        if i >= self.len() {
+            return 0;
+        }
+        match self.positions.get(i) {
+            Some(position) => position as usize,
+            None => i,
         }
     }
 
     /// How many entries at the front have positions below a number. The positions rise.
     pub(crate) fn count_below(&self, position: usize) -> usize
-        requires { IsGrowing self.now.list }
-        ensures { take result self.now.list ≡ filter (λ e. nat_lt e.position position) self.now.list }
+        requires { IsGrowing self.now }
+        ensures { take result self.now ≡ filter (λ e. nat_lt e.position position) self.now }
     {
         let mut low = 0;
         let mut high = self.len();
@@ -146,43 +139,35 @@ impl<A: Allocator + Copy> Entries<A> {
         low
     }
 
-    /// Makes room for one more entry whose text has so many bytes.
-    pub fn reserve_for(&mut self, bytes: usize) -> Result<(), AllocError>
-        ensures list { self.new.list ≡ self.old.list }
-        ensures lines { OnOk result (0 < self.new.free_lines) }
-        ensures bytes { OnOk result (bytes ≤ self.new.free_bytes) }
+    /// Adds an entry. `Err`: no memory for it; then nothing changes.
+    pub fn push(&mut self, text: &[u8], mark: Mark, position: u32) -> Result<(), AllocError>
+        ensures ok { OnOk result (self.new ≡ self.old ++ entry_of text.now mark position ∷ []) }
+        ensures err { OnErr result (self.new ≡ self.old) }
     {
-        self.lines.reserve(1)?;
-        self.bytes.reserve(bytes)
-    }
-
-    /// Adds an entry, for which `reserve_for` has made room.
-    pub fn push_reserved(&mut self, text: &[u8], mark: Mark, position: u32)
-        requires lines { 0 < self.old.free_lines }
-        requires bytes { length text.now ≤ self.old.free_bytes }
-        ensures { self.new.list ≡ self.old.list ++ entry_of text.now mark position ∷ [] }
-    {
-        match self.bytes.extend_from_slice(text) {
-            Ok(()) => {}
-            Err(_) => unreachable!(),
-        }
-        let end = self.bytes.len();
-        self.lines.push_reserved(Line {
-            end,
-            minor: mark.minor,
-            major: mark.major,
-            position,
-        });
+        let is_own = position as usize == self.ends.len();
+        self.ends.reserve(1)?;
+        self.majors.reserve(mark.major == 0)?;
+        self.minors.reserve(mark.minor == 0)?;
+        self.positions.reserve(is_own)?;
+        self.bytes.extend_from_slice(text)?;
+        self.ends.push_reserved(self.bytes.len());
+        self.majors.push_reserved(mark.major, mark.major == 0);
+        self.minors.push_reserved(mark.minor, mark.minor == 0);
+        self.positions.push_reserved(position, is_own);
+        Ok(())
     }
 
     /// Keeps the first so many entries. It takes no memory.
     pub fn truncate(&mut self, count: usize)
-        ensures { self.new.list ≡ take count self.old.list }
+        ensures { self.new ≡ take count self.old }
     {
         if count < self.len() {
             let end = self.start(count);
             self.bytes.truncate(end);
-            self.lines.truncate(count);
+            self.ends.truncate(count);
+            self.majors.truncate(count);
+            self.minors.truncate(count);
+            self.positions.truncate(count);
         }
     }
 }

@@ -9,10 +9,12 @@
 //! no other. Many entries at once are pushed to an [`Unordered`], which `into_order` puts in order: the value is the
 //! same as after adding them one by one, in about half the time or less. What that takes of memory each push reserves.
 //!
-//! Each look-up halves, and takes no memory; a step from an entry to the next doesn't halve. An entry takes 24 bytes
-//! and its text, and 8 bytes of the order, also while it waits. Where entries are added one by one it takes up to about
-//! 16 of the order, which stands in blocks between half full and full. The first addition to an order that was filled
-//! at once cuts it into such blocks, which takes memory once.
+//! Each look-up halves, and takes no memory; a step from an entry to the next doesn't halve. An entry takes 8 bytes and
+//! its text, and 8 bytes of the order, also while it waits. The two numbers of a mark take 4 and 8 bytes more, each from
+//! the first entry on where it isn't 0, and a position 4 bytes more, from the first entry on whose position isn't its
+//! index. Where entries are added one by one an entry takes up to about 16 bytes of the order, which stands in blocks
+//! between half full and full. The first addition to an order that was filled at once cuts it into such blocks, which
+//! takes memory once.
 #![tactic(auto)]
 
 ghost use Rattle.std.specs.Prelude.{◌≡◌, ℕ, ◌+◌, ◌<◌, [], ◌∷◌, ◌++◌, length, filter, nat_lt, OnOk, OnErr, IfOk, IfSome};
@@ -22,6 +24,7 @@ ghost use Rattle.warc_order.specs.Entries.{entry_of, entry_at, IsUpTo, IsFrom, I
 ghost use Rattle.warc_order.specs.Entries.{IsNone};
 
 mod block;
+mod column;
 mod compare;
 mod entries;
 mod head;
@@ -31,6 +34,7 @@ mod ranked;
 mod slot;
 mod waiting;
 
+pub use column::Column;
 pub use entries::Entries;
 pub use mark::Mark;
 use ranked::{Place, Ranked};
@@ -60,9 +64,9 @@ impl<A: Allocator> Model for Unordered<A> {
 
     ghost Value = { List Entry };
 
-    ghost view = { λ s. s.entries.list };
+    ghost view = { λ s. s.entries };
 
-    ghost invariant = { λ s. AreWaiting s.entries.list s.waiting.list };
+    ghost invariant = { λ s. AreWaiting s.entries s.waiting.list };
 }
 
 impl<A: Allocator + Copy> Unordered<A> {
@@ -85,9 +89,8 @@ impl<A: Allocator + Copy> Unordered<A> {
     {
         let index = lookup::narrow(self.entries.len())?;
         let position = lookup::narrow(position)?;
-        self.entries.reserve_for(text.len())?;
         self.waiting.reserve()?;
-        self.entries.push_reserved(text, mark, position);
+        self.entries.push(text, mark, position)?;
         self.waiting
             .push_reserved(lookup::slot_of(&self.entries, index));
         Ok(())
@@ -126,9 +129,9 @@ impl<A: Allocator> Model for Order<A> {
 
     ghost Value = { List Entry };
 
-    ghost view = { λ s. s.entries.list };
+    ghost view = { λ s. s.entries };
 
-    ghost invariant = { λ s. IsOrdered s.entries.list s.ranked.list };
+    ghost invariant = { λ s. IsOrdered s.entries s.ranked.list };
 }
 
 impl<A: Allocator + Copy> Order<A> {
@@ -165,9 +168,8 @@ impl<A: Allocator + Copy> Order<A> {
     {
         let index = lookup::narrow(self.entries.len())?;
         let position = lookup::narrow(position)?;
-        self.entries.reserve_for(text.len())?;
         self.ranked.reserve()?;
-        self.entries.push_reserved(text, mark, position);
+        self.entries.push(text, mark, position)?;
         lookup::rank_one(&mut self.ranked, &self.entries, index);
         Ok(())
     }

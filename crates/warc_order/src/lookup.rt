@@ -30,7 +30,7 @@ pub(crate) fn narrow(number: usize) -> Result<u32, AllocError>
 
 /// The slot of the entry at an index.
 pub(crate) fn slot_of<A: Allocator + Copy>(entries: &Entries<A>, index: u32) -> Slot
-    ensures { result ≡ slot_for entries.now.list index }
+    ensures { result ≡ slot_for entries.now index }
 {
     Slot {
         head: head_of(entries.text(index as usize)),
@@ -55,8 +55,8 @@ pub(crate) fn rank_one<A: Allocator + Copy>(
     index: u32,
 )
     requires ready { IsTrue ranked.old.ready }
-    requires order { IsOrderOf entries.now.list index ranked.old.list }
-    ensures { IsOrderOf entries.now.list (index + 1) ranked.new.list }
+    requires order { IsOrderOf entries.now index ranked.old.list }
+    ensures { IsOrderOf entries.now (index + 1) ranked.new.list }
 {
     let order = ByText { entries };
     ranked.add_reserved(&order, slot_of(entries, index));
@@ -64,8 +64,8 @@ pub(crate) fn rank_one<A: Allocator + Copy>(
 
 /// Puts the slots of all entries in order.
 pub(crate) fn rank_all<A: Allocator + Copy>(entries: &Entries<A>, waiting: Waiting<A>) -> Ranked<A>
-    requires { waiting.list ≡ slots_of entries.now.list (length entries.now.list) }
-    ensures { IsOrderOf entries.now.list (length entries.now.list) result.list }
+    requires { waiting.list ≡ slots_of entries.now (length entries.now) }
+    ensures { IsOrderOf entries.now (length entries.now) result.list }
 {
     let order = ByText { entries };
     waiting.into_ranked(&order)
@@ -78,11 +78,11 @@ pub(crate) fn last_up_to<A: Allocator + Copy>(
     text: &[u8],
     mark: Mark,
 ) -> Option<Found>
-    requires { IsOrdered entries.now.list ranked.now.list }
-    ensures within { IfSome result (λ found. found.index < length entries.now.list) }
-    ensures some { IfSome result (λ found. IsLast entries.now.list (IsUpTo text.now mark)
-        (entry_at entries.now.list found.index)) }
-    ensures none { IfNone result (IsNone entries.now.list (IsUpTo text.now mark)) }
+    requires { IsOrdered entries.now ranked.now.list }
+    ensures within { IfSome result (λ found. found.index < length entries.now) }
+    ensures some { IfSome result (λ found. IsLast entries.now (IsUpTo text.now mark)
+        (entry_at entries.now found.index)) }
+    ensures none { IfNone result (IsNone entries.now (IsUpTo text.now mark)) }
 {
     let test = NotAbove {
         order: ByText { entries },
@@ -103,11 +103,11 @@ pub(crate) fn first_from<A: Allocator + Copy>(
     text: &[u8],
     mark: Mark,
 ) -> Option<Found>
-    requires { IsOrdered entries.now.list ranked.now.list }
-    ensures within { IfSome result (λ found. found.index < length entries.now.list) }
-    ensures some { IfSome result (λ found. IsFirst entries.now.list (IsFrom text.now mark)
-        (entry_at entries.now.list found.index)) }
-    ensures none { IfNone result (IsNone entries.now.list (IsFrom text.now mark)) }
+    requires { IsOrdered entries.now ranked.now.list }
+    ensures within { IfSome result (λ found. found.index < length entries.now) }
+    ensures some { IfSome result (λ found. IsFirst entries.now (IsFrom text.now mark)
+        (entry_at entries.now found.index)) }
+    ensures none { IfNone result (IsNone entries.now (IsFrom text.now mark)) }
 {
     let test = Below {
         order: ByText { entries },
@@ -128,12 +128,12 @@ pub(crate) fn next<A: Allocator + Copy>(
     index: u32,
     place: Place,
 ) -> Option<Found>
-    requires order { IsOrdered entries.now.list ranked.now.list }
-    requires index { index < length entries.now.list }
-    ensures within { IfSome result (λ found. found.index < length entries.now.list) }
-    ensures some { IfSome result (λ found. IsFirst entries.now.list (IsAfter (entry_at entries.now.list index))
-        (entry_at entries.now.list found.index)) }
-    ensures none { IfNone result (IsNone entries.now.list (IsAfter (entry_at entries.now.list index))) }
+    requires order { IsOrdered entries.now ranked.now.list }
+    requires index { index < length entries.now }
+    ensures within { IfSome result (λ found. found.index < length entries.now) }
+    ensures some { IfSome result (λ found. IsFirst entries.now (IsAfter (entry_at entries.now index))
+        (entry_at entries.now found.index)) }
+    ensures none { IfNone result (IsNone entries.now (IsAfter (entry_at entries.now index))) }
 {
     let order = ByText { entries };
     let text = entries.text(index as usize);
@@ -150,12 +150,12 @@ pub(crate) fn previous<A: Allocator + Copy>(
     index: u32,
     place: Place,
 ) -> Option<Found>
-    requires order { IsOrdered entries.now.list ranked.now.list }
-    requires index { index < length entries.now.list }
-    ensures within { IfSome result (λ found. found.index < length entries.now.list) }
-    ensures some { IfSome result (λ found. IsLast entries.now.list (IsBefore (entry_at entries.now.list index))
-        (entry_at entries.now.list found.index)) }
-    ensures none { IfNone result (IsNone entries.now.list (IsBefore (entry_at entries.now.list index))) }
+    requires order { IsOrdered entries.now ranked.now.list }
+    requires index { index < length entries.now }
+    ensures within { IfSome result (λ found. found.index < length entries.now) }
+    ensures some { IfSome result (λ found. IsLast entries.now (IsBefore (entry_at entries.now index))
+        (entry_at entries.now found.index)) }
+    ensures none { IfNone result (IsNone entries.now (IsBefore (entry_at entries.now index))) }
 {
     let order = ByText { entries };
     let text = entries.text(index as usize);

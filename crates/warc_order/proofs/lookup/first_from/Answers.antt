@@ -9,67 +9,67 @@ use Rattle.warc_order.proofs.OrderLemmas.{cut_lt, in_order_total, slot_in_order,
 use Rattle.warc_order.proofs.lookup.first_from.Goals as goal
 
 pub first_failing-requires : goal.first_failing-requires
-first_failing-requires g c = cut_lt c.args.entries.now.list c.args.ranked.now.list _ c.requires.order.ranked
+first_failing-requires g c = cut_lt c.args.entries.now c.args.ranked.now.list _ c.requires.order.ranked
 
 pub returns-in-Some-clause-within : goal.returns-in-Some-clause-within
 returns-in-Some-clause-within g c =
-    let found : IsFirstOf (in_order c.args.entries.now.list) (λ f. is_lt (key_cmp (key_at c.args.entries.now.list f)
+    let found : IsFirstOf (in_order c.args.entries.now) (λ f. is_lt (key_cmp (key_at c.args.entries.now f)
     (record {
       head = head_of c.args.text.now;
       text = c.args.text.now;
       mark =
           c.args.mark;
     }))) c.args.ranked.now.list c.in-Some.s.slot =
-    subst (λ h. IsFirstOf (in_order c.args.entries.now.list) (λ f. is_lt (key_cmp (key_at c.args.entries.now.list f)
+    subst (λ h. IsFirstOf (in_order c.args.entries.now) (λ f. is_lt (key_cmp (key_at c.args.entries.now f)
     (record { head = h; text = c.args.text.now; mark = c.args.mark }))) c.args.ranked.now.list c.in-Some.s.slot)
     c.head_of.ensures
-    (c.in-Some.ensures.some (in_order c.args.entries.now.list) (in_order_total c.args.entries.now.list)
+    (c.in-Some.ensures.some (in_order c.args.entries.now) (in_order_total c.args.entries.now)
     c.requires.order.ranked) in
-    rw c.found_at.ensures (slot_in_order c.args.entries.now.list c.args.ranked.now.list c.in-Some.s.slot
+    rw c.found_at.ensures (slot_in_order c.args.entries.now c.args.ranked.now.list c.in-Some.s.slot
     c.requires.order found.stands).index
 
 pub returns-in-Some-clause-some : goal.returns-in-Some-clause-some
 returns-in-Some-clause-some g c =
-    let found : IsFirstOf (in_order c.args.entries.now.list) (λ f. is_lt (key_cmp (key_at c.args.entries.now.list f)
+    let found : IsFirstOf (in_order c.args.entries.now) (λ f. is_lt (key_cmp (key_at c.args.entries.now f)
     (record {
       head = head_of c.args.text.now;
       text = c.args.text.now;
       mark =
           c.args.mark;
     }))) c.args.ranked.now.list c.in-Some.s.slot =
-    subst (λ h. IsFirstOf (in_order c.args.entries.now.list) (λ f. is_lt (key_cmp (key_at c.args.entries.now.list f)
+    subst (λ h. IsFirstOf (in_order c.args.entries.now) (λ f. is_lt (key_cmp (key_at c.args.entries.now f)
     (record { head = h; text = c.args.text.now; mark = c.args.mark }))) c.args.ranked.now.list c.in-Some.s.slot)
     c.head_of.ensures
-    (c.in-Some.ensures.some (in_order c.args.entries.now.list) (in_order_total c.args.entries.now.list)
+    (c.in-Some.ensures.some (in_order c.args.entries.now) (in_order_total c.args.entries.now)
     c.requires.order.ranked) in
-    let same : (entry_at c.args.entries.now.list c.in-Some.s.slot.index).text ≡ c.args.text.now = sym c.text.ensures
+    let same : (entry_at c.args.entries.now c.in-Some.s.slot.index).text ≡ c.args.text.now = sym c.text.ensures
     ∙ (bytes_eq-Decides c.text.result.now c.args.text.now).0 (sym c.eq.ensures ∙ c.if-eq.true) in
-    rw c.found_at.ensures (first_from c.args.entries.now.list c.args.ranked.now.list c.args.text.now c.args.mark
+    rw c.found_at.ensures (first_from c.args.entries.now c.args.ranked.now.list c.args.text.now c.args.mark
     c.in-Some.s.slot c.requires found same)
 
 pub returns-in_default-clause-none : goal.returns-in_default-clause-none
 returns-in_default-clause-none g c =
-    let found : IsFirstOf (in_order c.args.entries.now.list) (λ f. is_lt (key_cmp (key_at c.args.entries.now.list f)
+    let found : IsFirstOf (in_order c.args.entries.now) (λ f. is_lt (key_cmp (key_at c.args.entries.now f)
     (record {
       head = head_of c.args.text.now;
       text = c.args.text.now;
       mark =
           c.args.mark;
     }))) c.args.ranked.now.list c.in-Some.s.slot =
-    subst (λ h. IsFirstOf (in_order c.args.entries.now.list) (λ f. is_lt (key_cmp (key_at c.args.entries.now.list f)
+    subst (λ h. IsFirstOf (in_order c.args.entries.now) (λ f. is_lt (key_cmp (key_at c.args.entries.now f)
     (record { head = h; text = c.args.text.now; mark = c.args.mark }))) c.args.ranked.now.list c.in-Some.s.slot)
     c.head_of.ensures
-    (c.in-Some.ensures.some (in_order c.args.entries.now.list) (in_order_total c.args.entries.now.list)
+    (c.in-Some.ensures.some (in_order c.args.entries.now) (in_order_total c.args.entries.now)
     c.requires.order.ranked) in
-    other_from c.args.entries.now.list c.args.ranked.now.list c.args.text.now c.args.mark c.in-Some.s.slot c.requires
+    other_from c.args.entries.now c.args.ranked.now.list c.args.text.now c.args.mark c.in-Some.s.slot c.requires
     found
     (λ e. true≢false (sym ((bytes_eq-Decides c.text.result.now c.args.text.now).1 (c.text.ensures ∙ e))
     ∙ (sym c.eq.ensures ∙ c.if-eq.false)))
 
 pub returns-in_default-2-clause-none : goal.returns-in_default-2-clause-none
 returns-in_default-2-clause-none g c =
-    none_from c.args.entries.now.list c.args.ranked.now.list c.args.text.now c.args.mark c.requires
-    (subst (λ h. All (λ f. is_lt (key_cmp (key_at c.args.entries.now.list f) (record {
+    none_from c.args.entries.now c.args.ranked.now.list c.args.text.now c.args.mark c.requires
+    (subst (λ h. All (λ f. is_lt (key_cmp (key_at c.args.entries.now f) (record {
       head = h;
       text =
           c.args.text.now;

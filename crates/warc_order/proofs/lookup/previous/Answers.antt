@@ -8,42 +8,42 @@ use Rattle.warc_order.proofs.OrderLemmas.{strict_order, slot_in_order, previous_
 use Rattle.warc_order.proofs.lookup.previous.Goals as goal
 
 pub last_before-requires : goal.last_before-requires
-last_before-requires g c = strict_order c.args.entries.now.list _ c.args.ranked.now.list c.requires.order.order
+last_before-requires g c = strict_order c.args.entries.now _ c.args.ranked.now.list c.requires.order.order
 
 pub returns-in-Some-clause-within : goal.returns-in-Some-clause-within
 returns-in-Some-clause-within g c =
-    let found : IsLastOf (in_order c.args.entries.now.list) (λ f. is_lt (in_order c.args.entries.now.list f (slot_for
-    c.args.entries.now.list c.args.index))) c.args.ranked.now.list c.in-Some.s.slot =
-    subst (λ s. IsLastOf (in_order c.args.entries.now.list) (λ f. is_lt (in_order c.args.entries.now.list f s))
+    let found : IsLastOf (in_order c.args.entries.now) (λ f. is_lt (in_order c.args.entries.now f (slot_for
+    c.args.entries.now c.args.index))) c.args.ranked.now.list c.in-Some.s.slot =
+    subst (λ s. IsLastOf (in_order c.args.entries.now) (λ f. is_lt (in_order c.args.entries.now f s))
     c.args.ranked.now.list c.in-Some.s.slot) c.slot_of.ensures c.in-Some.ensures.some in
-    rw c.found_at.ensures (slot_in_order c.args.entries.now.list c.args.ranked.now.list c.in-Some.s.slot
+    rw c.found_at.ensures (slot_in_order c.args.entries.now c.args.ranked.now.list c.in-Some.s.slot
     c.requires.order.order found.stands).index
 
 pub returns-in-Some-clause-some : goal.returns-in-Some-clause-some
 returns-in-Some-clause-some g c =
-    let found : IsLastOf (in_order c.args.entries.now.list) (λ f. is_lt (in_order c.args.entries.now.list f (slot_for
-    c.args.entries.now.list c.args.index))) c.args.ranked.now.list c.in-Some.s.slot =
-    subst (λ s. IsLastOf (in_order c.args.entries.now.list) (λ f. is_lt (in_order c.args.entries.now.list f s))
+    let found : IsLastOf (in_order c.args.entries.now) (λ f. is_lt (in_order c.args.entries.now f (slot_for
+    c.args.entries.now c.args.index))) c.args.ranked.now.list c.in-Some.s.slot =
+    subst (λ s. IsLastOf (in_order c.args.entries.now) (λ f. is_lt (in_order c.args.entries.now f s))
     c.args.ranked.now.list c.in-Some.s.slot) c.slot_of.ensures c.in-Some.ensures.some in
-    let same : (entry_at c.args.entries.now.list c.in-Some.s.slot.index).text ≡ (entry_at c.args.entries.now.list
+    let same : (entry_at c.args.entries.now c.in-Some.s.slot.index).text ≡ (entry_at c.args.entries.now
     c.args.index).text = sym c.text.ensures ∙ ((bytes_eq-Decides c.text.result.now c.text-text.result.now).0 (sym
     c.eq.ensures ∙ c.if-eq.true) ∙ c.text-text.ensures) in
-    rw c.found_at.ensures (previous_entry c.args.entries.now.list c.args.ranked.now.list c.args.index c.in-Some.s.slot
+    rw c.found_at.ensures (previous_entry c.args.entries.now c.args.ranked.now.list c.args.index c.in-Some.s.slot
     c.requires.order c.requires.index found same)
 
 pub returns-in_default-clause-none : goal.returns-in_default-clause-none
 returns-in_default-clause-none g c =
-    let found : IsLastOf (in_order c.args.entries.now.list) (λ f. is_lt (in_order c.args.entries.now.list f (slot_for
-    c.args.entries.now.list c.args.index))) c.args.ranked.now.list c.in-Some.s.slot =
-    subst (λ s. IsLastOf (in_order c.args.entries.now.list) (λ f. is_lt (in_order c.args.entries.now.list f s))
+    let found : IsLastOf (in_order c.args.entries.now) (λ f. is_lt (in_order c.args.entries.now f (slot_for
+    c.args.entries.now c.args.index))) c.args.ranked.now.list c.in-Some.s.slot =
+    subst (λ s. IsLastOf (in_order c.args.entries.now) (λ f. is_lt (in_order c.args.entries.now f s))
     c.args.ranked.now.list c.in-Some.s.slot) c.slot_of.ensures c.in-Some.ensures.some in
-    other_previous c.args.entries.now.list c.args.ranked.now.list c.args.index c.in-Some.s.slot c.requires.order
+    other_previous c.args.entries.now c.args.ranked.now.list c.args.index c.in-Some.s.slot c.requires.order
     c.requires.index found
     (λ e. true≢false (sym ((bytes_eq-Decides c.text.result.now c.text-text.result.now).1 (c.text.ensures ∙ (e
     ∙ sym c.text-text.ensures))) ∙ (sym c.eq.ensures ∙ c.if-eq.false)))
 
 pub returns-in_default-2-clause-none : goal.returns-in_default-2-clause-none
 returns-in_default-2-clause-none g c =
-    none_previous c.args.entries.now.list c.args.ranked.now.list c.args.index c.requires.order c.requires.index
-    (subst (λ s. All (λ f. is_lt (in_order c.args.entries.now.list f s) ≡ false) c.args.ranked.now.list)
+    none_previous c.args.entries.now c.args.ranked.now.list c.args.index c.requires.order c.requires.index
+    (subst (λ s. All (λ f. is_lt (in_order c.args.entries.now f s) ≡ false) c.args.ranked.now.list)
     c.slot_of.ensures c.in_default.ensures.none)

@@ -5,7 +5,7 @@ use Rattle.warc_order.proofs.lookup.rank_one.Goals as goal
 
 pub returns : goal.returns
 returns g c =
-    order_more c.args.entries.now.list c.args.index c.args.ranked.now.list _ c.requires.order
+    order_more c.args.entries.now c.args.index c.args.ranked.now.list _ c.requires.order
     c.add_reserved.ensures.ranked
     (subst (λ s. IsPermutation (s ∷ c.args.ranked.now.list) c.add_reserved.new.self.list) c.slot_of.ensures
     c.add_reserved.ensures.members)

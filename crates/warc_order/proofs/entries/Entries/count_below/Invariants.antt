@@ -5,9 +5,9 @@ use Rattle.warc_order.proofs.entries.Entries.count_below.Given as goal
 abbrev pub invariant-loop-low : goal.invariant-loop-low
 invariant-loop-low g l = record {
   order : l.low ≤ l.high;
-  bound : l.high ≤ length l.self.list;
-  front : (k : ℕ) → k < l.low → (entry_at l.self.list k).position < l.position;
-  back : (k : ℕ) → l.high ≤ k → k < length l.self.list → l.position ≤ (entry_at l.self.list k).position;
+  bound : l.high ≤ length l.self;
+  front : (k : ℕ) → k < l.low → (entry_at l.self k).position < l.position;
+  back : (k : ℕ) → l.high ≤ k → k < length l.self → l.position ≤ (entry_at l.self k).position;
 }
 
 abbrev pub decreases-loop-low : goal.decreases-loop-low
