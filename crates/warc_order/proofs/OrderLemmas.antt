@@ -7,8 +7,8 @@ use Rattle.std.proofs.lemmas.Cmp.{upto, tied_itself, then_total, on_total, nat_l
 use Rattle.std.proofs.lemmas.Map.Text.{is_eq-slice_cmp}
 use Rattle.std.proofs.lemmas.Map.Keys.{IsDistinct-IsPermutation, IsDistinct-from_apart, apart_from_distinct}
 use Rattle.std.proofs.lemmas.Slice.Eq.{bytes_eq-Decides}
-use Rattle.std.proofs.lemmas.List.{get_or_append_left, get_or-take, get_or_at, get_or_default, length-take, length-append, take_all, append-nil}
-use Rattle.std.proofs.lemmas.List.Elements.{All-push, All-cons, All-head, All-tail, All-filter, All-weaker, filter_passes, All-contains, filter-append}
+use Rattle.std.proofs.lemmas.List.{get_or_append_left, get_or-take, get_or_at, get_or_default, length-take, length-append, append-nil}
+use Rattle.std.proofs.lemmas.List.Elements.{All-push, All-cons, All-filter, All-weaker, filter_passes, All-contains, filter-append}
 use Rattle.std.proofs.lemmas.List.Sorted.{Contains-permutation, All-permutation as All-moved}
 use Rattle.std.proofs.lemmas.List.Kept.{AllPairs-filter, AllPairs-cons}
 use Rattle.std.specs.List.{Contains, AllPairs}

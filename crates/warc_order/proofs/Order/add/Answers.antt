@@ -1,5 +1,4 @@
-use Rattle.std.proofs.Common.{◌≡◌, ◌∙◌, ap, sym, subst, ◌∷◌, ◌++◌, [], All, length, ◌<◌}
-use Rattle.warc_order.specs.Entries.{Entry}
+use Rattle.std.proofs.Common.{◌∙◌}
 use Rattle.warc_order.proofs.OrderLemmas.{order_kept, ordered_more}
 use Rattle.warc_order.proofs.Order.add.Goals as goal
 

@@ -1,6 +1,5 @@
-use Rattle.std.proofs.Common.{◌≡◌, ◌∙◌, ap, sym, ◌∷◌, ◌++◌, []}
+use Rattle.std.proofs.Common.{◌∙◌, ap, ◌∷◌, ◌++◌, []}
 use Rattle.warc_order.specs.Entries.{Entry}
-use Rattle.warc_order.specs.Layout.{slot_for}
 use Rattle.warc_order.proofs.OrderLemmas.{waiting_more}
 use Rattle.warc_order.proofs.Unordered.push.Goals as goal
 

@@ -1,4 +1,4 @@
-use Rattle.std.proofs.Common.{sym, subst, ◌∙◌, ◌≡◌, true≢false, true, false, All}
+use Rattle.std.proofs.Common.{sym, subst, ◌∙◌, ◌≡◌, true≢false, false, All}
 use Rattle.std.proofs.lemmas.Slice.Eq.{bytes_eq-Decides}
 use Rattle.std.specs.Ordering.{is_le}
 use Rattle.warc_order.specs.Heads.{head_of}

@@ -1,4 +1,4 @@
-use Rattle.std.proofs.Common.{◌≡◌, subst, length}
+use Rattle.std.proofs.Common.{subst}
 use Rattle.std.specs.List.Sorted.{IsPermutation}
 use Rattle.warc_order.proofs.OrderLemmas.{order_of_all}
 use Rattle.warc_order.proofs.lookup.rank_all.Goals as goal

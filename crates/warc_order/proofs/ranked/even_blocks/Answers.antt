@@ -1,4 +1,4 @@
-use Rattle.std.proofs.Common.{◌≡◌, ◌∙◌, ap, sym, ◌++◌, ◌<◌, arith, length, take}
+use Rattle.std.proofs.Common.{◌∙◌, ap, sym, ◌++◌, arith, take}
 use Rattle.warc_order.specs.Ranking.{flattened, lists_of}
 use Rattle.warc_order.proofs.BlockLemmas.{flattened-more}
 use Rattle.warc_order.proofs.ranked.even_blocks.Goals as goal

@@ -1,4 +1,4 @@
-use Rattle.std.proofs.Common.{◌≡◌, ◌∙◌, ap, arith}
+use Rattle.std.proofs.Common.{◌∙◌, ap, arith}
 use Rattle.std.specs.Prelude.{unwrap_or}
 use Rattle.warc_order.proofs.ColumnLemmas.{blank_at, some_at, none_at}
 use Rattle.warc_order.proofs.column.Column.get.Goals as goal

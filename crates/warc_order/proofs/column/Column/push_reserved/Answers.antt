@@ -1,4 +1,4 @@
-use Rattle.std.proofs.Common.{rules, ◌≡◌, true, length, ◌∙◌, sym, ap, subst, ◌++◌, ◌∷◌, []}
+use Rattle.std.proofs.Common.{rules, ◌≡◌, true, length, ◌∙◌, sym, ap, ◌++◌, ◌∷◌, []}
 use Rattle.warc_order.specs.Columns.{is_skipped, values}
 use Rattle.warc_order.proofs.ColumnLemmas.{one_more}
 use Rattle.warc_order.proofs.column.Column.push_reserved.Goals as goal

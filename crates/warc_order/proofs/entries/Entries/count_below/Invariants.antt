@@ -1,4 +1,4 @@
-use Rattle.std.proofs.Common.{◌≡◌, ℕ, ◌-◌, ◌<◌, ◌≤◌, length}
+use Rattle.std.proofs.Common.{ℕ, ◌-◌, ◌<◌, ◌≤◌, length}
 use Rattle.warc_order.specs.Entries.{entry_at}
 use Rattle.warc_order.proofs.entries.Entries.count_below.Given as goal
 

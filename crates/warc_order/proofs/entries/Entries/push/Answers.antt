@@ -1,6 +1,6 @@
-use Rattle.std.proofs.Common.{ℕ, length, ap, ◌∙◌, ◌≡◌, ◌++◌, ◌∷◌, [], arith, sym}
+use Rattle.std.proofs.Common.{length, ap, ◌∙◌, ◌≡◌, ◌++◌, ◌∷◌, [], arith, sym}
 use Rattle.std.proofs.lemmas.Bool.Decides.{nat_tests}
-use Rattle.warc_order.specs.Layout.{IsFlat, own_index, no_number}
+use Rattle.warc_order.specs.Layout.{own_index, no_number}
 use Rattle.warc_order.proofs.EntryLemmas.{held, IsFlat-push, IsFlat-seen, length_positions, seen}
 use Rattle.warc_order.proofs.entries.Entries.push.Goals as goal
 

@@ -1,4 +1,4 @@
-use Rattle.std.proofs.Common.{◌+◌, length, ap, ◌∙◌, ◌≡◌, arith, sym, []}
+use Rattle.std.proofs.Common.{◌+◌, length, ap, ◌∙◌, ◌≡◌, arith, sym}
 use Rattle.std.specs.List.{concat}
 use Rattle.std.proofs.lemmas.List.{get_or_past}
 use Rattle.warc_order.specs.Entries.{Entry, no_entry}

@@ -1,6 +1,6 @@
-use Rattle.std.proofs.Common.{◌≡◌, length, arith, sym, take}
+use Rattle.std.proofs.Common.{arith, sym}
 use Rattle.std.proofs.lemmas.List.{take_all}
-use Rattle.warc_order.specs.Layout.{IsFlat, own_index, no_number}
+use Rattle.warc_order.specs.Layout.{own_index, no_number}
 use Rattle.warc_order.proofs.EntryLemmas.{held, IsFlat-take, IsFlat-seen, seen}
 use Rattle.warc_order.proofs.entries.Entries.truncate.Goals as goal
 
