@@ -1,8 +1,6 @@
-//! The suites of the ground floor: fields, dates and digests, and the heads of stored HTTP responses.
+//! The suites of values: dates and digests, and the heads of stored HTTP responses.
 #![tactic(auto)]
 
-#[cfg(test)]
-mod fields;
 #[cfg(test)]
 mod payload;
 #[cfg(test)]

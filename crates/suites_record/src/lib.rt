@@ -1,5 +1,6 @@
-//! The suite of heads: what they say, what refuses them, and what is found in them.
+//! The suite of heads: what they say, and what refuses them.
 #![tactic(auto)]
 
+pub mod heads;
 #[cfg(test)]
 mod record;

@@ -1,10 +1,6 @@
-//! The suites of archives and of the program.
+//! The suites of the program: what its words mean, and its runs over archives in memory beside a plain reading.
 #![tactic(auto)]
 
-#[cfg(test)]
-mod good;
-#[cfg(test)]
-mod library;
 pub mod plain;
 #[cfg(test)]
 mod program;

@@ -1,5 +1,5 @@
 use Rattle.std.proofs.Common.{length}
-use Rattle.suites_warc.proofs.library.count_in_piece.Given as goal
+use Rattle.suites_good.proofs.library.count_in_piece.Given as goal
 
 abbrev pub invariant-loop-rest : goal.invariant-loop-rest
 invariant-loop-rest l = Unit {0}

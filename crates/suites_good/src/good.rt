@@ -1,8 +1,8 @@
 //! Good records only: what `open` refuses and accepts, by what `list` writes.
 
-use crate::runs::{LIST, ends, opens_as_read};
 use std::alloc::Global;
 use std::test::Fail;
+use suites_warc::runs::{LIST, ends, opens_as_read};
 use warc::Archive;
 use warc_frame::{Fault, FaultKind, MemSource};
 use warc_vectors::listed::{BOTH_VERSIONS, DATES, SPELLINGS};

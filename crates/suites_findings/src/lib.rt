@@ -1,0 +1,5 @@
+//! The suite of findings.
+#![tactic(auto)]
+
+#[cfg(test)]
+mod findings;
