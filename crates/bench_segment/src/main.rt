@@ -2,6 +2,7 @@
 //! order, joins them, and prints nanoseconds a segment. Without arguments it does nothing.
 #![tactic(auto)]
 
+use bench_texts::per;
 use std::alloc::Global;
 use std::rt::Clock;
 use std::time::Instant;
@@ -78,29 +79,65 @@ fn added(alloc: Global, count: usize) -> Option<Parts> {
     Some(parts)
 }
 
-fn per(nanoseconds: u128, count: usize) -> u128 {
-    nanoseconds.checked_div(count as u128).unwrap_or(0)
+/// The continuations of a series, and its first record.
+fn series(alloc: Global, count: usize) -> Option<(Parts, Typed)> {
+    let parts = added(alloc, count)?;
+    let first = segment(alloc, "resource", 1, count)?;
+    Some((parts, first))
 }
 
-fn measure<R: Print + Clock>(rt: &R, alloc: Global, count: usize) -> io::Result<()> {
-    let start = Instant::now(rt)?;
-    let heads = made(alloc, count);
-    let making = per(start.elapsed(rt)?.as_nanos(), count);
-    let start = Instant::now(rt)?;
-    let (Some(parts), Some(first)) = (added(alloc, count), segment(alloc, "resource", 1, count))
-    else {
-        return println!(rt; "no memory");
-    };
-    let adding = per(start.elapsed(rt)?.as_nanos(), count);
-    let start = Instant::now(rt)?;
-    let joined = match parts.join(&first, place(1)) {
+/// How many places the first record has with the continuations.
+fn joined(parts: &Parts, first: &Typed) -> usize {
+    match parts.join(first, place(1)) {
         Ok(places) => places.len(),
         Err(_) => 0,
-    };
-    let joining = per(start.elapsed(rt)?.as_nanos(), count);
+    }
+}
+
+/// How many heads were made, and the nanoseconds that each took.
+fn time_making<R: Clock>(rt: &R, alloc: Global, count: usize) -> io::Result<(usize, u128)> {
+    let start = Instant::now(rt)?;
+    let heads = made(alloc, count);
+    Ok((heads, per(start.elapsed(rt)?.as_nanos(), count)))
+}
+
+/// How many places were joined, and the nanoseconds that each took.
+fn time_joining<R: Clock>(
+    rt: &R,
+    parts: &Parts,
+    first: &Typed,
+    count: usize,
+) -> io::Result<(usize, u128)> {
+    let start = Instant::now(rt)?;
+    let joined = joined(parts, first);
+    Ok((joined, per(start.elapsed(rt)?.as_nanos(), count)))
+}
+
+/// Joins a series, and prints what its heads took, what it took from the start on to add them, and what it takes now.
+fn tell<R: Print + Clock>(
+    rt: &R,
+    parts: &Parts,
+    first: &Typed,
+    count: usize,
+    heads: (usize, u128),
+    start: &Instant,
+) -> io::Result<()> {
+    let adding = per(start.elapsed(rt)?.as_nanos(), count);
+    let (joined, joining) = time_joining(rt, parts, first, count)?;
+    let (heads, making) = heads;
     println!(rt;
         "{count} heads {making} ns ({heads}), with adding {adding}; joined {joined} places, {joining} ns each"
     )
+}
+
+// A series is costly to let go where a proof is made: a function that owns one has one way out.
+fn measure<R: Print + Clock>(rt: &R, alloc: Global, count: usize) -> io::Result<()> {
+    let heads = time_making(rt, alloc, count)?;
+    let start = Instant::now(rt)?;
+    match series(alloc, count) {
+        Some((parts, first)) => tell(rt, &parts, &first, count, heads, &start),
+        None => println!(rt; "no memory"),
+    }
 }
 
 fn main(rt: HostRuntime) -> io::Result<()> {
