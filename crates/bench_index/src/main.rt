@@ -147,6 +147,12 @@ fn look_up<R: Print + Clock>(
     println!(rt; "found {found} in {each} ns each")
 }
 
+/// Prints what each of so many records took to fill or add.
+fn print_each<R: Print>(rt: &R, count: usize, done: &str, taken: u128) -> io::Result<()> {
+    let each = per(taken, count);
+    println!(rt; "{count} {done} in {each} ns each")
+}
+
 /// Prints what each of so many records took to fill or add, and looks each up.
 fn tell<R: Print + Clock>(
     rt: &R,
@@ -157,8 +163,7 @@ fn tell<R: Print + Clock>(
     done: &str,
     taken: u128,
 ) -> io::Result<()> {
-    let each = per(taken, count);
-    println!(rt; "{count} {done} in {each} ns each")?;
+    print_each(rt, count, done, taken)?;
     look_up(rt, alloc, index, count, is_equal)
 }
 
@@ -208,10 +213,20 @@ fn measure_added<R: Print + Clock>(
     is_equal: bool,
 ) -> io::Result<()> {
     let mut index = Index::new(alloc);
-    match feed(rt, alloc, &mut index, count, is_equal) {
-        Ok(taken) => tell(rt, alloc, &index, count, is_equal, "added", taken),
-        Err(error) => Err(error),
-    }
+    let added = feed(rt, alloc, &mut index, count, is_equal);
+    tell_added(rt, alloc, &index, count, is_equal, added)
+}
+
+/// Tells of an index what its records took.
+fn tell_added<R: Print + Clock>(
+    rt: &R,
+    alloc: Global,
+    index: &Index,
+    count: usize,
+    is_equal: bool,
+    added: io::Result<u128>,
+) -> io::Result<()> {
+    tell(rt, alloc, index, count, is_equal, "added", added?)
 }
 
 /// The bytes of the texts that an index of so many records keeps.
