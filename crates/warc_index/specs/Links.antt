@@ -1,5 +1,5 @@
 -- What an index keeps of each record for the chain of referents, and how. States of the code: callers need none of it.
-use Rattle.std.specs.Prelude.{ℕ, ◌+◌, Bool, true, false, ◌&&◌, ◌==◌, List, [], ◌∷◌, length, take, drop, slice_index_or}
+use Rattle.std.specs.Prelude.{◌≡◌, ℕ, ◌+◌, Bool, true, false, ◌&&◌, ◌==◌, List, [], ◌∷◌, length, take, drop, slice_index_or}
 use Rattle.std.specs.Str.{bytes_eq}
 use Rattle.warc_order.specs.declared.mark.Mark.{Mark}
 use Rattle.warc_order.specs.Entries.{Entry}
@@ -55,12 +55,20 @@ states_as _ = false
 abbrev pub states_digest : List ℕ → Link → Bool
 states_digest digest l = states_as l.role && bytes_eq digest l.first
 
--- ---- as roles, and entries whose positions say where the second text begins
+-- ---- as roles, where the second texts begin, and entries of which each has both texts, one behind the other
 
-abbrev pub told : Role → Entry → Link
-told role e = link role (take e.position e.text) (drop e.position e.text) e.mark
+-- where a second text begins, if nothing else is kept
+abbrev pub at_start : ℕ → ℕ
+at_start i = 0
 
-abbrev pub links_in : List Role → List Entry → List Link
-links_in [] es = []
-links_in (role ∷ roles) [] = []
-links_in (role ∷ roles) (e ∷ es) = told role e ∷ links_in roles es
+abbrev pub told : Role → ℕ → Entry → Link
+told role middle e = link role (take middle e.text) (drop middle e.text) e.mark
+
+abbrev pub links_in : List Role → List ℕ → List Entry → List Link
+links_in (role ∷ roles) (middle ∷ middles) (e ∷ es) = told role middle e ∷ links_in roles middles es
+links_in _ _ _ = []
+
+-- there are as many of each
+pub record AreAligned (roles : List Role) (middles : List ℕ) (es : List Entry) : Type 0 where
+  pub as_many_middles : length middles ≡ length roles
+  pub as_many_entries : length es ≡ length roles

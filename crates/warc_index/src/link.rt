@@ -6,7 +6,7 @@ ghost use Rattle.warc_index.specs.Links.{bare_link, link_at, link_bytes, link_se
 
 use std::alloc::{AllocError, Allocator, Global};
 use std::marker::Model;
-use warc_order::{Entries, Mark};
+use warc_order::{Column, Entries, Mark};
 
 /// The least mark.
 pub(crate) const FIRST: Mark = Mark { major: 0, minor: 0 };
@@ -64,24 +64,29 @@ pub(crate) fn bare(role: Role) -> Link<'static>
     }
 }
 
-/// What is kept of records, by their positions: 25 bytes of each and its two texts.
+/// What is kept of records, by their positions: 9 bytes of each and its two texts, from the first that has a first
+/// text on 4 more, and from the first that has a mark on up to 12 more.
 #[derive(Drop)]
 pub(crate) struct Links<A: Allocator = Global> {
     roles: Vec<Role, A>,
 
-    /// Of each the two texts, one behind the other. The position of an entry is where the second begins.
+    /// Of each where the second text begins. Blank is 0.
+    middles: Column<u32, A>,
+
+    /// Of each the two texts, one behind the other.
     texts: Entries<A>,
 }
 
 impl<A: Allocator> Model for Links<A> {
-    ghost use Rattle.std.specs.Prelude.{◌≡◌, List, length};
-    ghost use Rattle.warc_index.specs.Links.{Link as Kept, links_in};
+    ghost use Rattle.std.specs.Prelude.{List};
+    ghost use Rattle.warc_order.specs.Columns.{values};
+    ghost use Rattle.warc_index.specs.Links.{Link as Kept, AreAligned, at_start, links_in};
 
     ghost Value = { List Kept };
 
-    ghost view = { λ s. links_in s.roles.items s.texts.list };
+    ghost view = { λ s. links_in s.roles.items (values at_start s.middles) s.texts };
 
-    ghost invariant = { λ s. length s.roles.items ≡ length s.texts.list };
+    ghost invariant = { λ s. AreAligned s.roles.items (values at_start s.middles) s.texts };
 }
 
 /// A text, cut in two.
@@ -93,6 +98,16 @@ fn cut(text: &[u8], middle: usize) -> (&[u8], &[u8])
         (&text[..middle], &text[middle..])
     } else {
         (text, &[])
+    }
+}
+
+/// A number of at most 4 bytes. `Err` where it is larger.
+fn narrow(number: usize) -> Result<u32, AllocError>
+    ensures { IfOk result (λ n. n ≡ number) }
+{
+    match u32::try_from(number) {
+        Ok(number) => Ok(number),
+        Err(_) => Err(AllocError),
     }
 }
 
@@ -112,6 +127,7 @@ impl<A: Allocator + Copy> Links<A> {
     {
         Links {
             roles: Vec::new(alloc),
+            middles: Column::new(alloc),
             texts: Entries::new(alloc),
         }
     }
@@ -130,7 +146,8 @@ impl<A: Allocator + Copy> Links<A> {
         if position >= self.roles.len() {
             return bare(Role::Other);
         }
-        let (first, second) = cut(self.texts.text(position), self.texts.position(position));
+        let middle = self.middles.get(position).unwrap_or(0) as usize;
+        let (first, second) = cut(self.texts.text(position), middle);
         Link {
             role: self.roles[position],
             first,
@@ -139,20 +156,20 @@ impl<A: Allocator + Copy> Links<A> {
         }
     }
 
-    /// Adds what is kept of the next record. `Err`: no memory for it, or a text of 2^32 bytes or more; then nothing
+    /// Adds what is kept of the next record. `Err`: no memory for it, or 2^32 records or bytes of a text; then nothing
     /// changes.
     pub(crate) fn push(&mut self, link: &Link) -> Result<(), AllocError>
         ensures ok { OnOk result (self.new ≡ self.old ++ link_seen link.now ∷ []) }
         ensures err { OnErr result (self.new ≡ self.old) }
     {
-        let Ok(middle) = u32::try_from(link.first.len()) else {
-            return Err(AllocError);
-        };
+        let position = narrow(self.roles.len())?;
+        let middle = narrow(link.first.len())?;
         let text = joined(*self.roles.allocator(), link.first, link.second)?;
         self.roles.reserve(1)?;
-        self.texts.reserve_for(text.len())?;
+        self.middles.reserve(middle == 0)?;
+        self.texts.push(&text, link.mark, position)?;
         self.roles.push_reserved(link.role);
-        self.texts.push_reserved(&text, link.mark, middle);
+        self.middles.push_reserved(middle, middle == 0);
         Ok(())
     }
 
@@ -161,6 +178,7 @@ impl<A: Allocator + Copy> Links<A> {
         ensures { self.new ≡ take count self.old }
     {
         self.roles.truncate(count);
+        self.middles.truncate(count);
         self.texts.truncate(count);
     }
 }

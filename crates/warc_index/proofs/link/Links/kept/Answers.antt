@@ -6,5 +6,5 @@ use Rattle.warc_index.proofs.link.Links.kept.Goals as goal
 
 pub returns : goal.returns
 returns g c =
-    c.kept.ensures ∙ (bytes_links c.self.inside.roles.items c.self.inside.texts.list c.self.invariant
+    c.kept.ensures ∙ (bytes_links _ _ _ c.self.invariant.as_many_middles c.self.invariant.as_many_entries
     ∙ ap (sum_by link_bytes) c.self.view_is)
