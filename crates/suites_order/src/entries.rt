@@ -11,10 +11,8 @@ const LATE: Mark = Mark { major: 2, minor: 0 };
 /// A late entry, and an early one of another text and a lower position.
 fn two_entries(alloc: Global) -> Result<Entries<Global>, AllocError> {
     let mut entries = Entries::new(alloc);
-    entries.reserve_for(3)?;
-    entries.push_reserved(b"xyz", LATE, 7);
-    entries.reserve_for(2)?;
-    entries.push_reserved(b"ab", EARLY, 5);
+    entries.push(b"xyz", LATE, 7)?;
+    entries.push(b"ab", EARLY, 5)?;
     Ok(entries)
 }
 
@@ -53,5 +51,64 @@ fn first_entries_are_kept(rt: HostRuntime) -> Result<(), Fail> {
     );
     entries.truncate(0);
     assert_eq!(rt; (entries.len(), entries.kept()), (0, 0));
+    Ok(())
+}
+
+const NO_MARK: Mark = Mark { major: 0, minor: 0 };
+
+/// Marks and positions: some of 0 and at their own indices, then some that aren't, then such again.
+const ROWS: [(Mark, u32); 9] = [
+    (NO_MARK, 0),
+    (NO_MARK, 1),
+    (Mark { major: 0, minor: 8 }, 2),
+    (Mark { major: 4, minor: 0 }, 3),
+    (NO_MARK, 9),
+    (LATE, 5),
+    (NO_MARK, 6),
+    (EARLY, 0),
+    (NO_MARK, 8),
+];
+
+/// Adds the entries of the rows from an index on.
+fn push_rows(entries: &mut Entries<Global>, from: usize) -> Result<(), AllocError> {
+    for (mark, position) in ROWS.iter().skip(from) {
+        entries.push(b"t", *mark, *position)?;
+    }
+    Ok(())
+}
+
+/// The first so many entries are those of the rows, and nothing stands behind them.
+fn hold_rows(entries: &Entries<Global>, count: usize) -> bool {
+    let mut all = entries.len() == count
+        && entries.mark(count) == NO_MARK
+        && entries.position(count) == 0;
+    for (i, (mark, position)) in ROWS.iter().take(count).enumerate() {
+        all = all && entries.mark(i) == *mark && entries.position(i) == *position as usize;
+    }
+    all
+}
+
+#[test]
+fn marks_and_positions_are_read_as_they_were_added(rt: HostRuntime) -> Result<(), Fail> {
+    let mut entries = Entries::new(rt.alloc());
+    push_rows(&mut entries, 0)?;
+    assert!(rt; hold_rows(&entries, ROWS.len()));
+    for count in [8, 6, 5, 4, 3, 2, 1, 0] {
+        entries.truncate(count);
+        assert!(rt; hold_rows(&entries, count));
+        push_rows(&mut entries, count)?;
+        assert!(rt; hold_rows(&entries, ROWS.len()));
+    }
+    Ok(())
+}
+
+#[test]
+fn each_entry_may_be_the_last_kept(rt: HostRuntime) -> Result<(), Fail> {
+    let mut entries = Entries::new(rt.alloc());
+    push_rows(&mut entries, 0)?;
+    for count in [8, 7, 6, 5, 4, 3, 2, 1] {
+        entries.truncate(count);
+        assert!(rt; hold_rows(&entries, count));
+    }
     Ok(())
 }
