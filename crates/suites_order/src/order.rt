@@ -28,6 +28,9 @@ const TEXTS: &[&[u8]] = &[
 /// How many entries there are: more than a block takes.
 const COUNT: usize = 1_500;
 
+/// The most entries of a test.
+const MOST: usize = 3_000;
+
 /// An entry.
 #[derive(Clone, Copy, PartialEq, Eq, Debug)]
 struct Row {
@@ -47,11 +50,11 @@ fn drawn(state: &mut u64, below: u64) -> u64
     (*state >> 33) % below
 }
 
-/// Entries with few texts and marks, so that many are equal. Their positions are 1, 4, 7 and so on.
-fn rows(alloc: Global) -> Result<Vec<Row>, AllocError> {
+/// So many entries with few texts and marks, so that many are equal. Their positions are 1, 4, 7 and so on.
+fn rows_of(alloc: Global, count: usize) -> Result<Vec<Row>, AllocError> {
     let mut state = 7;
     let mut rows = Vec::new(alloc);
-    for i in 0..COUNT {
+    for i in 0..count.min(MOST) {
         let mark = Mark {
             major: drawn(&mut state, 4) as u32,
             minor: drawn(&mut state, 6),
@@ -64,6 +67,10 @@ fn rows(alloc: Global) -> Result<Vec<Row>, AllocError> {
         })?;
     }
     Ok(rows)
+}
+
+fn rows(alloc: Global) -> Result<Vec<Row>, AllocError> {
+    rows_of(alloc, COUNT)
 }
 
 fn text_of(row: &Row) -> &'static [u8] {
@@ -130,7 +137,7 @@ fn add_row<A: Allocator + Copy>(order: &mut Order<A>, row: &Row, i: usize) -> Re
 /// Entries added one by one.
 fn added<A: Allocator + Copy>(alloc: A, rows: &[Row]) -> Result<Order<A>, AllocError> {
     let mut order = Order::new(alloc);
-    for i in 0..rows.len().min(COUNT) {
+    for i in 0..rows.len().min(MOST) {
         add_row(&mut order, &rows[i], i)?;
     }
     Ok(order)
@@ -153,7 +160,7 @@ fn push_row<A: Allocator + Copy>(
 /// The same entries put in order at once.
 fn filled<A: Allocator + Copy>(alloc: A, rows: &[Row]) -> Result<Order<A>, AllocError> {
     let mut entries = Unordered::new(alloc);
-    for i in 0..rows.len().min(COUNT) {
+    for i in 0..rows.len().min(MOST) {
         push_row(&mut entries, &rows[i], i)?;
     }
     Ok(entries.into_order())
@@ -166,7 +173,7 @@ fn filled_again<A: Allocator + Copy>(
 ) -> Result<(Order<A>, bool), AllocError> {
     let mut entries = Unordered::new(alloc);
     let mut is_refused = false;
-    for i in 0..rows.len().min(COUNT) {
+    for i in 0..rows.len().min(MOST) {
         if push_row(&mut entries, &rows[i], i).is_err() {
             is_refused = true;
             push_row(&mut entries, &rows[i], i)?;
@@ -182,11 +189,33 @@ fn filled_front<A: Allocator + Copy>(
     kept: usize,
 ) -> Result<Order<A>, AllocError> {
     let mut entries = Unordered::new(alloc);
-    for i in 0..rows.len().min(COUNT) {
+    for i in 0..rows.len().min(MOST) {
         push_row(&mut entries, &rows[i], i)?;
     }
     entries.forget_after(kept.saturating_mul(3));
     Ok(entries.into_order())
+}
+
+/// Drops the entries from one on.
+fn forget_from<A: Allocator + Copy>(order: &mut Order<A>, from: usize)
+    requires { from < 1000000 }
+    ensures { All (λ e. e.position < 3 * from) order.new }
+{
+    order.forget_after(3 * from);
+}
+
+/// Forgets the entries from one on, and adds others in their place, one by one.
+fn add_from<A: Allocator + Copy>(
+    order: &mut Order<A>,
+    rows: &[Row],
+    from: usize,
+) -> Result<(), AllocError> {
+    let from = from.min(MOST);
+    forget_from(order, from);
+    for i in from..rows.len().min(MOST) {
+        add_row(order, &rows[i], i)?;
+    }
+    Ok(())
 }
 
 /// Whether what was found is an entry.
@@ -307,7 +336,7 @@ fn a_refused_request_changes_nothing(rt: HostRuntime) -> Result<(), Fail> {
         let heap = RefusingAllocator::new(rt.alloc(), number);
         let mut order = Order::new(&heap);
         let mut is_refused = false;
-        for i in 0..rows.len().min(COUNT) {
+        for i in 0..rows.len().min(MOST) {
             if add_row(&mut order, &rows[i], i).is_err() {
                 is_refused = true;
                 assert_eq!(rt; order.len(), i);
@@ -361,6 +390,65 @@ fn a_refused_entry_can_be_added_again(rt: HostRuntime) -> Result<(), Fail> {
             assert!(rt; number > 5);
             break;
         }
+    }
+    Ok(())
+}
+
+/// An order that was filled at once is added to, forgotten from and added to again.
+#[test]
+fn a_filled_order_changes(rt: HostRuntime) -> Result<(), Fail> {
+    let rows = rows_of(rt.alloc(), MOST)?;
+    for count in [0usize, 1, 511, 512, 513, 2_000] {
+        let filled_with = rows.get(..count).unwrap_or(&[]);
+        let more = rows.get(..count + 600).unwrap_or(&[]);
+        let kept = count / 3;
+        let mut order = filled(rt.alloc(), filled_with)?;
+        assert!(rt; finds_all(&order, filled_with));
+        add_from(&mut order, more, count)?;
+        assert!(rt; finds_all(&order, more));
+        order.forget_after(3 * kept);
+        assert!(rt; finds_all(&order, rows.get(..kept).unwrap_or(&[])));
+        add_from(&mut order, filled_with, kept)?;
+        assert!(rt; finds_all(&order, filled_with));
+    }
+    Ok(())
+}
+
+/// The same, where the first change is that entries are forgotten.
+#[test]
+fn a_filled_order_is_forgotten_from(rt: HostRuntime) -> Result<(), Fail> {
+    let rows = rows_of(rt.alloc(), MOST)?;
+    for count in [0usize, 1, 511, 512, 513, 2_000] {
+        let more = rows.get(..count + 100).unwrap_or(&[]);
+        let kept = count / 2;
+        let mut order = filled(rt.alloc(), rows.get(..count).unwrap_or(&[]))?;
+        order.forget_after(3 * kept);
+        assert_eq!(rt; order.len(), kept);
+        assert!(rt; finds_all(&order, rows.get(..kept).unwrap_or(&[])));
+        add_from(&mut order, more, kept)?;
+        assert!(rt; finds_all(&order, more));
+    }
+    Ok(())
+}
+
+/// An order that was filled is the same after an addition to it was refused.
+#[test]
+fn a_refused_addition_leaves_a_filled_order(rt: HostRuntime) -> Result<(), Fail> {
+    let rows = rows(rt.alloc())?;
+    let front = rows.get(..COUNT - 1).unwrap_or(&[]);
+    for number in 1..200u64 {
+        let heap = RefusingAllocator::new(rt.alloc(), number);
+        let Ok(mut order) = filled(&heap, front) else {
+            continue;
+        };
+        let is_refused = add_from(&mut order, &rows, COUNT - 1).is_err();
+        assert_eq!(rt; is_refused, heap.has_refused());
+        if !is_refused {
+            assert!(rt; number > 5);
+            assert!(rt; finds_all(&order, &rows));
+            break;
+        }
+        assert!(rt; finds_all(&order, front));
     }
     Ok(())
 }
