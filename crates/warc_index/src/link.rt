@@ -6,7 +6,7 @@ ghost use Rattle.warc_index.specs.Links.{bare_link, link_at, link_bytes, link_se
 
 use std::alloc::{AllocError, Allocator, Global};
 use std::marker::Model;
-use warc_order::{Column, Entries, Mark};
+use warc_order::{Column, Entries, Mark, narrow};
 
 /// The least mark.
 pub(crate) const FIRST: Mark = Mark { major: 0, minor: 0 };
@@ -98,16 +98,6 @@ fn cut(text: &[u8], middle: usize) -> (&[u8], &[u8])
         (&text[..middle], &text[middle..])
     } else {
         (text, &[])
-    }
-}
-
-/// A number of at most 4 bytes. `Err` where it is larger.
-fn narrow(number: usize) -> Result<u32, AllocError>
-    ensures { IfOk result (λ n. n ≡ number) }
-{
-    match u32::try_from(number) {
-        Ok(number) => Ok(number),
-        Err(_) => Err(AllocError),
     }
 }
 

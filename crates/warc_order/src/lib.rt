@@ -36,6 +36,7 @@ mod waiting;
 
 pub use column::Column;
 pub use entries::Entries;
+pub use lookup::narrow;
 pub use mark::Mark;
 use ranked::{Place, Ranked};
 use std::alloc::{AllocError, Allocator, Global};
@@ -87,8 +88,8 @@ impl<A: Allocator + Copy> Unordered<A> {
         ensures ok { OnOk result (self.new ≡ self.old ++ entry_of text.now mark position ∷ []) }
         ensures err { OnErr result (self.new ≡ self.old) }
     {
-        let index = lookup::narrow(self.entries.len())?;
-        let position = lookup::narrow(position)?;
+        let index = narrow(self.entries.len())?;
+        let position = narrow(position)?;
         self.waiting.reserve()?;
         self.entries.push(text, mark, position)?;
         self.waiting
@@ -166,8 +167,8 @@ impl<A: Allocator + Copy> Order<A> {
         ensures ok { OnOk result (self.new ≡ self.old ++ entry_of text.now mark position ∷ []) }
         ensures err { OnErr result (self.new ≡ self.old) }
     {
-        let index = lookup::narrow(self.entries.len())?;
-        let position = lookup::narrow(position)?;
+        let index = narrow(self.entries.len())?;
+        let position = narrow(position)?;
         self.ranked.reserve()?;
         self.entries.push(text, mark, position)?;
         lookup::rank_one(&mut self.ranked, &self.entries, index);

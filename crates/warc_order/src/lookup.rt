@@ -1,7 +1,7 @@
 //! Look-ups, and what puts slots in order.
 
-ghost use Rattle.std.specs.Prelude.{◌≡◌, ℕ, ◌+◌, ◌<◌, ◌≤◌, [], ◌∷◌, ◌++◌, length, OnOk, OnErr, IfOk, IfSome, IfNone};
-ghost use Rattle.std.specs.Prelude.{IsTrue, min};
+ghost use Rattle.std.specs.Prelude.{◌≡◌, ℕ, ◌+◌, ◌^◌, ◌<◌, ◌≤◌, [], ◌∷◌, ◌++◌, length, OnOk, OnErr, IfOk, IfSome};
+ghost use Rattle.std.specs.Prelude.{IfNone, IsTrue, min};
 ghost use Rattle.std.specs.List.Sorted.{IsPermutation};
 ghost use Rattle.warc_order.specs.Ranking.{IsRanked};
 ghost use Rattle.warc_order.specs.Entries.{entry_at, IsUpTo, IsFrom, IsAfter, IsBefore, IsFirst, IsLast, IsNone};
@@ -17,9 +17,10 @@ use crate::slot::Slot;
 use crate::waiting::Waiting;
 use std::alloc::{AllocError, Allocator};
 
-/// A number of at most 4 bytes. `Err` where it is larger: as many things are never kept.
-pub(crate) fn narrow(number: usize) -> Result<u32, AllocError>
-    ensures { IfOk result (λ n. n ≡ number) }
+/// A number as 4 bytes. `Err` where it is 2^32 or more: so many things are never kept.
+pub fn narrow(number: usize) -> Result<u32, AllocError>
+    ensures same { IfOk result (λ n. n ≡ number) }
+    ensures large { OnErr result (2 ^ 32 ≤ number) }
 {
     if number <= u32::MAX as usize {
         Ok(number as u32)

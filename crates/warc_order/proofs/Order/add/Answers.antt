@@ -12,7 +12,7 @@ rank_one-requires-clause-order g c =
     }) _ c.self.invariant
     c.in_ok-push.ensures.ok
     c.reserve.ensures.list
-    (c.in_ok-index.ensures ∙ c.len.ensures)
+    (c.in_ok-index.ensures.same ∙ c.len.ensures)
 
 pub invariant_of-self-2 : goal.invariant_of-self-2
 invariant_of-self-2 g c =
@@ -23,6 +23,6 @@ invariant_of-self-2 g c =
       position = c.in_ok-position.position;
     }) c.in_ok-index.index c.self.invariant
     c.in_ok-push.ensures.ok
-    (c.in_ok-index.ensures ∙ c.len.ensures)
-    (rw (c.self.view_is, c.in_ok-position.ensures) c.requires)
+    (c.in_ok-index.ensures.same ∙ c.len.ensures)
+    (rw (c.self.view_is, c.in_ok-position.ensures.same) c.requires)
     c.rank_one.ensures

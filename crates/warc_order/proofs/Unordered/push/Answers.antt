@@ -9,7 +9,7 @@ invariant_of-self-2 g c =
     waiting_more c.self.inside.entries c.push.new.self c.self.inside.waiting.list _ e
     c.in_ok-index.index c.self.invariant
     c.in_ok-push.ensures.ok
-    (c.in_ok-index.ensures ∙ c.len.ensures)
-    (rw (c.self.view_is, c.in_ok-position.ensures) c.requires)
+    (c.in_ok-index.ensures.same ∙ c.len.ensures)
+    (rw (c.self.view_is, c.in_ok-position.ensures.same) c.requires)
     (c.push_reserved.ensures ∙ (ap (λ us. us ++ c.slot_of.result ∷ []) c.reserve.ensures.list
     ∙ ap (λ s. c.self.inside.waiting.list ++ s ∷ []) c.slot_of.ensures))

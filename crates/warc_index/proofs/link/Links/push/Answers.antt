@@ -27,6 +27,6 @@ returns-clause-ok g c =
     c.args.link.now.mark c.in_ok-middle.middle c.in_ok-position.position c.self.invariant.as_many_middles
     c.self.invariant.as_many_entries c.reserve.ensures.items c.push_reserved.ensures.items
     (c.reserve-2.ensures.same at_start) (c.push_reserved-2.ensures at_start (λ h. grind (arith, nat_tests, h)))
-    c.in_ok-push.ensures.ok c.deref.ensures.value c.in_ok-text.ensures c.in_ok-middle.ensures
+    c.in_ok-push.ensures.ok c.deref.ensures.value c.in_ok-text.ensures c.in_ok-middle.ensures.same
     ∙ ap (λ ls. ls ++ link c.args.link.now.role c.args.link.now.first.now c.args.link.now.second.now
     c.args.link.now.mark ∷ []) c.self.view_is
