@@ -1,5 +1,5 @@
 use Rattle.bench_order.proofs.RiseLemmas.{one_more}
-use Rattle.bench_order.proofs.filled.Goals as goal
+use Rattle.bench_order.proofs.push_all.Goals as goal
 
 pub loop-i-preserved : goal.loop-i-preserved
 loop-i-preserved c = one_more c.loop-i.entries _ _ _ c.loop-i.i c.loop-i.invariant c.in_ok-push.ensures.ok
