@@ -5,7 +5,7 @@ use std::alloc::{AllocError, Global};
 use std::test::Fail;
 use warc_field::Fields;
 use warc_index::{Index, Unfound};
-use warc_record::{Typed, type_head};
+use warc_record::type_head;
 
 /// The id of a number of at most four digits.
 fn id_of(number: usize) -> [u8; 6] {
@@ -18,61 +18,84 @@ fn id_of(number: usize) -> [u8; 6] {
     id
 }
 
-/// A revisit with a number, which names another number.
-fn revisit(alloc: Global, number: usize, named: usize) -> Result<Typed, AllocError> {
-    let mut fields = Fields::new(alloc);
-    push(alloc, &mut fields, b"WARC-Type", b"revisit")?;
-    push(alloc, &mut fields, b"WARC-Record-ID", &id_of(number))?;
-    push(alloc, &mut fields, b"WARC-Date", b"2020")?;
+/// Adds the fields of a record with a number.
+fn fill(alloc: Global, fields: &mut Fields, kind: &[u8], number: usize) -> Result<(), AllocError> {
+    push(alloc, fields, b"WARC-Type", kind)?;
+    push(alloc, fields, b"WARC-Record-ID", &id_of(number))?;
+    push(alloc, fields, b"WARC-Date", b"2020")
+}
+
+/// Adds the fields by which a revisit names a number.
+fn fill_reference(alloc: Global, fields: &mut Fields, named: usize) -> Result<(), AllocError> {
     push(
         alloc,
-        &mut fields,
+        fields,
         b"WARC-Profile",
         b"http://netpreserve.org/warc/1.1/revisit/server-not-modified",
     )?;
-    push(alloc, &mut fields, b"WARC-Refers-To", &id_of(named))?;
-    type_head(alloc, &fields).map_err(|_| AllocError)
+    push(alloc, fields, b"WARC-Refers-To", &id_of(named))
 }
 
-/// A resource with a number.
-fn resource(alloc: Global, number: usize) -> Result<Typed, AllocError> {
+/// Adds the record of some fields.
+fn add(alloc: Global, index: &mut Index, fields: &Fields) -> Result<(), AllocError> {
+    let typed = type_head(alloc, fields).map_err(|_| AllocError)?;
+    index.add(&typed)
+}
+
+/// Adds a revisit with a number, which names another number.
+fn add_revisit(
+    alloc: Global,
+    index: &mut Index,
+    number: usize,
+    named: usize,
+) -> Result<(), AllocError> {
     let mut fields = Fields::new(alloc);
-    push(alloc, &mut fields, b"WARC-Type", b"resource")?;
-    push(alloc, &mut fields, b"WARC-Record-ID", &id_of(number))?;
-    push(alloc, &mut fields, b"WARC-Date", b"2020")?;
-    type_head(alloc, &fields).map_err(|_| AllocError)
+    fill(alloc, &mut fields, b"revisit", number)?;
+    fill_reference(alloc, &mut fields, named)?;
+    add(alloc, index, &fields)
 }
 
-/// Revisits 0 to `length` - 1, each of which names the next one.
-fn chain(alloc: Global, length: usize) -> Result<Index, AllocError> {
-    let mut index = Index::new(alloc);
-    for number in 0..length {
-        index.add(&revisit(alloc, number, number.saturating_add(1))?)?;
-    }
-    Ok(index)
+/// Adds a resource with a number.
+fn add_resource(alloc: Global, index: &mut Index, number: usize) -> Result<(), AllocError> {
+    let mut fields = Fields::new(alloc);
+    fill(alloc, &mut fields, b"resource", number)?;
+    add(alloc, index, &fields)
 }
+
+/// Adds revisits 0 to `length` - 1, each of which names the next one.
+fn add_chain(alloc: Global, index: &mut Index, length: usize) -> Result<(), AllocError> {
+    for number in 0..length {
+        add_revisit(alloc, index, number, number.saturating_add(1))?;
+    }
+    Ok(())
+}
+
+/// What two look-ups answer.
+type Origins = (Result<usize, Unfound>, Result<usize, Unfound>);
 
 /// The origin of the first revisit of a chain: where the last one names no record, and where it names a resource.
-fn chained(
-    alloc: Global,
-    length: usize,
-) -> Result<(Result<usize, Unfound>, Result<usize, Unfound>), AllocError> {
-    let last = resource(alloc, length)?;
-    let mut index = chain(alloc, length)?;
+fn chained_in(alloc: Global, index: &mut Index, length: usize) -> Result<Origins, AllocError> {
+    add_chain(alloc, index, length)?;
     let without = index.origin(0);
-    index.add(&last)?;
+    add_resource(alloc, index, length)?;
     Ok((without, index.origin(0)))
 }
 
+fn chained(alloc: Global, length: usize) -> Result<Origins, AllocError> {
+    let mut index = Index::new(alloc);
+    chained_in(alloc, &mut index, length)
+}
+
 /// The origins of the first revisit of a chain and of the last, which names the one in the middle.
-fn looped(
-    alloc: Global,
-    length: usize,
-) -> Result<(Result<usize, Unfound>, Result<usize, Unfound>), AllocError> {
-    let last = revisit(alloc, length, length / 2)?;
-    let mut index = chain(alloc, length)?;
-    index.add(&last)?;
+fn looped_in(alloc: Global, index: &mut Index, length: usize) -> Result<Origins, AllocError> {
+    add_chain(alloc, index, length)?;
+    add_revisit(alloc, index, length, length / 2)?;
     Ok((index.origin(0), index.origin(length)))
+}
+
+fn looped(alloc: Global, length: usize) -> Result<Origins, AllocError> {
+    let mut index = Index::new(alloc);
+    looped_in(alloc, &mut index, length)
 }
 
 const LENGTHS: [usize; 10] = [1, 2, 3, 4, 15, 16, 17, 100, 999, 1000];

@@ -1,6 +1,6 @@
 //! Look-ups by table: the chosen capture, the first capture with an id, and the first record with one.
 
-use crate::rows::{Row, add_again, typed};
+use crate::rows::{Row, add_row, add_row_again};
 use std::alloc::{AllocError, Allocator, Global};
 use std::test::Fail;
 use warc_index::{Index, Unfound};
@@ -39,7 +39,7 @@ fn add_rows<A: Allocator + Copy>(
     heap: Global,
 ) -> Result<(), AllocError> {
     for row in rows {
-        index.add(&typed(heap, row, &[])?)?;
+        add_row(index, heap, row, &[])?;
     }
     Ok(())
 }
@@ -74,8 +74,8 @@ fn left_of_rows(alloc: Global, count: usize) -> Result<(Result<usize, Unfound>, 
     let mut index = Index::new(alloc);
     add_rows(&mut index, ROWS, alloc)?;
     index.forget_after(count);
-    let kept = index.kept();
-    Ok((chosen(&index, U, "2023")?, kept))
+    let latest = chosen(&index, U, "2023");
+    Ok((latest?, index.kept()))
 }
 
 /// The latest capture once all records of the rows are forgotten and added again.
@@ -142,7 +142,7 @@ fn add_rows_again<A: Allocator + Copy>(
 ) -> Result<Option<u64>, AllocError> {
     let mut refused = 0u64;
     for row in ROWS {
-        match add_again(index, &typed(heap, row, &[])?)? {
+        match add_row_again(index, heap, row, &[])? {
             Some(true) => refused = refused.saturating_add(1),
             Some(false) => return Ok(None),
             None => {}

@@ -23,27 +23,53 @@ pub fn push<A: Allocator + Copy>(
     fields.push(name, value)
 }
 
+/// Adds the fields of a row, and more.
+fn fill<A: Allocator + Copy>(
+    alloc: A,
+    fields: &mut Fields<A>,
+    row: &Row,
+    more: &[Field],
+) -> Result<(), AllocError> {
+    let (kind, id, date, target) = *row;
+    for (name, value) in [
+        ("WARC-Type", kind),
+        ("WARC-Record-ID", id),
+        ("WARC-Date", date),
+        ("WARC-Target-URI", target),
+    ] {
+        push(alloc, fields, name.as_bytes(), value.as_bytes())?;
+    }
+    for (name, value) in more {
+        push(alloc, fields, name.as_bytes(), value.as_bytes())?;
+    }
+    Ok(())
+}
+
 /// What a head of a row and more fields says.
 pub fn typed<A: Allocator + Copy>(
     alloc: A,
     row: &Row,
     more: &[Field],
 ) -> Result<Typed<A>, AllocError> {
-    let (kind, id, date, target) = *row;
     let mut fields = Fields::new(alloc);
-    push(alloc, &mut fields, b"WARC-Type", kind.as_bytes())?;
-    push(alloc, &mut fields, b"WARC-Record-ID", id.as_bytes())?;
-    push(alloc, &mut fields, b"WARC-Date", date.as_bytes())?;
-    push(alloc, &mut fields, b"WARC-Target-URI", target.as_bytes())?;
-    for (name, value) in more {
-        push(alloc, &mut fields, name.as_bytes(), value.as_bytes())?;
-    }
+    fill(alloc, &mut fields, row, more)?;
     type_head(alloc, &fields).map_err(|_| AllocError)
+}
+
+/// Adds the record of a row and more fields.
+pub fn add_row<A: Allocator + Copy, B: Allocator + Copy>(
+    index: &mut Index<A>,
+    heap: B,
+    row: &Row,
+    more: &[Field],
+) -> Result<(), AllocError> {
+    let typed = typed(heap, row, more)?;
+    index.add(&typed)
 }
 
 /// Adds a record, and where that is refused adds it again. Whether it was refused, and then left as many bytes kept as
 /// there were.
-pub fn add_again<A: Allocator + Copy, B: Allocator>(
+fn add_again<A: Allocator + Copy, B: Allocator>(
     index: &mut Index<A>,
     typed: &Typed<B>,
 ) -> Result<Option<bool>, AllocError> {
@@ -54,4 +80,15 @@ pub fn add_again<A: Allocator + Copy, B: Allocator>(
     let is_same = index.kept() == kept;
     index.add(typed)?;
     Ok(Some(is_same))
+}
+
+/// Adds the record of a row and more fields, as `add_again` does.
+pub fn add_row_again<A: Allocator + Copy, B: Allocator + Copy>(
+    index: &mut Index<A>,
+    heap: B,
+    row: &Row,
+    more: &[Field],
+) -> Result<Option<bool>, AllocError> {
+    let typed = typed(heap, row, more)?;
+    add_again(index, &typed)
 }

@@ -2,7 +2,7 @@
 
 use std::alloc::{AllocError, Allocator, Global};
 use std::test::Fail;
-use suites_index::rows::{Field, Row, add_again, typed};
+use suites_index::rows::{Field, Row, add_row, add_row_again, typed};
 use warc_index::{Filling, Index, Unfound};
 use warc_value::read_date;
 use warc_vectors::RefusingAllocator;
@@ -347,21 +347,38 @@ fn add_all<A: Allocator + Copy>(
     heap: Global,
 ) -> Result<(), AllocError> {
     for (row, more) in records {
-        index.add(&typed(heap, row, more)?)?;
+        add_row(index, heap, row, more)?;
     }
     Ok(())
 }
 
-/// Fills an index with all records at once.
-fn filled<A: Allocator + Copy>(
-    alloc: A,
+/// Adds a record to those that wait to be put in order.
+fn push<A: Allocator + Copy>(
+    filling: &mut Filling<A>,
+    record: &Record,
+    heap: Global,
+) -> Result<(), AllocError> {
+    let (row, more) = record;
+    let typed = typed(heap, row, more)?;
+    filling.push(&typed)
+}
+
+/// Adds records to those that wait to be put in order.
+fn push_all<A: Allocator + Copy>(
+    filling: &mut Filling<A>,
     records: &[Record],
     heap: Global,
-) -> Result<Index<A>, AllocError> {
-    let mut filling = Filling::new(alloc);
-    for (row, more) in records {
-        filling.push(&typed(heap, row, more)?)?;
+) -> Result<(), AllocError> {
+    for record in records {
+        push(filling, record, heap)?;
     }
+    Ok(())
+}
+
+/// An index that is filled with all records at once.
+fn filled(alloc: Global, records: &[Record]) -> Result<Index, AllocError> {
+    let mut filling = Filling::new(alloc);
+    push_all(&mut filling, records, alloc)?;
     Ok(filling.into_index())
 }
 
@@ -374,7 +391,7 @@ fn added_origin(alloc: Global, records: &[Record]) -> Result<Result<usize, Unfou
 
 /// The same in an index that is filled with them.
 fn filled_origin(alloc: Global, records: &[Record]) -> Result<Result<usize, Unfound>, AllocError> {
-    let index = filled(alloc, records, alloc)?;
+    let index = filled(alloc, records)?;
     Ok(index.origin(records.len().saturating_sub(1)))
 }
 
@@ -479,7 +496,7 @@ fn origins_behind_revisits(rt: HostRuntime) -> Result<(), Fail> {
 fn by_pair(alloc: Global, target: &str, date: &str) -> Result<Option<usize>, Fail> {
     let moment = read_date(date.as_bytes()).ok_or("a date")?;
     let records = [REVISIT_OF_2020, RESPONSE_B, RESOURCE_A, LATER_A];
-    let index = filled(alloc, &records, alloc)?;
+    let index = filled(alloc, &records)?;
     Ok(index.by_pair(target.as_bytes(), &moment))
 }
 
@@ -549,7 +566,7 @@ fn add_all_again<A: Allocator + Copy>(
 ) -> Result<Option<u64>, AllocError> {
     let mut refused = 0u64;
     for (row, more) in RECORDS {
-        match add_again(index, &typed(heap, row, more)?)? {
+        match add_row_again(index, heap, row, more)? {
             Some(true) => refused = refused.saturating_add(1),
             Some(false) => return Ok(None),
             None => {}
@@ -583,17 +600,30 @@ fn refused_additions_change_nothing(rt: HostRuntime) -> Result<(), Fail> {
     Ok(())
 }
 
+/// Adds a record to those that wait to be put in order, again where it is refused, and answers whether it was.
+fn push_again<A: Allocator + Copy>(
+    filling: &mut Filling<A>,
+    record: &Record,
+    heap: Global,
+) -> Result<bool, AllocError> {
+    let (row, more) = record;
+    let typed = typed(heap, row, more)?;
+    let is_refused = filling.push(&typed).is_err();
+    if is_refused {
+        filling.push(&typed)?;
+    }
+    Ok(is_refused)
+}
+
 /// Adds the records to those that wait to be put in order, each again where it is refused, and counts the refusals.
 fn push_all_again<A: Allocator + Copy>(
     filling: &mut Filling<A>,
     heap: Global,
 ) -> Result<u64, AllocError> {
     let mut refused = 0u64;
-    for (row, more) in RECORDS {
-        let record = typed(heap, row, more)?;
-        if filling.push(&record).is_err() {
+    for record in RECORDS {
+        if push_again(filling, record, heap)? {
             refused = refused.saturating_add(1);
-            filling.push(&record)?;
         }
     }
     Ok(refused)
