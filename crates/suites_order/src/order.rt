@@ -316,7 +316,7 @@ fn front(rows: &[Row], count: usize) -> &[Row] {
 
 // An order is costly to let go where a proof is made: each function that owns one has few ways out.
 
-/// The entries put in order at once, for which there is memory or isn't.
+/// An order that is filled with the entries at once.
 fn filled<A: Allocator + Copy>(alloc: A, rows: &[Row]) -> Result<Order<A>, AllocError> {
     let mut entries = Unordered::new(alloc);
     push_all(&mut entries, rows)?;
