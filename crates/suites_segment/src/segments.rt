@@ -245,6 +245,17 @@ fn place_at(position: u64, len: u64) -> Place {
     }
 }
 
+/// Adds the record of a row.
+fn add_row<A: Allocator + Copy>(
+    alloc: A,
+    parts: &mut Parts<A>,
+    row: &Row,
+    place: Place,
+) -> Result<(), AllocError> {
+    let typed = typed_of(alloc, row)?;
+    parts.add(&typed, place)
+}
+
 /// Adds the records of rows, whose first has that position.
 fn add_rows<A: Allocator + Copy>(
     alloc: A,
@@ -254,7 +265,7 @@ fn add_rows<A: Allocator + Copy>(
 ) -> Result<(), AllocError> {
     let mut position = first;
     for row in rows {
-        parts.add(&typed_of(alloc, row)?, place_at(position, row.5))?;
+        add_row(alloc, parts, row, place_at(position, row.5))?;
         position = position.saturating_add(1);
     }
     Ok(())
@@ -294,21 +305,34 @@ fn is_joined<A: Allocator + Copy>(
     Ok(is_wanted(parts.join(&typed, place_at(position, row.5)), wanted))
 }
 
-/// Whether the record at a position of an archive is joined as it is wanted.
+/// Whether the record at a position of an archive is joined as it is wanted, once all are added.
+fn is_joined_in(
+    alloc: Global,
+    parts: &mut Parts<Global>,
+    rows: &[Row],
+    own: usize,
+    wanted: Result<&[u64], Gap>,
+) -> Result<bool, AllocError> {
+    add_rows(alloc, parts, rows, 0)?;
+    match rows.get(own) {
+        Some(row) => is_joined(alloc, parts, row, own as u64, wanted),
+        None => Ok(false),
+    }
+}
+
+/// The same of an archive of these records.
 fn is_joined_of(
     alloc: Global,
     rows: &[Row],
     own: usize,
     wanted: Result<&[u64], Gap>,
-) -> Result<bool, Fail> {
-    let row = rows.get(own).ok_or("a record")?;
+) -> Result<bool, AllocError> {
     let mut parts = Parts::new(alloc);
-    add_rows(alloc, &mut parts, rows, 0)?;
-    Ok(is_joined(alloc, &parts, row, own as u64, wanted)?)
+    is_joined_in(alloc, &mut parts, rows, own, wanted)
 }
 
 /// The name of the first case whose record isn't joined as it is wanted.
-fn first_wrong(alloc: Global, cases: &[Case]) -> Result<Option<&'static str>, Fail> {
+fn first_wrong(alloc: Global, cases: &[Case]) -> Result<Option<&'static str>, AllocError> {
     for (name, rows, own, wanted) in cases {
         if !is_joined_of(alloc, rows, *own, *wanted)? {
             return Ok(Some(name));
@@ -388,17 +412,27 @@ fn gaps_in_words(rt: HostRuntime) -> Result<(), Fail> {
     Ok(())
 }
 
-/// The places of the first record of a series and of its second, which has this place.
-fn joined_to(alloc: Global, own: Place, place: Place) -> Result<Vec<Place>, Fail> {
-    let one = typed_of(alloc, &ONE)?;
-    let two = typed_of(alloc, &(b"continuation", OTHER, ID, b"2", b"3", 2))?;
-    let mut parts = Parts::new(alloc);
-    parts.add(&two, place)?;
-    Ok(parts.join(&one, own)?)
+/// Whether exactly these places are told.
+fn are_told(told: Result<Vec<Place>, JoinFault>, wanted: &[Place]) -> bool {
+    match told {
+        Ok(places) => places.as_slice() == wanted,
+        Err(_) => false,
+    }
 }
 
-#[test]
-fn places_are_whole(rt: HostRuntime) -> Result<(), Fail> {
+/// Whether exactly these places are joined to the first record of a series.
+fn are_joined(
+    alloc: Global,
+    parts: &Parts<Global>,
+    own: Place,
+    wanted: &[Place],
+) -> Result<bool, AllocError> {
+    let one = typed_of(alloc, &ONE)?;
+    Ok(are_told(parts.join(&one, own), wanted))
+}
+
+/// Whether a place is told whole, behind that of the first record.
+fn is_told_whole(alloc: Global, parts: &mut Parts<Global>) -> Result<bool, AllocError> {
     let place = Place {
         start: 7,
         len: 2,
@@ -406,8 +440,15 @@ fn places_are_whole(rt: HostRuntime) -> Result<(), Fail> {
         truncated: true,
     };
     let own = place_at(0, 1);
-    let joined = joined_to(rt.alloc(), own, place)?;
-    assert_eq!(rt; joined.as_slice(), [own, place].as_slice());
+    let two: Row = (b"continuation", OTHER, ID, b"2", b"3", 2);
+    add_row(alloc, parts, &two, place)?;
+    are_joined(alloc, parts, own, &[own, place])
+}
+
+#[test]
+fn places_are_whole(rt: HostRuntime) -> Result<(), Fail> {
+    let mut parts = Parts::new(rt.alloc());
+    assert!(rt; is_told_whole(rt.alloc(), &mut parts)?);
     Ok(())
 }
 
@@ -482,21 +523,18 @@ fn add_number(
     parts.add(typed, place_at(number, 1))
 }
 
-/// Adds all segments of the long series but the first, the last one first.
-fn add_many(parts: &mut Parts<Global>, typed: &mut Typed<Global>) -> Result<(), AllocError> {
+/// Adds the segments of the long series but the first, the last one first.
+fn add_numbers(parts: &mut Parts<Global>, typed: &mut Typed<Global>) -> Result<(), AllocError> {
     for number in (2..=MANY).rev() {
         add_number(parts, typed, number)?;
     }
     Ok(())
 }
 
-/// The places of the long series.
-fn many_joined(alloc: Global) -> Result<Vec<Place>, Fail> {
-    let one = typed_of(alloc, &ONE)?;
+/// The same, with the head of the second.
+fn add_many(alloc: Global, parts: &mut Parts<Global>) -> Result<(), AllocError> {
     let mut two = typed_of(alloc, &TWO)?;
-    let mut parts = Parts::new(alloc);
-    add_many(&mut parts, &mut two)?;
-    Ok(parts.join(&one, place_at(1, 1))?)
+    add_numbers(parts, &mut two)
 }
 
 /// Whether the places begin a thousand bytes behind one another.
@@ -511,102 +549,115 @@ fn follow(places: &[Place]) -> bool {
     true
 }
 
+/// Whether the places of the long series are told, all of them.
+fn is_long_series(told: Result<Vec<Place>, JoinFault>) -> bool {
+    match told {
+        Ok(places) => places.len() as u64 == MANY && follow(&places),
+        Err(_) => false,
+    }
+}
+
+/// Whether the long series is joined to its first record, once the others are added.
+fn is_long_joined(alloc: Global, parts: &mut Parts<Global>) -> Result<bool, AllocError> {
+    add_many(alloc, parts)?;
+    let one = typed_of(alloc, &ONE)?;
+    Ok(is_long_series(parts.join(&one, place_at(1, 1))))
+}
+
 #[test]
 fn long_series(rt: HostRuntime) -> Result<(), Fail> {
-    let places = many_joined(rt.alloc())?;
-    assert_eq!(rt; places.len() as u64, MANY);
-    assert!(rt; follow(&places));
+    let mut parts = Parts::new(rt.alloc());
+    assert!(rt; is_long_joined(rt.alloc(), &mut parts)?);
     Ok(())
 }
 
-/// Adds a record, again where memory was refused. Whether it was refused, and then left as many bytes kept as there
-/// were.
+/// Adds a record, again where memory was refused. Whether it was refused; `None` where that left another number of
+/// bytes kept, or where memory was refused again.
 fn add_again<A: Allocator + Copy>(
     parts: &mut Parts<A>,
     typed: &Typed<A>,
     place: Place,
-) -> Result<Option<bool>, AllocError> {
+) -> Option<bool> {
     let kept = parts.kept();
     if parts.add(typed, place).is_ok() {
-        return Ok(None);
+        return Some(false);
     }
     let is_same = parts.kept() == kept;
-    parts.add(typed, place)?;
-    Ok(Some(is_same))
+    let is_added = parts.add(typed, place).is_ok();
+    (is_same && is_added).then_some(true)
 }
 
-/// The last segment, the first and the second.
-type Heads<A> = (Typed<A>, Typed<A>, Typed<A>);
-
-/// What the heads of the three segments say.
-fn heads<A: Allocator + Copy>(alloc: A) -> Result<Heads<A>, AllocError> {
-    let three = typed_of(alloc, &THREE)?;
-    let one = typed_of(alloc, &ONE)?;
-    let two = typed_of(alloc, &TWO)?;
-    Ok((three, one, two))
-}
-
-/// Adds the three segments, and answers whether one was refused, or `None` where one of them left another number of
-/// bytes kept.
-fn add_three<A: Allocator + Copy>(
+/// The same of the record of a row. Memory is wanting for its head alone.
+fn add_row_again<A: Allocator + Copy>(
+    alloc: A,
     parts: &mut Parts<A>,
-    heads: &Heads<A>,
+    row: &Row,
+    place: Place,
 ) -> Result<Option<bool>, AllocError> {
-    let (three, one, two) = heads;
-    let last = add_again(parts, three, place_at(0, 100))?;
-    let first = add_again(parts, one, place_at(1, 1))?;
-    let second = add_again(parts, two, place_at(2, 10))?;
-    if last == Some(false) || first == Some(false) || second == Some(false) {
-        return Ok(None);
-    }
-    Ok(Some(last.is_some() || first.is_some() || second.is_some()))
+    let typed = typed_of(alloc, row)?;
+    Ok(add_again(parts, &typed, place))
 }
 
-/// Whether memory is refused to the joining of the first record; `None` where something else is told than the three
-/// places.
-fn is_join_refused<A: Allocator + Copy>(parts: &Parts<A>, one: &Typed<A>) -> Option<bool> {
-    match parts.join(one, place_at(1, 1)) {
+/// Adds the three segments. Whether one was refused; `None` where one of them left something else behind.
+fn add_three<A: Allocator + Copy>(
+    alloc: A,
+    parts: &mut Parts<A>,
+) -> Result<Option<bool>, AllocError> {
+    let last = add_row_again(alloc, parts, &THREE, place_at(0, 100))?;
+    let first = add_row_again(alloc, parts, &ONE, place_at(1, 1))?;
+    let second = add_row_again(alloc, parts, &TWO, place_at(2, 10))?;
+    match (last, first, second) {
+        (Some(last), Some(first), Some(second)) => Ok(Some(last || first || second)),
+        _ => Ok(None),
+    }
+}
+
+/// Whether memory is refused; `None` where something else is told than the three places.
+fn is_refused<A: Allocator>(told: Result<Vec<Place, A>, JoinFault>) -> Option<bool> {
+    match told {
         Err(JoinFault::Memory) => Some(true),
         told => is_wanted(told, Ok(&[2000, 3000, 1000])).then_some(false),
     }
 }
 
-/// Whether an addition is refused, and whether the joining is.
-fn refused_in<A: Allocator + Copy>(
-    parts: &mut Parts<A>,
-    heads: &Heads<A>,
-) -> Result<(Option<bool>, Option<bool>), AllocError> {
-    let added = add_three(parts, heads)?;
-    Ok((added, is_join_refused(parts, &heads.1)))
+/// Whether memory is refused to the joining of the first record; `None` where something else is told.
+fn is_join_refused<A: Allocator + Copy>(
+    alloc: A,
+    parts: &Parts<A>,
+) -> Result<Option<bool>, AllocError> {
+    let one = typed_of(alloc, &ONE)?;
+    Ok(is_refused(parts.join(&one, place_at(1, 1))))
 }
 
-/// The same where the request of that number is refused; `None` where that is one of a head.
-fn refused_at(
-    alloc: Global,
-    number: u64,
-) -> Result<Option<(Option<bool>, Option<bool>)>, AllocError> {
+/// Whether an addition is refused, and whether the joining is. Memory is wanting for a head alone.
+fn refused_in<A: Allocator + Copy>(
+    alloc: A,
+    parts: &mut Parts<A>,
+) -> Result<(Option<bool>, Option<bool>), AllocError> {
+    let added = add_three(alloc, parts)?;
+    let joined = is_join_refused(alloc, parts)?;
+    Ok((added, joined))
+}
+
+/// The same where the request of that number is refused.
+fn refused_at(alloc: Global, number: u64) -> Result<(Option<bool>, Option<bool>), AllocError> {
     let heap = RefusingAllocator::new(alloc, number);
-    match heads(&heap) {
-        Ok(heads) => {
-            let mut parts = Parts::new(&heap);
-            Ok(Some(refused_in(&mut parts, &heads)?))
-        }
-        Err(_) => Ok(None),
-    }
+    let mut parts = Parts::new(&heap);
+    refused_in(&heap, &mut parts)
 }
 
 #[test]
 fn refused_memory(rt: HostRuntime) -> Result<(), Fail> {
     let mut additions = 0u32;
     let mut joins = 0u32;
-    for number in 1..64 {
-        match refused_at(rt.alloc(), number)? {
-            None => {}
-            Some((Some(addition), Some(join))) => {
+    for number in 1..128 {
+        match refused_at(rt.alloc(), number) {
+            Err(_) => {}
+            Ok((Some(addition), Some(join))) => {
                 additions = additions.saturating_add(u32::from(addition));
                 joins = joins.saturating_add(u32::from(join));
             }
-            Some(_) => return Err("something else is kept or told".into()),
+            Ok(_) => return Err("something else is kept or told".into()),
         }
     }
     assert!(rt; additions > 0 && joins > 0);
