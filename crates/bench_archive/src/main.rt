@@ -36,18 +36,24 @@ fn opened<S: Source + Drop>(alloc: Global, source: S) -> Result<Archive<S>, Faul
     }
 }
 
+/// Prints what listing took.
+fn tell_listed<R: Print + Clock, S: Source>(
+    rt: &R,
+    listing: &Listing<S>,
+    start: &Instant,
+) -> io::Result<()> {
+    let taken = start.elapsed(rt)?.as_nanos();
+    let count = listing.count();
+    let each = per(taken, count);
+    println!(rt; "{count} listed in {each} ns each")
+}
+
 /// Opens the file as a listing, and prints what it took.
 fn list<R: Print + Clock + Files>(rt: &R, alloc: Global, path: &str) -> io::Result<()> {
     let source = FileSource::new(File::open(rt, path)?);
     let start = Instant::now(rt)?;
-    let answer = listed(alloc, source);
-    let taken = start.elapsed(rt)?.as_nanos();
-    match answer {
-        Ok(listing) => {
-            let count = listing.count();
-            let each = per(taken, count);
-            println!(rt; "{count} listed in {each} ns each")
-        }
+    match listed(alloc, source) {
+        Ok(listing) => tell_listed(rt, &listing, &start),
         Err(fault) => println!(rt; "{fault}"),
     }
 }
@@ -110,6 +116,18 @@ fn tell_opened<R: Print + Clock, S: Source>(
     println!(rt; "{records} opened in {each} ns each")
 }
 
+/// Prints what opening an archive took, and replays bodies.
+fn tell_and_replay<R: Print + Clock, S: Source + Drop>(
+    rt: &R,
+    alloc: Global,
+    archive: &mut Archive<S>,
+    start: &Instant,
+    count: usize,
+) -> io::Result<()> {
+    tell_opened(rt, archive, start)?;
+    replay(rt, alloc, archive, count)
+}
+
 /// Opens the file as an archive, prints what it took, and replays bodies.
 fn answer<R: Print + Clock + Files>(
     rt: &R,
@@ -119,11 +137,10 @@ fn answer<R: Print + Clock + Files>(
 ) -> io::Result<()> {
     let source = FileSource::new(File::open(rt, path)?);
     let start = Instant::now(rt)?;
-    let Ok(mut archive) = opened(alloc, source) else {
-        return Ok(());
-    };
-    tell_opened(rt, &archive, &start)?;
-    replay(rt, alloc, &mut archive, count)
+    match opened(alloc, source) {
+        Ok(mut archive) => tell_and_replay(rt, alloc, &mut archive, &start, count),
+        Err(_) => Ok(()),
+    }
 }
 
 /// The bytes of a file before the record at a position of its listing.
@@ -189,15 +206,25 @@ fn grow<R: Print + Clock + Files, S: Source>(
     }
 }
 
-/// Grows archives of 1,000 records of a file and of nearly all.
+/// Grows archives of 1,000 of the records of a listing and of nearly all.
+fn grow_twice<R: Print + Clock + Files, S: Source>(
+    rt: &R,
+    alloc: Global,
+    path: &str,
+    listing: &Listing<S>,
+) -> io::Result<()> {
+    grow(rt, alloc, path, listing, 1_000)?;
+    let most = listing.count().saturating_sub(GROWTHS + 1);
+    grow(rt, alloc, path, listing, most)
+}
+
+/// The same of the records of a file.
 fn grow_both<R: Print + Clock + Files>(rt: &R, alloc: Global, path: &str) -> io::Result<()> {
     let source = FileSource::new(File::open(rt, path)?);
-    let Ok(listing) = listed(alloc, source) else {
-        return Ok(());
-    };
-    grow(rt, alloc, path, &listing, 1_000)?;
-    let most = listing.count().saturating_sub(GROWTHS + 1);
-    grow(rt, alloc, path, &listing, most)
+    match listed(alloc, source) {
+        Ok(listing) => grow_twice(rt, alloc, path, &listing),
+        Err(_) => Ok(()),
+    }
 }
 
 fn main(rt: HostRuntime) -> io::Result<()> {
