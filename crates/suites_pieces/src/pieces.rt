@@ -2,11 +2,9 @@
 
 ghost use Rattle.std.specs.Prelude.{◌≤◌, ◌^◌};
 
-use std::alloc::Global;
+use std::alloc::{Allocator, Global};
 use std::test::Fail;
-use warc_frame::{
-    Decoder, Event, Fault, FaultKind, Framed, Mandatory, decode, read_one, write_one,
-};
+use warc_frame::{Decoder, Event, Fault, FaultKind, Framed, Mandatory, Version, decode, write_one};
 use warc_vectors::{ONE_RESOURCE, RefusingAllocator, Row, changed};
 
 /// The offset at which no byte may stand.
@@ -25,6 +23,18 @@ fn written(alloc: Global, records: &[Framed]) -> Result<Vec<u8>, Fail> {
     Ok(text)
 }
 
+/// Whether records are written as these canonical texts.
+fn are_given(
+    alloc: Global,
+    records: &[Framed],
+    expected: Result<&[u8], Fault>,
+) -> Result<bool, Fail> {
+    match expected {
+        Ok(text) => Ok(written(alloc, records)?.as_slice() == text),
+        Err(_) => Ok(false),
+    }
+}
+
 /// Whether the pieces give the records of these canonical texts, or this fault.
 fn gives(
     alloc: Global,
@@ -34,10 +44,9 @@ fn gives(
 ) -> Result<bool, Fail>
     requires { at ≤ 2 ^ 48 }
 {
-    match (decode(alloc, at, pieces), expected) {
-        (Ok(records), Ok(text)) => Ok(written(alloc, &records)?.as_slice() == text),
-        (Err(found), Err(fault)) => Ok(found == fault),
-        _ => Ok(false),
+    match decode(alloc, at, pieces) {
+        Ok(records) => are_given(alloc, &records, expected),
+        Err(found) => Ok(expected.err() == Some(found)),
     }
 }
 
@@ -71,23 +80,50 @@ fn gives_in_pieces(
 
 #[test]
 fn one_resource_record(rt: HostRuntime) -> Result<(), Fail> {
-    let alloc = rt.alloc();
-    let text = ONE_RESOURCE.text(alloc)?;
-    assert!(rt; gives_in_pieces(alloc, 0, &text, 0, Ok(&text))?);
-    let folded = changed(alloc, &text, "URI: ", "URI:\r\n \t")?;
-    let folded = changed(alloc, &folded, "Length: 3", "Length:3")?;
-    assert!(rt; gives_in_pieces(alloc, 0, &folded, 0, Ok(&text))?);
-    let older = changed(alloc, &text, "WARC/1.1", "WARC/1.0")?;
-    assert!(rt; gives_in_pieces(alloc, 0, &older, 0, Ok(&older))?);
-    assert!(rt; gives(alloc, 0, &[], Ok(b""))?);
-    assert!(rt;
-        gives(
-            alloc,
-            0,
-            &[b"", &text, b"", &older],
-            Ok(&[text.as_slice(), older.as_slice()].concat(alloc)?)
-        )?
-    );
+    let text = ONE_RESOURCE.text(rt.alloc())?;
+    assert!(rt; gives_in_pieces(rt.alloc(), 0, &text, 0, Ok(&text))?);
+    Ok(())
+}
+
+/// A text with a folded target, and without a space before its length.
+fn folded(alloc: Global, text: &[u8]) -> Result<Vec<u8>, Fail> {
+    let folded = changed(alloc, text, "URI: ", "URI:\r\n \t")?;
+    changed(alloc, &folded, "Length: 3", "Length:3")
+}
+
+#[test]
+fn one_folded_record(rt: HostRuntime) -> Result<(), Fail> {
+    let text = ONE_RESOURCE.text(rt.alloc())?;
+    let folded = folded(rt.alloc(), &text)?;
+    assert!(rt; gives_in_pieces(rt.alloc(), 0, &folded, 0, Ok(&text))?);
+    Ok(())
+}
+
+/// The one resource record in version 1.0.
+fn older(alloc: Global, text: &[u8]) -> Result<Vec<u8>, Fail> {
+    changed(alloc, text, "WARC/1.1", "WARC/1.0")
+}
+
+#[test]
+fn one_older_record(rt: HostRuntime) -> Result<(), Fail> {
+    let text = ONE_RESOURCE.text(rt.alloc())?;
+    let older = older(rt.alloc(), &text)?;
+    assert!(rt; gives_in_pieces(rt.alloc(), 0, &older, 0, Ok(&older))?);
+    Ok(())
+}
+
+/// Whether two records are given that stand in pieces of their own, between empty ones.
+fn gives_both(alloc: Global, first: &[u8], second: &[u8]) -> Result<bool, Fail> {
+    let both = [first, second].concat(alloc)?;
+    gives(alloc, 0, &[b"", first, b"", second], Ok(&both))
+}
+
+#[test]
+fn pieces_of_whole_records(rt: HostRuntime) -> Result<(), Fail> {
+    assert!(rt; gives(rt.alloc(), 0, &[], Ok(b""))?);
+    let text = ONE_RESOURCE.text(rt.alloc())?;
+    let older = older(rt.alloc(), &text)?;
+    assert!(rt; gives_both(rt.alloc(), &text, &older)?);
     Ok(())
 }
 
@@ -164,30 +200,30 @@ fn faults_in_every_cutting(rt: HostRuntime) -> Result<(), Fail> {
     Ok(())
 }
 
-#[test]
-fn every_truncation(rt: HostRuntime) -> Result<(), Fail> {
-    let alloc = rt.alloc();
-    let text = ONE_RESOURCE.text(alloc)?;
+/// The length of the first text that another begins with and that isn't told as cut off there, whole or in two pieces.
+fn first_not_cut(alloc: Global, text: &[u8]) -> Result<Option<usize>, Fail> {
     for len in 1..text.len() {
         let cut = &text[..len];
-        assert!(rt;
-            gives(
-                alloc,
-                0,
-                &[cut],
-                Err(fault(FaultKind::Truncated, len as u64))
-            )?
-        );
         let (front, back) = cut.split_at(len / 2);
-        assert!(rt;
-            gives(
-                alloc,
-                0,
-                &[front, back],
-                Err(fault(FaultKind::Truncated, len as u64))
-            )?
-        );
+        let expected = Err(fault(FaultKind::Truncated, len as u64));
+        if !gives(alloc, 0, &[cut], expected)? || !gives(alloc, 0, &[front, back], expected)? {
+            return Ok(Some(len));
+        }
     }
+    Ok(None)
+}
+
+#[test]
+fn every_truncation(rt: HostRuntime) -> Result<(), Fail> {
+    let text = ONE_RESOURCE.text(rt.alloc())?;
+    assert_eq!(rt; first_not_cut(rt.alloc(), &text)?, None);
+    Ok(())
+}
+
+#[test]
+fn what_follows_a_record(rt: HostRuntime) -> Result<(), Fail> {
+    let alloc = rt.alloc();
+    let text = ONE_RESOURCE.text(alloc)?;
     let begun = [text.as_slice(), b"W".as_slice()].concat(alloc)?;
     assert!(rt; gives_in_pieces(alloc, 0, &begun, 0, Err(fault(FaultKind::Truncated, 279)))?);
     let blank = [text.as_slice(), b"\r\n".as_slice()].concat(alloc)?;
@@ -273,70 +309,138 @@ fn decoder_at_the_limit(rt: HostRuntime) -> Result<(), Fail> {
     Ok(())
 }
 
+/// What a step tells, with the number of a head's fields in their place.
+#[derive(Clone, Copy, PartialEq, Eq, Debug)]
+enum Step {
+    More,
+    Head(Version, usize, u64),
+    Part(usize, usize),
+    End,
+}
+
+/// What an event tells.
+fn told<A: Allocator>(event: Event<A>) -> Step {
+    match event {
+        Event::More => Step::More,
+        Event::Head(version, fields, len) => Step::Head(version, fields.len(), len),
+        Event::Part(first, end) => Step::Part(first, end),
+        Event::End => Step::End,
+    }
+}
+
+/// How many bytes of a piece a step takes, and what it tells.
+fn take<A: Allocator + Copy>(
+    decoder: &mut Decoder<A>,
+    piece: &[u8],
+) -> Result<(usize, Step), Fault> {
+    match decoder.step(piece) {
+        Ok((taken, event)) => Ok((taken, told(event))),
+        Err(fault) => Err(fault),
+    }
+}
+
+/// Whether a decoder that began at 7 stands there: before the one resource record, behind it, or in it.
+fn is_at(decoder: &Decoder, position: u64) -> bool {
+    let expected = match position {
+        7 | 285 => Ok(()),
+        _ => Err(fault(FaultKind::Truncated, position)),
+    };
+    decoder.position() == position && decoder.finish() == expected
+}
+
+/// Which part of the one resource record a step is given, how many bytes it takes and what it tells, and where the
+/// decoder stands then.
+const STEPS: &[(usize, usize, usize, Step, u64)] = &[
+    (0, 0, 0, Step::More, 7),
+    (0, 5, 5, Step::More, 12),
+    (5, 278, 266, Step::Head(Version::V1_1, 7, 3), 278),
+    (271, 278, 3, Step::Part(0, 3), 281),
+    (274, 276, 2, Step::More, 283),
+    (276, 278, 2, Step::End, 285),
+];
+
+/// Where the first step ends that takes or tells something else.
+fn first_wrong_step(decoder: &mut Decoder, text: &[u8]) -> Option<u64> {
+    for (from, to, taken, told, position) in STEPS {
+        let piece = text.get(*from..*to).unwrap_or(b"");
+        if take(decoder, piece) != Ok((*taken, *told)) || !is_at(decoder, *position) {
+            return Some(*position);
+        }
+    }
+    None
+}
+
 #[test]
 fn events_of_one_record(rt: HostRuntime) -> Result<(), Fail> {
-    let alloc = rt.alloc();
-    let text = ONE_RESOURCE.text(alloc)?;
-    let (framed, _) = read_one(alloc, &text)?;
-    let mut decoder = Decoder::new(alloc, 7);
-    assert!(rt; matches!(decoder.step(b""), Ok((0, Event::More))));
-    assert!(rt; matches!(decoder.step(&text[..5]), Ok((5, Event::More))));
-    assert_eq!(rt; decoder.finish(), Err(fault(FaultKind::Truncated, 12)));
-    match decoder.step(&text[5..]) {
-        Ok((266, Event::Head(version, fields, 3))) => {
-            assert_eq!(rt;
-                (version, fields.len()),
-                (framed.version(), framed.fields().len())
-            );
-        }
-        _ => return Err("the head".into()),
-    }
-    assert_eq!(rt; decoder.position(), 278);
-    assert!(rt; matches!(decoder.step(&text[271..]), Ok((3, Event::Part(0, 3)))));
-    assert!(rt; matches!(decoder.step(&text[274..276]), Ok((2, Event::More))));
-    assert!(rt; matches!(decoder.step(&text[276..]), Ok((2, Event::End))));
-    assert_eq!(rt; (decoder.position(), decoder.finish()), (285, Ok(())));
+    let text = ONE_RESOURCE.text(rt.alloc())?;
+    let mut decoder = Decoder::new(rt.alloc(), 7);
+    assert_eq!(rt; first_wrong_step(&mut decoder, &text), None);
     Ok(())
+}
+
+/// Whether a head is taken byte by byte up to its limit.
+fn takes_letters(decoder: &mut Decoder) -> bool {
+    if take(decoder, b"WARC/1.1\r\nX: ") != Ok((13, Step::More)) {
+        return false;
+    }
+    for _ in 13..65_535 {
+        if take(decoder, b"a") != Ok((1, Step::More)) {
+            return false;
+        }
+    }
+    decoder.finish() == Err(fault(FaultKind::Truncated, 65_535))
+}
+
+/// Whether a decoder tells there that its head is too long, whatever comes.
+fn tells_too_long(decoder: &mut Decoder) -> bool {
+    let too_long = fault(FaultKind::HeadTooLong, 0);
+    for piece in [b"a".as_slice(), b"", b"\r\n\r\n"] {
+        if take(decoder, piece) != Err(too_long) || decoder.finish() != Err(too_long) {
+            return false;
+        }
+    }
+    decoder.position() == 65_535
 }
 
 #[test]
 fn a_fault_is_told_for_good(rt: HostRuntime) -> Result<(), Fail> {
-    let alloc = rt.alloc();
-    let mut decoder = Decoder::new(alloc, 0);
-    assert!(rt; matches!(decoder.step(b"WARC/1.1\r\nX: "), Ok((13, Event::More))));
-    for _ in 13..65_535 {
-        assert!(rt; matches!(decoder.step(b"a"), Ok((1, Event::More))));
-    }
-    assert_eq!(rt; decoder.finish(), Err(fault(FaultKind::Truncated, 65_535)));
-    for piece in [b"a".as_slice(), b"", b"\r\n\r\n"] {
-        assert_eq!(rt;
-            decoder.step(piece).err(),
-            Some(fault(FaultKind::HeadTooLong, 0))
-        );
-        assert_eq!(rt; decoder.finish(), Err(fault(FaultKind::HeadTooLong, 0)));
-        assert_eq!(rt; decoder.position(), 65_535);
-    }
+    let mut decoder = Decoder::new(rt.alloc(), 0);
+    let is_taken = takes_letters(&mut decoder);
+    let is_told = tells_too_long(&mut decoder);
+    assert!(rt; is_taken && is_told);
     Ok(())
+}
+
+/// The fault that a text in two pieces is refused with.
+fn told_of_two<A: Allocator + Copy>(decoder: &mut Decoder<A>, text: &[u8]) -> Option<Fault> {
+    let (front, back) = text.split_at(100.min(text.len()));
+    match take(decoder, front) {
+        Ok(_) => take(decoder, back).err(),
+        Err(fault) => Some(fault),
+    }
+}
+
+/// Whether the request of a number is made and refused, what is told then, and whether that is told for good.
+fn refused_at(alloc: Global, text: &[u8], number: u64) -> (bool, Option<Fault>, bool) {
+    let refusing = RefusingAllocator::new(alloc, number);
+    let mut decoder = Decoder::new(&refusing, 5);
+    let told = told_of_two(&mut decoder, text);
+    let has_refused = refusing.has_refused();
+    let is_same = take(&mut decoder, text).err() == told && decoder.finish().err() == told;
+    (has_refused, told, is_same)
 }
 
 #[test]
 fn refused_growths(rt: HostRuntime) -> Result<(), Fail> {
-    let alloc = rt.alloc();
-    let text = ONE_RESOURCE.text(alloc)?;
+    let text = ONE_RESOURCE.text(rt.alloc())?;
     for number in 1..100u64 {
-        let refusing = RefusingAllocator::new(alloc, number);
-        let mut decoder = Decoder::new(&refusing, 5);
-        let told = match decoder.step(&text[..100]) {
-            Ok(_) => decoder.step(&text[100..]).err(),
-            Err(fault) => Some(fault),
-        };
-        if !refusing.has_refused() {
+        let (has_refused, told, is_same) = refused_at(rt.alloc(), &text, number);
+        if !has_refused {
             assert_eq!(rt; told, None);
             return Ok(());
         }
         assert_eq!(rt; told, Some(fault(FaultKind::Memory, 5)));
-        assert_eq!(rt; decoder.step(&text).err(), told);
-        assert_eq!(rt; decoder.finish().err(), told);
+        assert!(rt; is_same);
     }
     Err("a growth that isn't refused".into())
 }
