@@ -1,12 +1,23 @@
 //! Growth where a read or a growth of the memory fails, and then where none does.
 
-use crate::runs::lengths;
-use std::alloc::{Allocator, Global};
+use crate::runs::{lengths, refused};
+use std::alloc::{AllocError, Allocator, Global};
 use std::test::Fail;
 use warc::Archive;
 use warc_frame::{Fault, FaultKind, MemSource, Source};
 use warc_vectors::growing::{FIRST, TWO};
 use warc_vectors::{BrokenSource, RefusingAllocator, archive_text};
+
+/// How many records an archive has once it has grown by a source.
+fn count_grown<S: Source + Drop, A: Allocator + Copy>(
+    archive: &mut Archive<S, A>,
+    source: S,
+) -> Result<usize, Fail> {
+    match refused(archive, source) {
+        None => Ok(archive.count()),
+        Some(fault) => Err(fault.into()),
+    }
+}
 
 /// Why an archive doesn't grow by a source, if it doesn't, and how many records there are then, and once it has grown,
 /// else by another.
@@ -15,15 +26,14 @@ fn grown_twice<S: Source + Drop, A: Allocator + Copy>(
     source: S,
     again: S,
 ) -> Result<(Option<Fault>, usize, usize), Fail> {
-    let refused = match archive.grow(source) {
-        Ok(()) => return Ok((None, archive.count(), archive.count())),
-        Err((fault, _source)) => fault,
-    };
+    let fault = refused(archive, source);
     let count = archive.count();
-    match archive.grow(again) {
-        Ok(()) => Ok((Some(refused), count, archive.count())),
-        Err((fault, _source)) => Err(fault.into()),
-    }
+    let later = if fault.is_some() {
+        count_grown(archive, again)?
+    } else {
+        count
+    };
+    Ok((fault, count, later))
 }
 
 /// The same where the read of a number fails, each being of one byte.
@@ -54,20 +64,38 @@ fn each_read_fails_in_turn(rt: HostRuntime) -> Result<(), Fail> {
     Ok(())
 }
 
+/// A source of both records.
+fn both(alloc: Global) -> Result<MemSource, AllocError> {
+    Ok(MemSource::new(archive_text(alloc, TWO)?, usize::MAX))
+}
+
+/// The same of an archive of the first record, which grows by both.
+fn regrown<A: Allocator + Copy>(
+    alloc: Global,
+    archive: &mut Archive<MemSource, A>,
+) -> Result<Option<(Option<Fault>, usize, usize)>, Fail> {
+    let source = both(alloc)?;
+    let again = both(alloc)?;
+    Ok(Some(grown_twice(archive, source, again)?))
+}
+
+/// The same where the archive has memory of its own. `None` where it wasn't opened for want of it.
+fn grown_on<A: Allocator + Copy>(
+    alloc: Global,
+    heap: A,
+) -> Result<Option<(Option<Fault>, usize, usize)>, Fail> {
+    let old = archive_text(alloc, &[FIRST])?;
+    match Archive::open(heap, MemSource::new(old, usize::MAX)) {
+        Ok(mut archive) => regrown(alloc, &mut archive),
+        Err(_) => Ok(None),
+    }
+}
+
 /// The same where a request for memory is refused, by its number; and whether it came. `None` where the archive wasn't
 /// opened for it.
 fn unkept(alloc: Global, number: u64) -> Result<Option<(Option<Fault>, usize, usize)>, Fail> {
     let heap = RefusingAllocator::new(alloc, number);
-    let old = archive_text(alloc, &[FIRST])?;
-    let new = archive_text(alloc, TWO)?;
-    let again = MemSource::new(new.clone()?, usize::MAX);
-    match Archive::open(&heap, MemSource::new(old, usize::MAX)) {
-        Ok(mut archive) => {
-            let source = MemSource::new(new, usize::MAX);
-            Ok(Some(grown_twice(&mut archive, source, again)?))
-        }
-        Err(_) => Ok(None),
-    }
+    grown_on(alloc, &heap)
 }
 
 #[test]
