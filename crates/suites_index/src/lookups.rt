@@ -54,37 +54,76 @@ fn chosen<A: Allocator + Copy>(
     Ok(index.latest(target.as_bytes(), &moment))
 }
 
+/// The same once the records of the rows are added.
+fn chosen_in(
+    index: &mut Index,
+    alloc: Global,
+    target: &str,
+    date: &str,
+) -> Result<Result<usize, Unfound>, Fail> {
+    add_rows(index, ROWS, alloc)?;
+    chosen(index, target, date)
+}
+
 /// The chosen capture of a target by a date, among the records of the rows.
 fn chosen_of_rows(alloc: Global, target: &str, date: &str) -> Result<Result<usize, Unfound>, Fail> {
     let mut index = Index::new(alloc);
-    add_rows(&mut index, ROWS, alloc)?;
-    chosen(&index, target, date)
+    chosen_in(&mut index, alloc, target, date)
+}
+
+/// The first capture and the first record with an id.
+fn found(index: &Index, alloc: Global, id: &str) -> Result<(Option<usize>, Option<usize>), Fail> {
+    let key = id_key(alloc, id.as_bytes())?.ok_or("an id")?;
+    Ok((index.by_key(&key), index.first_with(&key)))
+}
+
+/// The same once the records of the rows are added.
+fn found_in(
+    index: &mut Index,
+    alloc: Global,
+    id: &str,
+) -> Result<(Option<usize>, Option<usize>), Fail> {
+    add_rows(index, ROWS, alloc)?;
+    found(index, alloc, id)
 }
 
 /// The first capture and the first record with an id, among the records of the rows.
 fn found_of_rows(alloc: Global, id: &str) -> Result<(Option<usize>, Option<usize>), Fail> {
-    let key = id_key(alloc, id.as_bytes())?.ok_or("an id")?;
     let mut index = Index::new(alloc);
-    add_rows(&mut index, ROWS, alloc)?;
-    Ok((index.by_key(&key), index.first_with(&key)))
+    found_in(&mut index, alloc, id)
 }
 
-/// The latest capture once all but so many records of the rows are forgotten, and how many bytes are kept.
+/// The latest capture once the records of the rows are added and all but so many forgotten, and how many bytes are
+/// kept.
+fn left_in(
+    index: &mut Index,
+    alloc: Global,
+    count: usize,
+) -> Result<(Result<usize, Unfound>, u64), Fail> {
+    add_rows(index, ROWS, alloc)?;
+    index.forget_after(count);
+    let latest = chosen(index, U, "2023")?;
+    Ok((latest, index.kept()))
+}
+
+/// The same of a new index.
 fn left_of_rows(alloc: Global, count: usize) -> Result<(Result<usize, Unfound>, u64), Fail> {
     let mut index = Index::new(alloc);
-    add_rows(&mut index, ROWS, alloc)?;
-    index.forget_after(count);
-    let latest = chosen(&index, U, "2023");
-    Ok((latest?, index.kept()))
+    left_in(&mut index, alloc, count)
 }
 
-/// The latest capture once all records of the rows are forgotten and added again.
+/// The latest capture once the records of the rows are added, all forgotten and added again.
+fn added_again_in(index: &mut Index, alloc: Global) -> Result<Result<usize, Unfound>, Fail> {
+    add_rows(index, ROWS, alloc)?;
+    index.forget_after(0);
+    add_rows(index, ROWS, alloc)?;
+    chosen(index, U, "2023")
+}
+
+/// The same of a new index.
 fn added_again(alloc: Global) -> Result<Result<usize, Unfound>, Fail> {
     let mut index = Index::new(alloc);
-    add_rows(&mut index, ROWS, alloc)?;
-    index.forget_after(0);
-    add_rows(&mut index, ROWS, alloc)?;
-    chosen(&index, U, "2023")
+    added_again_in(&mut index, alloc)
 }
 
 #[test]
@@ -151,12 +190,21 @@ fn add_rows_again<A: Allocator + Copy>(
     Ok(Some(refused))
 }
 
-/// How many additions are refused where the request of that number is, and the latest capture then.
+/// How many additions to an index are refused, and the latest capture then.
+fn refused_in<A: Allocator + Copy>(
+    index: &mut Index<A>,
+    alloc: Global,
+) -> Result<(Option<u64>, Result<usize, Unfound>), Fail> {
+    let refused = add_rows_again(index, alloc)?;
+    let latest = chosen(index, U, "2023")?;
+    Ok((refused, latest))
+}
+
+/// The same where the request of that number is refused.
 fn refused_at(alloc: Global, number: u64) -> Result<(Option<u64>, Result<usize, Unfound>), Fail> {
     let heap = RefusingAllocator::new(alloc, number);
     let mut index = Index::new(&heap);
-    let refused = add_rows_again(&mut index, alloc)?;
-    Ok((refused, chosen(&index, U, "2023")?))
+    refused_in(&mut index, alloc)
 }
 
 #[test]

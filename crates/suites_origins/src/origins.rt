@@ -4,6 +4,7 @@ use std::alloc::{AllocError, Allocator, Global};
 use std::test::Fail;
 use suites_index::rows::{Field, Row, add_row, add_row_again, typed};
 use warc_index::{Filling, Index, Unfound};
+use warc_record::Typed;
 use warc_value::read_date;
 use warc_vectors::RefusingAllocator;
 
@@ -375,24 +376,29 @@ fn push_all<A: Allocator + Copy>(
     Ok(())
 }
 
-/// An index that is filled with all records at once.
-fn filled(alloc: Global, records: &[Record]) -> Result<Index, AllocError> {
-    let mut filling = Filling::new(alloc);
-    push_all(&mut filling, records, alloc)?;
-    Ok(filling.into_index())
+/// The origin of the last record in an index, once the records are added.
+fn origin_in(
+    index: &mut Index,
+    records: &[Record],
+    alloc: Global,
+) -> Result<Result<usize, Unfound>, AllocError> {
+    add_all(index, records, alloc)?;
+    Ok(index.origin(records.len().saturating_sub(1)))
 }
 
-/// The origin of the last record in an index to which the records are added.
+/// The same in a new one.
 fn added_origin(alloc: Global, records: &[Record]) -> Result<Result<usize, Unfound>, AllocError> {
     let mut index = Index::new(alloc);
-    add_all(&mut index, records, alloc)?;
-    Ok(index.origin(records.len().saturating_sub(1)))
+    origin_in(&mut index, records, alloc)
 }
 
-/// The same in an index that is filled with them.
+/// The same in an index that is filled with them at once.
 fn filled_origin(alloc: Global, records: &[Record]) -> Result<Result<usize, Unfound>, AllocError> {
-    let index = filled(alloc, records)?;
-    Ok(index.origin(records.len().saturating_sub(1)))
+    let mut filling = Filling::new(alloc);
+    let pushed = push_all(&mut filling, records, alloc);
+    let origin = filling.into_index().origin(records.len().saturating_sub(1));
+    pushed?;
+    Ok(origin)
 }
 
 /// The name of the first case whose last record has another origin, in an index that is added to or in one that is
@@ -496,8 +502,11 @@ fn origins_behind_revisits(rt: HostRuntime) -> Result<(), Fail> {
 fn by_pair(alloc: Global, target: &str, date: &str) -> Result<Option<usize>, Fail> {
     let moment = read_date(date.as_bytes()).ok_or("a date")?;
     let records = [REVISIT_OF_2020, RESPONSE_B, RESOURCE_A, LATER_A];
-    let index = filled(alloc, &records)?;
-    Ok(index.by_pair(target.as_bytes(), &moment))
+    let mut filling = Filling::new(alloc);
+    let pushed = push_all(&mut filling, &records, alloc);
+    let found = filling.into_index().by_pair(target.as_bytes(), &moment);
+    pushed?;
+    Ok(found)
 }
 
 #[test]
@@ -523,17 +532,27 @@ const LATE: [Record; 2] = [
     RESPONSE_B,
 ];
 
-/// The origin of the first of the records, and how many bytes are kept, once so many are added and all but some of them
-/// are forgotten.
+/// The origin of the first of the records, and how many bytes are kept, once so many are added to an index and all but
+/// some of them are forgotten.
+fn late_in(
+    index: &mut Index,
+    alloc: Global,
+    added: usize,
+    left: usize,
+) -> Result<(Result<usize, Unfound>, u64), AllocError> {
+    add_all(index, LATE.get(..added).unwrap_or(&[]), alloc)?;
+    index.forget_after(left);
+    Ok((index.origin(0), index.kept()))
+}
+
+/// The same in a new index.
 fn late(
     alloc: Global,
     added: usize,
     left: usize,
 ) -> Result<(Result<usize, Unfound>, u64), AllocError> {
     let mut index = Index::new(alloc);
-    add_all(&mut index, LATE.get(..added).unwrap_or(&[]), alloc)?;
-    index.forget_after(left);
-    Ok((index.origin(0), index.kept()))
+    late_in(&mut index, alloc, added, left)
 }
 
 #[test]
@@ -575,15 +594,30 @@ fn add_all_again<A: Allocator + Copy>(
     Ok(Some(refused))
 }
 
-/// How many additions are refused where the request of that number is, and whether all captures have their origin then.
+/// Whether all captures among the records have their origin in an index.
+fn are_found<A: Allocator + Copy>(index: &Index<A>) -> bool {
+    for position in [0usize, 1, 2, 4] {
+        if index.origin(position) != Ok(0) {
+            return false;
+        }
+    }
+    true
+}
+
+/// How many additions to an index are refused, and whether all captures have their origin then.
+fn refused_in<A: Allocator + Copy>(
+    index: &mut Index<A>,
+    alloc: Global,
+) -> Result<(Option<u64>, bool), AllocError> {
+    let refused = add_all_again(index, alloc)?;
+    Ok((refused, are_found(index)))
+}
+
+/// The same where the request of that number is refused.
 fn refused_at(alloc: Global, number: u64) -> Result<(Option<u64>, bool), AllocError> {
     let heap = RefusingAllocator::new(alloc, number);
     let mut index = Index::new(&heap);
-    let refused = add_all_again(&mut index, alloc)?;
-    let are_found = [0usize, 1, 2, 4]
-        .iter()
-        .all(|position| index.origin(*position) == Ok(0));
-    Ok((refused, are_found))
+    refused_in(&mut index, alloc)
 }
 
 #[test]
@@ -600,7 +634,19 @@ fn refused_additions_change_nothing(rt: HostRuntime) -> Result<(), Fail> {
     Ok(())
 }
 
-/// Adds a record to those that wait to be put in order, again where it is refused, and answers whether it was.
+/// Adds what a head says to those that wait to be put in order, again where it is refused, and answers whether it was.
+fn push_typed_again<A: Allocator + Copy>(
+    filling: &mut Filling<A>,
+    typed: &Typed<Global>,
+) -> Result<bool, AllocError> {
+    if filling.push(typed).is_ok() {
+        return Ok(false);
+    }
+    filling.push(typed)?;
+    Ok(true)
+}
+
+/// The same of a record.
 fn push_again<A: Allocator + Copy>(
     filling: &mut Filling<A>,
     record: &Record,
@@ -608,11 +654,7 @@ fn push_again<A: Allocator + Copy>(
 ) -> Result<bool, AllocError> {
     let (row, more) = record;
     let typed = typed(heap, row, more)?;
-    let is_refused = filling.push(&typed).is_err();
-    if is_refused {
-        filling.push(&typed)?;
-    }
-    Ok(is_refused)
+    push_typed_again(filling, &typed)
 }
 
 /// Adds the records to those that wait to be put in order, each again where it is refused, and counts the refusals.
@@ -633,8 +675,9 @@ fn push_all_again<A: Allocator + Copy>(
 fn filled_at(alloc: Global, number: u64) -> Result<(u64, Result<usize, Unfound>), AllocError> {
     let heap = RefusingAllocator::new(alloc, number);
     let mut filling = Filling::new(&heap);
-    let refused = push_all_again(&mut filling, alloc)?;
-    Ok((refused, filling.into_index().origin(4)))
+    let refused = push_all_again(&mut filling, alloc);
+    let origin = filling.into_index().origin(4);
+    Ok((refused?, origin))
 }
 
 /// Putting in order takes no memory: what is refused is a record, and it changes nothing.
