@@ -5,7 +5,7 @@ use std::alloc::{AllocError, Allocator, Global};
 use std::test::Fail;
 use warc_field::{Fields, read_area};
 use warc_frame::{Fault, FaultKind, Framed, FramedFault, Mandatory, Version, read_one, write_one};
-use warc_vectors::{CHANGES, ONE_RESOURCE, RefusingAllocator, Row, archive_text, changed};
+use warc_vectors::{CHANGES, ONE_RESOURCE, RefusingAllocator, Row, archive_text, changed, folded};
 
 /// A record's version, the number of its fields, the length of its block and its own.
 type Shape = (Version, usize, usize, usize);
@@ -61,12 +61,6 @@ fn one_resource_record(rt: HostRuntime) -> Result<(), Fail> {
     let text = ONE_RESOURCE.text(rt.alloc())?;
     assert!(rt; is_read_and_written(rt.alloc(), &text, 278, &text)?);
     Ok(())
-}
-
-/// A text with a folded target, and without a space before its length.
-fn folded(alloc: Global, text: &[u8]) -> Result<Vec<u8>, Fail> {
-    let folded = changed(alloc, text, "URI: ", "URI:\r\n \t")?;
-    changed(alloc, &folded, "Length: 3", "Length:3")
 }
 
 #[test]
@@ -247,35 +241,57 @@ const TOO_LONG: Result<usize, Fault> = Err(Fault {
     offset: 0,
 });
 
-const CUT_OFF: Result<usize, Fault> = Err(Fault {
-    kind: FaultKind::Truncated,
-    offset: 65_535,
-});
-
-const CUT_OFF_EARLY: Result<usize, Fault> = Err(Fault {
-    kind: FaultKind::Truncated,
-    offset: 23,
-});
-
-const BAD_FIELD: Result<usize, Fault> = Err(Fault {
-    kind: FaultKind::Field,
-    offset: 10,
-});
-
-const NO_LENGTH: Result<usize, Fault> = Err(Fault {
-    kind: FaultKind::Missing(Mandatory::ContentLength),
-    offset: 0,
-});
-
-/// The same with what comes after, most of them heads that aren't finished.
-const BEFORE_ENDS: &[(&str, usize, &[u8], Result<usize, Fault>)] = &[
-    ("WARC/1.1\r\nX-Pad: ", 65_518, b"", CUT_OFF),
-    ("WARC/1.1\r\nX-Pad: ", 65_519, b"", TOO_LONG),
-    ("WARC/1.1\r\nBad Name: ", 1, b"\r\n", CUT_OFF_EARLY),
-    ("WARC/1.1\r\nBad Name: ", 1, b"\r\n\r\n", BAD_FIELD),
-    ("WARC/1.1\r\nBad Name: ", 65_512, b"\r\n\r\n", BAD_FIELD),
-    ("WARC/1.1\r\nBad Name: ", 65_513, b"\r\n\r\n", TOO_LONG),
-    ("WARC/1.1\r\n", 0, b"\r\n", NO_LENGTH),
+/// The same with what comes after, most of them heads that aren't finished, and the fault that is told.
+const BEFORE_ENDS: &[(&str, usize, &[u8], FaultKind, u64)] = &[
+    (
+        "WARC/1.1\r\nX-Pad: ",
+        65_518,
+        b"",
+        FaultKind::Truncated,
+        65_535,
+    ),
+    (
+        "WARC/1.1\r\nX-Pad: ",
+        65_519,
+        b"",
+        FaultKind::HeadTooLong,
+        0,
+    ),
+    (
+        "WARC/1.1\r\nBad Name: ",
+        1,
+        b"\r\n",
+        FaultKind::Truncated,
+        23,
+    ),
+    (
+        "WARC/1.1\r\nBad Name: ",
+        1,
+        b"\r\n\r\n",
+        FaultKind::Field,
+        10,
+    ),
+    (
+        "WARC/1.1\r\nBad Name: ",
+        65_512,
+        b"\r\n\r\n",
+        FaultKind::Field,
+        10,
+    ),
+    (
+        "WARC/1.1\r\nBad Name: ",
+        65_513,
+        b"\r\n\r\n",
+        FaultKind::HeadTooLong,
+        0,
+    ),
+    (
+        "WARC/1.1\r\n",
+        0,
+        b"\r\n",
+        FaultKind::Missing(Mandatory::ContentLength),
+        0,
+    ),
 ];
 
 /// The first line before a record of which something else is read.
@@ -301,10 +317,10 @@ fn longest_head(rt: HostRuntime) -> Result<(), Fail> {
 
 #[test]
 fn longest_head_that_is_not_finished(rt: HostRuntime) -> Result<(), Fail> {
-    for (begin, letters, rest, expected) in BEFORE_ENDS {
+    for (begin, letters, rest, kind, offset) in BEFORE_ENDS {
         assert_eq!(rt;
             padded_length(rt.alloc(), begin, *letters, rest)?,
-            *expected,
+            fault(*kind, *offset),
             "at {begin} and {letters}"
         );
     }

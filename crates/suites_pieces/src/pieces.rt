@@ -5,7 +5,7 @@ ghost use Rattle.std.specs.Prelude.{◌≤◌, ◌^◌};
 use std::alloc::{Allocator, Global};
 use std::test::Fail;
 use warc_frame::{Decoder, Event, Fault, FaultKind, Framed, Mandatory, Version, decode, write_one};
-use warc_vectors::{ONE_RESOURCE, RefusingAllocator, Row, changed};
+use warc_vectors::{ONE_RESOURCE, RefusingAllocator, Row, changed, folded};
 
 /// The offset at which no byte may stand.
 const LIMIT: u64 = 281_474_976_710_656;
@@ -83,12 +83,6 @@ fn one_resource_record(rt: HostRuntime) -> Result<(), Fail> {
     let text = ONE_RESOURCE.text(rt.alloc())?;
     assert!(rt; gives_in_pieces(rt.alloc(), 0, &text, 0, Ok(&text))?);
     Ok(())
-}
-
-/// A text with a folded target, and without a space before its length.
-fn folded(alloc: Global, text: &[u8]) -> Result<Vec<u8>, Fail> {
-    let folded = changed(alloc, text, "URI: ", "URI:\r\n \t")?;
-    changed(alloc, &folded, "Length: 3", "Length:3")
 }
 
 #[test]

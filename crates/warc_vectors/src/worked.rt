@@ -61,3 +61,10 @@ pub fn changed(alloc: Global, text: &[u8], old: &str, new: &str) -> Result<Vec<u
     )?;
     Ok(changed)
 }
+
+/// The text of the one resource record with a folded target, and without a space before its length.
+/// An error says that it is another text, or that memory ran out.
+pub fn folded(alloc: Global, text: &[u8]) -> Result<Vec<u8>, Fail> {
+    let folded = changed(alloc, text, "URI: ", "URI:\r\n \t")?;
+    changed(alloc, &folded, "Length: 3", "Length:3")
+}
