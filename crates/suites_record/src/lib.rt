@@ -1,6 +1,9 @@
-//! The suite of heads: what they say, and what refuses them.
+//! The suite of heads: what they say, what refuses them, and the findings of their records.
 #![tactic(auto)]
 
-pub mod heads;
+#[cfg(test)]
+mod findings;
+#[cfg(test)]
+mod heads;
 #[cfg(test)]
 mod record;

@@ -1,8 +1,8 @@
 //! What is found in heads, by the table of findings and one by one.
 
+use crate::heads::{BARE_ID, DATE, ORIGIN, Pair, TARGET, head_of, record_of};
 use std::alloc::Allocator;
 use std::test::Fail;
-use suites_record::heads::{BARE_ID, DATE, ORIGIN, Pair, TARGET, head_of, record_of};
 use warc_field::Fields;
 use warc_record::{ArchiveFacts, all_findings};
 

@@ -1,5 +1,0 @@
-//! The suite of findings.
-#![tactic(auto)]
-
-#[cfg(test)]
-mod findings;
