@@ -1,7 +1,6 @@
 //! Heads by table, and the fields that the tables share.
 
 use std::alloc::Allocator;
-use std::test::Fail;
 use warc_field::{Fields, Name, Value};
 
 /// A name and a value.
@@ -26,35 +25,33 @@ pub const ORIGIN: Pair = (
     b"<urn:uuid:00000000-0000-4000-8000-000000000002>",
 );
 
-/// Adds fields at the end.
-fn push_all<A: Allocator + Copy>(
+/// Whether a field is added at the end.
+fn push<A: Allocator + Copy>(alloc: A, fields: &mut Fields<A>, (name, value): Pair) -> bool {
+    match Name::new(alloc, name.as_bytes()) {
+        Ok(name) => match Value::new(alloc, value) {
+            Ok(value) => fields.push(name, value).is_ok(),
+            Err(_) => false,
+        },
+        Err(_) => false,
+    }
+}
+
+/// Whether these fields are added at the end.
+pub fn push_all<A: Allocator + Copy>(alloc: A, fields: &mut Fields<A>, pairs: &[Pair]) -> bool {
+    for pair in pairs {
+        if !push(alloc, fields, *pair) {
+            return false;
+        }
+    }
+    true
+}
+
+/// Whether a type, an id, a date and these fields are added at the end.
+pub fn push_record<A: Allocator + Copy>(
     alloc: A,
     fields: &mut Fields<A>,
-    pairs: &[Pair],
-) -> Result<(), Fail> {
-    for (name, value) in pairs {
-        fields.push(
-            Name::new(alloc, name.as_bytes())?,
-            Value::new(alloc, value)?,
-        )?;
-    }
-    Ok(())
-}
-
-/// A head with these fields.
-pub fn head_of<A: Allocator + Copy>(alloc: A, pairs: &[Pair]) -> Result<Fields<A>, Fail> {
-    let mut fields = Fields::new(alloc);
-    push_all(alloc, &mut fields, pairs)?;
-    Ok(fields)
-}
-
-/// A head of that type with an id, a date and these fields.
-pub fn record_of<A: Allocator + Copy>(
-    alloc: A,
     kind: &'static [u8],
     pairs: &[Pair],
-) -> Result<Fields<A>, Fail> {
-    let mut fields = head_of(alloc, &[("WARC-Type", kind), ID, DATE])?;
-    push_all(alloc, &mut fields, pairs)?;
-    Ok(fields)
+) -> bool {
+    push_all(alloc, fields, &[("WARC-Type", kind), ID, DATE]) && push_all(alloc, fields, pairs)
 }
