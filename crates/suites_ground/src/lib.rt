@@ -1,6 +1,8 @@
-//! The suites of values: dates and digests, and the heads of stored HTTP responses.
+//! The suites of the lowest crates: fields, dates and digests, and the heads of stored HTTP responses.
 #![tactic(auto)]
 
+#[cfg(test)]
+mod fields;
 #[cfg(test)]
 mod payload;
 #[cfg(test)]

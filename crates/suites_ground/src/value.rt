@@ -1,133 +1,126 @@
 //! Dates and digests. What is expected comes from Python's `datetime`, `base64` and `hashlib`, from `sha1sum` and from
 //! FIPS 180-4.
 
-ghost use Rattle.std.specs.Prelude.{◌<◌};
-
-use std::test::Fail;
+use std::alloc::{AllocError, Global};
+use std::cmp::Ordering;
 use warc_field::Value;
 use warc_value::{Running, Verdict, Wanted, base32, digest, read_date, unbase32};
 
-/// The day number and the nanosecond of a date.
-fn instant(text: &str) -> Option<(u32, u64)> {
-    let moment = read_date(text.as_bytes())?;
-    Some((moment.day(), moment.nanosecond()))
-}
+/// Texts, and the day number and the nanosecond of each that is a date.
+const DATES: &[(&str, Option<(u32, u64)>)] = &[
+    // The six forms.
+    ("2020", Some((737790, 0))),
+    ("2020-02", Some((737821, 0))),
+    ("2020-02-29", Some((737849, 0))),
+    ("2020-02-29T13:45Z", Some((737849, 49_500_000_000_000))),
+    ("2020-02-29T13:45:07Z", Some((737849, 49_507_000_000_000))),
+    ("2020-02-29T13:45:07.5Z", Some((737849, 49_507_500_000_000))),
+    (
+        "2020-02-29T13:45:07.05Z",
+        Some((737849, 49_507_050_000_000)),
+    ),
+    (
+        "2020-02-29T13:45:07.123456Z",
+        Some((737849, 49_507_123_456_000)),
+    ),
+    (
+        "2020-02-29T13:45:07.000000001Z",
+        Some((737849, 49_507_000_000_001)),
+    ),
+    (
+        "2016-11-01T23:59:59.999999999Z",
+        Some((736634, 86_399_999_999_999)),
+    ),
+    // The edges.
+    ("0000", Some((0, 0))),
+    ("0000-02-29", Some((59, 0))),
+    ("0001-01-01T00:00Z", Some((366, 0))),
+    ("1970-01-01", Some((719528, 0))),
+    ("2000-02-29", Some((730544, 0))),
+    ("2021-03-01", Some((738215, 0))),
+    (
+        "9999-12-31T23:59:59.999999999Z",
+        Some((3652424, 86_399_999_999_999)),
+    ),
+    // Beyond the edges, and in other forms.
+    ("1900-02-29", None),
+    ("2021-02-29", None),
+    ("2020-02-30", None),
+    ("2020-04-31", None),
+    ("2020-00", None),
+    ("2020-13", None),
+    ("2020-01-00", None),
+    ("2020-01-32", None),
+    ("2016-12-31T23:59:60Z", None),
+    ("2020-01-01T24:00Z", None),
+    ("2020-01-01T00:60Z", None),
+    ("2020-01-01T00:00:00+00:00", None),
+    ("2020-01-01T00:00:00-00:00", None),
+    ("2020-01-01T00:00:00", None),
+    ("2020-01-01t00:00:00Z", None),
+    ("2020-01-01T00:00:00z", None),
+    ("2020-01-01 00:00:00Z", None),
+    ("2020-01-01T00:00:00.Z", None),
+    ("2020-01-01T00:00:00,5Z", None),
+    ("2020-01-01T00:00:00.1234567890Z", None),
+    ("2020-01-01T00Z", None),
+    ("2020Z", None),
+    ("2020/01/01", None),
+    ("20200101", None),
+    ("20200101000000", None),
+    ("+2020", None),
+    ("-020", None),
+    (" 2020", None),
+    ("2020 ", None),
+    ("202O", None),
+    ("", None),
+    // One character short or long.
+    ("202", None),
+    ("20200", None),
+    ("2020-0", None),
+    ("2020-020", None),
+    ("2020-02-2", None),
+    ("2020-02-290", None),
+    ("2020-02-29T13:45", None),
+    ("2020-02-29T13:45Z0", None),
+    ("2020-02-29T13:4Z", None),
+    ("2020-02-29T13:45:07", None),
+    ("2020-02-29T13:45:07Z0", None),
+    ("2020-02-29T13:45:7Z", None),
+    ("2020-02-29T13:45:07.5", None),
+    ("2020-02-29T13:45:07.5Z0", None),
+    ("2020-02-29T13:45:07.123456789", None),
+    ("2020-02-29T13:45:07.123456789Z0", None),
+];
 
-#[test]
-fn six_forms(rt: HostRuntime) -> Result<(), Fail> {
-    for (text, day, nanosecond) in [
-        ("2020", 737790, 0),
-        ("2020-02", 737821, 0),
-        ("2020-02-29", 737849, 0),
-        ("2020-02-29T13:45Z", 737849, 49_500_000_000_000),
-        ("2020-02-29T13:45:07Z", 737849, 49_507_000_000_000),
-        ("2020-02-29T13:45:07.5Z", 737849, 49_507_500_000_000),
-        ("2020-02-29T13:45:07.05Z", 737849, 49_507_050_000_000),
-        ("2020-02-29T13:45:07.123456Z", 737849, 49_507_123_456_000),
-        ("2020-02-29T13:45:07.000000001Z", 737849, 49_507_000_000_001),
-        ("2016-11-01T23:59:59.999999999Z", 736634, 86_399_999_999_999),
-    ] {
-        assert_eq!(rt; instant(text), Some((day, nanosecond)), "{text}");
-    }
-    Ok(())
-}
+/// Dates, and how the first stands to the second.
+const ORDERS: &[(&str, &str, Ordering)] = &[
+    // Three precisions of one date.
+    ("2020", "2020-01-01", Ordering::Equal),
+    ("2020-01-01", "2020-01-01T00:00:00Z", Ordering::Equal),
+    ("2020", "2020-01-01T00:00:00Z", Ordering::Equal),
+    ("2020-01-01T00:00:00Z", "2020", Ordering::Equal),
+    // A nanosecond earlier or later.
+    ("2019-12-31T23:59:59.999999999Z", "2020", Ordering::Less),
+    (
+        "2020-01-01T00:00:00Z",
+        "2020-01-01T00:00:00.000000001Z",
+        Ordering::Less,
+    ),
+    (
+        "2020-01-01T00:00:00.000000001Z",
+        "2020-01-01T00:00:00Z",
+        Ordering::Greater,
+    ),
+];
 
-#[test]
-fn dates_at_the_edges(rt: HostRuntime) -> Result<(), Fail> {
-    for (text, day, nanosecond) in [
-        ("0000", 0, 0),
-        ("0000-02-29", 59, 0),
-        ("0001-01-01T00:00Z", 366, 0),
-        ("1970-01-01", 719528, 0),
-        ("2000-02-29", 730544, 0),
-        ("2021-03-01", 738215, 0),
-        (
-            "9999-12-31T23:59:59.999999999Z",
-            3652424,
-            86_399_999_999_999,
-        ),
-    ] {
-        assert_eq!(rt; instant(text), Some((day, nanosecond)), "{text}");
-    }
-    for text in [
-        "1900-02-29",
-        "2021-02-29",
-        "2020-02-30",
-        "2020-04-31",
-        "2020-00",
-        "2020-13",
-        "2020-01-00",
-        "2020-01-32",
-        "2016-12-31T23:59:60Z",
-        "2020-01-01T24:00Z",
-        "2020-01-01T00:60Z",
-        "2020-01-01T00:00:00+00:00",
-        "2020-01-01T00:00:00-00:00",
-        "2020-01-01T00:00:00",
-        "2020-01-01t00:00:00Z",
-        "2020-01-01T00:00:00z",
-        "2020-01-01 00:00:00Z",
-        "2020-01-01T00:00:00.Z",
-        "2020-01-01T00:00:00,5Z",
-        "2020-01-01T00:00:00.1234567890Z",
-        "2020-01-01T00Z",
-        "2020Z",
-        "2020/01/01",
-        "20200101",
-        "20200101000000",
-        "+2020",
-        "-020",
-        " 2020",
-        "2020 ",
-        "202O",
-        "",
-    ] {
-        assert_eq!(rt; instant(text), None, "{text}");
-    }
-    Ok(())
-}
-
-#[test]
-fn one_character_short_or_long(rt: HostRuntime) -> Result<(), Fail> {
-    for text in [
-        "202",
-        "20200",
-        "2020-0",
-        "2020-020",
-        "2020-02-2",
-        "2020-02-290",
-        "2020-02-29T13:45",
-        "2020-02-29T13:45Z0",
-        "2020-02-29T13:4Z",
-        "2020-02-29T13:45:07",
-        "2020-02-29T13:45:07Z0",
-        "2020-02-29T13:45:7Z",
-        "2020-02-29T13:45:07.5",
-        "2020-02-29T13:45:07.5Z0",
-        "2020-02-29T13:45:07.123456789",
-        "2020-02-29T13:45:07.123456789Z0",
-    ] {
-        assert_eq!(rt; instant(text), None, "{text}");
-    }
-    Ok(())
-}
-
-#[test]
-fn three_precisions_of_one_date(rt: HostRuntime) -> Result<(), Fail> {
-    let year = read_date(b"2020").expect(&rt, "a year");
-    let day = read_date(b"2020-01-01").expect(&rt, "a day");
-    let second = read_date(b"2020-01-01T00:00:00Z").expect(&rt, "a second");
-    let later = read_date(b"2020-01-01T00:00:00.000000001Z").expect(&rt, "a nanosecond later");
-    let earlier = read_date(b"2019-12-31T23:59:59.999999999Z").expect(&rt, "a nanosecond earlier");
-    assert!(rt; year == day && day == second);
-    assert!(rt; earlier < year && second < later);
-    assert!(rt; earlier.is_before(&year) && second.is_before(&later));
-    assert!(rt; !year.is_before(&second) && !second.is_before(&year) && !later.is_before(&second));
-    Ok(())
-}
+/// The digest of `abc`.
+const OF_ABC: [u8; 20] = [
+    169, 153, 62, 54, 71, 6, 129, 106, 186, 62, 37, 113, 120, 80, 194, 108, 156, 208, 216, 157,
+];
 
 /// Twenty bytes and their text.
-const TEXTS: [([u8; 20], &str); 11] = [
+const TEXTS: &[([u8; 20], &str)] = &[
     (
         [0, 0, 0, 0, 0, 0, 0, 0, 0, 0, 0, 0, 0, 0, 0, 0, 0, 0, 0, 0],
         "AAAAAAAAAAAAAAAAAAAAAAAAAAAAAAAA",
@@ -185,152 +178,195 @@ const TEXTS: [([u8; 20], &str); 11] = [
         ],
         "3I42H3S6NNFQ2MSVX7XZKYAYSCX5QBYJ",
     ),
+    (OF_ABC, "VGMT4NSHA2AWVOR6EVYXQUGCNSONBWE5"),
+];
+
+/// Values of `WARC-Block-Digest`, and what each asks for.
+const WANTED: &[(&str, Wanted)] = &[
     (
-        [
-            169, 153, 62, 54, 71, 6, 129, 106, 186, 62, 37, 113, 120, 80, 194, 108, 156, 208, 216,
-            157,
-        ],
-        "VGMT4NSHA2AWVOR6EVYXQUGCNSONBWE5",
+        "sha1:VGMT4NSHA2AWVOR6EVYXQUGCNSONBWE5",
+        Wanted::Sha1(OF_ABC),
+    ),
+    (
+        "SHA1:vgmt4nsha2awvor6evyxqugcnsonbwe5",
+        Wanted::Sha1(OF_ABC),
+    ),
+    (
+        "ShA1:VGMT4NSHA2AWVOR6evyxqugcnsonbwe5",
+        Wanted::Sha1(OF_ABC),
+    ),
+    ("", Wanted::Unchecked),
+    ("sha1", Wanted::Unchecked),
+    ("sha1:", Wanted::Unchecked),
+    (
+        "sha1:a9993e364706816aba3e25717850c26c9cd0d89d",
+        Wanted::Unchecked,
+    ),
+    ("sha1:VGMT4NSHA2AWVOR6EVYXQUGCNSONBWE", Wanted::Unchecked),
+    ("sha1:VGMT4NSHA2AWVOR6EVYXQUGCNSONBWE55", Wanted::Unchecked),
+    ("sha1:VGMT4NSHA2AWVOR6EVYXQUGCNSONBWE1", Wanted::Unchecked),
+    ("sha1: VGMT4NSHA2AWVOR6EVYXQUGCNSONBWE5", Wanted::Unchecked),
+    ("sha1:=VGMT4NSHA2AWVOR6EVYXQUGCNSONBWE", Wanted::Unchecked),
+    ("sha-1:VGMT4NSHA2AWVOR6EVYXQUGCNSONBWE5", Wanted::Unchecked),
+    (
+        "sha256:47DEQpj8HBSa-_TImW-5JCeuQeRkm5NMpJWZG3hSuFU",
+        Wanted::Unchecked,
+    ),
+    ("md5:1B2M2Y8AsgTpgAmY7PhCfg", Wanted::Unchecked),
+    ("VGMT4NSHA2AWVOR6EVYXQUGCNSONBWE5", Wanted::Unchecked),
+];
+
+/// Blocks and their digests: the examples of FIPS 180-4, and nothing at all.
+const DIGESTS: &[(&str, &str)] = &[
+    ("", "3I42H3S6NNFQ2MSVX7XZKYAYSCX5QBYJ"),
+    ("abc", "VGMT4NSHA2AWVOR6EVYXQUGCNSONBWE5"),
+    (
+        "abcdbcdecdefdefgefghfghighijhijkijkljklmklmnlmnomnopnopq",
+        "QSMD4RA4HPJG5OVOJKQ7SUJJ4XSUM4HR",
     ),
 ];
 
-#[test]
-fn base32_both_ways(rt: HostRuntime) -> Result<(), Fail> {
-    for (bytes, text) in &TEXTS {
-        assert_eq!(rt; base32(bytes).as_slice(), text.as_bytes(), "{text}");
-        assert_eq!(rt; unbase32(text.as_bytes()), Some(*bytes), "{text}");
-        let mut small = base32(bytes);
-        small.make_ascii_lowercase();
-        assert_eq!(rt; unbase32(&small), Some(*bytes), "{text} in small letters");
-    }
-    Ok(())
+/// The day number and the nanosecond of a date.
+fn instant(text: &str) -> Option<(u32, u64)> {
+    let moment = read_date(text.as_bytes())?;
+    Some((moment.day(), moment.nanosecond()))
 }
 
-#[test]
-fn no_base32(rt: HostRuntime) -> Result<(), Fail> {
-    let text = b"VGMT4NSHA2AWVOR6EVYXQUGCNSONBWE5V";
-    assert_eq!(rt; unbase32(text), None);
-    assert_eq!(rt; unbase32(&text[..31]), None);
-    assert_eq!(rt; unbase32(b""), None);
-    for beside in [
-        b'0', b'1', b'8', b'9', b'/', b':', b'@', b'[', b'`', b'{', b'=', b' ', 0, 127, 128, 255,
-    ] {
-        for at in [0, 7, 8, 15, 30, 31] {
-            let mut changed = *b"VGMT4NSHA2AWVOR6EVYXQUGCNSONBWE5";
-            changed[at] = beside;
-            assert_eq!(rt; unbase32(&changed), None, "{beside} at {at}");
+/// How one date stands to another, where all comparisons agree.
+fn order(one: &str, other: &str) -> Option<Ordering> {
+    let one = read_date(one.as_bytes())?;
+    let other = read_date(other.as_bytes())?;
+    let order = one.cmp(&other);
+    let agree = (one == other) == (order == Ordering::Equal)
+        && (one < other) == (order == Ordering::Less)
+        && one.is_before(&other) == (order == Ordering::Less);
+    agree.then_some(order)
+}
+
+/// Whether the bytes are written as the text, and read from it in capital and in small letters.
+fn is_written_and_read(bytes: &[u8; 20], text: &str) -> bool {
+    let mut small = base32(bytes);
+    small.make_ascii_lowercase();
+    base32(bytes).as_slice() == text.as_bytes()
+        && unbase32(text.as_bytes()) == Some(*bytes)
+        && unbase32(&small) == Some(*bytes)
+}
+
+/// Whether a byte is refused at each of some places in a text of 32 characters.
+fn is_refused(byte: u8) -> bool {
+    for at in [0, 7, 8, 15, 30, 31] {
+        let mut changed = *b"VGMT4NSHA2AWVOR6EVYXQUGCNSONBWE5";
+        changed[at] = byte;
+        if unbase32(&changed).is_some() {
+            return false;
         }
     }
-    Ok(())
+    true
 }
 
-#[test]
-fn wanted_digests(rt: HostRuntime) -> Result<(), Fail> {
-    for text in [
-        "sha1:VGMT4NSHA2AWVOR6EVYXQUGCNSONBWE5",
-        "SHA1:vgmt4nsha2awvor6evyxqugcnsonbwe5",
-        "ShA1:VGMT4NSHA2AWVOR6evyxqugcnsonbwe5",
-    ] {
-        let value = Value::new(rt.alloc(), text.as_bytes())?;
-        assert_eq!(rt; Wanted::of(&value), Wanted::Sha1(digest(b"abc")), "{text}");
+/// What a value asks for.
+fn wanted_of(alloc: Global, text: &str) -> Option<Wanted> {
+    match Value::new(alloc, text.as_bytes()) {
+        Ok(value) => Some(Wanted::of(&value)),
+        Err(_) => None,
     }
-    for text in [
-        "",
-        "sha1",
-        "sha1:",
-        "sha1:a9993e364706816aba3e25717850c26c9cd0d89d",
-        "sha1:VGMT4NSHA2AWVOR6EVYXQUGCNSONBWE",
-        "sha1:VGMT4NSHA2AWVOR6EVYXQUGCNSONBWE55",
-        "sha1:VGMT4NSHA2AWVOR6EVYXQUGCNSONBWE1",
-        "sha1: VGMT4NSHA2AWVOR6EVYXQUGCNSONBWE5",
-        "sha1:=VGMT4NSHA2AWVOR6EVYXQUGCNSONBWE",
-        "sha-1:VGMT4NSHA2AWVOR6EVYXQUGCNSONBWE5",
-        "sha256:47DEQpj8HBSa-_TImW-5JCeuQeRkm5NMpJWZG3hSuFU",
-        "md5:1B2M2Y8AsgTpgAmY7PhCfg",
-        "VGMT4NSHA2AWVOR6EVYXQUGCNSONBWE5",
-    ] {
-        let value = Value::new(rt.alloc(), text.as_bytes())?;
-        assert_eq!(rt; Wanted::of(&value), Wanted::Unchecked, "{text}");
-    }
-    Ok(())
 }
 
 /// The digest that these 32 characters write.
-fn wanted(text: &[u8]) -> Wanted {
-    unbase32(text).map_or(Wanted::Unchecked, Wanted::Sha1)
+fn wanted(text: &str) -> Wanted {
+    match unbase32(text.as_bytes()) {
+        Some(digest) => Wanted::Sha1(digest),
+        None => Wanted::Unchecked,
+    }
 }
 
 /// The verdict on a block that comes in pieces of so many bytes.
-fn verdict_in_pieces(block: &[u8], piece: usize, wanted: &Wanted) -> Verdict
-    requires { 0 < piece }
-{
+fn verdict_in_pieces(block: &[u8], piece: usize, wanted: &Wanted) -> Verdict {
     let mut running = Running::new();
-    for part in block.chunks(piece) {
+    for part in block.chunks(piece.max(1)) {
         running.update(part);
     }
     running.verdict(wanted)
 }
 
-/// The examples of FIPS 180-4, and nothing at all.
-#[test]
-fn standard_digests(rt: HostRuntime) -> Result<(), Fail> {
-    for (block, text) in [
-        ("", "3I42H3S6NNFQ2MSVX7XZKYAYSCX5QBYJ"),
-        ("abc", "VGMT4NSHA2AWVOR6EVYXQUGCNSONBWE5"),
-        (
-            "abcdbcdecdefdefgefghfghighijhijkijkljklmklmnlmnomnopnopq",
-            "QSMD4RA4HPJG5OVOJKQ7SUJJ4XSUM4HR",
-        ),
-    ] {
-        assert_eq!(rt;
-            base32(&digest(block.as_bytes())).as_slice(),
-            text.as_bytes(),
-            "{block}"
-        );
-        let wanted = wanted(text.as_bytes());
-        for piece in [1, 2, 3, 55, 64] {
-            assert_eq!(rt;
-                verdict_in_pieces(block.as_bytes(), piece, &wanted),
-                Verdict::Good,
-                "{block}"
-            );
-        }
-        assert_eq!(rt;
-            verdict_in_pieces(b"abd", 1, &wanted),
-            Verdict::Bad,
-            "{block}"
-        );
-        assert_eq!(rt;
-            verdict_in_pieces(block.as_bytes(), 1, &Wanted::Unchecked),
-            Verdict::Unchecked,
-            "{block}"
-        );
+/// Whether that is the verdict on a block, whichever of these the length of its pieces is.
+fn is_judged(block: &[u8], pieces: &[usize], wanted: &Wanted, verdict: Verdict) -> bool {
+    pieces.iter().all(|piece| verdict_in_pieces(block, *piece, wanted) == verdict)
+}
+
+/// Whether a block has this digest, and another block hasn't.
+fn has_digest(block: &[u8], text: &str) -> bool {
+    let wanted = wanted(text);
+    base32(&digest(block)).as_slice() == text.as_bytes()
+        && is_judged(block, &[1, 2, 3, 55, 64], &wanted, Verdict::Good)
+        && is_judged(b"abd", &[1], &wanted, Verdict::Bad)
+        && is_judged(block, &[1], &Wanted::Unchecked, Verdict::Unchecked)
+}
+
+/// A million bytes, all but the last of them `a`.
+fn million(alloc: Global, last: u8) -> Result<Vec<u8>, AllocError> {
+    let mut block = Vec::from_elem(alloc, b'a', 999_999)?;
+    block.push(last)?;
+    Ok(block)
+}
+
+/// Whether that is the verdict on a million bytes with this last one, where a million `a` are wanted.
+fn is_million_judged(alloc: Global, last: u8, verdict: Verdict) -> bool {
+    let wanted = wanted("GSVJOPGUYTNKJ5Q65MV5XLJHGFSTIALP");
+    match million(alloc, last) {
+        Ok(block) => is_judged(&block, &[1_000_000, 8192, 7], &wanted, verdict),
+        Err(_) => false,
     }
-    Ok(())
 }
 
 #[test]
-fn a_million_bytes_cut_three_ways(rt: HostRuntime) -> Result<(), Fail> {
-    let mut block = Vec::new(rt.alloc());
-    for _ in 0..10_000u32 {
-        block.extend_from_slice(&[b'a'; 100])?;
+fn dates(rt: HostRuntime) {
+    for (text, expected) in DATES {
+        assert_eq!(rt; instant(text), *expected, "{text}");
     }
-    let right = wanted(b"GSVJOPGUYTNKJ5Q65MV5XLJHGFSTIALP");
-    for piece in [1_000_000, 8192, 7] {
-        assert_eq!(rt;
-            verdict_in_pieces(&block, piece, &right),
-            Verdict::Good,
-            "pieces of {piece}"
-        );
+}
+
+#[test]
+fn order_of_dates(rt: HostRuntime) {
+    for (one, other, expected) in ORDERS {
+        assert!(rt; order(one, other) == Some(*expected), "{one} and {other}");
     }
-    block.pop();
-    block.push(b'b')?;
-    for piece in [1_000_000, 8192, 7] {
-        assert_eq!(rt;
-            verdict_in_pieces(&block, piece, &right),
-            Verdict::Bad,
-            "pieces of {piece}"
-        );
+}
+
+#[test]
+fn base32_both_ways(rt: HostRuntime) {
+    for (bytes, text) in TEXTS {
+        assert!(rt; is_written_and_read(bytes, text), "{text}");
     }
-    Ok(())
+}
+
+#[test]
+fn no_base32(rt: HostRuntime) {
+    let text = b"VGMT4NSHA2AWVOR6EVYXQUGCNSONBWE5V";
+    assert!(rt;
+        unbase32(text).is_none() && unbase32(&text[..31]).is_none() && unbase32(b"").is_none()
+    );
+    for byte in b"0189/:@[`{= \x00\x7f\x80\xff" {
+        assert!(rt; is_refused(*byte), "{byte}");
+    }
+}
+
+#[test]
+fn wanted_digests(rt: HostRuntime) {
+    for (text, expected) in WANTED {
+        assert_eq!(rt; wanted_of(rt.alloc(), text), Some(*expected), "{text}");
+    }
+}
+
+#[test]
+fn standard_digests(rt: HostRuntime) {
+    for (block, text) in DIGESTS {
+        assert!(rt; has_digest(block.as_bytes(), text), "{block}");
+    }
+}
+
+#[test]
+fn a_million_bytes_cut_three_ways(rt: HostRuntime) {
+    assert!(rt; is_million_judged(rt.alloc(), b'a', Verdict::Good));
+    assert!(rt; is_million_judged(rt.alloc(), b'b', Verdict::Bad));
 }
