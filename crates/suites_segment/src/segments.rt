@@ -1,7 +1,6 @@
 //! Series by table: which places are joined to a record, and what is missing where none are.
 
 use std::alloc::{AllocError, Allocator, Global};
-use std::test::Fail;
 use warc_field::{Fields, Name, Value};
 use warc_record::{SegmentNumber, Typed, type_head};
 use warc_segment::{Gap, JoinFault, Parts, Place};
@@ -215,23 +214,42 @@ const IDS: &[Case] = &[
     ),
 ];
 
-/// What the head of a row says. Each row's texts read, so that memory alone can be wanting.
-fn typed_of<A: Allocator + Copy>(alloc: A, row: &Row) -> Result<Typed<A>, AllocError> {
+/// Adds a field to a head.
+fn push<A: Allocator + Copy>(
+    alloc: A,
+    fields: &mut Fields<A>,
+    name: &str,
+    value: &[u8],
+) -> Result<(), AllocError> {
+    let name = Name::new(alloc, name.as_bytes()).map_err(|_| AllocError)?;
+    let value = Value::new(alloc, value).map_err(|_| AllocError)?;
+    fields.push(name, value)
+}
+
+/// Adds the fields of a row to a head.
+fn fill<A: Allocator + Copy>(
+    alloc: A,
+    fields: &mut Fields<A>,
+    row: &Row,
+) -> Result<(), AllocError> {
     let (kind, id, origin, number, total, _) = *row;
-    let pairs = [
+    for (name, value) in [
         ("WARC-Type", kind),
         ("WARC-Record-ID", id),
         ("WARC-Date", b"2020"),
         ("WARC-Segment-Origin-ID", origin),
         ("WARC-Segment-Number", number),
         ("WARC-Segment-Total-Length", total),
-    ];
-    let mut fields = Fields::new(alloc);
-    for (name, value) in pairs {
-        let name = Name::new(alloc, name.as_bytes()).map_err(|_| AllocError)?;
-        let value = Value::new(alloc, value).map_err(|_| AllocError)?;
-        fields.push(name, value)?;
+    ] {
+        push(alloc, fields, name, value)?;
     }
+    Ok(())
+}
+
+/// What the head of a row says. Each row's texts read, so that memory alone can be wanting.
+fn typed_of<A: Allocator + Copy>(alloc: A, row: &Row) -> Result<Typed<A>, AllocError> {
+    let mut fields = Fields::new(alloc);
+    fill(alloc, &mut fields, row)?;
     type_head(alloc, &fields).map_err(|_| AllocError)
 }
 
@@ -245,21 +263,30 @@ fn place_at(position: u64, len: u64) -> Place {
     }
 }
 
-/// Adds the record of a row.
-fn add_row<A: Allocator + Copy>(
-    alloc: A,
+/// Adds what a head says. It stands alone, away from what may fail before it.
+fn add<A: Allocator + Copy>(
     parts: &mut Parts<A>,
+    typed: &Typed<A>,
+    place: Place,
+) -> Result<(), AllocError> {
+    parts.add(typed, place)
+}
+
+/// Adds the record of a row.
+fn add_row(
+    alloc: Global,
+    parts: &mut Parts<Global>,
     row: &Row,
     place: Place,
 ) -> Result<(), AllocError> {
     let typed = typed_of(alloc, row)?;
-    parts.add(&typed, place)
+    add(parts, &typed, place)
 }
 
 /// Adds the records of rows, whose first has that position.
-fn add_rows<A: Allocator + Copy>(
-    alloc: A,
-    parts: &mut Parts<A>,
+fn add_rows(
+    alloc: Global,
+    parts: &mut Parts<Global>,
     rows: &[Row],
     first: u64,
 ) -> Result<(), AllocError> {
@@ -283,98 +310,86 @@ fn begin_at(places: &[Place], starts: &[u64]) -> bool {
 
 /// Whether exactly the places are told that begin so, or the gap.
 fn is_wanted<A: Allocator>(
-    told: Result<Vec<Place, A>, JoinFault>,
+    told: &Result<Vec<Place, A>, JoinFault>,
     wanted: Result<&[u64], Gap>,
 ) -> bool {
     match (told, wanted) {
-        (Ok(places), Ok(starts)) => begin_at(&places, starts),
-        (Err(JoinFault::Gap(gap)), Err(wanted)) => gap == wanted,
+        (Ok(places), Ok(starts)) => begin_at(places, starts),
+        (Err(JoinFault::Gap(gap)), Err(wanted)) => *gap == wanted,
         _ => false,
     }
 }
 
 /// Whether the record of a row, at a position, is joined as it is wanted.
-fn is_joined<A: Allocator + Copy>(
-    alloc: A,
-    parts: &Parts<A>,
+fn is_joined(
+    alloc: Global,
+    parts: &Parts<Global>,
     row: &Row,
     position: u64,
     wanted: Result<&[u64], Gap>,
-) -> Result<bool, AllocError> {
-    let typed = typed_of(alloc, row)?;
-    Ok(is_wanted(parts.join(&typed, place_at(position, row.5)), wanted))
+) -> bool {
+    match typed_of(alloc, row) {
+        Ok(typed) => is_wanted(&parts.join(&typed, place_at(position, row.5)), wanted),
+        Err(_) => false,
+    }
 }
 
 /// Whether the record at a position of an archive is joined as it is wanted, once all are added.
-fn is_joined_in(
-    alloc: Global,
-    parts: &mut Parts<Global>,
-    rows: &[Row],
-    own: usize,
-    wanted: Result<&[u64], Gap>,
-) -> Result<bool, AllocError> {
-    add_rows(alloc, parts, rows, 0)?;
+fn is_joined_in(alloc: Global, parts: &mut Parts<Global>, case: &Case) -> bool {
+    let (_, rows, own, wanted) = *case;
     match rows.get(own) {
-        Some(row) => is_joined(alloc, parts, row, own as u64, wanted),
-        None => Ok(false),
+        Some(row) => {
+            add_rows(alloc, parts, rows, 0).is_ok()
+                && is_joined(alloc, parts, row, own as u64, wanted)
+        }
+        None => false,
     }
 }
 
-/// The same of an archive of these records.
-fn is_joined_of(
-    alloc: Global,
-    rows: &[Row],
-    own: usize,
-    wanted: Result<&[u64], Gap>,
-) -> Result<bool, AllocError> {
+/// The same of a case's own archive.
+fn is_right(alloc: Global, case: &Case) -> bool {
     let mut parts = Parts::new(alloc);
-    is_joined_in(alloc, &mut parts, rows, own, wanted)
+    is_joined_in(alloc, &mut parts, case)
 }
 
 /// The name of the first case whose record isn't joined as it is wanted.
-fn first_wrong(alloc: Global, cases: &[Case]) -> Result<Option<&'static str>, AllocError> {
-    for (name, rows, own, wanted) in cases {
-        if !is_joined_of(alloc, rows, *own, *wanted)? {
-            return Ok(Some(name));
+fn first_wrong(alloc: Global, cases: &[Case]) -> Option<&'static str> {
+    for case in cases {
+        if !is_right(alloc, case) {
+            return Some(case.0);
         }
     }
-    Ok(None)
+    None
 }
 
 #[test]
-fn joined_series(rt: HostRuntime) -> Result<(), Fail> {
-    assert_eq!(rt; first_wrong(rt.alloc(), JOINED)?, None);
-    Ok(())
+fn joined_series(rt: HostRuntime) {
+    assert_eq!(rt; first_wrong(rt.alloc(), JOINED), None);
 }
 
 #[test]
-fn repeated_numbers_and_open_ends(rt: HostRuntime) -> Result<(), Fail> {
-    assert_eq!(rt; first_wrong(rt.alloc(), REPEATED_OR_OPEN)?, None);
-    Ok(())
+fn repeated_numbers_and_open_ends(rt: HostRuntime) {
+    assert_eq!(rt; first_wrong(rt.alloc(), REPEATED_OR_OPEN), None);
 }
 
 #[test]
-fn numbers_behind_the_end_or_absent(rt: HostRuntime) -> Result<(), Fail> {
-    assert_eq!(rt; first_wrong(rt.alloc(), BEYOND_OR_ABSENT)?, None);
-    Ok(())
+fn numbers_behind_the_end_or_absent(rt: HostRuntime) {
+    assert_eq!(rt; first_wrong(rt.alloc(), BEYOND_OR_ABSENT), None);
 }
 
 #[test]
-fn totals_and_own_numbers(rt: HostRuntime) -> Result<(), Fail> {
-    assert_eq!(rt; first_wrong(rt.alloc(), TOTALS_AND_NUMBERS)?, None);
-    Ok(())
+fn totals_and_own_numbers(rt: HostRuntime) {
+    assert_eq!(rt; first_wrong(rt.alloc(), TOTALS_AND_NUMBERS), None);
 }
 
 #[test]
-fn records_that_are_no_segments(rt: HostRuntime) -> Result<(), Fail> {
-    assert_eq!(rt; first_wrong(rt.alloc(), OTHER_RECORDS)?, None);
-    Ok(())
+fn records_that_are_no_segments(rt: HostRuntime) {
+    assert_eq!(rt; first_wrong(rt.alloc(), OTHER_RECORDS), None);
 }
 
 #[test]
-fn ids_and_origins(rt: HostRuntime) -> Result<(), Fail> {
-    assert_eq!(rt; first_wrong(rt.alloc(), IDS)?, None);
-    Ok(())
+fn ids_and_origins(rt: HostRuntime) {
+    assert_eq!(rt; first_wrong(rt.alloc(), IDS), None);
 }
 
 const WORDS: &[(Gap, &str)] = &[
@@ -390,30 +405,35 @@ const WORDS: &[(Gap, &str)] = &[
 ];
 
 /// Whether a gap shows itself so.
-fn shows(alloc: Global, gap: Gap, text: &str) -> Result<bool, AllocError> {
-    Ok(gap.to_string(alloc)?.as_str() == text)
+fn shows(alloc: Global, gap: Gap, text: &str) -> bool {
+    match gap.to_string(alloc) {
+        Ok(shown) => shown.as_str() == text,
+        Err(_) => false,
+    }
 }
 
 /// Whether a fault of joining does.
-fn fault_shows(alloc: Global, fault: JoinFault, text: &str) -> Result<bool, AllocError> {
-    Ok(fault.to_string(alloc)?.as_str() == text)
+fn fault_shows(alloc: Global, fault: JoinFault, text: &str) -> bool {
+    match fault.to_string(alloc) {
+        Ok(shown) => shown.as_str() == text,
+        Err(_) => false,
+    }
 }
 
 #[test]
-fn gaps_in_words(rt: HostRuntime) -> Result<(), Fail> {
+fn gaps_in_words(rt: HostRuntime) {
     for (gap, text) in WORDS {
-        assert!(rt; shows(rt.alloc(), *gap, text)?, "{text}");
+        let fault = JoinFault::Gap(*gap);
         assert!(rt;
-            fault_shows(rt.alloc(), JoinFault::Gap(*gap), text)?,
+            shows(rt.alloc(), *gap, text) && fault_shows(rt.alloc(), fault, text),
             "{text}"
         );
     }
-    assert!(rt; fault_shows(rt.alloc(), JoinFault::Memory, "out of memory")?);
-    Ok(())
+    assert!(rt; fault_shows(rt.alloc(), JoinFault::Memory, "out of memory"));
 }
 
 /// Whether exactly these places are told.
-fn are_told(told: Result<Vec<Place>, JoinFault>, wanted: &[Place]) -> bool {
+fn are_told(told: &Result<Vec<Place>, JoinFault>, wanted: &[Place]) -> bool {
     match told {
         Ok(places) => places.as_slice() == wanted,
         Err(_) => false,
@@ -421,18 +441,15 @@ fn are_told(told: Result<Vec<Place>, JoinFault>, wanted: &[Place]) -> bool {
 }
 
 /// Whether exactly these places are joined to the first record of a series.
-fn are_joined(
-    alloc: Global,
-    parts: &Parts<Global>,
-    own: Place,
-    wanted: &[Place],
-) -> Result<bool, AllocError> {
-    let one = typed_of(alloc, &ONE)?;
-    Ok(are_told(parts.join(&one, own), wanted))
+fn are_joined(alloc: Global, parts: &Parts<Global>, own: Place, wanted: &[Place]) -> bool {
+    match typed_of(alloc, &ONE) {
+        Ok(one) => are_told(&parts.join(&one, own), wanted),
+        Err(_) => false,
+    }
 }
 
 /// Whether a place is told whole, behind that of the first record.
-fn is_told_whole(alloc: Global, parts: &mut Parts<Global>) -> Result<bool, AllocError> {
+fn is_told_whole(alloc: Global, parts: &mut Parts<Global>) -> bool {
     let place = Place {
         start: 7,
         len: 2,
@@ -441,15 +458,13 @@ fn is_told_whole(alloc: Global, parts: &mut Parts<Global>) -> Result<bool, Alloc
     };
     let own = place_at(0, 1);
     let two: Row = (b"continuation", OTHER, ID, b"2", b"3", 2);
-    add_row(alloc, parts, &two, place)?;
-    are_joined(alloc, parts, own, &[own, place])
+    add_row(alloc, parts, &two, place).is_ok() && are_joined(alloc, parts, own, &[own, place])
 }
 
 #[test]
-fn places_are_whole(rt: HostRuntime) -> Result<(), Fail> {
+fn places_are_whole(rt: HostRuntime) {
     let mut parts = Parts::new(rt.alloc());
-    assert!(rt; is_told_whole(rt.alloc(), &mut parts)?);
-    Ok(())
+    assert!(rt; is_told_whole(rt.alloc(), &mut parts));
 }
 
 /// How many records are kept, which records are added then, and what joins to the first record after that, and how
@@ -477,36 +492,29 @@ const STEPS: &[Step] = &[
     ("none", 0, &[], Err(Gap::Unfinished), 0),
 ];
 
-/// Keeps the first records, and adds others.
-fn take_step(
-    alloc: Global,
-    parts: &mut Parts<Global>,
-    count: usize,
-    rows: &[Row],
-) -> Result<(), AllocError> {
+/// Keeps the first records and adds others, and answers whether as much is joined and kept then as it is wanted.
+fn is_step_right(alloc: Global, parts: &mut Parts<Global>, step: &Step) -> bool {
+    let (_, count, rows, wanted, kept) = *step;
     parts.forget_after(count);
-    add_rows(alloc, parts, rows, count as u64)
+    add_rows(alloc, parts, rows, count as u64).is_ok()
+        && is_joined(alloc, parts, &ONE, 0, wanted)
+        && parts.kept() == kept
 }
 
 /// The name of the first step after which something else is joined or kept.
-fn first_wrong_step(
-    alloc: Global,
-    parts: &mut Parts<Global>,
-) -> Result<Option<&'static str>, AllocError> {
-    for (name, count, rows, wanted, kept) in STEPS {
-        take_step(alloc, parts, *count, rows)?;
-        if !is_joined(alloc, parts, &ONE, 0, *wanted)? || parts.kept() != *kept {
-            return Ok(Some(name));
+fn first_wrong_step(alloc: Global, parts: &mut Parts<Global>) -> Option<&'static str> {
+    for step in STEPS {
+        if !is_step_right(alloc, parts, step) {
+            return Some(step.0);
         }
     }
-    Ok(None)
+    None
 }
 
 #[test]
-fn first_records_are_kept(rt: HostRuntime) -> Result<(), Fail> {
+fn first_records_are_kept(rt: HostRuntime) {
     let mut parts = Parts::new(rt.alloc());
-    assert_eq!(rt; first_wrong_step(rt.alloc(), &mut parts)?, None);
-    Ok(())
+    assert_eq!(rt; first_wrong_step(rt.alloc(), &mut parts), None);
 }
 
 /// How many segments the long series has.
@@ -550,116 +558,119 @@ fn follow(places: &[Place]) -> bool {
 }
 
 /// Whether the places of the long series are told, all of them.
-fn is_long_series(told: Result<Vec<Place>, JoinFault>) -> bool {
+fn is_long_series(told: &Result<Vec<Place>, JoinFault>) -> bool {
     match told {
-        Ok(places) => places.len() as u64 == MANY && follow(&places),
+        Ok(places) => places.len() as u64 == MANY && follow(places),
         Err(_) => false,
     }
 }
 
-/// Whether the long series is joined to its first record, once the others are added.
-fn is_long_joined(alloc: Global, parts: &mut Parts<Global>) -> Result<bool, AllocError> {
-    add_many(alloc, parts)?;
-    let one = typed_of(alloc, &ONE)?;
-    Ok(is_long_series(parts.join(&one, place_at(1, 1))))
+/// Whether the long series is joined to its first record.
+fn is_long_joined(alloc: Global, parts: &Parts<Global>) -> bool {
+    match typed_of(alloc, &ONE) {
+        Ok(one) => is_long_series(&parts.join(&one, place_at(1, 1))),
+        Err(_) => false,
+    }
+}
+
+/// The same, once the others are added.
+fn is_long_added(alloc: Global, parts: &mut Parts<Global>) -> bool {
+    add_many(alloc, parts).is_ok() && is_long_joined(alloc, parts)
 }
 
 #[test]
-fn long_series(rt: HostRuntime) -> Result<(), Fail> {
+fn long_series(rt: HostRuntime) {
     let mut parts = Parts::new(rt.alloc());
-    assert!(rt; is_long_joined(rt.alloc(), &mut parts)?);
-    Ok(())
+    assert!(rt; is_long_added(rt.alloc(), &mut parts));
 }
 
-/// Adds a record, again where memory was refused. Whether it was refused; `None` where that left another number of
-/// bytes kept, or where memory was refused again.
+/// Adds what a head says, again where memory was refused. Whether it was refused; `None` where that left another number
+/// of bytes kept, or where memory was refused again.
 fn add_again<A: Allocator + Copy>(
     parts: &mut Parts<A>,
     typed: &Typed<A>,
     place: Place,
 ) -> Option<bool> {
     let kept = parts.kept();
-    if parts.add(typed, place).is_ok() {
-        return Some(false);
+    match add(parts, typed, place) {
+        Ok(()) => Some(false),
+        Err(_) if parts.kept() == kept && add(parts, typed, place).is_ok() => Some(true),
+        Err(_) => None,
     }
-    let is_same = parts.kept() == kept;
-    let is_added = parts.add(typed, place).is_ok();
-    (is_same && is_added).then_some(true)
 }
 
-/// The same of the record of a row. Memory is wanting for its head alone.
+/// The same of the record of a row, whose head takes its memory elsewhere.
 fn add_row_again<A: Allocator + Copy>(
     alloc: A,
     parts: &mut Parts<A>,
     row: &Row,
     place: Place,
-) -> Result<Option<bool>, AllocError> {
-    let typed = typed_of(alloc, row)?;
-    Ok(add_again(parts, &typed, place))
-}
-
-/// Adds the three segments. Whether one was refused; `None` where one of them left something else behind.
-fn add_three<A: Allocator + Copy>(
-    alloc: A,
-    parts: &mut Parts<A>,
-) -> Result<Option<bool>, AllocError> {
-    let last = add_row_again(alloc, parts, &THREE, place_at(0, 100))?;
-    let first = add_row_again(alloc, parts, &ONE, place_at(1, 1))?;
-    let second = add_row_again(alloc, parts, &TWO, place_at(2, 10))?;
-    match (last, first, second) {
-        (Some(last), Some(first), Some(second)) => Ok(Some(last || first || second)),
-        _ => Ok(None),
+) -> Option<bool> {
+    match typed_of(alloc, row) {
+        Ok(typed) => add_again(parts, &typed, place),
+        Err(_) => None,
     }
 }
 
+/// Adds the three segments. Whether one was refused; `None` where one of them left something else behind.
+fn add_three<A: Allocator + Copy>(alloc: A, parts: &mut Parts<A>) -> Option<bool> {
+    let mut is_refused = false;
+    let mut position = 0u64;
+    for row in [THREE, ONE, TWO] {
+        let place = place_at(position, row.5);
+        is_refused = add_row_again(alloc, parts, &row, place)? || is_refused;
+        position = position.saturating_add(1);
+    }
+    Some(is_refused)
+}
+
 /// Whether memory is refused; `None` where something else is told than the three places.
-fn is_refused<A: Allocator>(told: Result<Vec<Place, A>, JoinFault>) -> Option<bool> {
+fn is_refused<A: Allocator>(told: &Result<Vec<Place, A>, JoinFault>) -> Option<bool> {
     match told {
         Err(JoinFault::Memory) => Some(true),
-        told => is_wanted(told, Ok(&[2000, 3000, 1000])).then_some(false),
+        _ => is_wanted(told, Ok(&[2000, 3000, 1000])).then_some(false),
     }
 }
 
 /// Whether memory is refused to the joining of the first record; `None` where something else is told.
-fn is_join_refused<A: Allocator + Copy>(
-    alloc: A,
-    parts: &Parts<A>,
-) -> Result<Option<bool>, AllocError> {
-    let one = typed_of(alloc, &ONE)?;
-    Ok(is_refused(parts.join(&one, place_at(1, 1))))
+fn is_join_refused<A: Allocator + Copy>(alloc: A, parts: &Parts<A>) -> Option<bool> {
+    match typed_of(alloc, &ONE) {
+        Ok(one) => is_refused(&parts.join(&one, place_at(1, 1))),
+        Err(_) => None,
+    }
 }
 
-/// Whether an addition is refused, and whether the joining is. Memory is wanting for a head alone.
-fn refused_in<A: Allocator + Copy>(
-    alloc: A,
-    parts: &mut Parts<A>,
-) -> Result<(Option<bool>, Option<bool>), AllocError> {
-    let added = add_three(alloc, parts)?;
-    let joined = is_join_refused(alloc, parts)?;
-    Ok((added, joined))
+/// Whether an addition is refused, and whether the joining is.
+fn refused_in<A: Allocator + Copy>(alloc: A, parts: &mut Parts<A>) -> (Option<bool>, Option<bool>) {
+    (add_three(alloc, parts), is_join_refused(alloc, parts))
 }
 
-/// The same where the request of that number is refused.
-fn refused_at(alloc: Global, number: u64) -> Result<(Option<bool>, Option<bool>), AllocError> {
+/// The same where their request of that number is refused. Heads take their memory from an allocator that refuses none.
+fn refused_at(
+    alloc: Global,
+    willing: &RefusingAllocator<Global>,
+    number: u64,
+) -> (Option<bool>, Option<bool>) {
     let heap = RefusingAllocator::new(alloc, number);
     let mut parts = Parts::new(&heap);
-    refused_in(&heap, &mut parts)
+    refused_in(willing, &mut parts)
+}
+
+/// Whether an addition is refused at some request, and whether the joining is at some; `None` where something else is
+/// kept or told at one.
+fn refused(alloc: Global, willing: &RefusingAllocator<Global>) -> Option<(bool, bool)> {
+    let mut additions = false;
+    let mut joins = false;
+    for number in 1..128 {
+        let (addition, join) = refused_at(alloc, willing, number);
+        additions = addition? || additions;
+        joins = join? || joins;
+    }
+    Some((additions, joins))
 }
 
 #[test]
-fn refused_memory(rt: HostRuntime) -> Result<(), Fail> {
-    let mut additions = 0u32;
-    let mut joins = 0u32;
-    for number in 1..128 {
-        match refused_at(rt.alloc(), number) {
-            Err(_) => {}
-            Ok((Some(addition), Some(join))) => {
-                additions = additions.saturating_add(u32::from(addition));
-                joins = joins.saturating_add(u32::from(join));
-            }
-            Ok(_) => return Err("something else is kept or told".into()),
-        }
-    }
-    assert!(rt; additions > 0 && joins > 0);
-    Ok(())
+fn refused_memory(rt: HostRuntime) {
+    let willing = RefusingAllocator::new(rt.alloc(), 0);
+    assert_eq!(rt; refused(rt.alloc(), &willing), Some((true, true)));
 }
