@@ -3,7 +3,6 @@
 ghost use Rattle.std.specs.Prelude.{◌≡◌, ◌+◌, ◌*◌, ◌<◌, ◌≤◌, [], All, OnOk, OnErr, IfSome, length};
 
 use std::alloc::{AllocError, Allocator, Global};
-use std::test::Fail;
 use warc_order::{Found, Mark, Order, Unordered};
 use warc_vectors::RefusingAllocator;
 
@@ -25,19 +24,26 @@ const TEXTS: &[&[u8]] = &[
     b"b",
 ];
 
-/// How many entries there are: more than a block takes.
+/// How many entries most tests have: more than a block takes.
 const COUNT: usize = 1_500;
 
 /// The most entries of a test.
 const MOST: usize = 3_000;
 
 /// An entry.
-#[derive(Clone, Copy, PartialEq, Eq, Debug)]
+#[derive(Clone, Copy)]
 struct Row {
     text: usize,
     mark: Mark,
     position: usize,
 }
+
+/// An entry of the first text and the least mark, which might be the first one.
+const FIRST: Row = Row {
+    text: 0,
+    mark: Mark { major: 0, minor: 0 },
+    position: 1,
+};
 
 /// The next of some numbers that look random.
 fn drawn(state: &mut u64, below: u64) -> u64
@@ -50,31 +56,31 @@ fn drawn(state: &mut u64, below: u64) -> u64
     (*state >> 33) % below
 }
 
-/// So many entries with few texts and marks, so that many are equal. Their positions are 1, 4, 7 and so on.
-fn rows_of(alloc: Global, count: usize) -> Result<Vec<Row>, AllocError> {
+/// Entries with few texts and marks, so that many are equal. Their positions are 1, 4, 7 and so on.
+fn rows() -> [Row; MOST] {
     let mut state = 7;
-    let mut rows = Vec::new(alloc);
-    for i in 0..count.min(MOST) {
+    let mut rows = [FIRST; MOST];
+    for i in 0..MOST {
         let mark = Mark {
             major: drawn(&mut state, 4) as u32,
             minor: drawn(&mut state, 6),
         };
         let text = drawn(&mut state, 14) as usize;
-        rows.push(Row {
+        rows[i] = Row {
             text,
             mark,
             position: 3 * i + 1,
-        })?;
+        };
     }
-    Ok(rows)
+    rows
 }
 
-fn rows(alloc: Global) -> Result<Vec<Row>, AllocError> {
-    rows_of(alloc, COUNT)
-}
-
-fn text_of(row: &Row) -> &'static [u8] {
-    TEXTS.get(row.text).map_or(b"", |text| *text)
+/// The text of a number, or the empty one where there is none.
+fn text_at(number: usize) -> &'static [u8] {
+    match TEXTS.get(number) {
+        Some(text) => *text,
+        None => b"",
+    }
 }
 
 fn is_above(a: Mark, b: Mark) -> bool {
@@ -86,7 +92,7 @@ fn is_later(a: &Row, b: &Row) -> bool {
 }
 
 /// What is asked for.
-#[derive(Clone, Copy, PartialEq, Eq, Debug)]
+#[derive(Clone, Copy)]
 enum Query {
     UpTo(Mark),
     From(Mark),
@@ -131,7 +137,7 @@ fn add_row<A: Allocator + Copy>(order: &mut Order<A>, row: &Row, i: usize) -> Re
     ensures ok { OnOk result (All (λ e. e.position < 3 * (i + 1)) order.new) }
     ensures err { OnErr result (order.new ≡ order.old) }
 {
-    order.add(text_of(row), row.mark, 3 * i + 1)
+    order.add(text_at(row.text), row.mark, 3 * i + 1)
 }
 
 /// Adds the same entry to those that wait to be put in order.
@@ -145,7 +151,7 @@ fn push_row<A: Allocator + Copy>(
     ensures ok { OnOk result (All (λ e. e.position < 3 * (i + 1)) entries.new) }
     ensures err { OnErr result (entries.new ≡ entries.old) }
 {
-    entries.push(text_of(row), row.mark, 3 * i + 1)
+    entries.push(text_at(row.text), row.mark, 3 * i + 1)
 }
 
 /// Adds the same entries, before which none wait to be put in order.
@@ -158,21 +164,28 @@ fn push_all<A: Allocator + Copy>(entries: &mut Unordered<A>, rows: &[Row]) -> Re
     Ok(())
 }
 
-/// The same, where an entry that is refused is added again; and whether one was.
-fn push_all_again<A: Allocator + Copy>(
-    entries: &mut Unordered<A>,
-    rows: &[Row],
-) -> Result<bool, AllocError>
+/// Adds an entry to them, and again where it is refused. Whether it was; `None` where it is refused again.
+fn push_again<A: Allocator + Copy>(entries: &mut Unordered<A>, row: &Row, i: usize) -> Option<bool>
+    requires few { i < 1000000 }
+    requires rise { All (λ e. e.position < 3 * i) entries.old }
+    ensures { IfSome result (λ _. All (λ e. e.position < 3 * (i + 1)) entries.new) }
+{
+    match push_row(entries, row, i) {
+        Ok(()) => Some(false),
+        Err(_) if push_row(entries, row, i).is_ok() => Some(true),
+        Err(_) => None,
+    }
+}
+
+/// Adds all entries, each again where it is refused. Whether one was; `None` where one is refused again.
+fn push_all_again<A: Allocator + Copy>(entries: &mut Unordered<A>, rows: &[Row]) -> Option<bool>
     requires { entries.old ≡ [] }
 {
     let mut is_refused = false;
     for i in 0..rows.len().min(MOST) {
-        if push_row(entries, &rows[i], i).is_err() {
-            is_refused = true;
-            push_row(entries, &rows[i], i)?;
-        }
+        is_refused = push_again(entries, &rows[i], i)? || is_refused;
     }
-    Ok(is_refused)
+    Some(is_refused)
 }
 
 /// Drops the entries from one on.
@@ -205,75 +218,85 @@ fn is_row<A: Allocator + Copy>(order: &Order<A>, found: Option<Found>, row: Opti
         (Some(found), Some(row)) => {
             order.position(found) == row.position
                 && order.mark(found) == row.mark
-                && order.text(found) == text_of(&row)
+                && order.text(found) == text_at(row.text)
         }
         (None, None) => true,
         _ => false,
     }
 }
 
-/// Whether the look-ups of a text and a mark give what a plain reading gives, and each step from there.
-fn finds<A: Allocator + Copy>(order: &Order<A>, rows: &[Row], text: usize, mark: Mark) -> bool {
-    let bytes = TEXTS.get(text).map_or(b"".as_slice(), |bytes| *bytes);
-    let last = order.last_up_to(bytes, mark);
-    let first = order.first_from(bytes, mark);
-    if !is_row(order, last, plain(rows, text, Query::UpTo(mark)))
-        || !is_row(order, first, plain(rows, text, Query::From(mark)))
-    {
-        return false;
-    }
-    let after = match plain(rows, text, Query::From(mark)) {
-        Some(row) => plain(rows, text, Query::After(row)),
-        None => None,
-    };
-    let before = match plain(rows, text, Query::UpTo(mark)) {
-        Some(row) => plain(rows, text, Query::Before(row)),
-        None => None,
-    };
-    let next = match first {
-        Some(found) => order.next(found),
-        None => None,
-    };
-    let previous = match last {
-        Some(found) => order.previous(found),
-        None => None,
-    };
-    is_row(order, next, after) && is_row(order, previous, before)
+/// Whether the last entry of a text up to a mark is what a plain reading gives, and so is the one before it.
+fn finds_up_to<A: Allocator + Copy>(
+    order: &Order<A>,
+    rows: &[Row],
+    text: usize,
+    mark: Mark,
+) -> bool {
+    let found = order.last_up_to(text_at(text), mark);
+    let row = plain(rows, text, Query::UpTo(mark));
+    is_row(order, found, row)
+        && match (found, row) {
+            (Some(found), Some(row)) => {
+                let before = plain(rows, text, Query::Before(row));
+                is_row(order, order.previous(found), before)
+            }
+            _ => true,
+        }
 }
 
-/// Adds an entry, and again where it is refused. Whether it was, or `None` where that changed the order.
-fn add_again<A: Allocator + Copy>(
-    order: &mut Order<A>,
+/// Whether the first entry of a text from a mark on is what a plain reading gives, and so is the one after it.
+fn finds_from<A: Allocator + Copy>(
+    order: &Order<A>,
     rows: &[Row],
-    i: usize,
-) -> Result<Option<bool>, AllocError>
+    text: usize,
+    mark: Mark,
+) -> bool {
+    let found = order.first_from(text_at(text), mark);
+    let row = plain(rows, text, Query::From(mark));
+    is_row(order, found, row)
+        && match (found, row) {
+            (Some(found), Some(row)) => {
+                let after = plain(rows, text, Query::After(row));
+                is_row(order, order.next(found), after)
+            }
+            _ => true,
+        }
+}
+
+/// Whether the look-ups of a text and a mark give what a plain reading gives, and each step from there.
+fn finds<A: Allocator + Copy>(order: &Order<A>, rows: &[Row], text: usize, mark: Mark) -> bool {
+    finds_up_to(order, rows, text, mark) && finds_from(order, rows, text, mark)
+}
+
+/// Whether an order has as many entries, and the greatest of a text is found.
+fn is_unchanged<A: Allocator + Copy>(order: &Order<A>, rows: &[Row], count: usize) -> bool {
+    order.len() == count && finds(order, front(rows, count), 0, Mark { major: 4, minor: 0 })
+}
+
+/// Adds an entry, and again where it is refused. Whether it was; `None` where that changed the order, or it is refused
+/// again.
+fn add_again<A: Allocator + Copy>(order: &mut Order<A>, rows: &[Row], i: usize) -> Option<bool>
     requires within { i < length rows.now }
     requires few { i < 1000000 }
     requires rise { All (λ e. e.position < 3 * i) order.old }
-    ensures { OnOk result (All (λ e. e.position < 3 * (i + 1)) order.new) }
+    ensures { IfSome result (λ _. All (λ e. e.position < 3 * (i + 1)) order.new) }
 {
-    if add_row(order, &rows[i], i).is_ok() {
-        return Ok(Some(false));
+    match add_row(order, &rows[i], i) {
+        Ok(()) => Some(false),
+        Err(_) if is_unchanged(order, rows, i) && add_row(order, &rows[i], i).is_ok() => Some(true),
+        Err(_) => None,
     }
-    let mark = Mark { major: 4, minor: 0 };
-    let is_same = order.len() == i && finds(order, front(rows, i), 0, mark);
-    add_row(order, &rows[i], i)?;
-    Ok(is_same.then_some(true))
 }
 
-/// Adds all entries to an order of none, each again where it is refused. Whether one was; and `Err` where that changed
-/// the order, or it was refused again.
-fn add_all_again<A: Allocator + Copy>(
-    order: &mut Order<A>,
-    rows: &[Row],
-) -> Result<bool, AllocError> {
+/// Adds all entries to an order of none, each again where it is refused. Whether one was; `None` where that changed the
+/// order, or one is refused again.
+fn add_all_again<A: Allocator + Copy>(order: &mut Order<A>, rows: &[Row]) -> Option<bool> {
     let mut is_refused = false;
     forget_from(order, 0);
     for i in 0..rows.len().min(MOST) {
-        let was_refused = add_again(order, rows, i)?.ok_or(AllocError)?;
-        is_refused = is_refused || was_refused;
+        is_refused = add_again(order, rows, i)? || is_refused;
     }
-    Ok(is_refused)
+    Some(is_refused)
 }
 
 /// Whether each text and each mark is found.
@@ -304,9 +327,18 @@ fn steps<A: Allocator + Copy>(order: &Order<A>, text: &[u8]) -> usize {
     count
 }
 
+/// How many bytes the texts of entries have.
+fn bytes_of(rows: &[Row]) -> u64 {
+    let mut bytes = 0u64;
+    for row in rows {
+        bytes = bytes.saturating_add(text_at(row.text).len() as u64);
+    }
+    bytes
+}
+
 /// Whether an order has just these entries, and finds each.
 fn holds<A: Allocator + Copy>(order: &Order<A>, rows: &[Row]) -> bool {
-    order.len() == rows.len() && finds_all(order, rows)
+    order.len() == rows.len() && order.kept() == bytes_of(rows) && finds_all(order, rows)
 }
 
 /// The first so many entries.
@@ -316,6 +348,18 @@ fn front(rows: &[Row], count: usize) -> &[Row] {
 
 // An order is costly to let go where a proof is made: each function that owns one has few ways out.
 
+/// An order that is filled at once with the first so many entries, once those behind them were forgotten.
+fn filled_after<A: Allocator + Copy>(
+    alloc: A,
+    rows: &[Row],
+    kept: usize,
+) -> Result<Order<A>, AllocError> {
+    let mut entries = Unordered::new(alloc);
+    push_all(&mut entries, rows)?;
+    entries.forget_after(kept.saturating_mul(3));
+    Ok(entries.into_order())
+}
+
 /// An order that is filled with the entries at once.
 fn filled<A: Allocator + Copy>(alloc: A, rows: &[Row]) -> Result<Order<A>, AllocError> {
     let mut entries = Unordered::new(alloc);
@@ -323,30 +367,29 @@ fn filled<A: Allocator + Copy>(alloc: A, rows: &[Row]) -> Result<Order<A>, Alloc
     Ok(entries.into_order())
 }
 
-/// Whether an order to which the entries are added holds them, and how many bytes of texts it keeps.
-fn added_holds(alloc: Global, rows: &[Row]) -> (bool, u64) {
+/// Whether an order to which the entries are added holds them.
+fn added_holds(alloc: Global, rows: &[Row]) -> bool {
     let mut order = Order::new(alloc);
-    let is_added = add_from(&mut order, rows, 0).is_ok();
-    (is_added && holds(&order, rows), order.kept())
+    add_from(&mut order, rows, 0).is_ok() && holds(&order, rows)
 }
 
-/// The same of an order that is filled with them at once.
-fn filled_holds(alloc: Global, rows: &[Row]) -> Result<(bool, u64), AllocError> {
-    let order = filled(alloc, rows)?;
-    Ok((holds(&order, rows), order.kept()))
+/// Whether an order that is filled with them at once does. `None`: want of memory.
+fn filled_holds<A: Allocator + Copy>(alloc: A, rows: &[Row]) -> Option<bool> {
+    match filled(alloc, rows) {
+        Ok(order) => Some(holds(&order, rows)),
+        Err(_) => None,
+    }
 }
 
 #[test]
-fn finds_what_a_plain_reading_finds(rt: HostRuntime) -> Result<(), Fail> {
-    let rows = rows(rt.alloc())?;
-    let (holds, kept) = added_holds(rt.alloc(), &rows);
-    assert!(rt; holds);
-    assert_eq!(rt; filled_holds(rt.alloc(), &rows)?, (true, kept));
-    Ok(())
+fn finds_what_a_plain_reading_finds(rt: HostRuntime) {
+    let rows = rows();
+    assert!(rt; added_holds(rt.alloc(), front(&rows, COUNT)));
+    assert_eq!(rt; filled_holds(rt.alloc(), front(&rows, COUNT)), Some(true));
 }
 
 /// Whether each text takes as many steps as it has entries.
-fn steps_through<A: Allocator + Copy>(order: &Order<A>, rows: &[Row]) -> bool {
+fn steps_through(order: &Order, rows: &[Row]) -> bool {
     let mut all = true;
     for (text, bytes) in TEXTS.iter().enumerate() {
         let count = rows.iter().filter(|row| row.text == text).count();
@@ -355,17 +398,22 @@ fn steps_through<A: Allocator + Copy>(order: &Order<A>, rows: &[Row]) -> bool {
     all
 }
 
+/// Whether an order that is filled with the entries is stepped through so.
+fn filled_steps(alloc: Global, rows: &[Row]) -> bool {
+    match filled(alloc, rows) {
+        Ok(order) => steps_through(&order, rows),
+        Err(_) => false,
+    }
+}
+
 #[test]
-fn steps_through_all_of_a_text(rt: HostRuntime) -> Result<(), Fail> {
-    let rows = rows(rt.alloc())?;
-    let order = filled(rt.alloc(), &rows)?;
-    assert!(rt; steps_through(&order, &rows));
-    Ok(())
+fn steps_through_all_of_a_text(rt: HostRuntime) {
+    assert!(rt; filled_steps(rt.alloc(), front(&rows(), COUNT)));
 }
 
 /// Whether an order of these entries holds the first so many once it has forgotten the others, and doesn't forget more
 /// where one more position is forgotten, at which none stands.
-fn forgets<A: Allocator + Copy>(order: &mut Order<A>, rows: &[Row], kept: usize) -> bool {
+fn forgets(order: &mut Order, rows: &[Row], kept: usize) -> bool {
     let position = kept.saturating_mul(3);
     order.forget_after(position.saturating_add(1));
     let is_forgotten = holds(order, front(rows, kept));
@@ -379,195 +427,204 @@ fn added_forgets(alloc: Global, rows: &[Row], kept: usize) -> bool {
     add_from(&mut order, rows, 0).is_ok() && forgets(&mut order, rows, kept)
 }
 
-#[test]
-fn forgets_from_a_position_on(rt: HostRuntime) -> Result<(), Fail> {
-    let rows = rows(rt.alloc())?;
-    for kept in [0, 1, 2, 511, 512, 700, COUNT] {
-        assert!(rt; added_forgets(rt.alloc(), &rows, kept), "{kept}");
-    }
-    Ok(())
-}
-
-/// Whether adding each entry, and again where it is refused, changes nothing at each refusal and adds all; and whether
-/// the request of that number came.
-fn refused_at(alloc: Global, rows: &[Row], number: u64) -> (bool, bool) {
-    let heap = RefusingAllocator::new(alloc, number);
-    let mut order = Order::new(&heap);
-    let is_right = add_all_again(&mut order, rows) == Ok(heap.has_refused());
-    (is_right && holds(&order, rows), heap.has_refused())
-}
+/// How many entries are left where others are forgotten.
+const LEFT: [usize; 7] = [0, 1, 2, 511, 512, 700, COUNT];
 
 #[test]
-fn a_refused_request_changes_nothing(rt: HostRuntime) -> Result<(), Fail> {
-    let rows = rows(rt.alloc())?;
-    for number in 1..200u64 {
-        let (is_right, has_come) = refused_at(rt.alloc(), &rows, number);
-        assert!(rt; is_right, "{number}");
-        if !has_come {
-            assert!(rt; number > 5);
-            break;
-        }
+fn forgets_from_a_position_on(rt: HostRuntime) {
+    let rows = rows();
+    for left in LEFT {
+        assert!(rt;
+            added_forgets(rt.alloc(), front(&rows, COUNT), left),
+            "{left}"
+        );
     }
-    Ok(())
-}
-
-/// Whether filling an order fails just where the request of that number came, and else holds the entries; and whether
-/// it came.
-fn filling_refused_at(alloc: Global, rows: &[Row], number: u64) -> (bool, bool) {
-    let heap = RefusingAllocator::new(alloc, number);
-    let is_right = match filled(&heap, rows) {
-        Ok(order) => !heap.has_refused() && holds(&order, rows),
-        Err(_) => heap.has_refused(),
-    };
-    (is_right, heap.has_refused())
-}
-
-#[test]
-fn filling_is_refused_with_want_of_memory(rt: HostRuntime) -> Result<(), Fail> {
-    let rows = rows(rt.alloc())?;
-    for number in 1..200u64 {
-        let (is_right, has_come) = filling_refused_at(rt.alloc(), &rows, number);
-        assert!(rt; is_right, "{number}");
-        if !has_come {
-            assert!(rt; number > 5);
-            break;
-        }
-    }
-    Ok(())
-}
-
-/// Whether pushing each entry, and again where it is refused, adds all; and whether the request of that number came.
-fn pushing_refused_at(alloc: Global, rows: &[Row], number: u64) -> (bool, bool) {
-    let heap = RefusingAllocator::new(alloc, number);
-    let mut entries = Unordered::new(&heap);
-    let is_right = push_all_again(&mut entries, rows) == Ok(heap.has_refused());
-    let order = entries.into_order();
-    (is_right && holds(&order, rows), heap.has_refused())
-}
-
-/// Putting in order takes no memory: what is refused is an addition, and it changes nothing.
-#[test]
-fn a_refused_entry_can_be_added_again(rt: HostRuntime) -> Result<(), Fail> {
-    let rows = rows(rt.alloc())?;
-    for number in 1..200u64 {
-        let (is_right, has_come) = pushing_refused_at(rt.alloc(), &rows, number);
-        assert!(rt; is_right, "{number}");
-        if !has_come {
-            assert!(rt; number > 5);
-            break;
-        }
-    }
-    Ok(())
-}
-
-/// Whether an order of the first so many entries holds them, holds 600 more once they are added, a third of them once
-/// the others are forgotten, and them again.
-fn changes(order: &mut Order, rows: &[Row], count: usize) -> Result<bool, AllocError> {
-    let more = front(rows, count.saturating_add(600));
-    let kept = count / 3;
-    let is_filled = holds(order, front(rows, count));
-    add_from(order, more, count)?;
-    let is_added_to = holds(order, more);
-    order.forget_after(kept.saturating_mul(3));
-    let is_forgotten_from = holds(order, front(rows, kept));
-    add_from(order, front(rows, count), kept)?;
-    Ok(is_filled && is_added_to && is_forgotten_from && holds(order, front(rows, count)))
-}
-
-fn filled_changes(alloc: Global, rows: &[Row], count: usize) -> Result<bool, AllocError> {
-    let mut order = filled(alloc, front(rows, count))?;
-    changes(&mut order, rows, count)
-}
-
-/// An order that was filled at once is added to, forgotten from and added to again.
-#[test]
-fn a_filled_order_changes(rt: HostRuntime) -> Result<(), Fail> {
-    let rows = rows_of(rt.alloc(), MOST)?;
-    for count in [0usize, 1, 511, 512, 513, 2_000] {
-        assert!(rt; filled_changes(rt.alloc(), &rows, count)?, "{count}");
-    }
-    Ok(())
-}
-
-/// Whether an order of the first so many entries holds half of them once the others are forgotten, and 100 more than
-/// there were once they are added.
-fn shrinks(order: &mut Order, rows: &[Row], count: usize) -> Result<bool, AllocError> {
-    let more = front(rows, count.saturating_add(100));
-    let kept = count / 2;
-    order.forget_after(kept.saturating_mul(3));
-    let is_forgotten_from = holds(order, front(rows, kept));
-    add_from(order, more, kept)?;
-    Ok(is_forgotten_from && holds(order, more))
-}
-
-fn filled_shrinks(alloc: Global, rows: &[Row], count: usize) -> Result<bool, AllocError> {
-    let mut order = filled(alloc, front(rows, count))?;
-    shrinks(&mut order, rows, count)
-}
-
-/// The same, where the first change is that entries are forgotten.
-#[test]
-fn a_filled_order_is_forgotten_from(rt: HostRuntime) -> Result<(), Fail> {
-    let rows = rows_of(rt.alloc(), MOST)?;
-    for count in [0usize, 1, 511, 512, 513, 2_000] {
-        assert!(rt; filled_shrinks(rt.alloc(), &rows, count)?, "{count}");
-    }
-    Ok(())
-}
-
-/// Whether an order of all entries but the last takes that one, or is as before where the request of that number came;
-/// and whether it came. `None` where it came before the order was filled.
-fn addition_refused_at(alloc: Global, rows: &[Row], number: u64) -> Option<(bool, bool)> {
-    let heap = RefusingAllocator::new(alloc, number);
-    let count = rows.len().saturating_sub(1);
-    let mut order = filled(&heap, front(rows, count)).ok()?;
-    let is_refused = add_from(&mut order, rows, count).is_err();
-    let left = if is_refused { front(rows, count) } else { rows };
-    let is_right = is_refused == heap.has_refused() && holds(&order, left);
-    Some((is_right, is_refused))
-}
-
-/// An order that was filled is the same after an addition to it was refused.
-#[test]
-fn a_refused_addition_leaves_a_filled_order(rt: HostRuntime) -> Result<(), Fail> {
-    let rows = rows(rt.alloc())?;
-    for number in 1..200u64 {
-        if let Some((is_right, is_refused)) = addition_refused_at(rt.alloc(), &rows, number) {
-            assert!(rt; is_right, "{number}");
-            if !is_refused {
-                assert!(rt; number > 5);
-                break;
-            }
-        }
-    }
-    Ok(())
 }
 
 /// Whether the first so many entries are put in order once the others that waited are forgotten.
-fn waiting_holds(alloc: Global, rows: &[Row], kept: usize) -> Result<bool, AllocError> {
-    let mut entries = Unordered::new(alloc);
-    push_all(&mut entries, rows)?;
-    entries.forget_after(kept.saturating_mul(3));
-    let order = entries.into_order();
-    Ok(holds(&order, front(rows, kept)))
+fn waiting_forgets(alloc: Global, rows: &[Row], kept: usize) -> bool {
+    match filled_after(alloc, rows, kept) {
+        Ok(order) => holds(&order, front(rows, kept)),
+        Err(_) => false,
+    }
 }
 
 /// Entries that are forgotten while they wait leave those before them.
 #[test]
-fn waiting_entries_are_forgotten(rt: HostRuntime) -> Result<(), Fail> {
-    let rows = rows(rt.alloc())?;
-    for kept in [0usize, 1, 2, 511, 512, 700, COUNT] {
-        assert!(rt; waiting_holds(rt.alloc(), &rows, kept)?, "{kept}");
+fn waiting_entries_are_forgotten(rt: HostRuntime) {
+    let rows = rows();
+    for left in LEFT {
+        assert!(rt;
+            waiting_forgets(rt.alloc(), front(&rows, COUNT), left),
+            "{left}"
+        );
     }
-    Ok(())
+}
+
+/// Whether an order of entries holds the first so many once those behind them are forgotten, or those up to them added.
+fn changes(order: &mut Order, rows: &[Row], count: usize) -> bool {
+    let rows = front(rows, count);
+    let kept = order.len().min(count);
+    add_from(order, rows, kept).is_ok() && holds(order, rows)
+}
+
+/// Whether an order holds as many entries as each of some numbers says, one after another.
+fn changes_to(order: &mut Order, rows: &[Row], counts: &[usize]) -> bool {
+    let mut all = true;
+    for count in counts {
+        all = all && changes(order, rows, *count);
+    }
+    all
+}
+
+/// Whether an order that is filled with so many entries holds them, and then as many as each of some numbers says.
+fn filled_changes(alloc: Global, rows: &[Row], count: usize, counts: &[usize]) -> bool {
+    match filled(alloc, front(rows, count)) {
+        Ok(mut order) => {
+            holds(&order, front(rows, count)) && changes_to(&mut order, rows, counts)
+        }
+        Err(_) => false,
+    }
+}
+
+/// How many entries an order is filled with.
+const FILLED: [usize; 6] = [0, 1, 511, 512, 513, 2_000];
+
+/// An order that was filled at once is added to, forgotten from and added to again.
+#[test]
+fn a_filled_order_changes(rt: HostRuntime) {
+    let rows = rows();
+    for count in FILLED {
+        let counts = [count + 600, count / 3, count];
+        assert!(rt;
+            filled_changes(rt.alloc(), &rows, count, &counts),
+            "{count}"
+        );
+    }
+}
+
+/// The same, where the first change is that entries are forgotten.
+#[test]
+fn a_filled_order_is_forgotten_from(rt: HostRuntime) {
+    let rows = rows();
+    for count in FILLED {
+        let counts = [count / 2, count + 100];
+        assert!(rt;
+            filled_changes(rt.alloc(), &rows, count, &counts),
+            "{count}"
+        );
+    }
+}
+
+/// An allocator that refuses one request.
+type Heap = RefusingAllocator<Global>;
+
+/// Whether a request was refused, or `None` where what was found isn't right.
+type Refusal = Option<bool>;
+
+/// Adds each entry, and again where it is refused, which changes nothing.
+fn add_refused(heap: &Heap, rows: &[Row]) -> Refusal {
+    let mut order = Order::new(heap);
+    let is_right = add_all_again(&mut order, rows) == Some(heap.has_refused());
+    (is_right && holds(&order, rows)).then_some(heap.has_refused())
+}
+
+/// Fills an order, which fails just where a request is refused.
+fn fill_refused(heap: &Heap, rows: &[Row]) -> Refusal {
+    let held = filled_holds(heap, rows);
+    let is_refused = heap.has_refused();
+    (held == (!is_refused).then_some(true)).then_some(is_refused)
+}
+
+/// Pushes each entry, and again where it is refused. Putting in order takes no memory.
+fn push_refused(heap: &Heap, rows: &[Row]) -> Refusal {
+    let mut entries = Unordered::new(heap);
+    let is_right = push_all_again(&mut entries, rows) == Some(heap.has_refused());
+    let order = entries.into_order();
+    (is_right && holds(&order, rows)).then_some(heap.has_refused())
+}
+
+/// Adds the last entry to an order of the others, which is as before where that is refused.
+fn add_last(heap: &Heap, order: &mut Order<&Heap>, rows: &[Row]) -> Refusal {
+    let count = rows.len().saturating_sub(1);
+    let is_refused = add_from(order, rows, count).is_err();
+    let left = if is_refused { front(rows, count) } else { rows };
+    let is_right = is_refused == heap.has_refused() && holds(order, left);
+    is_right.then_some(is_refused)
+}
+
+/// Fills an order with all entries but the last, and adds that one.
+fn add_last_refused(heap: &Heap, rows: &[Row]) -> Refusal {
+    match filled(heap, front(rows, rows.len().saturating_sub(1))) {
+        Ok(mut order) => add_last(heap, &mut order, rows),
+        Err(_) => heap.has_refused().then_some(true),
+    }
+}
+
+/// In what a request is refused.
+#[derive(Clone, Copy)]
+enum Work {
+    Add,
+    Fill,
+    Push,
+    AddLast,
+}
+
+/// What comes of a work where the request of that number is refused.
+fn refused_at(alloc: Global, rows: &[Row], work: Work, number: u64) -> Refusal {
+    let heap = RefusingAllocator::new(alloc, number);
+    match work {
+        Work::Add => add_refused(&heap, rows),
+        Work::Fill => fill_refused(&heap, rows),
+        Work::Push => push_refused(&heap, rows),
+        Work::AddLast => add_last_refused(&heap, rows),
+    }
+}
+
+/// The first request whose refusal goes wrong in a work. The first five are made at least.
+fn first_wrong(alloc: Global, work: Work) -> Option<u64> {
+    let rows = rows();
+    for number in 1..200 {
+        match refused_at(alloc, front(&rows, COUNT), work, number) {
+            Some(true) => {}
+            Some(false) if number > 5 => return None,
+            _ => return Some(number),
+        }
+    }
+    None
 }
 
 #[test]
-fn positions_of_more_than_four_bytes_are_refused(rt: HostRuntime) -> Result<(), Fail> {
-    let mut order = Order::new(rt.alloc());
-    let mark = Mark { major: 0, minor: 0 };
-    order.add(b"a", mark, 4_294_967_295)?;
-    assert!(rt; order.add(b"a", mark, 4_294_967_296).is_err());
-    assert_eq!(rt; order.len(), 1);
-    Ok(())
+fn a_refused_request_changes_nothing(rt: HostRuntime) {
+    assert_eq!(rt; first_wrong(rt.alloc(), Work::Add), None);
+}
+
+#[test]
+fn filling_is_refused_with_want_of_memory(rt: HostRuntime) {
+    assert_eq!(rt; first_wrong(rt.alloc(), Work::Fill), None);
+}
+
+/// What is refused is an addition to those that wait, and it changes nothing.
+#[test]
+fn a_refused_entry_can_be_added_again(rt: HostRuntime) {
+    assert_eq!(rt; first_wrong(rt.alloc(), Work::Push), None);
+}
+
+/// An order that was filled is the same after an addition to it was refused.
+#[test]
+fn a_refused_addition_leaves_a_filled_order(rt: HostRuntime) {
+    assert_eq!(rt; first_wrong(rt.alloc(), Work::AddLast), None);
+}
+
+/// Whether the greatest position of four bytes is taken, and the next one refused.
+fn takes_four_bytes(alloc: Global) -> bool {
+    let mut order = Order::new(alloc);
+    let is_taken = order.add(b"a", FIRST.mark, 4_294_967_295).is_ok();
+    let is_refused = order.add(b"a", FIRST.mark, 4_294_967_296).is_err();
+    is_taken && is_refused && order.len() == 1
+}
+
+#[test]
+fn positions_of_more_than_four_bytes_are_refused(rt: HostRuntime) {
+    assert!(rt; takes_four_bytes(rt.alloc()));
 }
