@@ -2,91 +2,82 @@
 
 use crate::rows::{DATE, ONE, TARGET, TYPE, UUID, record, refusal, split_fault};
 use std::alloc::{Allocator, Global};
-use std::test::Fail;
 use warc_frame::Framed;
 use warc_record::Kind;
 use warc_vectors::RefusingAllocator;
 use warc_write::{MakeFault, SplitFault, convert};
 
-/// Whether a call answered want of memory, and whether a request of memory was refused.
-type Want = (bool, bool);
+/// A call that asks for memory.
+#[derive(Clone, Copy)]
+enum Call {
+    /// `ONE` is made.
+    Make,
 
-#[test]
-fn made_without_memory(rt: HostRuntime) -> Result<(), Fail> {
-    for number in 1..100u64 {
-        let heap = RefusingAllocator::new(rt.alloc(), number);
-        let fault = refusal(&heap, Kind::Resource, TARGET, DATE, UUID, TYPE);
-        assert_eq!(rt; fault == Some(MakeFault::Memory), heap.has_refused());
-        if !heap.has_refused() {
-            // The list of fields, and the block.
-            assert!(rt; number > 2);
-            break;
-        }
-    }
-    Ok(())
+    /// A record is split at a size.
+    Split(u64),
+
+    /// A record is converted.
+    Convert,
 }
 
-/// How `split` refuses `ONE`, which is read with ample memory.
-fn one_split_fault<A: Allocator + Copy>(
-    ample: A,
-    heap: A,
-    size: u64,
-) -> Result<Option<SplitFault>, Fail> {
-    let whole = record(ample, ONE)?;
-    Ok(split_fault(heap, &whole, size))
-}
-
-/// What `split` meets at a size where the request of that number is refused.
-fn split_want(alloc: Global, number: u64, size: u64) -> Result<Want, Fail> {
-    let ample = RefusingAllocator::new(alloc, 0);
-    let heap = RefusingAllocator::new(alloc, number);
-    let fault = one_split_fault(&ample, &heap, size)?;
-    Ok((fault == Some(SplitFault::Memory), heap.has_refused()))
-}
-
-#[test]
-fn split_without_memory(rt: HostRuntime) -> Result<(), Fail> {
-    for size in [2, 3] {
-        for number in 1..100u64 {
-            let (is_refused, has_refused) = split_want(rt.alloc(), number, size)?;
-            assert_eq!(rt; is_refused, has_refused);
-            if !has_refused {
-                assert!(rt; number > 3);
-                break;
+impl Call {
+    /// Whether the call answers want of memory, of this record where it is given one.
+    fn is_refused<A: Allocator + Copy>(self, heap: A, whole: &Framed<A>) -> bool {
+        match self {
+            Call::Make => {
+                let fault = refusal(heap, Kind::Resource, TARGET, DATE, UUID, TYPE);
+                fault == Some(MakeFault::Memory)
             }
+            Call::Split(size) => split_fault(heap, whole, size) == Some(SplitFault::Memory),
+            Call::Convert => convert(heap, whole).is_err(),
         }
     }
-    Ok(())
 }
 
-/// Whether the conversion of a record is refused.
-fn is_conversion_refused<A: Allocator + Copy>(alloc: A, whole: &Framed<A>) -> bool {
-    convert(alloc, whole).is_err()
+/// Whether a call answers want of memory, of `ONE`, which is read with ample memory.
+fn is_one_refused<A: Allocator + Copy>(ample: A, heap: A, call: Call) -> bool {
+    match record(ample, ONE) {
+        Ok(whole) => call.is_refused(heap, &whole),
+        Err(_) => false,
+    }
 }
 
-/// Whether the conversion of `ONE` is refused, which is read with ample memory.
-fn is_one_refused<A: Allocator + Copy>(ample: A, heap: A) -> Result<bool, Fail> {
-    let whole = record(ample, ONE)?;
-    Ok(is_conversion_refused(heap, &whole))
-}
-
-/// What `convert` meets where the request of that number is refused.
-fn conversion_want(alloc: Global, number: u64) -> Result<Want, Fail> {
+/// Whether a call answers want of memory where the request of that number is refused, and whether that request came.
+fn want(alloc: Global, call: Call, number: u64) -> (bool, bool) {
     let ample = RefusingAllocator::new(alloc, 0);
     let heap = RefusingAllocator::new(alloc, number);
-    let is_refused = is_one_refused(&ample, &heap)?;
-    Ok((is_refused, heap.has_refused()))
+    let is_refused = is_one_refused(&ample, &heap, call);
+    (is_refused, heap.has_refused())
+}
+
+/// How many requests a call makes, if it makes fewer than a hundred and answers want of memory exactly where one of
+/// them is refused.
+fn requests(alloc: Global, call: Call) -> Option<u64> {
+    for number in 0..100u64 {
+        let (is_refused, has_refused) = want(alloc, call, number.saturating_add(1));
+        if is_refused != has_refused {
+            return None;
+        }
+        if !has_refused {
+            return Some(number);
+        }
+    }
+    None
 }
 
 #[test]
-fn converted_without_memory(rt: HostRuntime) -> Result<(), Fail> {
-    for number in 1..100u64 {
-        let (is_refused, has_refused) = conversion_want(rt.alloc(), number)?;
-        assert_eq!(rt; is_refused, has_refused);
-        if !has_refused {
-            assert!(rt; number > 2);
-            break;
-        }
-    }
-    Ok(())
+fn made_without_memory(rt: HostRuntime) {
+    // The list of fields, and the block.
+    assert!(rt; requests(rt.alloc(), Call::Make) >= Some(2));
+}
+
+#[test]
+fn split_without_memory(rt: HostRuntime) {
+    assert!(rt; requests(rt.alloc(), Call::Split(2)) >= Some(3));
+    assert!(rt; requests(rt.alloc(), Call::Split(3)) >= Some(3));
+}
+
+#[test]
+fn converted_without_memory(rt: HostRuntime) {
+    assert!(rt; requests(rt.alloc(), Call::Convert) >= Some(2));
 }

@@ -3,10 +3,10 @@
 ghost use Rattle.std.specs.Prelude.{◌<◌, length};
 
 use std::alloc::{AllocError, Allocator, Global};
+use std::fmt::Display;
 use std::slice::from_ref;
-use std::test::Fail;
 use warc_field::Fields;
-use warc_frame::{Framed, MemSink, OutFault, read_one};
+use warc_frame::{Fault, Framed, MemSink, OutFault, read_one};
 use warc_record::Kind;
 use warc_vectors::{ONE_RESOURCE_SPLIT, RefusingAllocator, Row};
 use warc_write::{
@@ -33,31 +33,19 @@ pub(crate) const ONE: &[u8] = b"WARC/1.1\r\n\
     \r\n\
     abc\r\n\r\n";
 
-/// What is written of the records.
-pub(crate) fn rendered<A: Allocator>(
-    alloc: Global,
-    records: &[Framed<A>],
-) -> Result<Vec<u8>, Fail> {
-    let mut sink = MemSink::new(Vec::new(alloc));
-    render(records, &mut sink)?;
-    Ok(sink.into_inner())
-}
-
 /// Whether just this is written of the records.
-fn is_written<A: Allocator>(
-    alloc: Global,
-    records: &[Framed<A>],
-    text: &[u8],
-) -> Result<bool, Fail> {
-    let written = rendered(alloc, records)?;
-    Ok(written.as_slice() == text)
+fn is_written<A: Allocator>(alloc: Global, records: &[Framed<A>], text: &[u8]) -> bool {
+    let mut sink = MemSink::new(Vec::new(alloc));
+    render(records, &mut sink).is_ok() && sink.bytes() == text
 }
 
 /// The record that a text begins with.
-pub(crate) fn record<A: Allocator + Copy>(alloc: A, text: &[u8]) -> Result<Framed<A>, Fail> {
+pub(crate) fn record<A: Allocator + Copy>(alloc: A, text: &[u8]) -> Result<Framed<A>, Fault> {
     let (framed, _) = read_one(alloc, text)?;
     Ok(framed)
 }
+
+const TYPED: &[&str] = &["Content-Type: text/plain"];
 
 /// A record of the tables.
 const PLAIN: Row<'static> = Row {
@@ -66,7 +54,7 @@ const PLAIN: Row<'static> = Row {
     number: '1',
     date: "2020",
     target: "http://a.example/x",
-    extras: &["Content-Type: text/plain"],
+    extras: TYPED,
     block: b"abc",
 };
 
@@ -82,122 +70,233 @@ pub(crate) fn refusal<A: Allocator + Copy>(
     make(alloc, kind, uri, date, uuid, content_type, b"abc").err()
 }
 
+/// How the UUID of `ONE` may be written.
+const SPELLINGS: &[&str] = &[
+    "00000000-0000-4000-8000-000000000001",
+    "00000000000040008000000000000001",
+    "{00000000-0000-4000-8000-000000000001}",
+    "URN:UUID:00000000-0000-4000-8000-000000000001",
+];
+
 /// Whether `ONE` is made with an id that is written so.
-fn makes_one(alloc: Global, uuid: &[u8]) -> Result<bool, Fail> {
-    let made = make(alloc, Kind::Resource, TARGET, DATE, uuid, TYPE, b"abc")?;
-    is_written(alloc, from_ref(&made), ONE)
+fn makes_one(alloc: Global, uuid: &str) -> bool {
+    match make(
+        alloc,
+        Kind::Resource,
+        TARGET,
+        DATE,
+        uuid.as_bytes(),
+        TYPE,
+        b"abc",
+    ) {
+        Ok(made) => is_written(alloc, from_ref(&made), ONE),
+        Err(_) => false,
+    }
 }
 
 #[test]
-fn made_record(rt: HostRuntime) -> Result<(), Fail> {
-    for uuid in [
-        UUID,
-        b"00000000000040008000000000000001",
-        b"{00000000-0000-4000-8000-000000000001}",
-        b"URN:UUID:00000000-0000-4000-8000-000000000001",
-    ] {
-        assert!(rt; makes_one(rt.alloc(), uuid)?);
+fn made_record(rt: HostRuntime) {
+    for uuid in SPELLINGS {
+        assert!(rt; makes_one(rt.alloc(), uuid), "{uuid}");
     }
     assert_eq!(rt; ONE.len(), 278);
-    Ok(())
 }
 
+/// The kinds, and how `make` refuses them.
+const KINDS: &[(Kind, Option<MakeFault>)] = &[
+    (Kind::Resource, None),
+    (Kind::Metadata, None),
+    (Kind::Conversion, None),
+    (Kind::Warcinfo, Some(MakeFault::Kind)),
+    (Kind::Response, Some(MakeFault::Kind)),
+    (Kind::Request, Some(MakeFault::Kind)),
+    (Kind::Revisit, Some(MakeFault::Kind)),
+    (Kind::Continuation, Some(MakeFault::Kind)),
+    (Kind::Other, Some(MakeFault::Kind)),
+];
+
 #[test]
-fn kinds_that_are_made(rt: HostRuntime) -> Result<(), Fail> {
-    for (kind, fault) in [
-        (Kind::Resource, None),
-        (Kind::Metadata, None),
-        (Kind::Conversion, None),
-        (Kind::Warcinfo, Some(MakeFault::Kind)),
-        (Kind::Response, Some(MakeFault::Kind)),
-        (Kind::Request, Some(MakeFault::Kind)),
-        (Kind::Revisit, Some(MakeFault::Kind)),
-        (Kind::Continuation, Some(MakeFault::Kind)),
-        (Kind::Other, Some(MakeFault::Kind)),
-    ] {
-        assert_eq!(rt; refusal(rt.alloc(), kind, TARGET, DATE, UUID, TYPE), fault);
+fn kinds_that_are_made(rt: HostRuntime) {
+    for (kind, fault) in KINDS {
+        assert_eq!(rt;
+            refusal(rt.alloc(), *kind, TARGET, DATE, UUID, TYPE),
+            *fault
+        );
     }
-    // The kind comes before all else.
-    assert_eq!(rt;
-        refusal(rt.alloc(), Kind::Response, b"<x>", b"x", b"x", b""),
-        Some(MakeFault::Kind)
-    );
-    Ok(())
 }
 
+/// What texts are called, a kind, a target, a date, a UUID and a content type, and how `make` refuses them.
+type Texts = (
+    &'static str,
+    Kind,
+    &'static [u8],
+    &'static [u8],
+    &'static [u8],
+    &'static [u8],
+    Option<MakeFault>,
+);
+
+const TEXTS: &[Texts] = &[
+    (
+        "the kind comes first",
+        Kind::Response,
+        b"<x>",
+        b"x",
+        b"x",
+        b"",
+        Some(MakeFault::Kind),
+    ),
+    (
+        "the date comes next",
+        Kind::Resource,
+        b"<x>",
+        b"x",
+        b"x",
+        b"",
+        Some(MakeFault::Date),
+    ),
+    (
+        "a date that is none",
+        Kind::Resource,
+        TARGET,
+        b"2021-02-29",
+        UUID,
+        TYPE,
+        Some(MakeFault::Date),
+    ),
+    (
+        "a target in brackets",
+        Kind::Resource,
+        b"<x>",
+        DATE,
+        UUID,
+        TYPE,
+        Some(MakeFault::Text),
+    ),
+    (
+        "an empty target",
+        Kind::Resource,
+        b"",
+        DATE,
+        UUID,
+        TYPE,
+        Some(MakeFault::Text),
+    ),
+    (
+        "a target behind a space",
+        Kind::Resource,
+        b" x",
+        DATE,
+        UUID,
+        TYPE,
+        Some(MakeFault::Text),
+    ),
+    (
+        "a target of two lines",
+        Kind::Resource,
+        b"a\nb",
+        DATE,
+        UUID,
+        TYPE,
+        Some(MakeFault::Text),
+    ),
+    (
+        "a short UUID",
+        Kind::Resource,
+        TARGET,
+        DATE,
+        b"0000",
+        TYPE,
+        Some(MakeFault::Text),
+    ),
+    (
+        "an empty type",
+        Kind::Resource,
+        TARGET,
+        DATE,
+        UUID,
+        b"",
+        Some(MakeFault::Text),
+    ),
+    (
+        "a type with an end of a line",
+        Kind::Resource,
+        TARGET,
+        DATE,
+        UUID,
+        b"text/plain\r\n",
+        Some(MakeFault::Text),
+    ),
+    (
+        "two pairs of brackets are no pair",
+        Kind::Resource,
+        b"<<x>>",
+        DATE,
+        UUID,
+        TYPE,
+        None,
+    ),
+];
+
 #[test]
-fn refused_texts(rt: HostRuntime) -> Result<(), Fail> {
-    for (uri, date, uuid, content_type, fault) in [
-        (
-            b"<x>".as_slice(),
-            b"x".as_slice(),
-            b"x".as_slice(),
-            b"".as_slice(),
-            MakeFault::Date,
-        ),
-        (TARGET, b"2021-02-29", UUID, TYPE, MakeFault::Date),
-        (b"<x>", DATE, UUID, TYPE, MakeFault::Text),
-        (b"", DATE, UUID, TYPE, MakeFault::Text),
-        (b" x", DATE, UUID, TYPE, MakeFault::Text),
-        (b"a\nb", DATE, UUID, TYPE, MakeFault::Text),
-        (TARGET, DATE, b"0000", TYPE, MakeFault::Text),
-        (TARGET, DATE, UUID, b"", MakeFault::Text),
-        (TARGET, DATE, UUID, b"text/plain\r\n", MakeFault::Text),
-    ] {
-        let found = refusal(rt.alloc(), Kind::Resource, uri, date, uuid, content_type);
-        assert_eq!(rt; found, Some(fault));
+fn refused_texts(rt: HostRuntime) {
+    for (name, kind, uri, date, uuid, content_type, fault) in TEXTS {
+        let found = refusal(rt.alloc(), *kind, uri, date, uuid, content_type);
+        assert_eq!(rt; found, *fault, "{name}");
     }
-    // Two pairs of brackets are no pair.
-    assert_eq!(rt;
-        refusal(rt.alloc(), Kind::Resource, b"<<x>>", DATE, UUID, TYPE),
-        None
-    );
-    Ok(())
+}
+
+/// Whether `make` refuses a target of so many bytes so.
+fn makes_as(alloc: Global, len: usize, fault: Option<MakeFault>) -> bool {
+    match vec![in alloc; b'a'; len] {
+        Ok(uri) => refusal(alloc, Kind::Resource, &uri, DATE, UUID, TYPE) == fault,
+        Err(_) => false,
+    }
 }
 
 #[test]
-fn longest_head(rt: HostRuntime) -> Result<(), Fail> {
-    let mut uri = vec![in rt.alloc(); b'a'; 65_283]?;
-    assert_eq!(rt;
-        refusal(rt.alloc(), Kind::Resource, &uri, DATE, UUID, TYPE),
-        None
-    );
-    uri.push(b'a')?;
-    assert_eq!(rt;
-        refusal(rt.alloc(), Kind::Resource, &uri, DATE, UUID, TYPE),
-        Some(MakeFault::TooLong)
-    );
-    Ok(())
+fn longest_head(rt: HostRuntime) {
+    assert!(rt; makes_as(rt.alloc(), 65_283, None));
+    assert!(rt; makes_as(rt.alloc(), 65_284, Some(MakeFault::TooLong)));
 }
 
 /// Whether a record is written so once it is split.
-fn is_split_as(alloc: Global, whole: &Framed, size: u64, text: &[u8]) -> Result<bool, Fail> {
-    let parts = split(alloc, whole, size)?;
-    is_written(alloc, &parts, text)
+fn is_split_as(alloc: Global, whole: &Framed, size: u64, text: &[u8]) -> bool {
+    match split(alloc, whole, size) {
+        Ok(parts) => is_written(alloc, &parts, text),
+        Err(_) => false,
+    }
 }
 
-/// Whether the record of a text is written so once it is split.
-fn splits_into(alloc: Global, text: &[u8], size: u64, want: &[u8]) -> Result<bool, Fail> {
-    let whole = record(alloc, text)?;
-    is_split_as(alloc, &whole, size, want)
+/// Whether `ONE` is written so once it is split.
+fn splits_into(alloc: Global, size: u64, text: &[u8]) -> bool {
+    match record(alloc, ONE) {
+        Ok(whole) => is_split_as(alloc, &whole, size, text),
+        Err(_) => false,
+    }
 }
 
 /// How many bytes the block of a text's first record has, and how many the record has.
-fn first_lens(alloc: Global, text: &[u8]) -> Result<(usize, usize), Fail> {
-    let (first, len) = read_one(alloc, text)?;
-    Ok((first.block().len(), len))
+fn first_lens(alloc: Global, text: &[u8]) -> Option<(usize, usize)> {
+    match read_one(alloc, text) {
+        Ok((first, len)) => Some((first.block().len(), len)),
+        Err(_) => None,
+    }
 }
 
+/// Sizes at which `ONE` is split, and what is written then.
+const SIZES: &[(u64, &[u8])] = &[(2, ONE_RESOURCE_SPLIT), (3, ONE), (4, ONE), (1 << 40, ONE)];
+
 #[test]
-fn split_in_two(rt: HostRuntime) -> Result<(), Fail> {
-    assert!(rt; splits_into(rt.alloc(), ONE, 2, ONE_RESOURCE_SPLIT)?);
-    let (block_len, len) = first_lens(rt.alloc(), ONE_RESOURCE_SPLIT)?;
-    assert_eq!(rt; len, 301);
-    assert_eq!(rt; len.checked_sub(block_len), Some(4 + 295));
-    for size in [3, 4, 1 << 40] {
-        assert!(rt; splits_into(rt.alloc(), ONE, size, ONE)?);
+fn split_in_two(rt: HostRuntime) {
+    for (size, text) in SIZES {
+        assert!(rt; splits_into(rt.alloc(), *size, text), "{size}");
     }
-    Ok(())
+    // The first segment's head has 295 bytes, and four stand behind its block.
+    assert_eq!(rt;
+        first_lens(rt.alloc(), ONE_RESOURCE_SPLIT),
+        Some((2, 295 + 2 + 4))
+    );
 }
 
 /// The places of some segments among the ten of `ids_of_segments`, and their ids.
@@ -234,40 +333,37 @@ fn are_ten_segments(parts: &[Framed]) -> bool {
     are_so
 }
 
-/// The blocks of records, joined.
-fn joined(alloc: Global, parts: &[Framed]) -> Result<Vec<u8>, AllocError> {
-    let mut joined = Vec::new(alloc);
-    for part in parts {
-        joined.extend_from_slice(part.block())?;
-    }
-    Ok(joined)
-}
-
 /// Whether the blocks of records join to a text.
-fn join_to(alloc: Global, parts: &[Framed], text: &[u8]) -> Result<bool, AllocError> {
-    let joined = joined(alloc, parts)?;
-    Ok(joined.as_slice() == text)
+fn join_to(parts: &[Framed], text: &[u8]) -> bool {
+    let mut rest = text;
+    for part in parts {
+        let Some(behind) = rest.strip_prefix(part.block()) else {
+            return false;
+        };
+        rest = behind;
+    }
+    rest.is_empty()
 }
 
-/// Whether a record is split into ten segments with the ids of `SEGMENTS`, and whether their blocks join to a text.
-fn splits_into_ten(alloc: Global, whole: &Framed, text: &[u8]) -> Result<(bool, bool), Fail> {
-    let parts = split(alloc, whole, 1)?;
-    let are_ten = are_ten_segments(&parts);
-    Ok((are_ten, join_to(alloc, &parts, text)?))
+/// Whether a record is split into ten segments with the ids of `SEGMENTS`, whose blocks join to a text.
+fn splits_into_ten(alloc: Global, whole: &Framed, text: &[u8]) -> bool {
+    match split(alloc, whole, 1) {
+        Ok(parts) => are_ten_segments(&parts) && join_to(&parts, text),
+        Err(_) => false,
+    }
 }
 
-/// What `splits_into_ten` says of the record that is made with a block.
-fn made_splits_into_ten(alloc: Global, block: &[u8]) -> Result<(bool, bool), Fail> {
-    let whole = make(alloc, Kind::Resource, TARGET, DATE, UUID, TYPE, block)?;
-    splits_into_ten(alloc, &whole, block)
+/// Whether the record that is made with a block is split so.
+fn made_splits_into_ten(alloc: Global, block: &[u8]) -> bool {
+    match make(alloc, Kind::Resource, TARGET, DATE, UUID, TYPE, block) {
+        Ok(whole) => splits_into_ten(alloc, &whole, block),
+        Err(_) => false,
+    }
 }
 
 #[test]
-fn ids_of_segments(rt: HostRuntime) -> Result<(), Fail> {
-    let (are_ten, are_joined) = made_splits_into_ten(rt.alloc(), b"0123456789")?;
-    assert!(rt; are_ten);
-    assert!(rt; are_joined);
-    Ok(())
+fn ids_of_segments(rt: HostRuntime) {
+    assert!(rt; made_splits_into_ten(rt.alloc(), b"0123456789"));
 }
 
 /// How `split` refuses a record, at a size.
@@ -279,151 +375,172 @@ pub(crate) fn split_fault<A: Allocator + Copy>(
     split(alloc, whole, size).err()
 }
 
-/// How `split` refuses a record with this target, at a size.
-fn refusal_by_uri(alloc: Global, uri: &[u8], size: u64) -> Result<Option<SplitFault>, Fail> {
-    let whole = make(alloc, Kind::Resource, uri, DATE, UUID, TYPE, b"abc")?;
-    Ok(split_fault(alloc, &whole, size))
+/// How many bytes a target has, a size, and how `split` refuses the record then.
+const LENGTHS: &[(usize, u64, Option<SplitFault>)] = &[
+    (65_178, 2, None),
+    (65_179, 2, Some(SplitFault::TooLong)),
+    (65_260, 2, Some(SplitFault::TooLong)),
+    (65_283, 2, Some(SplitFault::TooLong)),
+    (65_283, 3, None),
+];
+
+/// Whether `split` refuses a record with this target so, at a size.
+fn uri_splits_as(alloc: Global, uri: &[u8], size: u64, fault: Option<SplitFault>) -> bool {
+    match make(alloc, Kind::Resource, uri, DATE, UUID, TYPE, b"abc") {
+        Ok(whole) => split_fault(alloc, &whole, size) == fault,
+        Err(_) => false,
+    }
 }
 
-/// How `split` refuses a record whose target has so many bytes, at a size.
-fn refusal_by_target(alloc: Global, len: usize, size: u64) -> Result<Option<SplitFault>, Fail> {
-    let uri = vec![in alloc; b'a'; len]?;
-    refusal_by_uri(alloc, &uri, size)
+/// The same of a target of so many bytes.
+fn length_splits_as(alloc: Global, len: usize, size: u64, fault: Option<SplitFault>) -> bool {
+    match vec![in alloc; b'a'; len] {
+        Ok(uri) => uri_splits_as(alloc, &uri, size, fault),
+        Err(_) => false,
+    }
 }
 
 // The heads have 65,536 bytes at most: the whole one, that of the first segment, and that of the second, which is the
 // longest, reach it with a target of 65,283, of 65,259 and of 65,178 bytes.
 #[test]
-fn segments_without_room(rt: HostRuntime) -> Result<(), Fail> {
-    for (len, size, fault) in [
-        (65_178, 2, None),
-        (65_179, 2, Some(SplitFault::TooLong)),
-        (65_260, 2, Some(SplitFault::TooLong)),
-        (65_283, 2, Some(SplitFault::TooLong)),
-        (65_283, 3, None),
-    ] {
-        assert_eq!(rt;
-            refusal_by_target(rt.alloc(), len, size)?,
-            fault,
+fn segments_without_room(rt: HostRuntime) {
+    for (len, size, fault) in LENGTHS {
+        assert!(rt;
+            length_splits_as(rt.alloc(), *len, *size, *fault),
             "{len} {size}"
         );
     }
-    Ok(())
 }
 
-/// How `split` refuses the record of a text.
-fn refusal_of_text(alloc: Global, text: &[u8], size: u64) -> Result<Option<SplitFault>, Fail> {
-    let framed = record(alloc, text)?;
-    Ok(split_fault(alloc, &framed, size))
+const SEGMENTED: &[&str] = &["WARC-Segment-Number: 1"];
+
+const NO_ORIGIN: &[&str] = &["WARC-Segment-Origin-ID:"];
+
+const WRONG_DIGEST: &[&str] = &["WARC-Block-Digest: sha1:VGMT4NSHA2AWVOR6EVYXQUGCNSONBWE6"];
+
+/// The kind, the target and lines of a record, a size, and how `split` refuses the record then.
+type Splitting = (
+    &'static str,
+    &'static str,
+    &'static [&'static str],
+    u64,
+    Option<SplitFault>,
+);
+
+const SPLITS: &[Splitting] = &[
+    ("resource", "http://a.example/x", TYPED, 2, None),
+    ("revisit", "http://a.example/x", TYPED, 2, None),
+    ("warcinfo", "", SEGMENTED, 0, Some(SplitFault::Size)),
+    ("warcinfo", "x", SEGMENTED, 2, Some(SplitFault::Kind)),
+    ("continuation", "x", SEGMENTED, 2, Some(SplitFault::Kind)),
+    ("screenshot", "x", SEGMENTED, 2, Some(SplitFault::Kind)),
+    ("resource", "<>", SEGMENTED, 2, Some(SplitFault::Kind)),
+    (
+        "resource",
+        "x",
+        SEGMENTED,
+        9,
+        Some(SplitFault::AlreadySegmented),
+    ),
+    (
+        "resource",
+        "x",
+        NO_ORIGIN,
+        2,
+        Some(SplitFault::AlreadySegmented),
+    ),
+    (
+        "resource",
+        "x",
+        WRONG_DIGEST,
+        9,
+        Some(SplitFault::BadDigest),
+    ),
+];
+
+/// Whether `split` refuses the record of a text so, at a size.
+fn text_splits_as(alloc: Global, text: &[u8], size: u64, fault: Option<SplitFault>) -> bool {
+    match record(alloc, text) {
+        Ok(whole) => split_fault(alloc, &whole, size) == fault,
+        Err(_) => false,
+    }
 }
 
-/// How `split` refuses the record of a row.
-fn split_refusal(alloc: Global, row: &Row<'_>, size: u64) -> Result<Option<SplitFault>, Fail> {
-    let text = row.text(alloc)?;
-    refusal_of_text(alloc, &text, size)
+/// Whether `split` refuses the record of a row so, at a size.
+fn row_splits_as(alloc: Global, row: &Row<'_>, size: u64, fault: Option<SplitFault>) -> bool {
+    match row.text(alloc) {
+        Ok(text) => text_splits_as(alloc, &text, size, fault),
+        Err(_) => false,
+    }
 }
 
 #[test]
-fn refused_splits(rt: HostRuntime) -> Result<(), Fail> {
-    let segmented: &[&str] = &["WARC-Segment-Number: 1"];
-    let empty: &[&str] = &["WARC-Segment-Origin-ID:"];
-    let bad: &[&str] = &["WARC-Block-Digest: sha1:VGMT4NSHA2AWVOR6EVYXQUGCNSONBWE6"];
-    for (kind, target, extras, size, fault) in [
-        ("resource", "http://a.example/x", PLAIN.extras, 2, None),
-        ("revisit", "http://a.example/x", PLAIN.extras, 2, None),
-        ("warcinfo", "", segmented, 0, Some(SplitFault::Size)),
-        ("warcinfo", "x", segmented, 2, Some(SplitFault::Kind)),
-        ("continuation", "x", segmented, 2, Some(SplitFault::Kind)),
-        ("screenshot", "x", segmented, 2, Some(SplitFault::Kind)),
-        ("resource", "<>", segmented, 2, Some(SplitFault::Kind)),
-        (
-            "resource",
-            "x",
-            segmented,
-            9,
-            Some(SplitFault::AlreadySegmented),
-        ),
-        (
-            "resource",
-            "x",
-            empty,
-            2,
-            Some(SplitFault::AlreadySegmented),
-        ),
-        ("resource", "x", bad, 9, Some(SplitFault::BadDigest)),
-    ] {
+fn refused_splits(rt: HostRuntime) {
+    for (kind, target, extras, size, fault) in SPLITS {
         let row = Row {
             kind,
             target,
             extras,
             ..PLAIN
         };
-        assert_eq!(rt;
-            split_refusal(rt.alloc(), &row, size)?,
-            fault,
-            "{kind} {target}"
+        assert!(rt;
+            row_splits_as(rt.alloc(), &row, *size, *fault),
+            "{kind} {target} {size}"
         );
     }
-    Ok(())
 }
 
-/// How the head of a text's record is refused for a split, at a size.
-fn head_refusal(alloc: Global, text: &[u8], size: u64) -> Result<Option<SplitFault>, Fail> {
-    let framed = record(alloc, text)?;
-    Ok(splittable(alloc, framed.fields(), size).err())
+/// Whether the head of a text's record is refused so for a split, at a size.
+fn head_splits_as(alloc: Global, text: &[u8], size: u64, fault: SplitFault) -> bool {
+    match record(alloc, text) {
+        Ok(whole) => splittable(alloc, whole.fields(), size) == Err(fault),
+        Err(_) => false,
+    }
 }
 
 #[test]
-fn ids_that_are_no_uuids(rt: HostRuntime) -> Result<(), Fail> {
+fn ids_that_are_no_uuids(rt: HostRuntime) {
     let text = b"WARC/1.1\r\nWARC-Type: resource\r\nWARC-Record-ID: <a:b>\r\nWARC-Date: 2020\r\n\
         WARC-Target-URI: x\r\nWARC-Block-Digest: sha1:VGMT4NSHA2AWVOR6EVYXQUGCNSONBWE6\r\n\
         Content-Length: 3\r\n\r\nabc\r\n\r\n";
-    assert_eq!(rt;
-        refusal_of_text(rt.alloc(), text, 2)?,
-        Some(SplitFault::NotUuid)
-    );
-    assert_eq!(rt;
-        head_refusal(rt.alloc(), text, 2)?,
-        Some(SplitFault::NotUuid)
-    );
-    Ok(())
+    assert!(rt; text_splits_as(rt.alloc(), text, 2, Some(SplitFault::NotUuid)));
+    assert!(rt; head_splits_as(rt.alloc(), text, 2, SplitFault::NotUuid));
 }
 
-/// How many fields the head of a second segment has, and whether its digest is the one of zeros that it is given.
-fn second_head(
-    alloc: Global,
-    whole: &Fields,
-    uuid: &[u8; 16],
-) -> Result<(usize, bool), AllocError> {
+/// Whether the head of a second segment has nine fields, and the digest of zeros that it is given.
+fn has_second_head(alloc: Global, whole: &Fields, uuid: &[u8; 16]) -> bool {
     let part = Part {
         number: 2,
         total: Some(3),
         len: 1,
         digest: [0; 20],
     };
-    let fields = segment_head(alloc, whole, uuid, &part)?;
     let zeros = b"sha1:AAAAAAAAAAAAAAAAAAAAAAAAAAAAAAAA";
-    Ok((fields.len(), is_field(&fields, b"WARC-Block-Digest", zeros)))
+    match segment_head(alloc, whole, uuid, &part) {
+        Ok(fields) => fields.len() == 9 && is_field(&fields, b"WARC-Block-Digest", zeros),
+        Err(_) => false,
+    }
 }
 
-/// What `second_head` says where these fields may be split.
-fn second_head_split(alloc: Global, whole: &Fields) -> Result<(usize, bool), Fail> {
-    let uuid = splittable(alloc, whole, 2)?;
-    Ok(second_head(alloc, whole, &uuid)?)
+/// Whether these fields may be split, and a second segment has such a head then.
+fn heads_second(alloc: Global, whole: &Fields) -> bool {
+    match splittable(alloc, whole, 2) {
+        Ok(uuid) => has_second_head(alloc, whole, &uuid),
+        Err(_) => false,
+    }
 }
 
-/// What `second_head` says of the record of a text.
-fn second_head_of(alloc: Global, text: &[u8]) -> Result<(usize, bool), Fail> {
-    let whole = record(alloc, text)?;
-    second_head_split(alloc, whole.fields())
+/// The same of the fields of a text's record.
+fn text_heads_second(alloc: Global, text: &[u8]) -> bool {
+    match record(alloc, text) {
+        Ok(whole) => heads_second(alloc, whole.fields()),
+        Err(_) => false,
+    }
 }
 
 #[test]
-fn head_of_a_segment_without_a_block(rt: HostRuntime) -> Result<(), Fail> {
-    let (len, has_zeros) = second_head_of(rt.alloc(), ONE)?;
-    assert_eq!(rt; len, 9);
-    assert!(rt; has_zeros);
-    Ok(())
+fn head_of_a_segment_without_a_block(rt: HostRuntime) {
+    assert!(rt; text_heads_second(rt.alloc(), ONE));
 }
 
 /// Whether a part stands in a text.
@@ -443,35 +560,44 @@ fn is_of_1_0(text: &[u8]) -> bool {
     text.starts_with(b"WARC/1.0\r\n") && !stands_in(text, b"WARC/1.1")
 }
 
+/// Whether records are written in version 1.0 throughout.
+fn are_of_1_0(alloc: Global, records: &[Framed]) -> bool {
+    let mut sink = MemSink::new(Vec::new(alloc));
+    render(records, &mut sink).is_ok() && is_of_1_0(sink.bytes())
+}
+
 /// Whether all segments of one byte that a record is split into are of version 1.0.
-fn are_split_of_1_0(alloc: Global, framed: &Framed) -> Result<bool, Fail> {
-    let parts = split(alloc, framed, 1)?;
-    let written = rendered(alloc, &parts)?;
-    Ok(is_of_1_0(&written))
+fn are_split_of_1_0(alloc: Global, framed: &Framed) -> bool {
+    match split(alloc, framed, 1) {
+        Ok(parts) => are_of_1_0(alloc, &parts),
+        Err(_) => false,
+    }
 }
 
 /// Whether a record is written so once it is converted.
-fn is_converted_to(alloc: Global, framed: &Framed, text: &[u8]) -> Result<bool, Fail> {
-    let converted = convert(alloc, framed)?;
-    is_written(alloc, from_ref(&converted), text)
+fn is_converted_to(alloc: Global, framed: &Framed, text: &[u8]) -> bool {
+    match convert(alloc, framed) {
+        Ok(converted) => is_written(alloc, from_ref(&converted), text),
+        Err(_) => false,
+    }
 }
 
 /// Whether the record of a text is written as it stands.
-fn is_kept(alloc: Global, text: &[u8]) -> Result<bool, Fail> {
-    let framed = record(alloc, text)?;
-    is_written(alloc, from_ref(&framed), text)
+fn is_kept(alloc: Global, text: &[u8]) -> bool {
+    match record(alloc, text) {
+        Ok(framed) => is_written(alloc, from_ref(&framed), text),
+        Err(_) => false,
+    }
 }
 
-/// Whether the record of a text is split into segments of version 1.0.
-fn splits_at_1_0(alloc: Global, text: &[u8]) -> Result<bool, Fail> {
-    let framed = record(alloc, text)?;
-    are_split_of_1_0(alloc, &framed)
-}
-
-/// Whether the record of a text is written so once it is converted.
-fn converts_to(alloc: Global, text: &[u8], want: &[u8]) -> Result<bool, Fail> {
-    let framed = record(alloc, text)?;
-    is_converted_to(alloc, &framed, want)
+/// Whether the record of a text is split into segments of version 1.0, and is written so once it is converted.
+fn keeps_and_leaves_1_0(alloc: Global, text: &[u8], converted: &[u8]) -> bool {
+    match record(alloc, text) {
+        Ok(framed) => {
+            are_split_of_1_0(alloc, &framed) && is_converted_to(alloc, &framed, converted)
+        }
+        Err(_) => false,
+    }
 }
 
 /// The text of a record of that version and target.
@@ -488,29 +614,36 @@ fn text_of(
     row.text(alloc)
 }
 
-#[test]
-fn version_1_0(rt: HostRuntime) -> Result<(), Fail> {
-    for (old, new) in [
-        ("<http://a.example/x>", "http://a.example/x"),
-        ("<<x>>", "<<x>>"),
-        ("x", "x"),
-    ] {
-        let text = text_of(rt.alloc(), "1.0", old)?;
-        assert!(rt; is_kept(rt.alloc(), &text)?);
-        assert!(rt; splits_at_1_0(rt.alloc(), &text)?);
-        let want = text_of(rt.alloc(), "1.1", new)?;
-        assert!(rt; converts_to(rt.alloc(), &text, &want)?);
+/// Targets of version 1.0, and what they are in version 1.1.
+const TARGETS: &[(&str, &str)] = &[
+    ("<http://a.example/x>", "http://a.example/x"),
+    ("<<x>>", "<<x>>"),
+    ("x", "x"),
+];
+
+/// Whether a record of version 1.0 is kept and split so, and converted to one of version 1.1 with the other target.
+fn moves_to(alloc: Global, old: &'static str, new: &'static str) -> bool {
+    match (text_of(alloc, "1.0", old), text_of(alloc, "1.1", new)) {
+        (Ok(text), Ok(converted)) => {
+            is_kept(alloc, &text) && keeps_and_leaves_1_0(alloc, &text, &converted)
+        }
+        _ => false,
     }
-    Ok(())
 }
 
 #[test]
-fn names_keep_their_case(rt: HostRuntime) -> Result<(), Fail> {
+fn version_1_0(rt: HostRuntime) {
+    for (old, new) in TARGETS {
+        assert!(rt; moves_to(rt.alloc(), old, new), "{old}");
+    }
+}
+
+#[test]
+fn names_keep_their_case(rt: HostRuntime) {
     let text =
         b"WARC/1.1\r\nwarc-TYPE: resource\r\nX-y: \r\nContent-LENGTH: 003\r\n\r\nabc\r\n\r\n";
-    assert!(rt; is_kept(rt.alloc(), text)?);
-    assert_eq!(rt; rendered::<Global>(rt.alloc(), &[])?.len(), 0);
-    Ok(())
+    assert!(rt; is_kept(rt.alloc(), text));
+    assert!(rt; is_written::<Global>(rt.alloc(), &[], b""));
 }
 
 /// How the writing of records is refused where the first request of memory is.
@@ -520,40 +653,51 @@ fn render_fault(alloc: Global, records: &[Framed]) -> Option<OutFault> {
     render(records, &mut sink).err()
 }
 
-/// How the writing of the record of a text is refused so.
-fn render_fault_of(alloc: Global, text: &[u8]) -> Result<Option<OutFault>, Fail> {
-    let framed = record(alloc, text)?;
-    Ok(render_fault(alloc, from_ref(&framed)))
+/// Whether the writing of the record of a text is refused so, with this fault.
+fn is_unwritten(alloc: Global, text: &[u8], fault: OutFault) -> bool {
+    match record(alloc, text) {
+        Ok(framed) => render_fault(alloc, from_ref(&framed)) == Some(fault),
+        Err(_) => false,
+    }
 }
 
 #[test]
-fn refused_writes(rt: HostRuntime) -> Result<(), Fail> {
-    let fault = render_fault_of(rt.alloc(), ONE)?;
-    assert_eq!(rt; fault, Some(OutFault::Write(0)));
-    Ok(())
+fn refused_writes(rt: HostRuntime) {
+    assert!(rt; is_unwritten(rt.alloc(), ONE, OutFault::Write(0)));
+}
+
+const MAKE_FAULTS: &[(MakeFault, &str)] = &[
+    (MakeFault::Date, "M1 Date"),
+    (MakeFault::Text, "M2 Text"),
+    (MakeFault::TooLong, "M3 TooLong"),
+    (MakeFault::Memory, "M4 Memory"),
+    (MakeFault::Kind, "M5 Kind"),
+];
+
+const SPLIT_FAULTS: &[(SplitFault, &str)] = &[
+    (SplitFault::NotUuid, "S1 NotUuid"),
+    (SplitFault::AlreadySegmented, "S2 AlreadySegmented"),
+    (SplitFault::Kind, "S3 Kind"),
+    (SplitFault::Size, "S4 Size"),
+    (SplitFault::Memory, "S5 Memory"),
+    (SplitFault::TooLong, "S6 TooLong"),
+    (SplitFault::BadDigest, "S7 BadDigest"),
+];
+
+/// Whether a fault shows itself so.
+fn shows<F: Display + Drop>(alloc: Global, fault: F, text: &str) -> bool {
+    match fault.to_string(alloc) {
+        Ok(shown) => shown.as_str() == text,
+        Err(_) => false,
+    }
 }
 
 #[test]
-fn texts_of_refusals(rt: HostRuntime) -> Result<(), Fail> {
-    for (fault, text) in [
-        (MakeFault::Date, "M1 Date"),
-        (MakeFault::Text, "M2 Text"),
-        (MakeFault::TooLong, "M3 TooLong"),
-        (MakeFault::Memory, "M4 Memory"),
-        (MakeFault::Kind, "M5 Kind"),
-    ] {
-        assert_eq!(rt; format!(in rt.alloc(); "{fault}")?.as_str(), text);
+fn texts_of_refusals(rt: HostRuntime) {
+    for (fault, text) in MAKE_FAULTS {
+        assert!(rt; shows(rt.alloc(), *fault, text), "{text}");
     }
-    for (fault, text) in [
-        (SplitFault::NotUuid, "S1 NotUuid"),
-        (SplitFault::AlreadySegmented, "S2 AlreadySegmented"),
-        (SplitFault::Kind, "S3 Kind"),
-        (SplitFault::Size, "S4 Size"),
-        (SplitFault::Memory, "S5 Memory"),
-        (SplitFault::TooLong, "S6 TooLong"),
-        (SplitFault::BadDigest, "S7 BadDigest"),
-    ] {
-        assert_eq!(rt; format!(in rt.alloc(); "{fault}")?.as_str(), text);
+    for (fault, text) in SPLIT_FAULTS {
+        assert!(rt; shows(rt.alloc(), *fault, text), "{text}");
     }
-    Ok(())
 }
