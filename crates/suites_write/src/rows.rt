@@ -102,147 +102,143 @@ fn made_record(rt: HostRuntime) {
     assert_eq!(rt; ONE.len(), 278);
 }
 
-/// The kinds, and how `make` refuses them.
-const KINDS: &[(Kind, Option<MakeFault>)] = &[
-    (Kind::Resource, None),
-    (Kind::Metadata, None),
-    (Kind::Conversion, None),
-    (Kind::Warcinfo, Some(MakeFault::Kind)),
-    (Kind::Response, Some(MakeFault::Kind)),
-    (Kind::Request, Some(MakeFault::Kind)),
-    (Kind::Revisit, Some(MakeFault::Kind)),
-    (Kind::Continuation, Some(MakeFault::Kind)),
-    (Kind::Other, Some(MakeFault::Kind)),
+/// The kinds, what they are called, and how `make` refuses them.
+const KINDS: &[(&str, Kind, Option<MakeFault>)] = &[
+    ("resource", Kind::Resource, None),
+    ("metadata", Kind::Metadata, None),
+    ("conversion", Kind::Conversion, None),
+    ("warcinfo", Kind::Warcinfo, Some(MakeFault::Kind)),
+    ("response", Kind::Response, Some(MakeFault::Kind)),
+    ("request", Kind::Request, Some(MakeFault::Kind)),
+    ("revisit", Kind::Revisit, Some(MakeFault::Kind)),
+    ("continuation", Kind::Continuation, Some(MakeFault::Kind)),
+    ("other", Kind::Other, Some(MakeFault::Kind)),
 ];
+
+/// Whether `make` refuses a kind so.
+fn makes_kind_as(alloc: Global, kind: Kind, fault: Option<MakeFault>) -> bool {
+    refusal(alloc, kind, TARGET, DATE, UUID, TYPE) == fault
+}
 
 #[test]
 fn kinds_that_are_made(rt: HostRuntime) {
-    for (kind, fault) in KINDS {
-        assert_eq!(rt;
-            refusal(rt.alloc(), *kind, TARGET, DATE, UUID, TYPE),
-            *fault
-        );
+    for (name, kind, fault) in KINDS {
+        assert!(rt; makes_kind_as(rt.alloc(), *kind, *fault), "{name}");
     }
 }
 
-/// What texts are called, a kind, a target, a date, a UUID and a content type, and how `make` refuses them.
-type Texts = (
-    &'static str,
-    Kind,
-    &'static [u8],
-    &'static [u8],
-    &'static [u8],
-    &'static [u8],
-    Option<MakeFault>,
-);
+/// What `make` is given beside the block, what is odd about it, and how it is refused.
+struct Draft {
+    name: &'static str,
+    kind: Kind,
+    uri: &'static [u8],
+    date: &'static [u8],
+    uuid: &'static [u8],
+    content_type: &'static [u8],
+    fault: Option<MakeFault>,
+}
 
-const TEXTS: &[Texts] = &[
-    (
-        "the kind comes first",
-        Kind::Response,
-        b"<x>",
-        b"x",
-        b"x",
-        b"",
-        Some(MakeFault::Kind),
-    ),
-    (
-        "the date comes next",
-        Kind::Resource,
-        b"<x>",
-        b"x",
-        b"x",
-        b"",
-        Some(MakeFault::Date),
-    ),
-    (
-        "a date that is none",
-        Kind::Resource,
-        TARGET,
-        b"2021-02-29",
-        UUID,
-        TYPE,
-        Some(MakeFault::Date),
-    ),
-    (
-        "a target in brackets",
-        Kind::Resource,
-        b"<x>",
-        DATE,
-        UUID,
-        TYPE,
-        Some(MakeFault::Text),
-    ),
-    (
-        "an empty target",
-        Kind::Resource,
-        b"",
-        DATE,
-        UUID,
-        TYPE,
-        Some(MakeFault::Text),
-    ),
-    (
-        "a target behind a space",
-        Kind::Resource,
-        b" x",
-        DATE,
-        UUID,
-        TYPE,
-        Some(MakeFault::Text),
-    ),
-    (
-        "a target of two lines",
-        Kind::Resource,
-        b"a\nb",
-        DATE,
-        UUID,
-        TYPE,
-        Some(MakeFault::Text),
-    ),
-    (
-        "a short UUID",
-        Kind::Resource,
-        TARGET,
-        DATE,
-        b"0000",
-        TYPE,
-        Some(MakeFault::Text),
-    ),
-    (
-        "an empty type",
-        Kind::Resource,
-        TARGET,
-        DATE,
-        UUID,
-        b"",
-        Some(MakeFault::Text),
-    ),
-    (
-        "a type with an end of a line",
-        Kind::Resource,
-        TARGET,
-        DATE,
-        UUID,
-        b"text/plain\r\n",
-        Some(MakeFault::Text),
-    ),
-    (
-        "two pairs of brackets are no pair",
-        Kind::Resource,
-        b"<<x>>",
-        DATE,
-        UUID,
-        TYPE,
-        None,
-    ),
+/// Two pairs of brackets are no pair.
+const MADE: Draft = Draft {
+    name: "two pairs of brackets",
+    kind: Kind::Resource,
+    uri: b"<<x>>",
+    date: DATE,
+    uuid: UUID,
+    content_type: TYPE,
+    fault: None,
+};
+
+const BAD_TEXT: Draft = Draft {
+    fault: Some(MakeFault::Text),
+    ..MADE
+};
+
+const DRAFTS: &[Draft] = &[
+    MADE,
+    Draft {
+        name: "nothing good: the kind comes first",
+        kind: Kind::Response,
+        uri: b"<x>",
+        date: b"x",
+        uuid: b"x",
+        content_type: b"",
+        fault: Some(MakeFault::Kind),
+    },
+    Draft {
+        name: "nothing good but the kind: the date comes next",
+        kind: Kind::Resource,
+        uri: b"<x>",
+        date: b"x",
+        uuid: b"x",
+        content_type: b"",
+        fault: Some(MakeFault::Date),
+    },
+    Draft {
+        name: "a day that its year lacks",
+        uri: TARGET,
+        date: b"2021-02-29",
+        fault: Some(MakeFault::Date),
+        ..MADE
+    },
+    Draft {
+        name: "a target in brackets",
+        uri: b"<x>",
+        ..BAD_TEXT
+    },
+    Draft {
+        name: "no target",
+        uri: b"",
+        ..BAD_TEXT
+    },
+    Draft {
+        name: "a target behind a space",
+        uri: b" x",
+        ..BAD_TEXT
+    },
+    Draft {
+        name: "a target in two lines",
+        uri: b"a\nb",
+        ..BAD_TEXT
+    },
+    Draft {
+        name: "a short UUID",
+        uri: TARGET,
+        uuid: b"0000",
+        ..BAD_TEXT
+    },
+    Draft {
+        name: "no type",
+        uri: TARGET,
+        content_type: b"",
+        ..BAD_TEXT
+    },
+    Draft {
+        name: "a type with an end of a line",
+        uri: TARGET,
+        content_type: b"text/plain\r\n",
+        ..BAD_TEXT
+    },
 ];
+
+/// Whether `make` refuses a draft as it says.
+fn is_refused(alloc: Global, draft: &Draft) -> bool {
+    let Draft {
+        kind,
+        uri,
+        date,
+        uuid,
+        content_type,
+        fault,
+        ..
+    } = *draft;
+    refusal(alloc, kind, uri, date, uuid, content_type) == fault
+}
 
 #[test]
 fn refused_texts(rt: HostRuntime) {
-    for (name, kind, uri, date, uuid, content_type, fault) in TEXTS {
-        let found = refusal(rt.alloc(), *kind, uri, date, uuid, content_type);
-        assert_eq!(rt; found, *fault, "{name}");
+    for draft in DRAFTS {
+        assert!(rt; is_refused(rt.alloc(), draft), "{}", draft.name);
     }
 }
 
