@@ -1,120 +1,139 @@
 //! Growth where a read or a growth of the memory fails, and then where none does.
 
-use crate::runs::{lengths, refused};
-use std::alloc::{AllocError, Allocator, Global};
-use std::test::Fail;
+use crate::runs::{BOTH, ONE, refused};
+use std::alloc::{Allocator, Global};
 use warc::Archive;
 use warc_frame::{Fault, FaultKind, MemSource, Source};
 use warc_vectors::growing::{FIRST, TWO};
-use warc_vectors::{BrokenSource, RefusingAllocator, archive_text};
+use warc_vectors::{BrokenSource, RefusingAllocator, Row, archive_text};
 
-/// How many records an archive has once it has grown by a source.
+/// Why an archive of the first record doesn't grow by both, if it doesn't, how many records it has then, and how many
+/// once it has grown by both without a failure, if it has.
+type Outcome = (Option<Fault>, usize, Option<usize>);
+
+/// How many records an archive has once it has grown by a source, if it grows.
 fn count_grown<S: Source + Drop, A: Allocator + Copy>(
     archive: &mut Archive<S, A>,
     source: S,
-) -> Result<usize, Fail> {
+) -> Option<usize> {
     match refused(archive, source) {
-        None => Ok(archive.count()),
-        Some(fault) => Err(fault.into()),
+        None => Some(archive.count()),
+        Some(_) => None,
     }
 }
 
-/// Why an archive doesn't grow by a source, if it doesn't, and how many records there are then, and once it has grown,
-/// else by another.
+/// What comes of growth by a source, and then by another.
 fn grown_twice<S: Source + Drop, A: Allocator + Copy>(
     archive: &mut Archive<S, A>,
     source: S,
     again: S,
-) -> Result<(Option<Fault>, usize, usize), Fail> {
+) -> Outcome {
     let fault = refused(archive, source);
     let count = archive.count();
-    let later = if fault.is_some() {
-        count_grown(archive, again)?
-    } else {
-        count
-    };
-    Ok((fault, count, later))
+    (fault, count, count_grown(archive, again))
 }
 
-/// The same where the read of a number fails, each being of one byte.
-fn unread(alloc: Global, number: u64) -> Result<(Option<Fault>, usize, usize), Fail> {
-    let old = archive_text(alloc, &[FIRST])?;
-    let new = archive_text(alloc, TWO)?;
-    let again = BrokenSource::new(new.clone()?, 1, 0);
-    match Archive::open(alloc, BrokenSource::new(old, 1, 0)) {
-        Ok(mut archive) => grown_twice(&mut archive, BrokenSource::new(new, 1, number), again),
-        Err((fault, _source)) => Err(fault.into()),
+/// A source of records, read one byte at a time, of which the read of a number fails; at 0 none does.
+fn broken(alloc: Global, rows: &[Row<'_>], number: u64) -> Option<BrokenSource> {
+    match archive_text(alloc, rows) {
+        Ok(bytes) => Some(BrokenSource::new(bytes, 1, number)),
+        Err(_) => None,
+    }
+}
+
+/// What comes of growth where the read of a number fails.
+fn grown_unread(
+    alloc: Global,
+    archive: &mut Archive<BrokenSource>,
+    number: u64,
+) -> Option<Outcome> {
+    match (broken(alloc, TWO, number), broken(alloc, TWO, 0)) {
+        (Some(source), Some(again)) => Some(grown_twice(archive, source, again)),
+        _ => None,
+    }
+}
+
+/// An archive of the first record.
+fn opened(alloc: Global) -> Option<Archive<BrokenSource>> {
+    match Archive::open(alloc, broken(alloc, &[FIRST], 0)?) {
+        Ok(archive) => Some(archive),
+        Err(_) => None,
+    }
+}
+
+/// What comes of its growth where the read of a number fails.
+fn unread(alloc: Global, number: u64) -> Option<Outcome> {
+    match opened(alloc) {
+        Some(mut archive) => grown_unread(alloc, &mut archive, number),
+        None => None,
     }
 }
 
 #[test]
-fn each_read_fails_in_turn(rt: HostRuntime) -> Result<(), Fail> {
-    let alloc = rt.alloc();
-    let (one, both) = lengths(alloc)?;
-    for at in one..=both {
-        let number = at.saturating_sub(one).saturating_add(1);
+fn each_read_fails_in_turn(rt: HostRuntime) {
+    for at in ONE..=BOTH {
+        let number = at.saturating_sub(ONE).saturating_add(1) as u64;
         let fault = Fault {
             kind: FaultKind::Read,
             offset: at as u64,
         };
-        assert_eq!(rt; unread(alloc, number as u64)?, (Some(fault), 1, 2));
+        assert_eq!(rt; unread(rt.alloc(), number), Some((Some(fault), 1, Some(2))));
     }
-    let number = both.saturating_sub(one).saturating_add(2);
-    assert_eq!(rt; unread(alloc, number as u64)?, (None, 2, 2));
-    Ok(())
+    let number = (BOTH - ONE + 2) as u64;
+    assert_eq!(rt; unread(rt.alloc(), number), Some((None, 2, Some(2))));
 }
 
-/// A source of both records.
-fn both(alloc: Global) -> Result<MemSource, AllocError> {
-    Ok(MemSource::new(archive_text(alloc, TWO)?, usize::MAX))
+/// A source of records.
+fn source(alloc: Global, rows: &[Row<'_>]) -> Option<MemSource> {
+    match archive_text(alloc, rows) {
+        Ok(bytes) => Some(MemSource::new(bytes, usize::MAX)),
+        Err(_) => None,
+    }
 }
 
-/// The same of an archive of the first record, which grows by both.
+/// What comes of the growth of an archive.
 fn regrown<A: Allocator + Copy>(
     alloc: Global,
     archive: &mut Archive<MemSource, A>,
-) -> Result<Option<(Option<Fault>, usize, usize)>, Fail> {
-    let source = both(alloc)?;
-    let again = both(alloc)?;
-    Ok(Some(grown_twice(archive, source, again)?))
-}
-
-/// The same where the archive has memory of its own. `None` where it wasn't opened for want of it.
-fn grown_on<A: Allocator + Copy>(
-    alloc: Global,
-    heap: A,
-) -> Result<Option<(Option<Fault>, usize, usize)>, Fail> {
-    let old = archive_text(alloc, &[FIRST])?;
-    match Archive::open(heap, MemSource::new(old, usize::MAX)) {
-        Ok(mut archive) => regrown(alloc, &mut archive),
-        Err(_) => Ok(None),
+) -> Option<Outcome> {
+    match (source(alloc, TWO), source(alloc, TWO)) {
+        (Some(first), Some(again)) => Some(grown_twice(archive, first, again)),
+        _ => None,
     }
 }
 
-/// The same where a request for memory is refused, by its number; and whether it came. `None` where the archive wasn't
-/// opened for it.
-fn unkept(alloc: Global, number: u64) -> Result<Option<(Option<Fault>, usize, usize)>, Fail> {
+/// What comes of growth where the archive has memory of its own. `None` where it wasn't opened for want of it.
+fn grown_on<A: Allocator + Copy>(alloc: Global, heap: A) -> Option<Outcome> {
+    match Archive::open(heap, source(alloc, &[FIRST])?) {
+        Ok(mut archive) => regrown(alloc, &mut archive),
+        Err(_) => None,
+    }
+}
+
+/// The same where a request for memory is refused, by its number.
+fn unkept(alloc: Global, number: u64) -> Option<Outcome> {
     let heap = RefusingAllocator::new(alloc, number);
     grown_on(alloc, &heap)
 }
 
-#[test]
-fn each_request_is_refused_in_turn(rt: HostRuntime) -> Result<(), Fail> {
-    let alloc = rt.alloc();
+/// How many requests of growth are refused in turn until none is, where each is answered as it has to be.
+fn refusals(alloc: Global) -> Option<u32> {
     let mut refusals = 0u32;
     for number in 1..1000u64 {
-        match unkept(alloc, number)? {
+        match unkept(alloc, number) {
             None => {}
-            Some((None, count, _)) => {
-                assert_eq!(rt; count, 2);
-                break;
-            }
-            Some((Some(fault), count, later)) => {
-                assert_eq!(rt; (fault.kind, count, later), (FaultKind::Memory, 1, 2));
+            Some((None, 2, _)) => return Some(refusals),
+            Some((Some(fault), 1, Some(2))) if fault.kind == FaultKind::Memory => {
                 refusals = refusals.saturating_add(1);
             }
+            Some(_) => return None,
         }
     }
-    assert!(rt; refusals > 5, "{refusals}");
-    Ok(())
+    None
+}
+
+#[test]
+fn each_request_is_refused_in_turn(rt: HostRuntime) {
+    let refusals = refusals(rt.alloc());
+    assert!(rt; refusals > Some(5), "{refusals:?}");
 }

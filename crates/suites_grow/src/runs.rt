@@ -1,13 +1,17 @@
 //! Archives in memory that grow, read one byte at a time.
 
 use std::alloc::{AllocError, Allocator, Global};
-use std::test::Fail;
 use warc::Archive;
 use warc_answer::ReplayFault;
 use warc_frame::{Fault, MemSink, MemSource, Source};
 use warc_value::read_date;
-use warc_vectors::growing::{FIRST, TWO};
 use warc_vectors::{Row, archive_text};
+
+/// How many bytes the first record has.
+pub(crate) const ONE: usize = 220;
+
+/// How many bytes both records have.
+pub(crate) const BOTH: usize = 441;
 
 /// These bytes, read one at a time.
 pub(crate) fn source_of(alloc: Global, bytes: &[u8]) -> Result<MemSource, AllocError> {
@@ -15,17 +19,19 @@ pub(crate) fn source_of(alloc: Global, bytes: &[u8]) -> Result<MemSource, AllocE
 }
 
 /// An archive of a source.
-pub(crate) fn opened(alloc: Global, source: MemSource) -> Result<Archive<MemSource>, Fault> {
+fn opened(alloc: Global, source: MemSource) -> Option<Archive<MemSource>> {
     match Archive::open(alloc, source) {
-        Ok(archive) => Ok(archive),
-        Err((fault, _source)) => Err(fault),
+        Ok(archive) => Some(archive),
+        Err(_) => None,
     }
 }
 
 /// An archive of these records.
-pub(crate) fn archive_of(alloc: Global, rows: &[Row<'_>]) -> Result<Archive<MemSource>, Fail> {
-    let source = MemSource::new(archive_text(alloc, rows)?, 1);
-    Ok(opened(alloc, source)?)
+pub(crate) fn archive_of(alloc: Global, rows: &[Row<'_>]) -> Option<Archive<MemSource>> {
+    match archive_text(alloc, rows) {
+        Ok(bytes) => opened(alloc, MemSource::new(bytes, 1)),
+        Err(_) => None,
+    }
 }
 
 /// Why an archive doesn't grow by a source, if it doesn't.
@@ -39,6 +45,14 @@ pub(crate) fn refused<S: Source + Drop, A: Allocator + Copy>(
     }
 }
 
+/// Whether an archive grows to these bytes.
+pub(crate) fn grows_to(alloc: Global, archive: &mut Archive<MemSource>, bytes: &[u8]) -> bool {
+    match source_of(alloc, bytes) {
+        Ok(source) => refused(archive, source).is_none(),
+        Err(_) => false,
+    }
+}
+
 /// Whether a replay of a URI as of 2022 writes these bytes, and ends without an answer for this fault, if for one.
 pub(crate) fn gives(
     alloc: Global,
@@ -46,16 +60,11 @@ pub(crate) fn gives(
     uri: &str,
     body: &[u8],
     fault: Option<ReplayFault>,
-) -> Result<bool, Fail> {
-    let moment = read_date(b"2022").ok_or("a date")?;
+) -> bool {
+    let Some(moment) = read_date(b"2022") else {
+        return false;
+    };
     let mut out = MemSink::new(Vec::new(alloc));
     let told = archive.replay(uri.as_bytes(), &moment, &mut out).err();
-    Ok(told == fault && out.bytes() == body)
-}
-
-/// How many bytes the first record has, and both.
-pub(crate) fn lengths(alloc: Global) -> Result<(usize, usize), Fail> {
-    let one = archive_text(alloc, &[FIRST])?.len();
-    let both = archive_text(alloc, TWO)?.len();
-    Ok((one, both))
+    told == fault && out.bytes() == body
 }
