@@ -1,10 +1,9 @@
 //! Every archive of the suites that opens, by table, but for those that are made as texts.
 
 use crate::rows::Row;
-use crate::worked::{ONE_RESOURCE, ONE_RESOURCE_SPLIT};
+use crate::worked::{ONE_RESOURCE, ONE_RESOURCE_SPLIT, Unmade};
 use crate::{captures, checked, growing, listed, moving, responses, revisits, segments, unsplit};
 use std::alloc::Global;
-use std::test::Fail;
 
 /// The records of an archive, and what a suite expects of it, or its name.
 pub type Case = (&'static [Row<'static>], &'static str);
@@ -63,26 +62,26 @@ pub const TEXTS: usize = 18;
 pub const TEXT_ROWS: &[Row<'static>] = &[ONE_RESOURCE, checked::WARCINFO, listed::UNKNOWN];
 
 /// The archive with a number below that, made as a text.
-pub fn text_archive(alloc: Global, number: usize) -> Result<Vec<u8>, Fail> {
-    match number {
-        0 => responses::with_bytes(alloc, 65_512),
-        1 => responses::with_bytes(alloc, 65_513),
-        2 => responses::with_lines(alloc, 256),
-        3 => responses::with_lines(alloc, 257),
-        4 => checked::long_resource(alloc, b'x'),
-        5 => checked::long_resource(alloc, b'y'),
-        6 => checked::bare_id(alloc),
-        7 => checked::both_ids(alloc),
-        8 => checked::many(alloc, 400),
-        9 => listed::folded(alloc),
-        10 => listed::both_versions(alloc),
-        11 => listed::named(alloc),
-        12 => listed::named_in_blanks(alloc),
-        13 => listed::nested(alloc),
-        14 => listed::with_long_block(alloc),
-        15 => Ok(ONE_RESOURCE_SPLIT.to_vec(alloc)?),
-        16 => unsplit::with_head(alloc, 65_455),
-        17 => unsplit::with_head(alloc, 65_536),
-        _ => Err("no such archive".into()),
-    }
+pub fn text_archive(alloc: Global, number: usize) -> Result<Vec<u8>, Unmade> {
+    Ok(match number {
+        0 => responses::with_bytes(alloc, 65_512)?,
+        1 => responses::with_bytes(alloc, 65_513)?,
+        2 => responses::with_lines(alloc, 256)?,
+        3 => responses::with_lines(alloc, 257)?,
+        4 => checked::long_resource(alloc, b'x')?,
+        5 => checked::long_resource(alloc, b'y')?,
+        6 => checked::bare_id(alloc)?,
+        7 => checked::both_ids(alloc)?,
+        8 => checked::many(alloc, 400)?,
+        9 => listed::folded(alloc)?,
+        10 => listed::both_versions(alloc)?,
+        11 => listed::named(alloc)?,
+        12 => listed::named_in_blanks(alloc)?,
+        13 => listed::nested(alloc)?,
+        14 => listed::with_long_block(alloc)?,
+        15 => ONE_RESOURCE_SPLIT.to_vec(alloc)?,
+        16 => unsplit::with_head(alloc, 65_455)?,
+        17 => unsplit::with_head(alloc, 65_536)?,
+        _ => return Err(Unmade::Absent),
+    })
 }

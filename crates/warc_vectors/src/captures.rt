@@ -17,11 +17,14 @@ pub const PLAIN: Row<'static> = Row {
 };
 
 /// An HTTP response of 33 bytes, of which its head has 30.
+pub const MESSAGE: &[u8] = b"HTTP/1.1 200 OK\r\nServer: a\r\n\r\nabc";
+
+/// A record of it.
 pub const RESPONSE: Row<'static> = Row {
     kind: "response",
     number: 'a',
     extras: &["Content-Type: application/http; msgtype=response"],
-    block: b"HTTP/1.1 200 OK\r\nServer: a\r\n\r\nabc",
+    block: MESSAGE,
     ..ONE_RESOURCE
 };
 
@@ -34,14 +37,17 @@ pub const NO_BYTES: &[Row<'static>] = &[Row {
     ..PLAIN
 }];
 
-/// A resource whose block is a record of another target.
+/// A record of another target.
+pub const INNER: &[u8] = b"WARC/1.1\r\n\
+    WARC-Type: resource\r\n\
+    WARC-Record-ID: <urn:uuid:00000000-0000-4000-8000-000000000002>\r\n\
+    WARC-Date: 2021\r\n\
+    WARC-Target-URI: http://b.example/\r\n\
+    Content-Length: 3\r\n\r\nabc\r\n\r\n";
+
+/// A resource whose block is that record.
 pub const WITH_ARCHIVE: &[Row<'static>] = &[Row {
-    block: b"WARC/1.1\r\n\
-             WARC-Type: resource\r\n\
-             WARC-Record-ID: <urn:uuid:00000000-0000-4000-8000-000000000002>\r\n\
-             WARC-Date: 2021\r\n\
-             WARC-Target-URI: http://b.example/\r\n\
-             Content-Length: 3\r\n\r\nabc\r\n\r\n",
+    block: INNER,
     ..PLAIN
 }];
 

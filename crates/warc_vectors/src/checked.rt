@@ -2,9 +2,8 @@
 
 use crate::archives::Case;
 use crate::rows::Row;
-use crate::worked::{ONE_RESOURCE, changed};
-use std::alloc::Global;
-use std::test::Fail;
+use crate::worked::{ONE_RESOURCE, Unmade, changed};
+use std::alloc::{AllocError, Global};
 
 /// A record with two findings of its own: a target that it may not have, and no content type.
 pub const WARCINFO: Row<'static> = Row {
@@ -224,7 +223,7 @@ pub const OTHER_KINDS: &[Case] = &[
 ];
 
 /// A resource of 100,000 bytes, all but the last of which are `x`. Its digest, by Python's `hashlib`, is of `x` alone.
-pub fn long_resource(alloc: Global, last: u8) -> Result<Vec<u8>, Fail> {
+pub fn long_resource(alloc: Global, last: u8) -> Result<Vec<u8>, AllocError> {
     let mut block = Vec::from_elem(alloc, b'x', 99_999)?;
     block.push(last)?;
     let row = Row {
@@ -236,11 +235,11 @@ pub fn long_resource(alloc: Global, last: u8) -> Result<Vec<u8>, Fail> {
         block: &block,
         ..ONE_RESOURCE
     };
-    Ok(row.text(alloc)?)
+    row.text(alloc)
 }
 
 /// The one resource record, its id without brackets and its scheme in capitals.
-pub fn bare_id(alloc: Global) -> Result<Vec<u8>, Fail> {
+pub fn bare_id(alloc: Global) -> Result<Vec<u8>, Unmade> {
     changed(
         alloc,
         &ONE_RESOURCE.text(alloc)?,
@@ -250,14 +249,14 @@ pub fn bare_id(alloc: Global) -> Result<Vec<u8>, Fail> {
 }
 
 /// The one resource record, and the same one with a bare id.
-pub fn both_ids(alloc: Global) -> Result<Vec<u8>, Fail> {
+pub fn both_ids(alloc: Global) -> Result<Vec<u8>, Unmade> {
     let mut text = ONE_RESOURCE.text(alloc)?;
     text.extend_from_slice(&bare_id(alloc)?)?;
     Ok(text)
 }
 
 /// So many records of one id.
-pub fn many(alloc: Global, count: usize) -> Result<Vec<u8>, Fail> {
+pub fn many(alloc: Global, count: usize) -> Result<Vec<u8>, AllocError> {
     let mut text = Vec::new(alloc);
     for _ in 0..count {
         text.extend_from_slice(&WARCINFO.text(alloc)?)?;

@@ -22,4 +22,4 @@ pub use broken::{Break, BrokenSource, BrokenWriter, ChangingSource};
 pub use changes::CHANGES;
 pub use refusing::RefusingAllocator;
 pub use rows::{Row, archive_text};
-pub use worked::{ONE_RESOURCE, ONE_RESOURCE_LINE, ONE_RESOURCE_SPLIT, changed, folded};
+pub use worked::{ONE_RESOURCE, ONE_RESOURCE_LINE, ONE_RESOURCE_SPLIT, Unmade, changed, folded};

@@ -3,9 +3,8 @@
 use crate::archives::Case;
 use crate::captures::OLDER;
 use crate::rows::Row;
-use crate::worked::{ONE_RESOURCE, changed};
-use std::alloc::Global;
-use std::test::Fail;
+use crate::worked::{self, ONE_RESOURCE, Unmade, changed};
+use std::alloc::{AllocError, Global};
 
 /// Dates that are accepted, each on a record of its own.
 pub const DATES: &[Case] = &[
@@ -129,26 +128,19 @@ pub const SPELLINGS: [(&str, &str); 5] = [
 ];
 
 /// The one resource record with a folded target and no blank before its length.
-pub fn folded(alloc: Global) -> Result<Vec<u8>, Fail> {
-    let target = "WARC-Target-URI: http://a.example/x";
-    let text = changed(
-        alloc,
-        &ONE_RESOURCE.text(alloc)?,
-        target,
-        "WARC-Target-URI:\r\n \thttp://a.example/x",
-    )?;
-    changed(alloc, &text, "Content-Length: 3", "Content-Length:3")
+pub fn folded(alloc: Global) -> Result<Vec<u8>, Unmade> {
+    worked::folded(alloc, &ONE_RESOURCE.text(alloc)?)
 }
 
 /// A folded record of WARC 1.1, and one of WARC 1.0.
-pub fn both_versions(alloc: Global) -> Result<Vec<u8>, Fail> {
+pub fn both_versions(alloc: Global) -> Result<Vec<u8>, Unmade> {
     let mut text = folded(alloc)?;
     text.extend_from_slice(&OLDER.text(alloc)?)?;
     Ok(text)
 }
 
 /// The record with many names, whose block is a folded record.
-pub fn named(alloc: Global) -> Result<Vec<u8>, Fail> {
+pub fn named(alloc: Global) -> Result<Vec<u8>, Unmade> {
     let block = folded(alloc)?;
     let row = Row {
         block: &block,
@@ -158,22 +150,22 @@ pub fn named(alloc: Global) -> Result<Vec<u8>, Fail> {
 }
 
 /// The same with blanks about a value.
-pub fn named_in_blanks(alloc: Global) -> Result<Vec<u8>, Fail> {
+pub fn named_in_blanks(alloc: Global) -> Result<Vec<u8>, Unmade> {
     changed(alloc, &named(alloc)?, "x-Name: a  b", "x-Name:\ta  b \t")
 }
 
 /// A record of an unknown kind whose block is the one resource record.
-pub fn nested(alloc: Global) -> Result<Vec<u8>, Fail> {
+pub fn nested(alloc: Global) -> Result<Vec<u8>, AllocError> {
     let block = ONE_RESOURCE.text(alloc)?;
     let row = Row {
         block: &block,
         ..UNKNOWN
     };
-    Ok(row.text(alloc)?)
+    row.text(alloc)
 }
 
 /// A resource of 150,000 bytes, and the one resource record.
-pub fn with_long_block(alloc: Global) -> Result<Vec<u8>, Fail> {
+pub fn with_long_block(alloc: Global) -> Result<Vec<u8>, AllocError> {
     let mut block = Vec::new(alloc);
     for number in 0..150_000u32 {
         block.push((number % 251) as u8)?;

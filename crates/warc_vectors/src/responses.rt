@@ -3,8 +3,7 @@
 use crate::archives::Case;
 use crate::captures::RESPONSE;
 use crate::rows::Row;
-use std::alloc::Global;
-use std::test::Fail;
+use std::alloc::{AllocError, Global};
 
 const GIVEN: &str = "chosen 0 given 0 status 200 truncated no";
 
@@ -92,7 +91,7 @@ pub const RESPONSES: &[Case] = &[
 ];
 
 /// A response with so many bytes more than 24 in its head, and the body `abc`.
-pub fn with_bytes(alloc: Global, count: usize) -> Result<Vec<u8>, Fail> {
+pub fn with_bytes(alloc: Global, count: usize) -> Result<Vec<u8>, AllocError> {
     let mut block = b"HTTP/1.1 200 OK\r\nX: ".to_vec(alloc)?;
     for _ in 0..count {
         block.push(b'a')?;
@@ -102,7 +101,7 @@ pub fn with_bytes(alloc: Global, count: usize) -> Result<Vec<u8>, Fail> {
 }
 
 /// A response with so many field lines, and the body `abc`.
-pub fn with_lines(alloc: Global, count: usize) -> Result<Vec<u8>, Fail> {
+pub fn with_lines(alloc: Global, count: usize) -> Result<Vec<u8>, AllocError> {
     let mut block = b"HTTP/1.1 200 OK\r\n".to_vec(alloc)?;
     for _ in 0..count {
         block.extend_from_slice(b"A: b\r\n")?;
@@ -112,7 +111,7 @@ pub fn with_lines(alloc: Global, count: usize) -> Result<Vec<u8>, Fail> {
 }
 
 /// The text of a response of this block.
-fn response_of(alloc: Global, block: &[u8]) -> Result<Vec<u8>, Fail> {
+fn response_of(alloc: Global, block: &[u8]) -> Result<Vec<u8>, AllocError> {
     let row = Row { block, ..RESPONSE };
-    Ok(row.text(alloc)?)
+    row.text(alloc)
 }

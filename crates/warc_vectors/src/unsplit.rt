@@ -2,9 +2,8 @@
 
 use crate::archives::Case;
 use crate::rows::Row;
-use crate::worked::{ONE_RESOURCE, changed};
+use crate::worked::{ONE_RESOURCE, Unmade, changed};
 use std::alloc::Global;
-use std::test::Fail;
 
 /// Records that aren't split, by the refusals that say so: of kinds that aren't split, and without a target (S3); with
 /// one of the three fields of segments, also an empty one (S2); of an id that is no UUID (S1), and with the digest of
@@ -73,7 +72,7 @@ pub const UNSPLIT: &[Case] = &[
 ];
 
 /// A record whose head has so many bytes, with a field of many.
-pub fn with_head(alloc: Global, head: usize) -> Result<Vec<u8>, Fail> {
+pub fn with_head(alloc: Global, head: usize) -> Result<Vec<u8>, Unmade> {
     let short = Row {
         extras: &["X: "],
         ..ONE_RESOURCE

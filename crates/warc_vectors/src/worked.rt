@@ -2,8 +2,7 @@
 
 use crate::Row;
 use memchr::memmem;
-use std::alloc::Global;
-use std::test::Fail;
+use std::alloc::{AllocError, Global};
 
 /// 278 bytes, of which the head has 271.
 pub const ONE_RESOURCE: Row<'static> = Row {
@@ -48,23 +47,30 @@ pub const ONE_RESOURCE_SPLIT: &[u8] = b"WARC/1.1\r\n\
     \r\n\
     c\r\n\r\n";
 
+/// Why a text of the suites isn't made.
+#[derive(Clone, Copy, PartialEq, Eq, Debug)]
+pub enum Unmade {
+    /// What is asked for, or is to be replaced, doesn't stand there.
+    Absent,
+    NoMemory,
+}
+
+impl From<AllocError> for Unmade {
+    fn from(_: AllocError) -> Unmade {
+        Unmade::NoMemory
+    }
+}
+
 /// The text with the first of one text in it replaced by another.
-/// An error says that it doesn't stand there, or that memory ran out.
-pub fn changed(alloc: Global, text: &[u8], old: &str, new: &str) -> Result<Vec<u8>, Fail> {
-    let at = memmem::find(text, old.as_bytes()).ok_or("the text to be replaced")?;
+pub fn changed(alloc: Global, text: &[u8], old: &str, new: &str) -> Result<Vec<u8>, Unmade> {
+    let at = memmem::find(text, old.as_bytes()).ok_or(Unmade::Absent)?;
     let (front, back) = text.split_at(at);
-    let mut changed = front.to_vec(alloc)?;
-    changed.extend_from_slice(new.as_bytes())?;
-    changed.extend_from_slice(
-        back.strip_prefix(old.as_bytes())
-            .ok_or("the text to be replaced")?,
-    )?;
-    Ok(changed)
+    let back = back.strip_prefix(old.as_bytes()).ok_or(Unmade::Absent)?;
+    Ok([front, new.as_bytes(), back].concat(alloc)?)
 }
 
 /// The text of the one resource record with a folded target, and without a space before its length.
-/// An error says that it is another text, or that memory ran out.
-pub fn folded(alloc: Global, text: &[u8]) -> Result<Vec<u8>, Fail> {
+pub fn folded(alloc: Global, text: &[u8]) -> Result<Vec<u8>, Unmade> {
     let folded = changed(alloc, text, "URI: ", "URI:\r\n \t")?;
     changed(alloc, &folded, "Length: 3", "Length:3")
 }
