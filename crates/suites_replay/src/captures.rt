@@ -1,132 +1,207 @@
-//! Which capture is replayed.
+//! Which capture is replayed, and why none is.
 
-use crate::runs::{U, asked, first_not_given, first_not_lacking, gives, lacks, told};
-use std::alloc::Global;
-use std::test::Fail;
-use warc_frame::MemSink;
+use crate::replays::{U, asked, gives, lacks};
+use std::alloc::{AllocError, Global};
+use suites_runs::{ends, run_broken};
 use warc_vectors::captures::{
-    ALONE, DIGESTED, IN_BRACKETS, NEWER, NO_BYTES, NO_RECORDS, PLAIN, PRECISIONS, WITH_ARCHIVE,
-    WRONG_DIGEST,
+    ALONE, DIGESTED, IN_BRACKETS, INNER, MESSAGE, NEWER, NO_BYTES, NO_RECORDS, PLAIN, PRECISIONS,
+    WITH_ARCHIVE, WRONG_DIGEST,
 };
-use warc_vectors::{BrokenSource, Case, Row};
+use warc_vectors::responses::{
+    BODIES, BODILESS, NOT_FOUND, OF_FTP, OF_HTTPS, with_bytes, with_lines,
+};
+use warc_vectors::revisits::{ASTRAY, LEADING, NOWHERE, REVISITED, UNLIKE};
+use warc_vectors::segments::{BROKEN, CUT, ORDERS, UNJOINED};
+use warc_vectors::{Case, Row};
 
 const FIRST: &str = "chosen 0 given 0 status - truncated no";
 
-/// Whether a replay of the resource as of a date writes `abc`, which is that of the first record.
-fn is_first(alloc: Global, rows: &[Row<'_>], date: &str) -> Result<bool, Fail> {
-    gives(alloc, rows, &asked(U, date), b"abc", FIRST)
-}
+const LAST: &str = "chosen 2 given 2 status - truncated no";
 
-/// Whether a replay as of a date tells that no capture is that old.
-fn is_too_early(alloc: Global, rows: &[Row<'_>], date: &str) -> Result<bool, Fail> {
-    lacks(alloc, rows, &asked(U, date), "P2 NotYet")
-}
-
-/// Whether a replay of a target as of 2022 tells that it has no capture.
-fn is_unknown(alloc: Global, rows: &[Row<'_>], uri: &str) -> Result<bool, Fail> {
-    lacks(alloc, rows, &asked(uri, "2022"), "P1 NoCapture")
-}
+/// Archives, a URI and a date, the body that is given, and what is said of it but for its length.
+const GIVEN: &[(&[Row<'static>], &str, &str, &[u8], &str)] = &[
+    // One resource record, at its date and later; also one of no bytes, and one in whose block a record stands.
+    (ALONE, U, "2020", b"abc", FIRST),
+    (ALONE, U, "9999", b"abc", FIRST),
+    (NO_BYTES, U, "2020", b"", FIRST),
+    (WITH_ARCHIVE, U, "2022", INNER, FIRST),
+    // Of records of one instant the last one is chosen, however their dates are written.
+    (PRECISIONS, U, "2020", b"c", LAST),
+    (PRECISIONS, U, "2020-01-01", b"c", LAST),
+    (PRECISIONS, U, "2020-01-01T00:00:00.0Z", b"c", LAST),
+    (PRECISIONS, U, "2021-02", b"c", LAST),
+    // A target in brackets, as WARC 1.0 writes them.
+    (IN_BRACKETS, U, "2022", b"abc", FIRST),
+    // A status other than 200, with no body; targets of two more schemes; a head in two segments.
+    (
+        NOT_FOUND,
+        U,
+        "2020",
+        b"",
+        "chosen 0 given 0 status 404 truncated no",
+    ),
+    (
+        OF_HTTPS,
+        "HTTPS://a.example/x",
+        "2020",
+        b"abc",
+        "chosen 0 given 0 status 200 truncated no",
+    ),
+    (OF_FTP, "ftp://a.example/x", "2020", MESSAGE, FIRST),
+    (
+        CUT,
+        U,
+        "2020",
+        b"abc",
+        "chosen 1 given 1 status 200 truncated no",
+    ),
+];
 
 #[test]
-fn one_resource_record(rt: HostRuntime) -> Result<(), Fail> {
-    let alloc = rt.alloc();
-    assert!(rt; is_first(alloc, ALONE, "2020")?);
-    assert!(rt; is_first(alloc, ALONE, "9999")?);
-    assert!(rt; is_too_early(alloc, ALONE, "2019")?);
-    Ok(())
-}
-
-#[test]
-fn no_records_and_no_bytes(rt: HostRuntime) -> Result<(), Fail> {
-    let alloc = rt.alloc();
-    assert!(rt; is_unknown(alloc, NO_RECORDS, U)?);
-    assert!(rt; gives(alloc, NO_BYTES, &asked(U, "2020"), b"", FIRST)?);
-    Ok(())
-}
-
-#[test]
-fn archive_inside_a_block(rt: HostRuntime) -> Result<(), Fail> {
-    let alloc = rt.alloc();
-    let block = WITH_ARCHIVE.first().ok_or("a record")?.block;
-    assert!(rt; gives(alloc, WITH_ARCHIVE, &asked(U, "2022"), block, FIRST)?);
-    assert!(rt; is_unknown(alloc, WITH_ARCHIVE, "http://b.example/")?);
-    Ok(())
-}
-
-/// Whether a replay of the three precisions as of a date writes the body of the last one.
-fn is_last(alloc: Global, date: &str) -> Result<bool, Fail> {
-    let last = "chosen 2 given 2 status - truncated no";
-    gives(alloc, PRECISIONS, &asked(U, date), b"c", last)
-}
-
-/// Of records of one instant the last one is chosen, however their dates are written.
-#[test]
-fn three_precisions_of_one_date(rt: HostRuntime) -> Result<(), Fail> {
-    let alloc = rt.alloc();
-    for date in ["2020", "2020-01-01", "2020-01-01T00:00:00.0Z", "2021-02"] {
-        assert!(rt; is_last(alloc, date)?, "{date}");
+fn bodies_of_captures_are_given(rt: HostRuntime) {
+    for (rows, uri, date, body, said) in GIVEN {
+        let is_given = gives(rt.alloc(), rows, &asked(uri, date), body, said);
+        assert!(rt; is_given == Ok(true), "{uri} {date} {said}");
     }
-    let earlier = "2019-12-31T23:59:59.999999999Z";
-    assert!(rt; is_too_early(alloc, PRECISIONS, earlier)?);
-    Ok(())
 }
 
-/// The reason beside the first of these archives whose older capture isn't given as of 2020.
-fn first_not_older(alloc: Global, cases: &[Case]) -> Result<Option<&'static str>, Fail> {
+/// Archives, a URI and a date, and why nothing is given.
+const LACKING: &[(&[Row<'static>], &str, &str, &str)] = &[
+    // No capture is that old.
+    (ALONE, U, "2019", "P2 NotYet"),
+    (PRECISIONS, U, "2019-12-31T23:59:59.999999999Z", "P2 NotYet"),
+    // No record has the target: equal is byte for byte, and a record inside a block is none.
+    (NO_RECORDS, U, "2022", "P1 NoCapture"),
+    (ALONE, "http://a.example/y", "2022", "P1 NoCapture"),
+    (ALONE, "HTTP://a.example/x", "2022", "P1 NoCapture"),
+    (ALONE, "", "2022", "P1 NoCapture"),
+    (WITH_ARCHIVE, "http://b.example/", "2022", "P1 NoCapture"),
+];
+
+#[test]
+fn reasons_are_told(rt: HostRuntime) {
+    for (rows, uri, date, reason) in LACKING {
+        let is_told = lacks(rt.alloc(), rows, &asked(uri, date), reason);
+        assert!(rt; is_told == Ok(true), "{uri} {date} {reason}");
+    }
+}
+
+/// What is said of the first of these archives that doesn't give `abc`, or of which something else is said.
+fn first_not_given(
+    alloc: Global,
+    cases: &[Case],
+    uri: &str,
+    date: &str,
+) -> Result<Option<&'static str>, AllocError> {
+    for (rows, said) in cases {
+        if !gives(alloc, rows, &asked(uri, date), b"abc", said)? {
+            return Ok(Some(said));
+        }
+    }
+    Ok(None)
+}
+
+/// The reason of the first of these archives that doesn't lack a body.
+fn first_not_lacking(
+    alloc: Global,
+    cases: &[Case],
+    uri: &str,
+    date: &str,
+) -> Result<Option<&'static str>, AllocError> {
     for (rows, reason) in cases {
-        if !is_first(alloc, rows, "2020")? {
+        if !lacks(alloc, rows, &asked(uri, date), reason)? {
             return Ok(Some(reason));
         }
     }
     Ok(None)
 }
 
-/// As of 2021 a reason is told, also where there is an older capture, which is given as of 2020.
-#[test]
-fn an_older_capture_is_not_given_in_place(rt: HostRuntime) -> Result<(), Fail> {
-    let alloc = rt.alloc();
-    assert_eq!(rt; first_not_lacking(alloc, NEWER, &asked(U, "2021"))?, None);
-    assert_eq!(rt; first_not_older(alloc, NEWER)?, None);
-    Ok(())
-}
+/// HTTP responses, digests, revisits that lead to a body, and segments out of order: each archive gives `abc`.
+const TABLES_GIVEN: [(&[Case], &str, &str); 4] = [
+    (BODIES, U, "2020"),
+    (DIGESTED, U, "2022"),
+    (LEADING, REVISITED, "2022"),
+    (ORDERS, U, "2020"),
+];
 
 #[test]
-fn targets_are_equal_byte_for_byte(rt: HostRuntime) -> Result<(), Fail> {
-    let alloc = rt.alloc();
-    for uri in ["http://a.example/y", "HTTP://a.example/x", ""] {
-        assert!(rt; is_unknown(alloc, ALONE, uri)?, "{uri}");
+fn bodies_of_tables_are_given(rt: HostRuntime) {
+    for (cases, uri, date) in TABLES_GIVEN {
+        assert_eq!(rt; first_not_given(rt.alloc(), cases, uri, date), Ok(None));
     }
-    assert!(rt; is_first(alloc, IN_BRACKETS, "2022")?);
-    Ok(())
+}
+
+/// Newer captures that give no body, also where an older one would; wrong digests; responses that give no body;
+/// payloads that no record has, revisits that go astray or lead nowhere; segments with gaps, and totals that don't
+/// join.
+const TABLES_LACKING: [(&[Case], &str, &str); 8] = [
+    (NEWER, U, "2021"),
+    (WRONG_DIGEST, U, "2022"),
+    (BODILESS, U, "2020"),
+    (UNLIKE, REVISITED, "2021"),
+    (ASTRAY, REVISITED, "2022"),
+    (NOWHERE, REVISITED, "2021"),
+    (BROKEN, U, "2020"),
+    (UNJOINED, U, "2020"),
+];
+
+#[test]
+fn reasons_of_tables_are_told(rt: HostRuntime) {
+    for (cases, uri, date) in TABLES_LACKING {
+        assert_eq!(rt; first_not_lacking(rt.alloc(), cases, uri, date), Ok(None));
+    }
+}
+
+/// As of 2021 a reason is told, as above; the older capture is given as of 2020 alone.
+#[test]
+fn an_older_capture_is_not_given_in_place(rt: HostRuntime) {
+    for (rows, reason) in NEWER {
+        let is_given = gives(rt.alloc(), rows, &asked(U, "2020"), b"abc", FIRST);
+        assert!(rt; is_given == Ok(true), "{reason}");
+    }
+}
+
+/// Whether a replay of this response writes `abc`, with status 200.
+fn is_abc(alloc: Global, text: &[u8]) -> bool {
+    let said = "chosen 0 given 0 status 200 truncated no length 3\n";
+    ends(alloc, &asked(U, "2020"), text, b"abc", said, 0)
+}
+
+/// Whether a replay of this response tells that its head is none.
+fn is_headless(alloc: Global, text: &[u8]) -> bool {
+    let line = "warc: P9 BadHead\n";
+    ends(alloc, &asked(U, "2020"), text, b"", line, 1)
+}
+
+/// Whether a head of 65,536 bytes gives its body, and one of a byte more none.
+fn longest_head_is_read(alloc: Global) -> Result<bool, AllocError> {
+    let is_read = is_abc(alloc, &with_bytes(alloc, 65_512)?);
+    Ok(is_read && is_headless(alloc, &with_bytes(alloc, 65_513)?))
+}
+
+/// Whether a head of 256 field lines gives its body, and one of a line more none.
+fn most_lines_are_read(alloc: Global) -> Result<bool, AllocError> {
+    let is_read = is_abc(alloc, &with_lines(alloc, 256)?);
+    Ok(is_read && is_headless(alloc, &with_lines(alloc, 257)?))
 }
 
 #[test]
-fn a_wrong_digest_is_a_reason(rt: HostRuntime) -> Result<(), Fail> {
-    let alloc = rt.alloc();
-    let command = asked(U, "2022");
-    assert_eq!(rt; first_not_lacking(alloc, WRONG_DIGEST, &command)?, None);
-    assert_eq!(rt; first_not_given(alloc, DIGESTED, &command, b"abc")?, None);
-    Ok(())
+fn largest_http_heads(rt: HostRuntime) {
+    assert!(rt; longest_head_is_read(rt.alloc()) == Ok(true));
+    assert!(rt; most_lines_are_read(rt.alloc()) == Ok(true));
 }
 
-/// What a replay as of a date writes, the line and the status, where the first read fails.
-fn dated(alloc: Global, date: &str) -> Result<(Vec<u8>, Vec<u8>, u8), Fail> {
-    let mut out = MemSink::new(Vec::new(alloc));
-    let source = BrokenSource::new(PLAIN.text(alloc)?, 1, 1);
-    let (err, status) = told(alloc, alloc, &asked(U, date), source, &mut out);
-    Ok((out.into_inner(), err, status))
+/// Whether a replay as of a date is refused for the date, where the first read would fail.
+fn is_bad_date(alloc: Global, date: &str) -> Result<bool, AllocError> {
+    let text = PLAIN.text(alloc)?;
+    let ended = run_broken(alloc, &asked(U, date), &text, 1, 1)?;
+    Ok(ended.is(b"", "warc: bad date\n", 3))
 }
 
 /// Nothing is read or written, also of a source whose first read fails.
 #[test]
-fn a_date_is_judged_first(rt: HostRuntime) -> Result<(), Fail> {
+fn a_date_is_judged_first(rt: HostRuntime) {
     for date in ["", "x", "2021-02-29", "2021-01-01T24:00Z"] {
-        let (out, err, status) = dated(rt.alloc(), date)?;
-        assert_eq!(rt;
-            (err.as_slice(), status),
-            (b"warc: bad date\n".as_slice(), 3)
-        );
-        assert!(rt; out.is_empty());
+        assert!(rt; is_bad_date(rt.alloc(), date) == Ok(true), "{date}");
     }
-    Ok(())
 }

@@ -1,69 +1,73 @@
 //! Blocks extracted by the id of their record.
 
-use crate::runs::ends;
-use std::alloc::Global;
-use std::test::Fail;
+use std::alloc::{AllocError, Global};
+use suites_runs::ends;
 use warc_commands::Command;
 use warc_vectors::captures::{ALONE, NO_RECORDS};
 use warc_vectors::{Row, archive_text};
 
-/// Whether extracting by a text from these records writes this block.
-fn extracts(alloc: Global, rows: &[Row<'_>], id: &str, block: &[u8]) -> Result<bool, Fail> {
-    let archive = "a.warc";
-    let text = archive_text(alloc, rows)?;
-    ends(
-        alloc,
-        &Command::Extract { archive, id },
-        &text,
-        block,
-        "",
-        0,
-    )
+/// How an extracted block is asked for, by this text.
+const fn extract(id: &str) -> Command<'_> {
+    Command::Extract {
+        archive: "a.warc",
+        id,
+    }
 }
 
-/// Whether extracting by a text from these records writes nothing.
-fn finds_none(alloc: Global, rows: &[Row<'_>], id: &str) -> Result<bool, Fail> {
-    let archive = "a.warc";
-    let text = archive_text(alloc, rows)?;
-    let line = "warc: E1 NoRecord\n";
-    ends(
-        alloc,
-        &Command::Extract { archive, id },
-        &text,
-        b"",
-        line,
-        1,
-    )
-}
-
-#[test]
-fn an_id_in_brackets_or_without(rt: HostRuntime) -> Result<(), Fail> {
-    for id in [
+/// Archives and texts, and whether the record `abc` is extracted; where not, nothing is written.
+const IDS: &[(&[Row<'static>], &str, bool)] = &[
+    (
+        ALONE,
         "<urn:uuid:00000000-0000-4000-8000-000000000001>",
-        "urn:uuid:00000000-0000-4000-8000-000000000001",
-        "URN:UUID:00000000-0000-4000-8000-000000000001",
-    ] {
-        assert!(rt; extracts(rt.alloc(), ALONE, id, b"abc")?, "{id}");
-    }
-    Ok(())
+        true,
+    ),
+    (ALONE, "urn:uuid:00000000-0000-4000-8000-000000000001", true),
+    (ALONE, "URN:UUID:00000000-0000-4000-8000-000000000001", true),
+    (
+        ALONE,
+        "urn:uuid:00000000-0000-4000-8000-000000000002",
+        false,
+    ),
+    (ALONE, "<>", false),
+    (ALONE, "", false),
+    (NO_RECORDS, "urn:a", false),
+];
+
+/// Whether extracting by a text from these records writes `abc`, or nothing.
+fn ends_as_said(
+    alloc: Global,
+    rows: &[Row<'_>],
+    id: &str,
+    is_found: bool,
+) -> Result<bool, AllocError> {
+    let text = archive_text(alloc, rows)?;
+    let (block, line, status) = if is_found {
+        (b"abc".as_slice(), "", 0)
+    } else {
+        (b"".as_slice(), "warc: E1 NoRecord\n", 1)
+    };
+    Ok(ends(alloc, &extract(id), &text, block, line, status))
 }
 
+/// An id in brackets or without finds its record, and other texts none.
 #[test]
-fn texts_that_no_record_has(rt: HostRuntime) -> Result<(), Fail> {
-    for id in ["urn:uuid:00000000-0000-4000-8000-000000000002", "<>", ""] {
-        assert!(rt; finds_none(rt.alloc(), ALONE, id)?, "{id}");
+fn blocks_are_extracted_by_id(rt: HostRuntime) {
+    for (rows, id, is_found) in IDS {
+        let is_so = ends_as_said(rt.alloc(), rows, id, *is_found);
+        assert!(rt; is_so == Ok(true), "{id}");
     }
-    assert!(rt; finds_none(rt.alloc(), NO_RECORDS, "urn:a")?);
-    Ok(())
 }
 
-#[test]
-fn a_refused_archive_gives_nothing(rt: HostRuntime) -> Result<(), Fail> {
-    let alloc = rt.alloc();
+/// Whether an archive that lacks its last byte is refused.
+fn is_cut_refused(alloc: Global) -> Result<bool, AllocError> {
     let text = archive_text(alloc, ALONE)?;
     let cut = &text[..text.len().saturating_sub(1)];
-    let (archive, id) = ("a.warc", "urn:uuid:00000000-0000-4000-8000-000000000001");
+    let command = extract("urn:uuid:00000000-0000-4000-8000-000000000001");
     let line = "warc: F11 Truncated at 277\n";
-    assert!(rt; ends(alloc, &Command::Extract { archive, id }, cut, b"", line, 2)?);
-    Ok(())
+    Ok(ends(alloc, &command, cut, b"", line, 2))
+}
+
+#[test]
+fn a_refused_archive_gives_nothing(rt: HostRuntime) {
+    assert!(rt; is_cut_refused(rt.alloc()) == Ok(true));
 }

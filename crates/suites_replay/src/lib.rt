@@ -1,17 +1,16 @@
-//! Tests of replays and extracted blocks by the commands of the program. What is expected comes from the rules of
-//! docs/FORMAT.md.
+//! Tests of replays, extracted blocks and records taken again, by the commands of the program and by calls. What is
+//! expected comes from the rules of docs/FORMAT.md.
 #![tactic(auto)]
 
+#[cfg(test)]
+mod calls;
 #[cfg(test)]
 mod captures;
 #[cfg(test)]
 mod extracts;
 #[cfg(test)]
-mod responses;
+mod failures;
 #[cfg(test)]
-mod revisits;
-pub mod runs;
-#[cfg(test)]
-mod segments;
+mod replays;
 #[cfg(test)]
 mod words;

@@ -1,127 +1,111 @@
 //! How `rewrite`, `convert` and `split` end where the archive is refused, and where a read, a write or memory fails.
 
-use crate::runs::{
-    CONVERT, REWRITE, both_rewritten, both_versions, ends, folded, split_at, told, writes_that_fail,
-};
-use std::test::Fail;
-use warc_frame::{MemSink, MemSource};
-use warc_vectors::{
-    BrokenSource, ChangingSource, ONE_RESOURCE, RefusingAllocator, archive_text, changed,
-};
+use crate::forms::{CONVERT, REWRITE};
+use crate::splits::split_at;
+use std::alloc::Global;
+use suites_runs::{Failing, Failures, ends, failed_writes, failures_in_turn, run};
+use warc_commands::Command;
+use warc_vectors::listed::{THEN_OLDER, TWICE, both_versions, folded};
+use warc_vectors::{ChangingSource, ONE_RESOURCE, Row, Unmade, archive_text, changed};
+
+/// A change of the archive of both versions, and what is told of it: its second record isn't good.
+const CHANGES: [(&str, &str, &str); 2] = [
+    (
+        "\r\n\r\nWARC/1.0",
+        "\r\n\n\rWARC/1.0",
+        "warc: F10 End at 276\n",
+    ),
+    ("WARC/1.0", "WARC/2.0", "warc: F1 Version at 280\n"),
+];
+
+/// Whether a command refuses the changed archive with this line and writes nothing.
+fn is_refused(
+    alloc: Global,
+    command: &Command<'_>,
+    (old, new, line): (&str, &str, &str),
+) -> Result<bool, Unmade> {
+    let text = changed(alloc, &both_versions(alloc)?, old, new)?;
+    Ok(ends(alloc, command, &text, b"", line, 2))
+}
+
+/// The same where the last byte is missing.
+fn is_cut_refused(alloc: Global, command: &Command<'_>) -> Result<bool, Unmade> {
+    let text = both_versions(alloc)?;
+    let cut = &text[..text.len().saturating_sub(1)];
+    let line = format!(in alloc; "warc: F11 Truncated at {}\n", cut.len())?;
+    Ok(ends(alloc, command, cut, b"", &line, 2))
+}
 
 /// Nothing is written, also where the first record is good.
 #[test]
-fn refused_archives_are_not_written(rt: HostRuntime) -> Result<(), Fail> {
-    let alloc = rt.alloc();
-    let text = both_versions(alloc)?;
+fn refused_archives_are_not_written(rt: HostRuntime) {
     for command in [REWRITE, CONVERT, split_at("2")] {
-        for (old, new, line) in [
-            (
-                "\r\n\r\nWARC/1.0",
-                "\r\n\n\rWARC/1.0",
-                "warc: F10 End at 276\n",
-            ),
-            ("WARC/1.0", "WARC/2.0", "warc: F1 Version at 280\n"),
-        ] {
-            let changed = changed(alloc, &text, old, new)?;
-            assert!(rt; ends(alloc, &command, &changed, b"", line, 2)?, "{line}");
+        for change in CHANGES {
+            assert!(rt; is_refused(rt.alloc(), &command, change) == Ok(true));
         }
-        let cut = &text[..text.len().saturating_sub(1)];
-        let line = format!(in alloc; "warc: F11 Truncated at {}\n", cut.len())?;
-        assert!(rt; ends(alloc, &command, cut, b"", &line, 2)?);
+        assert!(rt; is_cut_refused(rt.alloc(), &command) == Ok(true));
     }
-    Ok(())
+}
+
+/// How many writes fail in turn of a command that writes these of the records of both versions.
+fn writes_failed(alloc: Global, command: &Command<'_>, rows: &[Row<'_>]) -> Option<u64> {
+    let text = both_versions(alloc).ok()?;
+    let whole = archive_text(alloc, rows).ok()?;
+    failed_writes(alloc, command, &text, &whole)
 }
 
 /// Whatever write fails, the number told is what went out, and that is the front of the output.
 #[test]
-fn each_write_fails_in_turn(rt: HostRuntime) -> Result<(), Fail> {
-    let alloc = rt.alloc();
-    let text = both_versions(alloc)?;
-    let rewritten = both_rewritten(alloc)?;
-    let converted = archive_text(alloc, &[ONE_RESOURCE, ONE_RESOURCE])?;
-    assert_eq!(rt;
-        writes_that_fail(alloc, &REWRITE, &text, &rewritten)?,
-        Some(80)
-    );
-    assert_eq!(rt;
-        writes_that_fail(alloc, &CONVERT, &text, &converted)?,
-        Some(80)
-    );
-    Ok(())
+fn each_write_fails_in_turn(rt: HostRuntime) {
+    assert!(rt; writes_failed(rt.alloc(), &REWRITE, THEN_OLDER) == Some(80));
+    assert!(rt; writes_failed(rt.alloc(), &CONVERT, TWICE) == Some(80));
+}
+
+/// What comes of failures in a command that writes these of the records of both versions.
+fn of_both(
+    alloc: Global,
+    command: &Command<'_>,
+    rows: &[Row<'_>],
+    what: Failing,
+) -> Option<Failures> {
+    let text = both_versions(alloc).ok()?;
+    let whole = archive_text(alloc, rows).ok()?;
+    failures_in_turn(alloc, command, &text, &whole, what)
 }
 
 #[test]
-fn each_read_fails_in_turn(rt: HostRuntime) -> Result<(), Fail> {
-    let alloc = rt.alloc();
-    let text = both_versions(alloc)?;
-    let whole = both_rewritten(alloc)?;
-    let (mut in_opening, mut in_writing) = (0u32, 0u32);
-    for number in 1..200u64 {
-        let mut out = MemSink::new(Vec::new(alloc));
-        let source = BrokenSource::new(text.to_vec(alloc)?, 64, number);
-        let (err, status) = told(alloc, alloc, &REWRITE, source, &mut out);
-        if status == 0 {
-            assert_eq!(rt; out.bytes(), whole.as_slice());
-            break;
-        }
-        assert_eq!(rt; status, 3);
-        if err.starts_with(b"warc: F13 Read at ") {
-            assert!(rt; out.bytes().is_empty() && in_writing == 0);
-            in_opening = in_opening.saturating_add(1);
-        } else {
-            let line = format!(in alloc; "warc: read failed after {}\n", out.bytes().len())?;
-            assert_eq!(rt; err.as_slice(), line.as_bytes());
-            assert!(rt; whole.starts_with(out.bytes()));
-            in_writing = in_writing.saturating_add(1);
-        }
+fn each_read_fails_in_turn(rt: HostRuntime) {
+    match of_both(rt.alloc(), &REWRITE, THEN_OLDER, Failing::Read(64)) {
+        Some(it) => assert!(rt; it.in_opening > 5 && it.behind > 5),
+        None => assert!(rt; false),
     }
-    assert!(rt; in_opening > 5 && in_writing > 5);
-    Ok(())
 }
 
 #[test]
-fn each_growth_is_refused_in_turn(rt: HostRuntime) -> Result<(), Fail> {
-    let alloc = rt.alloc();
-    let text = both_versions(alloc)?;
-    for command in [REWRITE, CONVERT, split_at("2")] {
-        let mut was_opened = false;
-        for number in 1..1000u64 {
-            let heap = RefusingAllocator::new(alloc, number);
-            let mut out = MemSink::new(Vec::new(alloc));
-            let source = MemSource::new(text.to_vec(alloc)?, usize::MAX);
-            let (err, status) = told(&heap, alloc, &command, source, &mut out);
-            if !heap.has_refused() {
-                assert_eq!(rt; status, 0);
-                break;
-            }
-            let line = format!(in alloc; "warc: out of memory after {}\n", out.bytes().len())?;
-            let is_cut = err.as_slice() == line.as_bytes();
-            let is_unopened = err.starts_with(b"warc: F14 Memory at ") && out.bytes().is_empty();
-            assert!(rt;
-                status == 3 && (is_cut || is_unopened && !was_opened),
-                "at {number}"
-            );
-            was_opened |= is_cut;
+fn each_growth_is_refused_in_turn(rt: HostRuntime) {
+    for (command, rows) in [(REWRITE, THEN_OLDER), (CONVERT, TWICE)] {
+        match of_both(rt.alloc(), &command, rows, Failing::Growth) {
+            Some(it) => assert!(rt; it.in_opening > 0 && it.behind > 0),
+            None => assert!(rt; false),
         }
-        assert!(rt; was_opened);
     }
-    Ok(())
 }
 
-/// A source that gives other bytes than at opening is a failed read.
+/// Whether a source that gives other bytes than at opening is a failed read: none, or the record folded.
+fn is_failed_read(alloc: Global, is_folded: bool) -> Result<bool, Unmade> {
+    let after = if is_folded {
+        folded(alloc)?
+    } else {
+        Vec::new(alloc)
+    };
+    let source = ChangingSource::new(ONE_RESOURCE.text(alloc)?, after, 3);
+    let ended = run(alloc, alloc, &REWRITE, source);
+    Ok(ended.is(b"", "warc: read failed after 0\n", 3))
+}
+
 #[test]
-fn a_source_that_changes_is_a_failed_read(rt: HostRuntime) -> Result<(), Fail> {
-    let alloc = rt.alloc();
-    let text = ONE_RESOURCE.text(alloc)?;
-    for after in [b"".to_vec(alloc)?, folded(alloc)?] {
-        let mut out = MemSink::new(Vec::new(alloc));
-        let source = ChangingSource::new(text.to_vec(alloc)?, after, 3);
-        let (err, status) = told(alloc, alloc, &REWRITE, source, &mut out);
-        assert_eq!(rt;
-            (out.bytes(), err.as_slice(), status),
-            (b"".as_slice(), b"warc: read failed after 0\n".as_slice(), 3)
-        );
+fn a_source_that_changes_is_a_failed_read(rt: HostRuntime) {
+    for is_folded in [false, true] {
+        assert!(rt; is_failed_read(rt.alloc(), is_folded) == Ok(true));
     }
-    Ok(())
 }
