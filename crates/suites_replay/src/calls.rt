@@ -2,6 +2,7 @@
 
 use crate::replays::U;
 use std::alloc::Global;
+use suites_runs::archives::{opened, replayed};
 use warc::{Archive, ExtractFault, TakeFault};
 use warc_answer::{Answer, Reason, ReplayFault};
 use warc_frame::{MemSink, MemSource};
@@ -11,9 +12,11 @@ use warc_vectors::archive_text;
 use warc_vectors::captures::{BOTH, MESSAGE};
 
 /// An archive of a resource of 2020 and of a response of the same moment, read so many bytes at a time.
-fn opened(alloc: Global, most: usize) -> Option<Archive<MemSource>> {
-    let text = archive_text(alloc, BOTH).ok()?;
-    Archive::open(alloc, MemSource::new(text, most.max(1))).ok()
+fn both(alloc: Global, most: usize) -> Option<Archive<MemSource>> {
+    match archive_text(alloc, BOTH) {
+        Ok(text) => opened(alloc, MemSource::new(text, most.max(1))),
+        Err(_) => None,
+    }
 }
 
 const PIECES: [usize; 3] = [1, 7, usize::MAX];
@@ -21,15 +24,14 @@ const PIECES: [usize; 3] = [1, 7, usize::MAX];
 /// Whether an archive answers so for the URI of both as of a date, and this is written behind a text.
 fn replays(
     alloc: Global,
-    most: usize,
+    archive: &mut Archive<MemSource>,
     date: &str,
     wanted: Result<Answer, ReplayFault>,
     written: &[u8],
 ) -> Option<bool> {
     let moment = read_date(date.as_bytes())?;
     let mut out = MemSink::new(b"before ".to_vec(alloc).ok()?);
-    let mut archive = opened(alloc, most)?;
-    let answer = archive.replay(U.as_bytes(), &moment, &mut out);
+    let answer = replayed(archive, U, &moment, &mut out);
     Some(answer == wanted && out.bytes() == written)
 }
 
@@ -53,28 +55,42 @@ const REPLAYS: [(&str, Result<Answer, ReplayFault>, &[u8]); 2] = [
     ),
 ];
 
+/// Whether an archive that is read so many bytes at a time answers as it should.
+fn replays_in_pieces(alloc: Global, most: usize) -> bool {
+    match both(alloc, most) {
+        Some(mut archive) => replay_all(alloc, &mut archive),
+        None => false,
+    }
+}
+
+/// Whether an archive answers all of them as it should.
+fn replay_all(alloc: Global, archive: &mut Archive<MemSource>) -> bool {
+    for (date, wanted, written) in REPLAYS {
+        if replays(alloc, archive, date, wanted, written) != Some(true) {
+            return false;
+        }
+    }
+    true
+}
+
 #[test]
 fn replays_by_call(rt: HostRuntime) {
     for most in PIECES {
-        for (date, wanted, written) in REPLAYS {
-            let is_so = replays(rt.alloc(), most, date, wanted, written);
-            assert!(rt; is_so == Some(true), "{date}");
-        }
+        assert!(rt; replays_in_pieces(rt.alloc(), most), "{most}");
     }
 }
 
 /// Whether an archive answers so for an id, and this is written.
 fn extracts(
     alloc: Global,
-    most: usize,
+    archive: &mut Archive<MemSource>,
     id: &str,
     wanted: Result<u64, ExtractFault>,
     written: &[u8],
-) -> Option<bool> {
+) -> bool {
     let mut out = MemSink::new(Vec::new(alloc));
-    let mut archive = opened(alloc, most)?;
     let answer = archive.extract(id.as_bytes(), &mut out);
-    Some(answer == wanted && out.bytes() == written)
+    answer == wanted && out.bytes() == written
 }
 
 /// The id of the response, and one that no record has.
@@ -87,16 +103,6 @@ const EXTRACTS: [(&str, Result<u64, ExtractFault>, &[u8]); 2] = [
     ("urn:b", Err(ExtractFault::NoRecord), b""),
 ];
 
-#[test]
-fn extracts_by_call(rt: HostRuntime) {
-    for most in PIECES {
-        for (id, wanted, written) in EXTRACTS {
-            let is_so = extracts(rt.alloc(), most, id, wanted, written);
-            assert!(rt; is_so == Some(true), "{id}");
-        }
-    }
-}
-
 /// Whether the second record is the response, and there is no third.
 fn gives_records(archive: &mut Archive<MemSource>) -> bool {
     let is_response = match archive.record(1) {
@@ -106,17 +112,27 @@ fn gives_records(archive: &mut Archive<MemSource>) -> bool {
     is_response && matches!(archive.record(2), Err(TakeFault::NoRecord))
 }
 
+/// Whether an archive gives its records, and extracts all of them as it should.
+fn gives_all(alloc: Global, archive: &mut Archive<MemSource>) -> bool {
+    for (id, wanted, written) in EXTRACTS {
+        if !extracts(alloc, archive, id, wanted, written) {
+            return false;
+        }
+    }
+    gives_records(archive)
+}
+
 /// The same of an archive that is read so many bytes at a time.
-fn gives_records_in_pieces(alloc: Global, most: usize) -> bool {
-    match opened(alloc, most) {
-        Some(mut archive) => gives_records(&mut archive),
+fn gives_in_pieces(alloc: Global, most: usize) -> bool {
+    match both(alloc, most) {
+        Some(mut archive) => gives_all(alloc, &mut archive),
         None => false,
     }
 }
 
 #[test]
-fn records_by_call(rt: HostRuntime) {
+fn extracts_and_records_by_call(rt: HostRuntime) {
     for most in PIECES {
-        assert!(rt; gives_records_in_pieces(rt.alloc(), most));
+        assert!(rt; gives_in_pieces(rt.alloc(), most), "{most}");
     }
 }

@@ -2,6 +2,7 @@
 
 use crate::replays::{U, asked};
 use std::alloc::{AllocError, Global};
+use suites_runs::archives::{listed, opened, replayed};
 use suites_runs::{Failing, Failures, failures_in_turn, run, run_cut};
 use warc::Archive;
 use warc_answer::{Answer, ReplayFault};
@@ -9,13 +10,6 @@ use warc_frame::{MemSink, MemSource, OutFault, Sink, Source};
 use warc_value::{Moment, read_date};
 use warc_vectors::captures::{BOTH, PLAIN, RESPONSE};
 use warc_vectors::{Break, BrokenWriter, ChangingSource, Row, archive_text};
-
-/// What an archive lists.
-fn listed<S: Source>(alloc: Global, archive: &mut Archive<S>) -> Option<Vec<u8>> {
-    let mut lines = MemSink::new(Vec::new(alloc));
-    archive.list(&mut lines).ok()?;
-    Some(lines.into_inner())
-}
 
 /// What an archive answers to a replay as of a moment, and whether it lists the same before and behind it.
 fn asked_between<S: Source, W: Sink>(
@@ -25,21 +19,21 @@ fn asked_between<S: Source, W: Sink>(
     out: &mut W,
 ) -> Option<(Result<Answer, ReplayFault>, bool)> {
     let before = listed(alloc, archive)?;
-    let answer = archive.replay(U.as_bytes(), moment, out);
+    let answer = replayed(archive, U, moment, out);
     let behind = listed(alloc, archive)?;
     Some((answer, before.as_slice() == behind.as_slice()))
 }
 
-/// The same of an archive that is opened for it.
-fn replayed<S: Source + Drop, W: Sink>(
+/// The same of an archive that is opened for it, as of 2020.
+fn opened_and_asked<S: Source + Drop, W: Sink>(
     alloc: Global,
     source: S,
     out: &mut W,
 ) -> Option<(Result<Answer, ReplayFault>, bool)> {
     let moment = read_date(b"2020")?;
-    match Archive::open(alloc, source) {
-        Ok(mut archive) => asked_between(alloc, &mut archive, &moment, out),
-        Err(_) => None,
+    match opened(alloc, source) {
+        Some(mut archive) => asked_between(alloc, &mut archive, &moment, out),
+        None => None,
     }
 }
 
@@ -51,7 +45,7 @@ fn silent(alloc: Global, row: Row<'_>) -> Result<ChangingSource, AllocError> {
 /// Whether a replay of this record, of a source that gives nothing more, writes nothing and lists it as before.
 fn is_silent(alloc: Global, row: Row<'_>) -> Result<bool, AllocError> {
     let mut out = MemSink::new(b"before ".to_vec(alloc)?);
-    let answer = replayed(alloc, silent(alloc, row)?, &mut out);
+    let answer = opened_and_asked(alloc, silent(alloc, row)?, &mut out);
     let is_read = answer == Some((Err(ReplayFault::Out(OutFault::Read(0))), true));
     Ok(is_read && out.bytes() == b"before ".as_slice())
 }
@@ -60,7 +54,7 @@ fn is_silent(alloc: Global, row: Row<'_>) -> Result<bool, AllocError> {
 /// body and lists it as before.
 fn is_short(alloc: Global, row: Row<'_>) -> Result<bool, AllocError> {
     let mut out = BrokenWriter::new(alloc, 3, Break::Fails).taking(1);
-    let answer = replayed(alloc, MemSource::new(row.text(alloc)?, 7), &mut out);
+    let answer = opened_and_asked(alloc, MemSource::new(row.text(alloc)?, 7), &mut out);
     let is_cut = answer == Some((Err(ReplayFault::Out(OutFault::Write(2))), true));
     Ok(is_cut && out.bytes() == b"ab".as_slice())
 }

@@ -1,6 +1,7 @@
-//! Runs of the program over archives in memory, which the suites of its commands share.
+//! Runs of the program over archives in memory, and calls of archives, which suites share.
 #![tactic(auto)]
 
+pub mod archives;
 mod failing;
 
 pub use failing::{Failing, Failures, failed_writes, failures_in_turn};
