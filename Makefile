@@ -23,9 +23,9 @@ check:
 bench: all
 	@python3 bench/bench.py bin/warc out/bench
 	@python3 bench/decoder.py . out/bench
-	@python3 bench/order.py .
-	@python3 bench/segment.py .
-	@python3 bench/index.py .
+	@python3 bench/order.py . out/bench
+	@python3 bench/segment.py . out/bench
+	@python3 bench/index.py . out/bench
 	@python3 bench/replay.py . bin/warc out/bench
 
 install: all

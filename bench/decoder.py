@@ -3,19 +3,16 @@
 
 Usage: decoder.py REPOSITORY FOLDER
 
-It copies the two crates that the decoder stands on to a tree of their own, adds the program of decoder.rt.txt, and has
-`rt run` prove and build it. The program reads each archive twenty times; the least of seven runs counts, reading the archive from
+It proves and builds bench/crates/bench_decoder. The program reads each archive twenty times; the least of seven runs counts, reading the archive from
 the disk once included. Printed per archive: bytes and heads a second.
 """
 import os
-import shutil
 import subprocess
 import sys
-import tempfile
 import time
 
-CRATES = ["warc_field", "warc_frame"]
-NAME = "decoder_bench"
+from shared import build
+
 RUNS = 7
 ROUNDS = 20
 
@@ -46,31 +43,9 @@ def response(number):
     )
 
 
-def build(repository, tree, program):
-    """Makes the tree, and the program in it."""
-    for crate in CRATES:
-        shutil.copytree(f"{repository}/crates/{crate}", f"{tree}/crates/{crate}")
-    with open(f"{repository}/crates.txt") as lines:
-        kept = [line for line in lines if line.split(":")[0] in CRATES]
-    with open(f"{tree}/crates.txt", "w") as out:
-        out.writelines(kept)
-        out.write(f"{NAME}: warc_frame\n")
-    crate = f"{tree}/crates/{NAME}"
-    os.makedirs(f"{crate}/src")
-    shutil.copy(f"{repository}/bench/decoder.rt.txt", f"{crate}/src/main.rt")
-    # Without input the program ends with 1; what counts is that there is one.
-    built = subprocess.run(["rt", "run"], cwd=crate, stdin=subprocess.DEVNULL, capture_output=True, text=True)
-    if not os.path.exists(f"{crate}/out/{NAME}"):
-        sys.exit(built.stdout + built.stderr)
-    shutil.copy(f"{crate}/out/{NAME}", program)
-
-
 def main():
     repository, folder = sys.argv[1:]
-    os.makedirs(folder, exist_ok=True)
-    program = os.path.join(folder, NAME)
-    with tempfile.TemporaryDirectory() as tree:
-        build(repository, tree, program)
+    program = build(repository, "bench_decoder", folder)
     for record, count in ((resource, 100_000), (response, 50_000)):
         path = os.path.join(folder, f"heads_{record.__name__}.warc")
         with open(path, "w") as out:

@@ -1,9 +1,9 @@
 #!/usr/bin/env python3
 """Times `warc_index` alone: filling, adding one by one, and looking up, in random order; and what it keeps.
 
-Usage: index.py REPOSITORY
+Usage: index.py REPOSITORY FOLDER
 
-It has `rt run` prove and build crates/bench_index, and runs it at 1,000,000 and 10,000,000 records, and at 1,000,000
+It proves and builds bench/crates/bench_index, and runs it at 1,000,000 and 10,000,000 records, and at 1,000,000
 whose ids and targets all have one hash: at each the run with the least time of three. Printed by the program: nanoseconds
 a record. Printed here: the bytes that a record takes beside its texts, which are the most memory of a run that fills an
 index alone, without the texts.
@@ -12,6 +12,8 @@ import os
 import subprocess
 import sys
 import time
+
+from shared import build
 
 RUNS = 3
 
@@ -27,11 +29,7 @@ def most_memory(words):
 
 
 def main():
-    crate = f"{sys.argv[1]}/crates/bench_index"
-    built = subprocess.run(["rt", "run"], cwd=crate, capture_output=True, text=True)
-    if built.returncode != 0:
-        sys.exit(built.stdout + built.stderr)
-    program = f"{crate}/out/bench_index"
+    program = build(sys.argv[1], "bench_index", sys.argv[2])
     for arguments in (["1000000"], ["10000000"], ["1000000", "equal"]):
         best, printed = 1e9, ""
         for _ in range(RUNS):

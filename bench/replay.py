@@ -3,7 +3,7 @@
 
 Usage: replay.py REPOSITORY PROGRAM FOLDER
 
-It has `rt run` prove and build crates/bench_archive, and runs it three times over 1,000,000 tiny records: the least of
+It proves and builds bench/crates/bench_archive, and runs it three times over 1,000,000 tiny records: the least of
 each figure counts. Then the program replays a body of 1 GB that has no digest, opening included, and `cat` copies its
 archive, both to where nothing is kept: each five times, by turns, and the least time counts. The most memory of the
 program is what the system tells of it while it runs once more. The archives are made in FOLDER once and kept.
@@ -13,7 +13,7 @@ import subprocess
 import sys
 import time
 
-from shared import make, run
+from shared import build, make, run
 
 RUNS = 5
 OPENINGS = 3
@@ -46,11 +46,8 @@ def most_memory(words):
     return most
 
 
-def time_openings(crate, path):
-    built = subprocess.run(["rt", "run"], cwd=crate, capture_output=True, text=True)
-    if built.returncode != 0:
-        sys.exit(built.stdout + built.stderr)
-    least = least_figures([f"{crate}/out/bench_archive", path, REPLAYS])
+def time_openings(program, path):
+    least = least_figures([program, path, REPLAYS])
     for verb, by_count in least.items():
         for count, each in by_count.items():
             print(f"{count} {verb} in {each} ns each")
@@ -78,7 +75,7 @@ def main():
     tiny, whole = os.path.join(folder, "tiny.warc"), os.path.join(folder, "plain.warc")
     make(tiny, 1_000_000, 3)
     make(whole, 1, 1_000_000_000, has_digests=False)
-    time_openings(f"{repository}/crates/bench_archive", tiny)
+    time_openings(build(repository, "bench_archive", folder), tiny)
     time_replay(program, whole)
 
 

@@ -1,9 +1,72 @@
-"""What the scripts that time share: archives of resources, and runs of commands."""
+"""What the scripts that time share: programs that are proved and built, archives of resources, and runs of commands."""
 import base64
 import hashlib
 import os
+import shutil
+import subprocess
 import sys
+import tempfile
 import time
+
+PROGRAMS = os.path.join(os.path.dirname(os.path.abspath(__file__)), "crates")
+
+
+def lines_of(path):
+    """The libraries that each crate of such a file uses, by its name."""
+    with open(path, encoding="utf-8") as text:
+        rows = [line.partition(":") for line in text if line.strip() and not line.startswith("#")]
+    return {name.strip(): uses.split() for name, _, uses in rows}
+
+
+def below(name, uses):
+    """The crate and all those of the repository that it stands on."""
+    found = {name}
+    for it in uses[name]:
+        if it in uses:
+            found |= below(it, uses)
+    return found
+
+
+def link_or_copy(source, to):
+    """A file that takes no room of its own, where the file system allows it."""
+    try:
+        os.link(source, to)
+    except OSError:
+        shutil.copy2(source, to)
+
+
+def put_program(name, tree):
+    """Puts a crate of bench/crates/ into a tree: the files are its own but for the ending `.txt`, by which the gate leaves
+    them alone."""
+    for at, _, files in os.walk(f"{PROGRAMS}/{name}"):
+        inside = os.path.relpath(at, PROGRAMS)
+        os.makedirs(f"{tree}/crates/{inside}", exist_ok=True)
+        for file in files:
+            shutil.copy(f"{at}/{file}", f"{tree}/crates/{inside}/{file.removesuffix('.txt')}")
+
+
+def build(repository, name, folder):
+    """Has `rt run` prove and build a program of bench/crates/ in a tree of its own, beside the crates that it stands on with
+    what their checks kept; gives the path of the program in the folder."""
+    own = lines_of(f"{PROGRAMS}/list.txt")
+    uses = {**lines_of(f"{repository}/crates.txt"), **own}
+    needed = below(name, uses)
+    os.makedirs(folder, exist_ok=True)
+    with tempfile.TemporaryDirectory() as tree:
+        for it in needed:
+            if it in own:
+                put_program(it, tree)
+            else:
+                shutil.copytree(f"{repository}/crates/{it}", f"{tree}/crates/{it}", copy_function=link_or_copy)
+        with open(f"{tree}/crates.txt", "w", encoding="utf-8") as out:
+            out.writelines(f"{it}: {' '.join(uses[it])}\n" for it in sorted(needed))
+        # Without arguments and input it does nothing; what counts is that there is one.
+        words = {"cwd": f"{tree}/crates/{name}", "stdin": subprocess.DEVNULL, "capture_output": True, "text": True}
+        built = subprocess.run(["rt", "run"], **words)
+        program = f"{tree}/crates/{name}/out/{name}"
+        if not os.path.exists(program):
+            sys.exit(built.stdout + built.stderr)
+        return shutil.copy(program, os.path.join(folder, name))
 
 
 def head(number, length, digest):
