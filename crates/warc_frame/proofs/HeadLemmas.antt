@@ -91,20 +91,27 @@ line_short : (v : Version) (k : ℕ) → k < 8 → k < length (version_line v)
 line_short V1_0 k l = omega arith
 line_short V1_1 k l = omega arith
 
+-- the byte where the front of a text, however long, has an empty line
+cr_of_front : (m : ℕ) (t : List ℕ) (p : ℕ) → empty_line (take m t) ≡ Some p → get_or t p 0 ≡ 13
+cr_of_front m t p h =
+    let long = empty-len (take m t) p h in
+    let inside : p < m = omega (arith, long, length-take m t) in
+    sym (get_or-take m t p 0 inside) ∙ (empty-bytes (take m t) p h).0
+
+no_cr_so_early : (t : List ℕ) (v : Version) (p : ℕ) → version_of t ≡ Some v → get_or t p 0 ≡ 13 → p < length t → p < 8 → ⊥
+no_cr_so_early t v p h cr inside early =
+    no_cr_in_line v p early (sym (begins-byte t (version_line v) p (version-begins t v h) inside (line_short v p early)) ∙ cr)
+
 -- a head holds its version line and the empty line behind it
 pub head_room : (t : List ℕ) (v : Version) (n : ℕ) → version_of t ≡ Some v → head_len t ≡ Some n → 12 ≤ n
 unfolding head_front
 head_room t v n h e =
     let found = head-place t n e in
-    let p = found.0 in
-    let bytes = empty-bytes (take max_head t) p found.1 in
-    let long = empty-len (take max_head t) p found.1 in
-    let inside : p < max_head = omega (arith, long, length-take max_head t) in
-    let cr : get_or t p 0 ≡ 13 = sym (get_or-take max_head t p 0 inside) ∙ bytes.0 in
+    let cr = cr_of_front max_head t found.0 found.1 in
     ⊎_elim
-    (λ early. absurd (no_cr_in_line v p early (sym (begins-byte t (version_line v) p (version-begins t v h) (omega (arith, found.2, found.3)) (line_short v p early)) ∙ cr)))
+    (λ early. absurd (no_cr_so_early t v found.0 h cr (omega (arith, found.2, found.3)) early))
     (λ late. omega (arith, late, found.2))
-    (cases_lt p 8)
+    (cases_lt found.0 8)
 
 number_fits : (o : Option ℕ) (n : ℕ) → or_length (option_and_then (λ k. cond (nat_le k max_block) (Some k) None) o) ≡ Ok n → n ≤ max_block
 number_fits None n h = absurd cc
