@@ -1,0 +1,19 @@
+//! An archive in memory, described.
+
+use anyhow::Result;
+use std::alloc::Global;
+use warc::Archive;
+use warc_frame::{MemSink, MemSource};
+
+/// How many records an archive has, and what `warc list` and `warc check` write of it.
+pub fn describe(alloc: Global, bytes: Vec<u8>) -> Result<(usize, Vec<u8>, Vec<u8>)> {
+    let mut archive = match Archive::open(alloc, MemSource::new(bytes, usize::MAX)) {
+        Ok(archive) => archive,
+        Err((fault, _source)) => return Err(fault.into()),
+    };
+    let mut lines = MemSink::new(Vec::new(alloc));
+    archive.list(&mut lines)?;
+    let mut findings = MemSink::new(Vec::new(alloc));
+    archive.check(&mut findings)?;
+    Ok((archive.count(), lines.into_inner(), findings.into_inner()))
+}
