@@ -3,6 +3,4 @@
 
 pub mod migration;
 mod opening;
-#[cfg(test)]
-mod returned;
 pub mod round_trip;

@@ -1,2 +1,1 @@
 mod RefusalAsked
-mod RowLines

@@ -1,0 +1,8 @@
+//! What the suite of look-ups calls of answers: replays of joined blocks, and what goes out.
+#![tactic(auto)]
+
+mod replays;
+mod stored;
+mod telling;
+
+pub use replays::Replays;

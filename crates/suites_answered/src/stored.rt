@@ -1,0 +1,62 @@
+//! Origins, and the blocks that are joined to them.
+
+use std::alloc::{AllocError, Global};
+use warc_frame::read_one;
+use warc_record::{Typed, type_head};
+use warc_segment::Place;
+use warc_value::Verdict;
+
+/// A record's text by a name.
+#[derive(Drop)]
+pub(crate) struct Named {
+    pub(crate) name: Vec<u8>,
+    pub(crate) text: Vec<u8>,
+}
+
+/// A block, and what was found of it when it was read.
+#[derive(Drop)]
+pub(crate) struct Block {
+    pub(crate) bytes: Vec<u8>,
+    pub(crate) verdict: Verdict,
+    pub(crate) truncated: bool,
+}
+
+/// What the head says that a text begins with.
+pub(crate) fn typed(alloc: Global, text: &[u8]) -> Option<Typed> {
+    match read_one(alloc, text) {
+        Ok((framed, _)) => type_head(alloc, framed.fields()).ok(),
+        Err(_) => None,
+    }
+}
+
+/// Bytes that hold the blocks, the last one first, with other bytes between them; and the places of the blocks.
+pub(crate) fn stored(alloc: Global, blocks: &[Block]) -> Result<(Vec<u8>, Vec<Place>), AllocError> {
+    let mut bytes = Vec::new(alloc);
+    let mut places = Vec::new(alloc);
+    for block in blocks.iter().rev() {
+        bytes.extend_from_slice(b"HTTP/1.1 500 No\r\n\r\n")?;
+        places.push(Place {
+            start: bytes.len() as u64,
+            len: block.bytes.len() as u64,
+            verdict: block.verdict,
+            truncated: block.truncated,
+        })?;
+        bytes.extend_from_slice(&block.bytes)?;
+    }
+    places.reverse();
+    Ok((bytes, places))
+}
+
+/// Whether blocks, one behind another, begin with some bytes.
+pub(crate) fn begin_with(blocks: &[Block], bytes: &[u8]) -> bool {
+    let mut rest = bytes;
+    for block in blocks {
+        let count = rest.len().min(block.bytes.len());
+        let (front, behind) = rest.split_at(count);
+        if block.bytes.get(..count) != Some(front) {
+            return false;
+        }
+        rest = behind;
+    }
+    rest.is_empty()
+}

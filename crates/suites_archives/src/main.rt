@@ -1,0 +1,70 @@
+//! The suite of archives: what the program does with archives in memory, and what calls of the library answer over
+//! them, by a script on standard input.
+#![tactic(auto)]
+
+use std::alloc::{AllocError, Global};
+use std::io::{self, Read, Write};
+use suites_calls::keeps_answers;
+use suites_program::Archives;
+use suites_script::{Case, Trial, try_script};
+
+#[derive(Drop)]
+struct Trials {
+    archives: Archives,
+}
+
+/// Says where an archive that a case gives answers otherwise once it is moved to WARC 1.1.
+fn tell_moved(
+    alloc: Global,
+    case: &Case<'_>,
+    archive: &[u8],
+    answer: &mut Vec<u8>,
+) -> Result<(), AllocError> {
+    let is_new = matches!(case.text(0), "archive" | "by");
+    if is_new && !keeps_answers(alloc, archive)? {
+        answer.extend_from_slice(b"another answer once it is moved\n")?;
+    }
+    Ok(())
+}
+
+/// Adds what a case answers about an archive.
+fn answer_about(
+    alloc: Global,
+    case: &Case<'_>,
+    archive: &[u8],
+    answer: &mut Vec<u8>,
+) -> Result<(), AllocError> {
+    let is_known = suites_program::answer(alloc, case, archive, answer)?
+        || suites_calls::answer(alloc, case, archive, answer)?;
+    if is_known {
+        Ok(())
+    } else {
+        answer.extend_from_slice(b"no such case\n")
+    }
+}
+
+impl Trial for Trials {
+    fn answer(
+        &mut self,
+        alloc: Global,
+        case: &Case<'_>,
+        answer: &mut Vec<u8>,
+    ) -> Result<(), AllocError> {
+        if self.archives.answer(alloc, case, answer)? {
+            tell_moved(alloc, case, self.archives.bytes(), answer)
+        } else {
+            answer_about(alloc, case, self.archives.bytes(), answer)
+        }
+    }
+}
+
+fn main(rt: HostRuntime) -> io::Result<()> {
+    let alloc = rt.alloc();
+    let mut script = Vec::new(alloc);
+    rt.reader().read_to_end(&mut script)?;
+    let mut trials = Trials {
+        archives: Archives::new(alloc),
+    };
+    let told = try_script(alloc, &script, &mut trials)?;
+    rt.stdout().write_all(&told)
+}

@@ -1,0 +1,73 @@
+//! Calls of archives, each in a function of its own: plain values.
+
+use std::alloc::{AllocError, Allocator, Global};
+use warc::{Archive, ExtractFault};
+use warc_answer::{Answer, ReplayFault};
+use warc_frame::{Fault, MemSink, MemSource, OutFault, Sink, Source};
+use warc_value::Moment;
+
+/// These bytes, of which each read gives so many at most.
+pub(crate) fn source_of(alloc: Global, bytes: &[u8], most: usize) -> Result<MemSource, AllocError> {
+    Ok(MemSource::new(bytes.to_vec(alloc)?, most.max(1)))
+}
+
+/// The archive of a source, or why it doesn't open.
+pub(crate) fn opened<S: Source + Drop, A: Allocator + Copy>(
+    heap: A,
+    source: S,
+) -> Result<Archive<S, A>, Fault> {
+    match Archive::open(heap, source) {
+        Ok(archive) => Ok(archive),
+        Err((fault, _source)) => Err(fault),
+    }
+}
+
+/// What an archive lists.
+pub(crate) fn listed<S: Source>(
+    alloc: Global,
+    archive: &Archive<S>,
+) -> Result<Vec<u8>, AllocError> {
+    let mut lines = MemSink::new(Vec::new(alloc));
+    match archive.list(&mut lines) {
+        Ok(()) => Ok(lines.into_inner()),
+        Err(_) => Err(AllocError),
+    }
+}
+
+/// What an archive answers to a replay.
+pub(crate) fn replayed<S: Source, W: Sink>(
+    archive: &mut Archive<S>,
+    uri: &[u8],
+    moment: &Moment,
+    out: &mut W,
+) -> Result<Answer, ReplayFault> {
+    archive.replay(uri, moment, out)
+}
+
+/// What an archive answers to an extraction.
+pub(crate) fn extracted<S: Source, W: Sink>(
+    archive: &mut Archive<S>,
+    id: &[u8],
+    out: &mut W,
+) -> Result<u64, ExtractFault> {
+    archive.extract(id, out)
+}
+
+/// What an archive answers to a check.
+pub(crate) fn checked<S: Source, W: Sink>(
+    archive: &mut Archive<S>,
+    out: &mut W,
+) -> Result<usize, OutFault> {
+    archive.check(out)
+}
+
+/// Why an archive doesn't grow by a source, if it doesn't.
+pub(crate) fn refused<S: Source + Drop, A: Allocator + Copy>(
+    archive: &mut Archive<S, A>,
+    source: S,
+) -> Option<Fault> {
+    match archive.grow(source) {
+        Ok(()) => None,
+        Err((fault, _source)) => Some(fault),
+    }
+}

@@ -1,0 +1,104 @@
+//! Cases that check.
+
+use crate::calls::{checked, opened};
+use crate::telling::{add_check, add_line, add_number, add_text};
+use std::alloc::{AllocError, Global};
+use suites_script::Case;
+use warc::Archive;
+use warc_frame::{MemSink, Source};
+use warc_vectors::{BrokenSource, ChangingSource, changed};
+
+/// Adds what a check of an archive answers, and what it writes.
+fn add_checked<S: Source>(
+    alloc: Global,
+    archive: &mut Archive<S>,
+    answer: &mut Vec<u8>,
+) -> Result<(), AllocError> {
+    let mut out = MemSink::new(Vec::new(alloc));
+    let told = checked(archive, &mut out);
+    add_check(alloc, answer, told)?;
+    answer.extend_from_slice(out.bytes())
+}
+
+/// The same of an archive that is opened for it.
+pub(crate) fn add_check_of<S: Source + Drop>(
+    alloc: Global,
+    source: S,
+    answer: &mut Vec<u8>,
+) -> Result<(), AllocError> {
+    match opened(alloc, source) {
+        Ok(mut archive) => add_checked(alloc, &mut archive, answer),
+        Err(fault) => add_text(alloc, answer, &fault),
+    }
+}
+
+/// Adds what three checks of an archive answer, and how many records it has then.
+fn add_thrice<S: Source>(
+    alloc: Global,
+    archive: &mut Archive<S>,
+    answer: &mut Vec<u8>,
+) -> Result<(), AllocError> {
+    for _ in 0..3 {
+        add_checked(alloc, archive, answer)?;
+    }
+    add_number(alloc, answer, "records", archive.count() as u64)
+}
+
+/// The same of an archive of which the read of a number fails.
+pub(crate) fn add_check_thrice(
+    alloc: Global,
+    archive: &[u8],
+    number: u64,
+    answer: &mut Vec<u8>,
+) -> Result<(), AllocError> {
+    match opened(alloc, broken(alloc, archive, number)?) {
+        Ok(mut archive) => add_thrice(alloc, &mut archive, answer),
+        Err(fault) => add_text(alloc, answer, &fault),
+    }
+}
+
+/// A source that gives other bytes once an archive of it was opened: one read is for its bytes, one for their end.
+fn changing(alloc: Global, before: &[u8], after: Vec<u8>) -> Result<ChangingSource, AllocError> {
+    Ok(ChangingSource::new(before.to_vec(alloc)?, after, 3))
+}
+
+/// The archive in which the second word of a case stands in the place of the first; nothing where it has none.
+pub(crate) fn changed_by(
+    alloc: Global,
+    case: &Case<'_>,
+    bytes: &[u8],
+) -> Result<Option<Vec<u8>>, AllocError> {
+    let old = case.bytes(alloc, 1)?;
+    let new = case.bytes(alloc, 2)?;
+    match (str::from_utf8(&old), str::from_utf8(&new)) {
+        (Ok(old), Ok(new)) => Ok(changed(alloc, bytes, old, new).ok()),
+        _ => Ok(None),
+    }
+}
+
+/// Adds what a check answers where the source gives no byte once the archive is open.
+pub(crate) fn add_check_unread(
+    alloc: Global,
+    archive: &[u8],
+    answer: &mut Vec<u8>,
+) -> Result<(), AllocError> {
+    add_check_of(alloc, changing(alloc, archive, Vec::new(alloc))?, answer)
+}
+
+/// Adds what a check answers where the source gives a changed archive once it is open.
+pub(crate) fn add_check_changed(
+    alloc: Global,
+    case: &Case<'_>,
+    archive: &[u8],
+    answer: &mut Vec<u8>,
+) -> Result<(), AllocError> {
+    match changed_by(alloc, case, archive)? {
+        Some(after) => add_check_of(alloc, changing(alloc, archive, after)?, answer),
+        None => add_line(answer, b"no such text"),
+    }
+}
+
+/// A source of which the read of a number fails.
+pub(crate) fn broken(alloc: Global, bytes: &[u8], number: u64) -> Result<BrokenSource, AllocError> {
+    Ok(BrokenSource::new(bytes.to_vec(alloc)?, usize::MAX, number))
+}

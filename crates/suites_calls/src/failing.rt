@@ -1,0 +1,173 @@
+//! Growth in which each read or each request for memory fails in turn, and growth behind it, in which none does.
+
+use crate::calls::{opened, refused};
+use crate::growth::{Size, joined};
+use std::alloc::{AllocError, Allocator, Global};
+use suites_script::Case;
+use warc::Archive;
+use warc_frame::{Fault, FaultKind, MemSource, Source};
+use warc_vectors::{BrokenSource, RefusingAllocator};
+
+/// Why an archive doesn't grow by a source, if it doesn't, its size before and then, and how many records it has once
+/// it has grown by another source, if it has.
+#[derive(Clone, Copy)]
+struct Outcome {
+    fault: Option<Fault>,
+    before: Size,
+    then: Size,
+    again: Option<usize>,
+}
+
+impl Outcome {
+    /// Whether the archive was left as it was, and grew by a record behind that.
+    fn is_left(&self) -> bool {
+        self.then == self.before && self.again == Some(self.before.count.saturating_add(1))
+    }
+
+    /// Whether the archive grew by a record.
+    fn is_grown(&self) -> bool {
+        self.fault.is_none() && self.then.count == self.before.count.saturating_add(1)
+    }
+}
+
+/// How many records an archive has once it has grown by a source, if it grows.
+fn count_grown<S: Source + Drop, A: Allocator + Copy>(
+    archive: &mut Archive<S, A>,
+    source: S,
+) -> Option<usize> {
+    match refused(archive, source) {
+        None => Some(archive.count()),
+        Some(_) => None,
+    }
+}
+
+/// What comes of growth by a source, and then by another.
+fn grown_twice<S: Source + Drop, A: Allocator + Copy>(
+    archive: &mut Archive<S, A>,
+    source: S,
+    again: S,
+) -> Outcome {
+    let before = Size::of(archive);
+    let fault = refused(archive, source);
+    let then = Size::of(archive);
+    let again = count_grown(archive, again);
+    Outcome {
+        fault,
+        before,
+        then,
+        again,
+    }
+}
+
+/// A source that is read one byte at a time, of which the read of a number fails; at 0 none does.
+fn broken(alloc: Global, bytes: &[u8], number: u64) -> Result<BrokenSource, AllocError> {
+    Ok(BrokenSource::new(bytes.to_vec(alloc)?, 1, number))
+}
+
+/// What comes of the growth of an archive of these bytes to others, of which the read of a number fails; nothing where
+/// it doesn't open.
+fn unread(
+    alloc: Global,
+    bytes: &[u8],
+    longer: &[u8],
+    number: u64,
+) -> Result<Option<Outcome>, AllocError> {
+    let source = broken(alloc, longer, number)?;
+    let again = broken(alloc, longer, 0)?;
+    match opened(alloc, broken(alloc, bytes, 0)?) {
+        Ok(mut archive) => Ok(Some(grown_twice(&mut archive, source, again))),
+        Err(_) => Ok(None),
+    }
+}
+
+/// Adds how many reads fail in turn until none does, each of them told where it was made, where the archive is left as
+/// it was and grows by a record behind it.
+pub(crate) fn add_unread(
+    alloc: Global,
+    case: &Case<'_>,
+    archive: &[u8],
+    answer: &mut Vec<u8>,
+) -> Result<(), AllocError> {
+    let longer = joined(alloc, archive, case.given())?;
+    let mut at = archive.len() as u64;
+    for number in 1..1000u64 {
+        let fault = FaultKind::Read.at(at);
+        match unread(alloc, archive, &longer, number)? {
+            Some(it) if it.is_grown() => break,
+            Some(it) if it.is_left() && it.fault == Some(fault) => at = at.saturating_add(1),
+            _ => return answer.extend_from_slice(b"another outcome\n"),
+        }
+    }
+    let (first, last) = (archive.len(), at.saturating_sub(1));
+    let line = format!(in alloc;
+        "F13 Read at each offset from {first} to {last}, and grown then\n"
+    )?;
+    answer.extend_from_slice(line.as_bytes())
+}
+
+/// A source of bytes.
+fn whole(alloc: Global, bytes: &[u8]) -> Result<MemSource, AllocError> {
+    Ok(MemSource::new(bytes.to_vec(alloc)?, usize::MAX))
+}
+
+/// What comes of the growth of an archive of these bytes with memory of its own; nothing where it doesn't open for
+/// want of it.
+fn grown_on<A: Allocator + Copy>(
+    alloc: Global,
+    heap: A,
+    bytes: &[u8],
+    longer: &[u8],
+) -> Result<Option<Outcome>, AllocError> {
+    let source = whole(alloc, longer)?;
+    let again = whole(alloc, longer)?;
+    match opened(heap, whole(alloc, bytes)?) {
+        Ok(mut archive) => Ok(Some(grown_twice(&mut archive, source, again))),
+        Err(_) => Ok(None),
+    }
+}
+
+/// The same where the request for memory of a number is refused.
+fn unkept(
+    alloc: Global,
+    bytes: &[u8],
+    longer: &[u8],
+    number: u64,
+) -> Result<Option<Outcome>, AllocError> {
+    let heap = RefusingAllocator::new(alloc, number);
+    grown_on(alloc, &heap, bytes, longer)
+}
+
+/// Adds whether more requests for memory than a case says are refused in turn until none is, each of them told, where
+/// the archive is left as it was and grows by a record behind it.
+pub(crate) fn add_unkept(
+    alloc: Global,
+    case: &Case<'_>,
+    archive: &[u8],
+    answer: &mut Vec<u8>,
+) -> Result<(), AllocError> {
+    let longer = joined(alloc, archive, case.given())?;
+    let mut refusals = 0u64;
+    for number in 1..1000u64 {
+        match unkept(alloc, archive, &longer, number)? {
+            None => {}
+            Some(it) if it.is_grown() => break,
+            Some(it) if it.is_left() && is_want(it.fault) => refusals = refusals.saturating_add(1),
+            Some(_) => return answer.extend_from_slice(b"another outcome\n"),
+        }
+    }
+    let few = case.number(1);
+    let line = if refusals > few {
+        format!(in alloc; "F14 Memory more than {few} times, and grown then\n")?
+    } else {
+        format!(in alloc; "F14 Memory {refusals} times\n")?
+    };
+    answer.extend_from_slice(line.as_bytes())
+}
+
+/// Whether memory was refused.
+fn is_want(fault: Option<Fault>) -> bool {
+    match fault {
+        Some(fault) => fault.kind == FaultKind::Memory,
+        None => false,
+    }
+}

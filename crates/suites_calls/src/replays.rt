@@ -1,0 +1,206 @@
+//! Cases that replay, extract and take records.
+
+use crate::calls::{extracted, listed, opened, replayed};
+use crate::telling::{add_extract, add_line, add_record, add_replay, add_text};
+use std::alloc::{AllocError, Global};
+use suites_script::Case;
+use warc::Archive;
+use warc_frame::{MemSink, MemSource, Sink, Source};
+use warc_value::{Moment, read_date};
+use warc_vectors::{Break, BrokenWriter, ChangingSource};
+
+/// What stands in an output before a replay writes to it.
+const BEFORE: &[u8] = b"before ";
+
+/// A target and a moment.
+#[derive(Drop)]
+pub(crate) struct Asked {
+    uri: Vec<u8>,
+    moment: Moment,
+}
+
+impl Asked {
+    /// Those that the words from this one on name; nothing where the date isn't one.
+    pub(crate) fn of(
+        alloc: Global,
+        case: &Case<'_>,
+        index: usize,
+    ) -> Result<Option<Asked>, AllocError> {
+        let uri = case.bytes(alloc, index)?;
+        match read_date(case.word(index.saturating_add(1))) {
+            Some(moment) => Ok(Some(Asked { uri, moment })),
+            None => Ok(None),
+        }
+    }
+}
+
+/// Adds what an archive answers to a replay.
+fn add_asked<S: Source, W: Sink>(
+    alloc: Global,
+    archive: &mut Archive<S>,
+    asked: &Asked,
+    out: &mut W,
+    answer: &mut Vec<u8>,
+) -> Result<(), AllocError> {
+    let told = replayed(archive, &asked.uri, &asked.moment, out);
+    add_replay(alloc, answer, told)
+}
+
+/// Adds what an archive answers to a replay, and what is written of it.
+pub(crate) fn add_replayed(
+    alloc: Global,
+    archive: &mut Archive<MemSource>,
+    asked: &Asked,
+    answer: &mut Vec<u8>,
+) -> Result<(), AllocError> {
+    let mut out = MemSink::new(Vec::new(alloc));
+    add_asked(alloc, archive, asked, &mut out, answer)?;
+    answer.extend_from_slice(out.bytes())
+}
+
+/// Adds the same with a line that says whether the archive lists the same before and behind it.
+fn add_between<S: Source, W: Sink>(
+    alloc: Global,
+    archive: &mut Archive<S>,
+    asked: &Asked,
+    out: &mut W,
+    answer: &mut Vec<u8>,
+) -> Result<(), AllocError> {
+    let before = listed(alloc, archive)?;
+    add_asked(alloc, archive, asked, out, answer)?;
+    let behind = listed(alloc, archive)?;
+    if before.as_slice() == behind.as_slice() {
+        add_line(answer, b"lists the same")
+    } else {
+        add_line(answer, b"lists something else")
+    }
+}
+
+/// The same of an archive that is opened for it.
+fn add_opened<S: Source + Drop, W: Sink>(
+    alloc: Global,
+    source: S,
+    asked: &Asked,
+    out: &mut W,
+    answer: &mut Vec<u8>,
+) -> Result<(), AllocError> {
+    match opened(alloc, source) {
+        Ok(mut archive) => add_between(alloc, &mut archive, asked, out, answer),
+        Err(fault) => add_text(alloc, answer, &fault),
+    }
+}
+
+/// Adds what a replay answers, and what is written behind a text.
+fn add_behind_text<S: Source + Drop>(
+    alloc: Global,
+    source: S,
+    asked: &Asked,
+    answer: &mut Vec<u8>,
+) -> Result<(), AllocError> {
+    let mut out = MemSink::new(BEFORE.to_vec(alloc)?);
+    add_opened(alloc, source, asked, &mut out, answer)?;
+    answer.extend_from_slice(out.bytes())
+}
+
+/// Adds what a replay answers to a sink of one byte a write, of which the write of a number fails, and what is written.
+fn add_unwritten(
+    alloc: Global,
+    source: MemSource,
+    asked: &Asked,
+    number: u64,
+    answer: &mut Vec<u8>,
+) -> Result<(), AllocError> {
+    let mut out = BrokenWriter::new(alloc, number, Break::Fails).taking(1);
+    add_opened(alloc, source, asked, &mut out, answer)?;
+    answer.extend_from_slice(out.bytes())
+}
+
+/// A source that gives nothing more once an archive of it was opened: one read is for its bytes, one for their end.
+fn silent(alloc: Global, bytes: &[u8]) -> Result<ChangingSource, AllocError> {
+    Ok(ChangingSource::new(bytes.to_vec(alloc)?, Vec::new(alloc), 3))
+}
+
+/// Adds what the replay of a case answers.
+pub(crate) fn add_replay_case(
+    alloc: Global,
+    case: &Case<'_>,
+    source: MemSource,
+    answer: &mut Vec<u8>,
+) -> Result<(), AllocError> {
+    let Some(asked) = Asked::of(alloc, case, 1)? else {
+        return add_line(answer, b"bad date");
+    };
+    if case.text(0) == "replayed" {
+        add_behind_text(alloc, source, &asked, answer)
+    } else {
+        add_unwritten(alloc, source, &asked, case.number(3), answer)
+    }
+}
+
+/// Adds what the replay of a case answers where the source gives no byte once the archive is open.
+pub(crate) fn add_unread(
+    alloc: Global,
+    case: &Case<'_>,
+    archive: &[u8],
+    answer: &mut Vec<u8>,
+) -> Result<(), AllocError> {
+    match Asked::of(alloc, case, 1)? {
+        Some(asked) => add_behind_text(alloc, silent(alloc, archive)?, &asked, answer),
+        None => add_line(answer, b"bad date"),
+    }
+}
+
+/// Adds what an archive answers to an extraction, and what is written.
+fn add_extracted(
+    alloc: Global,
+    archive: &mut Archive<MemSource>,
+    id: &[u8],
+    answer: &mut Vec<u8>,
+) -> Result<(), AllocError> {
+    let mut out = MemSink::new(Vec::new(alloc));
+    let told = extracted(archive, id, &mut out);
+    add_extract(alloc, answer, told)?;
+    answer.extend_from_slice(out.bytes())
+}
+
+/// Adds the record of an archive at a position.
+fn add_taken(
+    alloc: Global,
+    archive: &mut Archive<MemSource>,
+    position: usize,
+    answer: &mut Vec<u8>,
+) -> Result<(), AllocError> {
+    match archive.record(position) {
+        Ok(record) => add_record(alloc, answer, &record),
+        Err(fault) => add_text(alloc, answer, &fault),
+    }
+}
+
+/// Adds what an archive answers to a case that extracts or takes a record.
+fn add_given(
+    alloc: Global,
+    archive: &mut Archive<MemSource>,
+    case: &Case<'_>,
+    answer: &mut Vec<u8>,
+) -> Result<(), AllocError> {
+    if case.text(0) == "extracted" {
+        let id = case.bytes(alloc, 1)?;
+        add_extracted(alloc, archive, &id, answer)
+    } else {
+        let position = usize::try_from(case.number(1)).unwrap_or(usize::MAX);
+        add_taken(alloc, archive, position, answer)
+    }
+}
+
+/// The same of an archive that is opened for it.
+pub(crate) fn add_given_case(
+    alloc: Global,
+    case: &Case<'_>,
+    source: MemSource,
+    answer: &mut Vec<u8>,
+) -> Result<(), AllocError> {
+    match opened(alloc, source) {
+        Ok(mut archive) => add_given(alloc, &mut archive, case, answer),
+        Err(fault) => add_text(alloc, answer, &fault),
+    }
+}

@@ -1,5 +1,0 @@
-//! The suite of `check`.
-#![tactic(auto)]
-
-#[cfg(test)]
-mod check;

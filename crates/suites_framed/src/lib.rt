@@ -1,0 +1,33 @@
+//! What records as bytes, the devices that they are read from and written to, and the crate that writes records answer
+//! to the cases of a script.
+#![tactic(auto)]
+
+mod devices;
+mod faults;
+mod making;
+mod odd;
+mod pieces;
+mod ranges;
+mod records;
+mod splitting;
+mod steps;
+mod writing;
+
+use std::alloc::{AllocError, Global};
+use suites_script::Case;
+
+/// Adds what a case answers, and tells whether it is a case of these crates. `kept` is the text that cases speak of
+/// which give none.
+pub fn answer(
+    alloc: Global,
+    case: &Case<'_>,
+    kept: &[u8],
+    answer: &mut Vec<u8>,
+) -> Result<bool, AllocError> {
+    let is_of_records = records::answer(alloc, case, kept, answer)?;
+    let is_of_pieces = pieces::answer(alloc, case, kept, answer)?;
+    let is_of_faults = faults::answer(alloc, case, answer)?;
+    let is_of_devices = devices::answer(alloc, case, kept, answer)?;
+    let is_of_writing = writing::answer(alloc, case, kept, answer)?;
+    Ok(is_of_records || is_of_pieces || is_of_faults || is_of_devices || is_of_writing)
+}

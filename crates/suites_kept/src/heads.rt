@@ -1,0 +1,215 @@
+//! Records by their heads, and the archives that are made of them.
+
+use crate::captures::answer_capture;
+use crate::series::answer_series;
+use std::alloc::{AllocError, Allocator, Global};
+use suites_script::{Case, Trial};
+use warc_field::read_area;
+use warc_record::{Typed, type_head};
+use warc_segment::Place;
+use warc_value::Verdict;
+
+/// A record: what it is called, the field lines of its head, the length of its block, and where that stands, if this
+/// isn't by its position.
+#[derive(Drop)]
+pub(crate) struct Head {
+    name: Vec<u8>,
+    text: Vec<u8>,
+    len: u64,
+    place: Option<Place>,
+}
+
+impl Head {
+    /// What the head says. Its lines read, so that memory alone can be wanting.
+    pub(crate) fn typed<A: Allocator + Copy>(&self, alloc: A) -> Result<Typed<A>, AllocError> {
+        typed(alloc, &self.text)
+    }
+
+    /// The place of its block where it is the record at a position.
+    pub(crate) fn place(&self, position: u64) -> Place {
+        match self.place {
+            Some(place) => place,
+            None => Place {
+                start: position.saturating_add(1).saturating_mul(1000),
+                len: self.len,
+                verdict: Verdict::Unchecked,
+                truncated: false,
+            },
+        }
+    }
+}
+
+/// What the field lines of a head say.
+fn typed<A: Allocator + Copy>(alloc: A, text: &[u8]) -> Result<Typed<A>, AllocError> {
+    match read_area(alloc, text) {
+        Ok(fields) => type_head(alloc, &fields).map_err(|_| AllocError),
+        Err(_) => Err(AllocError),
+    }
+}
+
+/// What happens to an archive.
+#[derive(Clone, Copy)]
+pub(crate) enum Step {
+    /// The record of that number among those that are known is added.
+    Add(usize),
+
+    /// The first so many records are kept.
+    Keep(usize),
+}
+
+/// The records that are known, and what happens to the archive.
+#[derive(Drop)]
+pub struct Records {
+    heads: Vec<Head>,
+    steps: Vec<Step>,
+}
+
+/// The place that the words of a case say, if any.
+fn place_of(case: &Case<'_>) -> Option<Place> {
+    let verdict = match case.text(4) {
+        "bad" => Verdict::Bad,
+        "good" => Verdict::Good,
+        _ => return None,
+    };
+    Some(Place {
+        start: case.number(3),
+        len: case.number(2),
+        verdict,
+        truncated: case.text(5) == "truncated",
+    })
+}
+
+/// The head of the revisit with a number in a chain, which names another number.
+fn link_text(alloc: Global, number: u64, named: u64) -> Result<String, AllocError> {
+    format!(in alloc;
+        "WARC-Type: revisit\r\n\
+         WARC-Record-ID: <{number:04}>\r\n\
+         WARC-Date: 2020\r\n\
+         WARC-Profile: http://netpreserve.org/warc/1.1/revisit/server-not-modified\r\n\
+         WARC-Refers-To: <{named:04}>\r\n"
+    )
+}
+
+/// The head of the resource with a number behind a chain.
+fn end_text(alloc: Global, number: u64) -> Result<String, AllocError> {
+    format!(in alloc;
+        "WARC-Type: resource\r\n\
+         WARC-Record-ID: <{number:04}>\r\n\
+         WARC-Date: 2020\r\n"
+    )
+}
+
+impl Records {
+    /// No records, and an empty archive.
+    pub fn new(alloc: Global) -> Records {
+        Records {
+            heads: Vec::new(alloc),
+            steps: Vec::new(alloc),
+        }
+    }
+
+    /// What happens to the archive.
+    pub(crate) fn steps(&self) -> &[Step] {
+        &self.steps
+    }
+
+    /// The record of a number among those that are known.
+    pub(crate) fn head(&self, number: usize) -> Option<&Head> {
+        self.heads.get(number)
+    }
+
+    /// The number of the record of a name.
+    pub(crate) fn number_of(&self, name: &[u8]) -> Option<usize> {
+        for (number, head) in self.heads.iter().enumerate() {
+            if head.name.as_slice() == name {
+                return Some(number);
+            }
+        }
+        None
+    }
+
+    /// Adds a record to those that are known.
+    fn know(&mut self, alloc: Global, case: &Case<'_>) -> Result<(), AllocError> {
+        let head = Head {
+            name: case.word(1).to_vec(alloc)?,
+            text: case.given().to_vec(alloc)?,
+            len: case.number(2),
+            place: place_of(case),
+        };
+        self.heads.push(head).map_err(|_| AllocError)
+    }
+
+    /// Adds a record without a name to those that are known, and to the archive.
+    fn add(&mut self, alloc: Global, text: &str) -> Result<(), AllocError> {
+        let number = self.heads.len();
+        let head = Head {
+            name: Vec::new(alloc),
+            text: text.as_bytes().to_vec(alloc)?,
+            len: 0,
+            place: None,
+        };
+        self.steps.push(Step::Add(number))?;
+        self.heads.push(head).map_err(|_| AllocError)
+    }
+
+    /// Takes the words of a case as what happens to the archive. The first word that is no record's name is told.
+    fn happen(&mut self, case: &Case<'_>, answer: &mut Vec<u8>) -> Result<(), AllocError> {
+        self.steps.clear();
+        let mut is_count = false;
+        for word in case.words().split(|byte| *byte == b' ').skip(1) {
+            if word == b"keep".as_slice() {
+                is_count = true;
+            } else if is_count {
+                is_count = false;
+                self.steps.push(Step::Keep(count_of(word)))?;
+            } else {
+                match self.number_of(word) {
+                    Some(number) => self.steps.push(Step::Add(number))?,
+                    None => answer.extend_from_slice(b"no such record\n")?,
+                }
+            }
+        }
+        Ok(())
+    }
+
+    /// Makes an archive of a chain of so many revisits, each of which names the next one, and the record behind it.
+    fn chain(&mut self, alloc: Global, length: u64, end: &str) -> Result<(), AllocError> {
+        self.steps.clear();
+        for number in 0..length {
+            let text = link_text(alloc, number, number.saturating_add(1))?;
+            self.add(alloc, &text)?;
+        }
+        match end {
+            "resource" => self.add(alloc, &end_text(alloc, length)?),
+            "loop" => self.add(alloc, &link_text(alloc, length, length / 2)?),
+            _ => Ok(()),
+        }
+    }
+}
+
+/// The number that a word is; 0 where it is none.
+fn count_of(word: &[u8]) -> usize {
+    match str::from_utf8(word) {
+        Ok(text) => text.parse().unwrap_or(0),
+        Err(_) => 0,
+    }
+}
+
+impl Trial for Records {
+    fn answer(
+        &mut self,
+        alloc: Global,
+        case: &Case<'_>,
+        answer: &mut Vec<u8>,
+    ) -> Result<(), AllocError> {
+        match case.text(0) {
+            "record" => self.know(alloc, case),
+            "archive" => self.happen(case, answer),
+            "chain" => self.chain(alloc, case.number(1), case.text(2)),
+            "join" | "refused-join" | "numbered" | "segment-bytes" | "gap" => {
+                answer_series(alloc, self, case, answer)
+            }
+            _ => answer_capture(alloc, self, case, answer),
+        }
+    }
+}

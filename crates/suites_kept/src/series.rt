@@ -1,0 +1,417 @@
+//! Series of segments: which places are joined to a record, and what is missing where none are.
+
+use crate::heads::{Head, Records, Step};
+use crate::refusals::Heap;
+use std::alloc::{AllocError, Global};
+use suites_script::Case;
+use warc_record::{SegmentNumber, Typed};
+use warc_segment::{Gap, JoinFault, Parts, Place};
+use warc_value::Verdict;
+use warc_vectors::RefusingAllocator;
+
+/// What is told where memory is refused.
+const NO_MEMORY: &[u8] = b"out of memory\n";
+
+/// Adds what a head says, again where memory was refused. Whether it was refused; `None` where that left another number
+/// of bytes kept, or where memory was refused again.
+fn add_again<'a>(
+    parts: &mut Parts<Heap<'a>>,
+    typed: &Typed<Heap<'a>>,
+    place: Place,
+) -> Option<bool> {
+    let kept = parts.kept();
+    if parts.add(typed, place).is_ok() {
+        return Some(false);
+    }
+    (parts.kept() == kept && parts.add(typed, place).is_ok()).then_some(true)
+}
+
+/// The same of a record, whose head takes its memory elsewhere.
+fn add_head<'a>(
+    parts: &mut Parts<Heap<'a>>,
+    willing: Heap<'a>,
+    head: &Head,
+    position: u64,
+) -> Option<bool> {
+    match head.typed(willing) {
+        Ok(typed) => add_again(parts, &typed, head.place(position)),
+        Err(_) => None,
+    }
+}
+
+/// Lets happen what happens to an archive. Whether an addition was refused; `None` where that changed something.
+fn make<'a>(parts: &mut Parts<Heap<'a>>, willing: Heap<'a>, records: &Records) -> Option<bool> {
+    let mut is_refused = false;
+    let mut position = 0u64;
+    for step in records.steps() {
+        match *step {
+            Step::Keep(count) => {
+                parts.forget_after(count);
+                position = position.min(count as u64);
+            }
+            Step::Add(number) => {
+                let head = records.head(number)?;
+                is_refused = add_head(parts, willing, head, position)? || is_refused;
+                position = position.saturating_add(1);
+            }
+        }
+    }
+    Some(is_refused)
+}
+
+/// Tells where a block begins, its length, and what was found of it where it was checked or is marked.
+fn tell_place(alloc: Global, place: &Place, told: &mut Vec<u8>) -> Result<(), AllocError> {
+    let verdict = match place.verdict {
+        Verdict::Unchecked => "",
+        Verdict::Good => " good",
+        Verdict::Bad => " bad",
+    };
+    let mark = if place.truncated { " truncated" } else { "" };
+    let (start, len) = (place.start, place.len);
+    let text = format!(in alloc; "{start}+{len}{verdict}{mark}\n")?;
+    told.extend_from_slice(text.as_bytes())
+}
+
+/// Tells the places that are joined, or why none are.
+fn tell(
+    alloc: Global,
+    joined: &Result<Vec<Place, Heap<'_>>, JoinFault>,
+    told: &mut Vec<u8>,
+) -> Result<(), AllocError> {
+    match joined {
+        Ok(places) => {
+            for place in places {
+                tell_place(alloc, place, told)?;
+            }
+            Ok(())
+        }
+        Err(fault) => {
+            let text = format!(in alloc; "{fault}\n")?;
+            told.extend_from_slice(text.as_bytes())
+        }
+    }
+}
+
+/// The places that are joined to the record of a head at a position.
+fn join<'a>(
+    parts: &Parts<Heap<'a>>,
+    willing: Heap<'a>,
+    head: &Head,
+    position: u64,
+) -> Result<Vec<Place, Heap<'a>>, JoinFault> {
+    match head.typed(willing) {
+        Ok(typed) => parts.join(&typed, head.place(position)),
+        Err(_) => Err(JoinFault::Memory),
+    }
+}
+
+/// The record that a word of a case names.
+fn named<'a>(records: &'a Records, case: &Case<'_>, index: usize) -> Option<&'a Head> {
+    records.head(records.number_of(case.word(index))?)
+}
+
+/// Tells what is joined to the record that a case names.
+fn tell_join<'a>(
+    alloc: Global,
+    parts: &Parts<Heap<'a>>,
+    willing: Heap<'a>,
+    records: &Records,
+    case: &Case<'_>,
+    told: &mut Vec<u8>,
+) -> Result<(), AllocError> {
+    match named(records, case, 1) {
+        Some(head) => tell(alloc, &join(parts, willing, head, case.number(2)), told),
+        None => told.extend_from_slice(b"no such record\n"),
+    }
+}
+
+/// Tells how many bytes of keys are kept.
+fn tell_bytes(
+    alloc: Global,
+    parts: &Parts<Heap<'_>>,
+    told: &mut Vec<u8>,
+) -> Result<(), AllocError> {
+    let text = format!(in alloc; "{}\n", parts.kept())?;
+    told.extend_from_slice(text.as_bytes())
+}
+
+/// Tells what a case asks for, once what happens to the archive has happened. Whether an addition was refused; `None`
+/// where that changed something.
+fn make_and_tell<'a>(
+    alloc: Global,
+    parts: &mut Parts<Heap<'a>>,
+    willing: Heap<'a>,
+    records: &Records,
+    case: &Case<'_>,
+    told: &mut Vec<u8>,
+) -> Result<Option<bool>, AllocError> {
+    let is_refused = make(parts, willing, records);
+    match case.text(0) {
+        "segment-bytes" => tell_bytes(alloc, parts, told)?,
+        _ => tell_join(alloc, parts, willing, records, case, told)?,
+    }
+    Ok(is_refused)
+}
+
+/// The same with parts that take their memory from a heap.
+fn perform(
+    alloc: Global,
+    heap: Heap<'_>,
+    willing: Heap<'_>,
+    records: &Records,
+    case: &Case<'_>,
+    told: &mut Vec<u8>,
+) -> Result<Option<bool>, AllocError> {
+    let mut parts = Parts::new(heap);
+    make_and_tell(alloc, &mut parts, willing, records, case, told)
+}
+
+/// The same where the request of that number is refused; at 0 none is. Heads take their memory elsewhere.
+fn perform_at(
+    alloc: Global,
+    records: &Records,
+    case: &Case<'_>,
+    number: u64,
+    told: &mut Vec<u8>,
+) -> Result<Option<bool>, AllocError> {
+    let willing = RefusingAllocator::new(alloc, 0);
+    let heap = RefusingAllocator::new(alloc, number);
+    perform(alloc, &heap, &willing, records, case, told)
+}
+
+/// What was refused in runs so far: an addition in one, the joining in one; and whether one went wrong.
+#[derive(Clone, Copy)]
+struct Refused {
+    additions: bool,
+    joins: bool,
+    is_wrong: bool,
+}
+
+/// Where the request of that number is refused, and this was told where none was.
+fn refused_at(
+    alloc: Global,
+    records: &Records,
+    case: &Case<'_>,
+    number: u64,
+    wanted: &[u8],
+) -> Result<Refused, AllocError> {
+    let mut told = Vec::new(alloc);
+    let added = perform_at(alloc, records, case, number, &mut told)?;
+    let is_join_refused = told.as_slice() == NO_MEMORY;
+    Ok(Refused {
+        additions: added == Some(true),
+        joins: is_join_refused,
+        is_wrong: added.is_none() || !(is_join_refused || told.as_slice() == wanted),
+    })
+}
+
+/// Where each of the first 127 requests is refused in turn.
+fn refuse_each(
+    alloc: Global,
+    records: &Records,
+    case: &Case<'_>,
+    wanted: &[u8],
+) -> Result<Refused, AllocError> {
+    let mut all = Refused {
+        additions: false,
+        joins: false,
+        is_wrong: false,
+    };
+    for number in 1..128u64 {
+        let one = refused_at(alloc, records, case, number, wanted)?;
+        all = Refused {
+            additions: all.additions || one.additions,
+            joins: all.joins || one.joins,
+            is_wrong: all.is_wrong || one.is_wrong,
+        };
+    }
+    Ok(all)
+}
+
+impl Refused {
+    fn text(self) -> &'static [u8] {
+        match (self.is_wrong, self.additions, self.joins) {
+            (true, _, _) => b"something else once a request is refused\n",
+            (false, true, true) => b"the same where an addition or the joining was refused\n",
+            (false, true, false) => b"the same where an addition was refused\n",
+            (false, false, true) => b"the same where the joining was refused\n",
+            (false, false, false) => b"no request is refused\n",
+        }
+    }
+}
+
+/// Adds a segment with a number to a series of so many, each of a block of one byte. The last one alone states the
+/// total.
+fn add_number<'a>(
+    parts: &mut Parts<Heap<'a>>,
+    typed: &mut Typed<Heap<'a>>,
+    number: u64,
+    count: u64,
+) -> Result<(), AllocError> {
+    typed.segment.number = SegmentNumber::Number(number);
+    typed.segment.total = if number == count { Some(count) } else { None };
+    let place = Place {
+        start: number.saturating_add(1).saturating_mul(1000),
+        len: 1,
+        verdict: Verdict::Unchecked,
+        truncated: false,
+    };
+    parts.add(typed, place)
+}
+
+/// Adds the segments of such a series but the first, the last one first.
+fn add_numbers<'a>(
+    parts: &mut Parts<Heap<'a>>,
+    typed: &mut Typed<Heap<'a>>,
+    count: u64,
+) -> Result<(), AllocError> {
+    for number in (2..=count).rev() {
+        add_number(parts, typed, number, count)?;
+    }
+    Ok(())
+}
+
+/// The same with a head.
+fn add_numbered<'a>(
+    parts: &mut Parts<Heap<'a>>,
+    willing: Heap<'a>,
+    head: &Head,
+    count: u64,
+) -> Result<(), AllocError> {
+    let mut typed = head.typed(willing)?;
+    add_numbers(parts, &mut typed, count)
+}
+
+/// How many places at the front begin so, and each a thousand bytes behind the one before.
+fn following(places: &[Place], first: u64) -> u64 {
+    let mut start = first;
+    let mut count = 0u64;
+    for place in places {
+        if place.start != start {
+            return count;
+        }
+        start = start.saturating_add(1000);
+        count = count.saturating_add(1);
+    }
+    count
+}
+
+/// Tells how many places are joined, and how many of them follow one another.
+fn tell_following(
+    alloc: Global,
+    joined: &Result<Vec<Place, Heap<'_>>, JoinFault>,
+    told: &mut Vec<u8>,
+) -> Result<(), AllocError> {
+    match joined {
+        Ok(places) => {
+            let (count, right) = (places.len(), following(places, 2000));
+            let text = format!(in alloc; "{count} places, {right} of them in order\n")?;
+            told.extend_from_slice(text.as_bytes())
+        }
+        Err(_) => tell(alloc, joined, told),
+    }
+}
+
+/// Tells of a long series: the numbered segments have one head, and the first segment another.
+fn add_and_tell<'a>(
+    alloc: Global,
+    parts: &mut Parts<Heap<'a>>,
+    willing: Heap<'a>,
+    heads: (&Head, &Head),
+    count: u64,
+    told: &mut Vec<u8>,
+) -> Result<(), AllocError> {
+    let (first, other) = heads;
+    add_numbered(parts, willing, other, count)?;
+    tell_following(alloc, &join(parts, willing, first, 1), told)
+}
+
+/// The same with parts that hold none yet.
+fn tell_numbered(
+    alloc: Global,
+    heads: (&Head, &Head),
+    count: u64,
+    told: &mut Vec<u8>,
+) -> Result<(), AllocError> {
+    let willing = RefusingAllocator::new(alloc, 0);
+    let mut parts = Parts::new(&willing);
+    add_and_tell(alloc, &mut parts, &willing, heads, count, told)
+}
+
+fn numbered(
+    alloc: Global,
+    records: &Records,
+    case: &Case<'_>,
+    told: &mut Vec<u8>,
+) -> Result<(), AllocError> {
+    match (named(records, case, 2), named(records, case, 3)) {
+        (Some(first), Some(other)) => tell_numbered(alloc, (first, other), case.number(1), told),
+        _ => told.extend_from_slice(b"no such record\n"),
+    }
+}
+
+/// The gap that the words of a case name.
+fn gap_of(case: &Case<'_>) -> Option<Gap> {
+    let number = case.number(2);
+    match case.text(1) {
+        "repeated" => Some(Gap::Repeated(number)),
+        "unfinished" => Some(Gap::Unfinished),
+        "after-end" => Some(Gap::AfterEnd(number)),
+        "absent" => Some(Gap::Absent(number)),
+        "total" => Some(Gap::Total),
+        "number" => Some(Gap::Number),
+        _ => None,
+    }
+}
+
+/// Tells a gap's text, and that of the fault of joining that it is; without a gap that of want of memory.
+fn tell_gap(alloc: Global, case: &Case<'_>, told: &mut Vec<u8>) -> Result<(), AllocError> {
+    let text = match gap_of(case) {
+        Some(gap) => format!(in alloc; "{gap}\n{}\n", JoinFault::Gap(gap))?,
+        None => format!(in alloc; "{}\n", JoinFault::Memory)?,
+    };
+    told.extend_from_slice(text.as_bytes())
+}
+
+/// Tells what is joined, and what comes of it where requests are refused.
+fn tell_refused(
+    alloc: Global,
+    records: &Records,
+    case: &Case<'_>,
+    answer: &mut Vec<u8>,
+) -> Result<(), AllocError> {
+    let mut told = Vec::new(alloc);
+    tell_plain(alloc, records, case, &mut told)?;
+    let refused = refuse_each(alloc, records, case, &told)?;
+    answer.extend_from_slice(&told)?;
+    answer.extend_from_slice(refused.text())
+}
+
+/// Tells what a case asks for where no request is refused.
+fn tell_plain(
+    alloc: Global,
+    records: &Records,
+    case: &Case<'_>,
+    told: &mut Vec<u8>,
+) -> Result<(), AllocError> {
+    match perform_at(alloc, records, case, 0, told) {
+        Ok(Some(_)) => Ok(()),
+        Ok(None) => told.extend_from_slice(b"a record is refused\n"),
+        Err(error) => Err(error),
+    }
+}
+
+/// Answers a case about the series of an archive.
+pub(crate) fn answer_series(
+    alloc: Global,
+    records: &Records,
+    case: &Case<'_>,
+    answer: &mut Vec<u8>,
+) -> Result<(), AllocError> {
+    match case.text(0) {
+        "gap" => tell_gap(alloc, case, answer),
+        "numbered" => numbered(alloc, records, case, answer),
+        "refused-join" => tell_refused(alloc, records, case, answer),
+        _ => tell_plain(alloc, records, case, answer),
+    }
+}

@@ -1,0 +1,371 @@
+//! Names, values, numbers and areas.
+
+use crate::bytes::{Reading, keeps_name, keeps_value, tell_bytes};
+use crate::refusals::{Attempt, tell_refusals};
+use crate::telling::{tell_fields, tell_line, tell_parts, text_of};
+use std::alloc::{AllocError, Allocator, Global};
+use suites_script::Case;
+use warc_field::{
+    AreaFault, Fields, Name, TextFault, Value, canonical_len, decimal, read_area, trim, write_area,
+};
+use warc_vectors::RefusingAllocator;
+
+/// Adds whether a text is a name or a value.
+fn tell_kept(
+    alloc: Global,
+    answer: &mut Vec<u8>,
+    reading: Reading,
+    text: &[u8],
+) -> Result<(), AllocError> {
+    let told = match reading.is_of(alloc, text) {
+        Some(true) => "kept",
+        Some(false) => "bad text",
+        None => "told in two ways",
+    };
+    tell_line(alloc, answer, &told)
+}
+
+/// Adds what is told of a text that is to be kept.
+fn tell_once(
+    alloc: Global,
+    answer: &mut Vec<u8>,
+    kept: Result<bool, TextFault>,
+) -> Result<(), AllocError> {
+    match kept {
+        Ok(true) => tell_line(alloc, answer, &"kept"),
+        Ok(false) => tell_line(alloc, answer, &"kept otherwise"),
+        Err(fault) => tell_line(alloc, answer, &fault),
+    }
+}
+
+/// Adds what is told of a name where the first request for memory is refused, and of the same name then.
+fn tell_name_twice(alloc: Global, answer: &mut Vec<u8>, text: &[u8]) -> Result<(), AllocError> {
+    let heap = RefusingAllocator::new(alloc, 1);
+    let first = keeps_name(&heap, text);
+    let second = keeps_name(&heap, text);
+    tell_once(alloc, answer, first)?;
+    tell_once(alloc, answer, second)
+}
+
+/// The same of a value.
+fn tell_value_twice(alloc: Global, answer: &mut Vec<u8>, text: &[u8]) -> Result<(), AllocError> {
+    let heap = RefusingAllocator::new(alloc, 1);
+    let first = keeps_value(&heap, text);
+    let second = keeps_value(&heap, text);
+    tell_once(alloc, answer, first)?;
+    tell_once(alloc, answer, second)
+}
+
+/// Whether two names are the same, told in both ways; `None` where one is no name, or they tell two things.
+fn are_same(alloc: Global, one: &[u8], other: &[u8]) -> Option<bool> {
+    match (Name::new(alloc, one), Name::new(alloc, other)) {
+        (Ok(name), Ok(second)) => {
+            let is_same = name.same(&second);
+            (name.is(other) == is_same).then_some(is_same)
+        }
+        _ => None,
+    }
+}
+
+/// Adds whether two names are the same.
+fn tell_same(alloc: Global, case: &Case<'_>, answer: &mut Vec<u8>) -> Result<(), AllocError> {
+    let told = match are_same(alloc, case.word(1), case.word(2)) {
+        Some(true) => "same",
+        Some(false) => "other",
+        None => "told in two ways",
+    };
+    tell_line(alloc, answer, &told)
+}
+
+/// Adds a text without the blanks around it, in a line.
+fn tell_trimmed(answer: &mut Vec<u8>, text: &[u8]) -> Result<(), AllocError> {
+    tell_parts(answer, &[trim(text), b"\n"])
+}
+
+/// Adds the number that a text is.
+fn tell_number(alloc: Global, answer: &mut Vec<u8>, text: &[u8]) -> Result<(), AllocError> {
+    match decimal(text) {
+        Some(number) => tell_line(alloc, answer, &number),
+        None => tell_line(alloc, answer, &"none"),
+    }
+}
+
+/// Adds the bytes with which the text of the third word is what the second says, or is not.
+fn tell_bytes_of(
+    alloc: Global,
+    case: &Case<'_>,
+    answer: &mut Vec<u8>,
+    is_one: bool,
+) -> Result<(), AllocError> {
+    let pattern = case.bytes(alloc, 2)?;
+    tell_bytes(
+        alloc,
+        answer,
+        Reading::named(case.text(1)),
+        &pattern,
+        is_one,
+    )
+}
+
+/// Answers a case of names, values and numbers.
+pub(crate) fn answer(
+    alloc: Global,
+    case: &Case<'_>,
+    kept: &[u8],
+    answer: &mut Vec<u8>,
+) -> Result<bool, AllocError> {
+    let text = text_of(case, kept);
+    let told = match case.text(0) {
+        "name" => tell_kept(alloc, answer, Reading::Name, text),
+        "value" => tell_kept(alloc, answer, Reading::Value, text),
+        "name-without-memory" => tell_name_twice(alloc, answer, text),
+        "value-without-memory" => tell_value_twice(alloc, answer, text),
+        "kept-bytes" => tell_bytes_of(alloc, case, answer, true),
+        "refused-bytes" => tell_bytes_of(alloc, case, answer, false),
+        "same-name" => tell_same(alloc, case, answer),
+        "trim" => tell_trimmed(answer, text),
+        "decimal" => tell_number(alloc, answer, &case.bytes(alloc, 1)?),
+        _ => return Ok(false),
+    };
+    told?;
+    Ok(true)
+}
+
+/// Adds the fields of an area, or its fault.
+fn tell_area<A: Allocator>(
+    alloc: Global,
+    answer: &mut Vec<u8>,
+    area: Result<Fields<A>, AreaFault>,
+) -> Result<(), AllocError> {
+    match area {
+        Ok(fields) if fields.is_empty() => tell_line(alloc, answer, &"no fields"),
+        Ok(fields) => {
+            let told = format!(in alloc; "fields: {}", fields.len())?;
+            tell_line(alloc, answer, &told)?;
+            tell_fields(answer, &fields)
+        }
+        Err(fault) => tell_line(alloc, answer, &fault),
+    }
+}
+
+/// Adds a field as a line.
+fn tell_field(answer: &mut Vec<u8>, field: Option<(&Name, &Value)>) -> Result<(), AllocError> {
+    match field {
+        Some((name, value)) => tell_parts(answer, &[name.bytes(), b": ", value.bytes(), b"\n"]),
+        None => answer.extend_from_slice(b"none\n"),
+    }
+}
+
+/// Adds a value as a line.
+fn tell_value(answer: &mut Vec<u8>, value: Option<&Value>) -> Result<(), AllocError> {
+    match value {
+        Some(value) => tell_parts(answer, &[value.bytes(), b"\n"]),
+        None => answer.extend_from_slice(b"none\n"),
+    }
+}
+
+/// Adds what a look-up among fields finds.
+fn tell_found(
+    alloc: Global,
+    case: &Case<'_>,
+    answer: &mut Vec<u8>,
+    fields: &Fields,
+) -> Result<(), AllocError> {
+    let name = case.word(1);
+    match case.text(0) {
+        "field" => tell_field(answer, fields.get(case.number(1) as usize)),
+        "first" => tell_value(answer, fields.first(name)),
+        _ => tell_line(alloc, answer, &fields.count(name)),
+    }
+}
+
+/// Adds what a look-up among the fields of an area finds.
+fn tell_found_in(
+    alloc: Global,
+    case: &Case<'_>,
+    answer: &mut Vec<u8>,
+    area: &[u8],
+) -> Result<(), AllocError> {
+    match read_area(alloc, area) {
+        Ok(fields) => tell_found(alloc, case, answer, &fields),
+        Err(fault) => tell_line(alloc, answer, &fault),
+    }
+}
+
+/// Adds the length of fields as they are written, and their text behind what stands there.
+fn tell_written(alloc: Global, answer: &mut Vec<u8>, fields: &Fields) -> Result<(), AllocError> {
+    let len = canonical_len(fields).unwrap_or(0);
+    tell_line(alloc, answer, &len)?;
+    let mut written = b"before".to_vec(alloc)?;
+    write_area(fields, &mut written)?;
+    answer.extend_from_slice(&written)
+}
+
+/// Adds whether fields could not be written behind what stands in a vector, and what stands there then.
+fn tell_written_into<A: Allocator>(
+    answer: &mut Vec<u8>,
+    fields: &Fields,
+    written: &mut Vec<u8, A>,
+) -> Result<(), AllocError> {
+    if write_area(fields, written).is_err() {
+        answer.extend_from_slice(b"refused: ")?;
+    }
+    answer.extend_from_slice(written)?;
+    answer.extend_from_slice(b"\n")
+}
+
+/// Adds what is written of fields where the first growth is refused, and what is written then.
+fn tell_written_twice(
+    alloc: Global,
+    answer: &mut Vec<u8>,
+    fields: &Fields,
+) -> Result<(), AllocError> {
+    let heap = RefusingAllocator::new(alloc, 2);
+    let mut written = b"before".to_vec(&heap)?;
+    tell_written_into(answer, fields, &mut written)?;
+    tell_written_into(answer, fields, &mut written)
+}
+
+/// Adds what is written of the fields of an area, with memory or without.
+fn tell_written_of(
+    alloc: Global,
+    answer: &mut Vec<u8>,
+    area: &[u8],
+    is_refused: bool,
+) -> Result<(), AllocError> {
+    match read_area(alloc, area) {
+        Ok(fields) if is_refused => tell_written_twice(alloc, answer, &fields),
+        Ok(fields) => tell_written(alloc, answer, &fields),
+        Err(fault) => tell_line(alloc, answer, &fault),
+    }
+}
+
+/// Whether the fields are as many as these, and the same.
+fn are<A: Allocator>(fields: &Fields<A>, wanted: &[(Name, Value)]) -> bool {
+    if fields.len() != wanted.len() {
+        return false;
+    }
+    for ((name, value), (wanted_name, wanted_value)) in fields.as_slice().iter().zip(wanted) {
+        if name.bytes() != wanted_name.bytes() || value.bytes() != wanted_value.bytes() {
+            return false;
+        }
+    }
+    true
+}
+
+/// Whether the field is pushed.
+fn is_pushed<A: Allocator + Copy>(
+    alloc: A,
+    fields: &mut Fields<A>,
+    name: &[u8],
+    value: &[u8],
+) -> bool {
+    match (Name::new(alloc, name), Value::new(alloc, value)) {
+        (Ok(name), Ok(value)) => fields.push(name, value).is_ok(),
+        _ => false,
+    }
+}
+
+/// Pushes the fields, and again each that was refused. Tells whether one was, and `None` where it changed what was
+/// pushed or was refused again.
+fn push_all<A: Allocator + Copy>(
+    alloc: A,
+    fields: &mut Fields<A>,
+    wanted: &[(Name, Value)],
+) -> Option<bool> {
+    let mut is_refused = false;
+    for (count, (name, value)) in wanted.iter().enumerate() {
+        if !is_pushed(alloc, fields, name.bytes(), value.bytes()) {
+            is_refused = true;
+            if !are(fields, &wanted[..count])
+                || !is_pushed(alloc, fields, name.bytes(), value.bytes())
+            {
+                return None;
+            }
+        }
+    }
+    are(fields, wanted).then_some(is_refused)
+}
+
+/// Fields that are pushed one by one.
+#[derive(Clone, Copy)]
+struct Pushing<'a>(&'a [(Name, Value)]);
+
+impl Attempt for Pushing<'_> {
+    fn refused_at(&self, alloc: Global, number: u64) -> Option<bool> {
+        let heap = RefusingAllocator::new(alloc, number);
+        let mut fields = Fields::new(&heap);
+        let is_refused = push_all(&heap, &mut fields, self.0)?;
+        (is_refused == heap.has_refused()).then_some(is_refused)
+    }
+}
+
+/// An area that is read, and its fields.
+#[derive(Clone, Copy)]
+struct ReadingArea<'a>(&'a [u8], &'a [(Name, Value)]);
+
+/// Whether an area is read as these fields.
+fn is_read<A: Allocator + Copy>(alloc: A, area: &[u8], wanted: &[(Name, Value)]) -> bool {
+    match read_area(alloc, area) {
+        Ok(fields) => are(&fields, wanted),
+        Err(_) => false,
+    }
+}
+
+/// The fault of an area, if any.
+fn area_fault<A: Allocator + Copy>(alloc: A, area: &[u8]) -> Option<AreaFault> {
+    read_area(alloc, area).err()
+}
+
+impl Attempt for ReadingArea<'_> {
+    fn refused_at(&self, alloc: Global, number: u64) -> Option<bool> {
+        let heap = RefusingAllocator::new(alloc, number);
+        let fault = area_fault(&heap, self.0);
+        if !heap.has_refused() {
+            return fault.is_none().then_some(false);
+        }
+        let is_so = fault == Some(AreaFault::Memory) && is_read(&heap, self.0, self.1);
+        is_so.then_some(true)
+    }
+}
+
+/// Adds whether each refused request is told of where the fields of an area are read, or pushed.
+fn tell_refused(
+    alloc: Global,
+    case: &Case<'_>,
+    answer: &mut Vec<u8>,
+    area: &[u8],
+    is_pushed: bool,
+) -> Result<(), AllocError> {
+    match read_area(alloc, area) {
+        Ok(fields) if is_pushed => {
+            tell_refusals(alloc, answer, &Pushing(fields.as_slice()), case.number(1))
+        }
+        Ok(fields) => {
+            let attempt = ReadingArea(area, fields.as_slice());
+            tell_refusals(alloc, answer, &attempt, case.number(1))
+        }
+        Err(fault) => tell_line(alloc, answer, &fault),
+    }
+}
+
+/// Answers a case of areas.
+pub(crate) fn answer_of_area(
+    alloc: Global,
+    case: &Case<'_>,
+    kept: &[u8],
+    answer: &mut Vec<u8>,
+) -> Result<bool, AllocError> {
+    let text = text_of(case, kept);
+    let told = match case.text(0) {
+        "area" => tell_area(alloc, answer, read_area(alloc, text)),
+        "field" | "first" | "count" => tell_found_in(alloc, case, answer, text),
+        "canonical" => tell_written_of(alloc, answer, text, false),
+        "canonical-without-memory" => tell_written_of(alloc, answer, text, true),
+        "push-without-memory" => tell_refused(alloc, case, answer, text, true),
+        "area-without-memory" => tell_refused(alloc, case, answer, text, false),
+        _ => return Ok(false),
+    };
+    told?;
+    Ok(true)
+}

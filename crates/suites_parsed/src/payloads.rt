@@ -1,0 +1,39 @@
+//! HTTP heads at the front of a block.
+
+use crate::telling::{tell_line, text_of};
+use std::alloc::{AllocError, Global};
+use suites_script::Case;
+use warc_payload::{MOST_HEAD_BYTES, body_start, front};
+
+/// Adds what the head at the front of a block tells.
+fn tell_http(alloc: Global, answer: &mut Vec<u8>, block: &[u8]) -> Result<(), AllocError> {
+    match body_start(&block[..MOST_HEAD_BYTES.min(block.len())]) {
+        Ok(head) => {
+            let coding = if head.coded { "coded" } else { "not coded" };
+            let (len, of, status) = (head.head_len, block.len(), head.status);
+            let told = format!(in alloc; "{status}, head of {len} in {of} bytes, {coding}")?;
+            tell_line(alloc, answer, &told)
+        }
+        Err(fault) => {
+            let told = format!(in alloc; "{fault} in {} bytes", block.len())?;
+            tell_line(alloc, answer, &told)
+        }
+    }
+}
+
+/// Answers a case of HTTP heads.
+pub(crate) fn answer(
+    alloc: Global,
+    case: &Case<'_>,
+    kept: &[u8],
+    answer: &mut Vec<u8>,
+) -> Result<bool, AllocError> {
+    let text = text_of(case, kept);
+    let told = match case.text(0) {
+        "http" => tell_http(alloc, answer, text),
+        "front" => tell_line(alloc, answer, &front(text).len()),
+        _ => return Ok(false),
+    };
+    told?;
+    Ok(true)
+}

@@ -1,0 +1,40 @@
+//! Calls whose requests for memory are refused, each in turn.
+
+use std::alloc::{AllocError, Global};
+
+/// A call that asks for memory.
+pub trait Attempt {
+    /// Whether the request of a number, counted from 1, came and was refused; `None` where the call tells otherwise, or
+    /// leaves something else behind.
+    fn refused_at(&self, alloc: Global, number: u64) -> Option<bool>;
+}
+
+/// How many requests a call makes, and whether each is told where it is refused.
+fn count_of<T: Attempt>(alloc: Global, attempt: &T) -> (u64, bool) {
+    for number in 0..100u64 {
+        match attempt.refused_at(alloc, number.saturating_add(1)) {
+            Some(true) => {}
+            Some(false) => return (number, true),
+            None => return (number, false),
+        }
+    }
+    (100, false)
+}
+
+/// Adds whether a call makes so many requests at least, and tells of each where it is refused.
+pub fn tell_refusals<T: Attempt>(
+    alloc: Global,
+    answer: &mut Vec<u8>,
+    attempt: &T,
+    least: u64,
+) -> Result<(), AllocError> {
+    let (count, are_told) = count_of(alloc, attempt);
+    let told = if are_told && count >= least {
+        format!(in alloc; "each told of, {least} or more\n")?
+    } else if are_told {
+        format!(in alloc; "each told of, {count} in all\n")?
+    } else {
+        format!(in alloc; "not told of behind {count}\n")?
+    };
+    answer.extend_from_slice(told.as_bytes())
+}

@@ -1,0 +1,16 @@
+//! Runs of the program over archives in memory, by the words of a script: what a command writes, the line that it
+//! tells, and its status.
+#![tactic(auto)]
+
+mod archives;
+mod endless;
+mod lines;
+mod plain;
+mod runs;
+mod turns;
+mod usage;
+mod ways;
+mod words;
+
+pub use archives::Archives;
+pub use ways::answer;

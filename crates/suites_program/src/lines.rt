@@ -1,0 +1,49 @@
+//! How a run is told.
+
+use crate::runs::Ended;
+use std::alloc::{AllocError, Global};
+
+/// Adds a number and a text behind it, as a line.
+pub(crate) fn tell_count(
+    alloc: Global,
+    count: u64,
+    of: &str,
+    answer: &mut Vec<u8>,
+) -> Result<(), AllocError> {
+    let line = format!(in alloc; "{count} {of}\n")?;
+    answer.extend_from_slice(line.as_bytes())
+}
+
+/// Adds what a run wrote, or that it wrote its archive as it stands.
+fn tell_output(out: &[u8], archive: &[u8], answer: &mut Vec<u8>) -> Result<(), AllocError> {
+    if !out.is_empty() && out == archive {
+        answer.extend_from_slice(b"as it stands\n")
+    } else {
+        answer.extend_from_slice(out)
+    }
+}
+
+/// Adds the line that a run told behind `! `, and its status behind `= `.
+pub(crate) fn tell_end(
+    alloc: Global,
+    ended: &Ended,
+    answer: &mut Vec<u8>,
+) -> Result<(), AllocError> {
+    if !ended.err.is_empty() {
+        answer.extend_from_slice(b"! ")?;
+        answer.extend_from_slice(&ended.err)?;
+    }
+    let status = format!(in alloc; "= {}\n", ended.status)?;
+    answer.extend_from_slice(status.as_bytes())
+}
+
+/// Adds what a run over an archive wrote, the line that it told, and its status.
+pub(crate) fn tell(
+    alloc: Global,
+    ended: &Ended,
+    archive: &[u8],
+    answer: &mut Vec<u8>,
+) -> Result<(), AllocError> {
+    tell_output(&ended.out, archive, answer)?;
+    tell_end(alloc, ended, answer)
+}

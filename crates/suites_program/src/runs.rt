@@ -1,0 +1,133 @@
+//! Runs of commands over archives in memory.
+
+use crate::endless::EndlessSource;
+use std::alloc::{AllocError, Allocator, Global};
+use warc_commands::{Command, perform};
+use warc_frame::{MemSink, MemSource, Sink, Source};
+use warc_vectors::{Break, BrokenSource, BrokenWriter, ChangingSource, RefusingAllocator};
+
+/// What a run wrote to its two outputs, and its status.
+#[derive(Drop)]
+pub(crate) struct Ended {
+    pub(crate) out: Vec<u8>,
+    pub(crate) err: Vec<u8>,
+    pub(crate) status: u8,
+}
+
+impl Ended {
+    pub(crate) fn is(&self, out: &[u8], err: &[u8], status: u8) -> bool {
+        self.out.as_slice() == out && self.err.as_slice() == err && self.status == status
+    }
+
+    /// Whether another run ended in the same way.
+    pub(crate) fn is_like(&self, other: &Ended) -> bool {
+        self.is(&other.out, &other.err, other.status)
+    }
+}
+
+/// A command, and the archive that it is run over.
+#[derive(Clone, Copy)]
+pub(crate) struct Asked<'a> {
+    pub(crate) command: &'a Command<'a>,
+    pub(crate) archive: &'a [u8],
+}
+
+/// The line, the status and the source of a run whose output goes to a sink. What the program keeps is taken from
+/// `heap`.
+fn told<S: Source + Drop, A: Allocator + Copy, W: Sink>(
+    heap: A,
+    alloc: Global,
+    command: &Command<'_>,
+    source: S,
+    out: &mut W,
+) -> (Vec<u8>, u8, S) {
+    let mut err = MemSink::new(Vec::new(alloc));
+    let (status, source) = perform(heap, command, source, out, &mut err);
+    (err.into_inner(), status, source)
+}
+
+/// The run of a command over a source, and the source.
+fn run<S: Source + Drop, A: Allocator + Copy>(
+    heap: A,
+    alloc: Global,
+    command: &Command<'_>,
+    source: S,
+) -> (Ended, S) {
+    let mut out = MemSink::new(Vec::new(alloc));
+    let (err, status, source) = told(heap, alloc, command, source, &mut out);
+    let ended = Ended {
+        out: out.into_inner(),
+        err,
+        status,
+    };
+    (ended, source)
+}
+
+/// The run of a command over its archive, each read being of so many bytes at most.
+pub(crate) fn run_in_pieces(
+    alloc: Global,
+    asked: Asked<'_>,
+    most: usize,
+) -> Result<Ended, AllocError> {
+    let source = MemSource::new(asked.archive.to_vec(alloc)?, most.max(1));
+    let (ended, _) = run(alloc, alloc, asked.command, source);
+    Ok(ended)
+}
+
+/// The same where the read of a number fails, counted from 1.
+pub(crate) fn run_broken(
+    alloc: Global,
+    asked: Asked<'_>,
+    most: usize,
+    number: u64,
+) -> Result<Ended, AllocError> {
+    let source = BrokenSource::new(asked.archive.to_vec(alloc)?, most.max(1), number);
+    let (ended, _) = run(alloc, alloc, asked.command, source);
+    Ok(ended)
+}
+
+/// The run of a command over a source that gives other bytes from the read of a number on.
+pub(crate) fn run_changing(
+    alloc: Global,
+    asked: Asked<'_>,
+    other: &[u8],
+    number: u64,
+) -> Result<Ended, AllocError> {
+    let source = ChangingSource::new(asked.archive.to_vec(alloc)?, other.to_vec(alloc)?, number);
+    let (ended, _) = run(alloc, alloc, asked.command, source);
+    Ok(ended)
+}
+
+/// The run of a command over a source without an end; how often it was read, and the offset that was asked for last.
+pub(crate) fn run_endless(alloc: Global, command: &Command<'_>) -> (Ended, (u64, u64)) {
+    let (ended, source) = run(alloc, alloc, command, EndlessSource::new());
+    (ended, source.reads())
+}
+
+/// The run of a command over its archive where the request for memory of a number is refused, and whether it came.
+pub(crate) fn run_refused(
+    alloc: Global,
+    asked: Asked<'_>,
+    number: u64,
+) -> Result<(Ended, bool), AllocError> {
+    let heap = RefusingAllocator::new(alloc, number);
+    let source = MemSource::new(asked.archive.to_vec(alloc)?, usize::MAX);
+    let (ended, _) = run(&heap, alloc, asked.command, source);
+    Ok((ended, heap.has_refused()))
+}
+
+/// The run of a command over its archive to a sink that takes so many bytes at most, of which the write of a number
+/// breaks; and whether its source still holds the archive then.
+pub(crate) fn run_cut(
+    alloc: Global,
+    asked: Asked<'_>,
+    most: usize,
+    (number, how): (u64, Break),
+) -> Result<(Ended, bool), AllocError> {
+    let source = MemSource::new(asked.archive.to_vec(alloc)?, usize::MAX);
+    let mut sink = BrokenWriter::new(alloc, number, how).taking(most);
+    let (err, status, source) = told(alloc, alloc, asked.command, source, &mut sink);
+    let out = sink.bytes().to_vec(alloc)?;
+    let is_kept = source.into_inner().as_slice() == asked.archive;
+    Ok((Ended { out, err, status }, is_kept))
+}

@@ -1,0 +1,255 @@
+//! Runs in which each read, each write or each request for memory fails in turn.
+
+use crate::lines::tell_count;
+use crate::runs::{Asked, Ended, run_broken, run_cut, run_in_pieces, run_refused};
+use std::alloc::{AllocError, Global};
+use warc_vectors::Break;
+
+/// More failures than any run of the suites has.
+const MOST: u64 = 5000;
+
+/// How far a run came of which a read failed.
+#[derive(Clone, Copy)]
+enum Stage {
+    /// The archive wasn't open.
+    Opening,
+    /// It was, and some of the output may be out.
+    Behind,
+    /// It ended as if none had failed.
+    Done,
+    /// It ended otherwise.
+    Otherwise,
+}
+
+/// Whether a run failed behind the opening: what went out is the front of the whole, and the line tells this, and how
+/// many bytes that has.
+fn is_cut(alloc: Global, ended: &Ended, whole: &Ended, told: &str) -> Result<bool, AllocError> {
+    let line = format!(in alloc; "warc: {told} after {}\n", ended.out.len())?;
+    let is_front = whole.out.starts_with(&ended.out);
+    Ok(is_front && ended.err.as_slice() == line.as_bytes() && ended.status == 3)
+}
+
+/// Whether a run failed before anything went out, and tells a line that begins so.
+fn is_begun(ended: &Ended, line: &[u8]) -> bool {
+    ended.out.is_empty() && ended.err.starts_with(line) && ended.status == 3
+}
+
+fn stage_of(alloc: Global, ended: &Ended, whole: &Ended) -> Result<Stage, AllocError> {
+    Ok(if is_cut(alloc, ended, whole, "read failed")? {
+        Stage::Behind
+    } else if is_begun(ended, b"warc: F13 Read at ") {
+        Stage::Opening
+    } else if ended.is_like(whole) {
+        Stage::Done
+    } else {
+        Stage::Otherwise
+    })
+}
+
+/// How far the run comes of which the read of a number fails.
+fn stage_at(
+    alloc: Global,
+    asked: Asked<'_>,
+    whole: &Ended,
+    most: usize,
+    number: u64,
+) -> Result<Stage, AllocError> {
+    let ended = run_broken(alloc, asked, most, number)?;
+    stage_of(alloc, &ended, whole)
+}
+
+/// How many reads fail in turn while the archive is opened, and how many behind that. Nothing where a run ends
+/// otherwise.
+fn count_reads(
+    alloc: Global,
+    asked: Asked<'_>,
+    whole: &Ended,
+    most: usize,
+) -> Result<Option<(u64, u64)>, AllocError> {
+    let (mut opening, mut behind) = (0u64, 0u64);
+    for number in 1..MOST {
+        match stage_at(alloc, asked, whole, most, number)? {
+            Stage::Opening if behind == 0 => opening = opening.saturating_add(1),
+            Stage::Behind => behind = behind.saturating_add(1),
+            Stage::Done => return Ok(Some((opening, behind))),
+            Stage::Opening | Stage::Otherwise => return Ok(None),
+        }
+    }
+    Ok(None)
+}
+
+/// Tells how many reads of so many bytes fail in turn, until none fails.
+pub(crate) fn tell_reads(
+    alloc: Global,
+    asked: Asked<'_>,
+    most: usize,
+    answer: &mut Vec<u8>,
+) -> Result<(), AllocError> {
+    let whole = run_in_pieces(alloc, asked, usize::MAX)?;
+    match count_reads(alloc, asked, &whole, most)? {
+        Some((opening, behind)) => {
+            tell_count(alloc, opening, "while the archive is opened", answer)?;
+            tell_count(alloc, behind, "behind that", answer)
+        }
+        None => answer.extend_from_slice(b"a run ends otherwise\n"),
+    }
+}
+
+/// How far the run comes of which the write of a number fails, counted from 0, each being of so many bytes at most.
+/// Before it exactly the bytes of the writes went out.
+fn stage_of_write(
+    alloc: Global,
+    asked: Asked<'_>,
+    whole: &Ended,
+    most: usize,
+    number: u64,
+) -> Result<Stage, AllocError> {
+    let at = (number.saturating_add(1), Break::Fails);
+    let (ended, _) = run_cut(alloc, asked, most, at)?;
+    let sent = (most as u64).saturating_mul(number);
+    Ok(if is_cut(alloc, &ended, whole, "write failed")? && ended.out.len() as u64 == sent {
+        Stage::Behind
+    } else if ended.is_like(whole) {
+        Stage::Done
+    } else {
+        Stage::Otherwise
+    })
+}
+
+/// How many writes fail in turn. Nothing where a run ends otherwise.
+fn count_writes(
+    alloc: Global,
+    asked: Asked<'_>,
+    whole: &Ended,
+    most: usize,
+) -> Result<Option<u64>, AllocError> {
+    for number in 0..MOST {
+        match stage_of_write(alloc, asked, whole, most, number)? {
+            Stage::Behind => {}
+            Stage::Done => return Ok(Some(number)),
+            Stage::Opening | Stage::Otherwise => return Ok(None),
+        }
+    }
+    Ok(None)
+}
+
+/// Tells how many writes of so many bytes fail in turn, until none fails.
+pub(crate) fn tell_writes(
+    alloc: Global,
+    asked: Asked<'_>,
+    most: usize,
+    answer: &mut Vec<u8>,
+) -> Result<(), AllocError> {
+    let whole = run_in_pieces(alloc, asked, usize::MAX)?;
+    match count_writes(alloc, asked, &whole, most)? {
+        Some(count) => tell_count(alloc, count, "writes", answer),
+        None => answer.extend_from_slice(b"a run ends otherwise\n"),
+    }
+}
+
+/// Whether a run of which a request for memory was refused tells so, and what went out is the front of the whole.
+fn is_refused(alloc: Global, ended: &Ended, whole: &Ended) -> Result<bool, AllocError> {
+    let is_unmade = is_begun(ended, b"warc: M4 Memory\n");
+    let is_unopened = is_begun(ended, b"warc: F14 Memory at ");
+    Ok(is_unmade || is_unopened || is_cut(alloc, ended, whole, "out of memory")?)
+}
+
+/// Adds the line that a run told, where it isn't the last one.
+fn tell_line(line: Vec<u8>, last: &mut Vec<u8>, answer: &mut Vec<u8>) -> Result<(), AllocError> {
+    if line.as_slice() != last.as_slice() {
+        answer.extend_from_slice(b"! ")?;
+        answer.extend_from_slice(&line)?;
+        *last = line;
+    }
+    Ok(())
+}
+
+/// Tells the line of the run of which the request for memory of a number is refused, and whether there was such a
+/// request.
+fn tell_request(
+    alloc: Global,
+    asked: Asked<'_>,
+    whole: &Ended,
+    number: u64,
+    last: &mut Vec<u8>,
+    answer: &mut Vec<u8>,
+) -> Result<bool, AllocError> {
+    let (ended, has_refused) = run_refused(alloc, asked, number)?;
+    let is_so = if has_refused {
+        is_refused(alloc, &ended, whole)?
+    } else {
+        ended.is_like(whole)
+    };
+    if !is_so {
+        tell_count(alloc, number, "refused: the run ends otherwise", answer)?;
+    }
+    if has_refused {
+        tell_line(ended.err, last, answer)?;
+    }
+    Ok(has_refused)
+}
+
+/// Tells the lines of the runs of which each request for memory is refused in turn, until all are met: each line once,
+/// where several runs in a row tell it.
+pub(crate) fn tell_requests(
+    alloc: Global,
+    asked: Asked<'_>,
+    answer: &mut Vec<u8>,
+) -> Result<(), AllocError> {
+    let whole = run_in_pieces(alloc, asked, usize::MAX)?;
+    let mut last = Vec::new(alloc);
+    for number in 1..MOST {
+        if !tell_request(alloc, asked, &whole, number, &mut last, answer)? {
+            break;
+        }
+    }
+    Ok(())
+}
+
+/// Whether a run refuses the request for memory of a number, and tells a line that begins so; nothing where there is no
+/// such request.
+fn tells_refusal(
+    alloc: Global,
+    asked: Asked<'_>,
+    line: &[u8],
+    number: u64,
+) -> Result<Option<bool>, AllocError> {
+    let (ended, has_refused) = run_refused(alloc, asked, number)?;
+    if has_refused {
+        Ok(Some(is_begun(&ended, line)))
+    } else {
+        Ok(None)
+    }
+}
+
+/// How many requests for memory are refused in turn with a line that begins so.
+fn count_refusals(alloc: Global, asked: Asked<'_>, line: &[u8]) -> Result<u64, AllocError> {
+    let mut count = 0u64;
+    for number in 1..MOST {
+        match tells_refusal(alloc, asked, line, number)? {
+            Some(is_told) => count = count.saturating_add(u64::from(is_told)),
+            None => break,
+        }
+    }
+    Ok(count)
+}
+
+/// Tells whether as many requests are refused at the first record as while the archive of that record alone is opened.
+pub(crate) fn tell_as_alone(
+    alloc: Global,
+    asked: Asked<'_>,
+    first: usize,
+    answer: &mut Vec<u8>,
+) -> Result<(), AllocError> {
+    let count = count_refusals(alloc, asked, b"warc: F14 Memory at 0\n")?;
+    let alone = Asked {
+        archive: asked.archive.get(..first).unwrap_or(b""),
+        ..asked
+    };
+    let wanted = count_refusals(alloc, alone, b"warc: F14 Memory at ")?;
+    if count > 0 && count == wanted {
+        answer.extend_from_slice(b"as many\n")
+    } else {
+        answer.extend_from_slice(b"not as many\n")
+    }
+}

@@ -1,0 +1,104 @@
+//! The words of a command line.
+
+use crate::words::words_from;
+use std::alloc::{AllocError, Global};
+use suites_script::Case;
+use warc_commands::{Command, CommandFault, parse};
+
+/// Whether a case asks about the words of a command line. Adds what it answers.
+pub(crate) fn answer_usage(
+    alloc: Global,
+    case: &Case<'_>,
+    answer: &mut Vec<u8>,
+) -> Result<bool, AllocError> {
+    match case.text(0) {
+        "parse" => tell_parsed(alloc, case, answer)?,
+        "help" => tell_help(alloc, case, answer)?,
+        "told" => tell_told(alloc, case, answer)?,
+        "memory-is-told" => tell_memory(alloc, answer)?,
+        _ => return Ok(false),
+    }
+    Ok(true)
+}
+
+/// Tells the command that words name and the path that it reads, or whether they are refused.
+fn tell_parsed(alloc: Global, case: &Case<'_>, answer: &mut Vec<u8>) -> Result<(), AllocError> {
+    let words = words_from(alloc, case, 1)?;
+    match parse(alloc, &words) {
+        Ok(command) => tell_command(alloc, &command, answer),
+        Err(fault) => tell_fault(&fault, answer),
+    }
+}
+
+fn tell_command(
+    alloc: Global,
+    command: &Command<'_>,
+    answer: &mut Vec<u8>,
+) -> Result<(), AllocError> {
+    let line = format!(in alloc; "{command:?} reads {}\n", command.path())?;
+    answer.extend_from_slice(line.as_bytes())
+}
+
+/// What is said of words that name no command.
+fn kind_of(fault: &CommandFault) -> &'static [u8] {
+    match fault {
+        CommandFault::Usage {
+            text: _,
+            asked: true,
+        } => b"asked for\n",
+        CommandFault::Usage { text, asked: false } => {
+            if text.as_str().starts_with("error: ") {
+                b"refused\n"
+            } else {
+                b"refused without an error\n"
+            }
+        }
+        CommandFault::Memory => b"out of memory\n",
+    }
+}
+
+fn tell_fault(fault: &CommandFault, answer: &mut Vec<u8>) -> Result<(), AllocError> {
+    answer.extend_from_slice(kind_of(fault))
+}
+
+/// Tells the text of words that name no command.
+fn tell_told(alloc: Global, case: &Case<'_>, answer: &mut Vec<u8>) -> Result<(), AllocError> {
+    let words = words_from(alloc, case, 1)?;
+    match parse(alloc, &words) {
+        Ok(_) => answer.extend_from_slice(b"a command\n"),
+        Err(fault) => {
+            tell_fault(&fault, answer)?;
+            answer.extend_from_slice(fault.to_string(alloc)?.as_bytes())
+        }
+    }
+}
+
+/// Tells whether help is asked for, and which of the given lines the text lacks.
+fn tell_help(alloc: Global, case: &Case<'_>, answer: &mut Vec<u8>) -> Result<(), AllocError> {
+    let words = words_from(alloc, case, 1)?;
+    match parse(alloc, &words) {
+        Ok(_) => answer.extend_from_slice(b"a command\n"),
+        Err(fault) => {
+            tell_fault(&fault, answer)?;
+            tell_lacking(fault.to_string(alloc)?.as_str(), case.given(), answer)
+        }
+    }
+}
+
+/// Adds those of the lines that don't stand in a text.
+fn tell_lacking(text: &str, lines: &[u8], answer: &mut Vec<u8>) -> Result<(), AllocError> {
+    for line in str::from_utf8(lines).unwrap_or("").lines() {
+        if !text.contains(line) {
+            answer.extend_from_slice(b"it lacks: ")?;
+            answer.extend_from_slice(line.as_bytes())?;
+            answer.push(b'\n')?;
+        }
+    }
+    Ok(())
+}
+
+/// Tells what is told where memory is wanting.
+fn tell_memory(alloc: Global, answer: &mut Vec<u8>) -> Result<(), AllocError> {
+    let line = format!(in alloc; "{}\n", CommandFault::Memory)?;
+    answer.extend_from_slice(line.as_bytes())
+}

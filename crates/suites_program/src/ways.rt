@@ -1,0 +1,155 @@
+//! The ways in which a case runs a command.
+
+use crate::archives::PIECES;
+use crate::lines::{tell, tell_count, tell_end};
+use crate::runs::{Asked, Ended, run_broken, run_changing, run_cut, run_endless, run_in_pieces};
+use crate::turns::{tell_as_alone, tell_reads, tell_requests, tell_writes};
+use crate::usage::answer_usage;
+use crate::words::{command_of, words_from};
+use std::alloc::{AllocError, Global};
+use suites_script::Case;
+use warc_commands::Command;
+use warc_vectors::Break;
+
+/// How many words of a case stand before those of its command.
+fn words_before(verb: &str) -> usize {
+    match verb {
+        "failed-read" | "failed-write" | "short-writes" => 3,
+        "changed-read" | "each-read" | "each-write" | "requests-alone" => 2,
+        "length" | "endless" | "each-request" => 1,
+        _ => 0,
+    }
+}
+
+/// The most bytes that a read or a write takes, by a word: a number, or `all`.
+fn most_of(word: &str) -> usize {
+    match word {
+        "all" => usize::MAX,
+        number => number.parse().unwrap_or(1),
+    }
+}
+
+/// Whether a case runs a command over an archive, or parses the words of one. Adds what it answers.
+pub fn answer(
+    alloc: Global,
+    case: &Case<'_>,
+    archive: &[u8],
+    answer: &mut Vec<u8>,
+) -> Result<bool, AllocError> {
+    if answer_usage(alloc, case, answer)? {
+        return Ok(true);
+    }
+    let words = words_from(alloc, case, words_before(case.text(0)))?;
+    match command_of(&words, case.given()) {
+        Some(command) => {
+            let asked = Asked {
+                command: &command,
+                archive,
+            };
+            answer_run(alloc, case, asked, answer)?;
+            Ok(true)
+        }
+        None => Ok(false),
+    }
+}
+
+/// Runs a command in the way that the first word of a case says.
+fn answer_run(
+    alloc: Global,
+    case: &Case<'_>,
+    asked: Asked<'_>,
+    answer: &mut Vec<u8>,
+) -> Result<(), AllocError> {
+    let number = case.number(1);
+    match case.text(0) {
+        "length" => tell_length(alloc, asked, answer),
+        "failed-read" => {
+            let most = most_of(case.text(2));
+            let ended = run_broken(alloc, asked, most, number)?;
+            tell(alloc, &ended, asked.archive, answer)
+        }
+        "failed-write" => tell_cut(alloc, case, asked, Break::Fails, answer),
+        "short-writes" => {
+            let how = Break::Takes(case.number(2) as usize);
+            tell_cut(alloc, case, asked, how, answer)
+        }
+        "changed-read" => {
+            let ended = run_changing(alloc, asked, case.given(), number)?;
+            tell(alloc, &ended, asked.archive, answer)
+        }
+        "endless" => tell_endless(alloc, asked.command, answer),
+        "each-read" => tell_reads(alloc, asked, most_of(case.text(1)), answer),
+        "each-write" => tell_writes(alloc, asked, most_of(case.text(1)), answer),
+        "each-request" => tell_requests(alloc, asked, answer),
+        "requests-alone" => tell_as_alone(alloc, asked, number as usize, answer),
+        _ => tell_pieces(alloc, asked, answer),
+    }
+}
+
+/// Tells a run with reads of all bytes, and which others end otherwise.
+fn tell_pieces(alloc: Global, asked: Asked<'_>, answer: &mut Vec<u8>) -> Result<(), AllocError> {
+    let whole = run_in_pieces(alloc, asked, usize::MAX)?;
+    tell(alloc, &whole, asked.archive, answer)?;
+    for most in PIECES {
+        if !ends_like(alloc, asked, most, &whole)? {
+            tell_count(
+                alloc,
+                most as u64,
+                "bytes a read: it ends otherwise",
+                answer,
+            )?;
+        }
+    }
+    Ok(())
+}
+
+/// Whether a run with reads of so many bytes ends like another.
+fn ends_like(
+    alloc: Global,
+    asked: Asked<'_>,
+    most: usize,
+    other: &Ended,
+) -> Result<bool, AllocError> {
+    Ok(run_in_pieces(alloc, asked, most)?.is_like(other))
+}
+
+/// Tells how many bytes a run writes, and how it ends.
+fn tell_length(alloc: Global, asked: Asked<'_>, answer: &mut Vec<u8>) -> Result<(), AllocError> {
+    let ended = run_in_pieces(alloc, asked, usize::MAX)?;
+    tell_count(alloc, ended.out.len() as u64, "bytes", answer)?;
+    tell_end(alloc, &ended, answer)
+}
+
+/// Tells a run of which a write breaks, and whether its source holds what it held. Writes that fail are of so many
+/// bytes as the case says, and others of one byte.
+fn tell_cut(
+    alloc: Global,
+    case: &Case<'_>,
+    asked: Asked<'_>,
+    how: Break,
+    answer: &mut Vec<u8>,
+) -> Result<(), AllocError> {
+    let most = match how {
+        Break::Fails => most_of(case.text(2)),
+        Break::Takes(_) => 1,
+    };
+    let (ended, is_kept) = run_cut(alloc, asked, most, (case.number(1), how))?;
+    tell(alloc, &ended, asked.archive, answer)?;
+    if is_kept {
+        Ok(())
+    } else {
+        answer.extend_from_slice(b"the source holds other bytes\n")
+    }
+}
+
+/// Tells a run over a source without an end, how often it was read, and where last.
+fn tell_endless(
+    alloc: Global,
+    command: &Command<'_>,
+    answer: &mut Vec<u8>,
+) -> Result<(), AllocError> {
+    let (ended, (reads, last)) = run_endless(alloc, command);
+    tell(alloc, &ended, b"", answer)?;
+    let line = format!(in alloc; "{reads} reads, the last at {last}\n")?;
+    answer.extend_from_slice(line.as_bytes())
+}

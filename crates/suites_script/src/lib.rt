@@ -1,0 +1,25 @@
+//! Suites as data: the cases of a script, each of which one function answers, and the report of them.
+//!
+//! A script is text. A line says what it is by its first byte:
+//!
+//! ```text
+//! # a comment; so is an empty line
+//! == the name of the cases from here on
+//! replay http://a.example/x 2020      the words of a case, with one blank between two
+//! | a text that is given with it, and the end of a line (CRLF)
+//! + a text that is given with it
+//! * 256 a text that is given with it so many times
+//! > a text that is wanted, and the end of a line (LF)
+//! . a text that is wanted
+//! ```
+//!
+//! In texts `\n`, `\r`, `\t` and `\x20` are the bytes that they are in Rust, and any other byte behind a `\` is itself.
+#![tactic(auto)]
+
+mod cases;
+mod escapes;
+mod trying;
+
+pub use cases::Case;
+pub use escapes::add_unescaped;
+pub use trying::{Trial, try_script};

@@ -1,0 +1,143 @@
+//! What comes of a script.
+
+use crate::cases::Case;
+use std::alloc::{AllocError, Global};
+
+/// What answers the cases of a script.
+pub trait Trial {
+    /// Adds what a case answers to a text.
+    fn answer(
+        &mut self,
+        alloc: Global,
+        case: &Case<'_>,
+        answer: &mut Vec<u8>,
+    ) -> Result<(), AllocError>;
+}
+
+/// What is told of the cases so far, how many stood under each name, and how many failed.
+#[derive(Drop)]
+struct Tally {
+    told: Vec<u8>,
+    /// How many cases stand under the last name.
+    named: usize,
+    cases: usize,
+    failed: usize,
+}
+
+impl Tally {
+    fn new(alloc: Global) -> Tally {
+        Tally {
+            told: Vec::new(alloc),
+            named: 0,
+            cases: 0,
+            failed: 0,
+        }
+    }
+
+    /// Tells how many cases stood under a name, and begins another.
+    fn end(&mut self, alloc: Global, name: &[u8]) -> Result<(), AllocError> {
+        if self.named > 0 {
+            let count = format!(in alloc; ": {}\n", self.named)?;
+            self.told.extend_from_slice(name)?;
+            self.told.extend_from_slice(count.as_bytes())?;
+        }
+        self.named = 0;
+        Ok(())
+    }
+
+    /// Counts a case, and tells of it where it isn't answered as it should be. One of which nothing is wanted is only
+    /// told of.
+    fn count(&mut self, case: &Case<'_>, answer: &[u8]) -> Result<(), AllocError> {
+        if !case.wanted().is_empty() {
+            self.named = self.named.saturating_add(1);
+            self.cases = self.cases.saturating_add(1);
+        }
+        if case.wanted() != answer {
+            self.failed = self.failed.saturating_add(1);
+            self.told.extend_from_slice(b"FAILED: ")?;
+            self.told.extend_from_slice(case.words())?;
+            self.told.extend_from_slice(b"\n--- wanted:\n")?;
+            self.told.extend_from_slice(case.wanted())?;
+            self.told.extend_from_slice(b"\n--- answered:\n")?;
+            self.told.extend_from_slice(answer)?;
+            self.told.push(b'\n')?;
+        }
+        Ok(())
+    }
+
+    /// All that is told.
+    fn into_told(mut self, alloc: Global) -> Result<Vec<u8>, AllocError> {
+        let total = format!(in alloc; "{} cases, {} failed\n", self.cases, self.failed)?;
+        self.told.extend_from_slice(total.as_bytes())?;
+        Ok(self.told)
+    }
+}
+
+/// What a line of a script is.
+enum Line<'a> {
+    Nothing,
+    /// The name of the cases behind it.
+    Name(&'a [u8]),
+    /// A part of the last case: its mark, and the text behind that.
+    Part(u8, &'a [u8]),
+    Words(&'a [u8]),
+}
+
+impl<'a> Line<'a> {
+    fn of(line: &'a [u8]) -> Line<'a> {
+        match line {
+            [] | [b'#', ..] => Line::Nothing,
+            [b'=', b'=', b' ', name @ ..] => Line::Name(name),
+            [mark @ (b'|' | b'+' | b'*' | b'>' | b'.')] => Line::Part(*mark, b""),
+            [mark @ (b'|' | b'+' | b'*' | b'>' | b'.'), b' ', text @ ..] => {
+                Line::Part(*mark, text)
+            }
+            words => Line::Words(words),
+        }
+    }
+}
+
+/// Tries a case, and counts what comes of it.
+fn try_case<T: Trial>(
+    alloc: Global,
+    trial: &mut T,
+    case: &Case<'_>,
+    tally: &mut Tally,
+) -> Result<(), AllocError> {
+    let mut answer = Vec::new(alloc);
+    if !case.words().is_empty() {
+        trial.answer(alloc, case, &mut answer)?;
+    }
+    tally.count(case, &answer)
+}
+
+/// The report of a script: a line for each name, with the number of its cases; what was wanted and answered of each
+/// case that failed; and how many cases there were and failed.
+pub fn try_script<T: Trial>(
+    alloc: Global,
+    script: &[u8],
+    trial: &mut T,
+) -> Result<Vec<u8>, AllocError> {
+    let mut tally = Tally::new(alloc);
+    let mut name = b"".as_slice();
+    let mut case = Case::new(alloc, b"");
+    for line in script.split(|byte| *byte == b'\n') {
+        match Line::of(line) {
+            Line::Nothing => {}
+            Line::Part(mark, text) => case.add(mark, text)?,
+            Line::Words(words) => {
+                try_case(alloc, trial, &case, &mut tally)?;
+                case = Case::new(alloc, words);
+            }
+            Line::Name(next) => {
+                try_case(alloc, trial, &case, &mut tally)?;
+                case = Case::new(alloc, b"");
+                tally.end(alloc, name)?;
+                name = next;
+            }
+        }
+    }
+    try_case(alloc, trial, &case, &mut tally)?;
+    tally.end(alloc, name)?;
+    tally.into_told(alloc)
+}
