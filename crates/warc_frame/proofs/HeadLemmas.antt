@@ -76,13 +76,18 @@ some_four : (o : Option ℕ) (n : ℕ) → option_map (λ place. place + 4) o �
 some_four None n h = absurd cc
 some_four (Some p) n h = (p, refl, cc)
 
+-- the place of the first empty line of a front, however long that is
+place_of : (m : ℕ) (t : List ℕ) (n : ℕ) → option_map (λ place. place + 4) (empty_line (take m t)) ≡ Some n →
+    (p : ℕ) × (empty_line (take m t) ≡ Some p) × (p + 4 ≡ n) × (n ≤ length t) × (n ≤ m)
+place_of m t n h =
+    let found = some_four (empty_line (take m t)) n h in
+    let long = empty-len (take m t) found.0 found.1 in
+    (found.0, found.1, found.2, omega (arith, long, found.2, length-take m t), omega (arith, long, found.2, length-take m t))
+
 -- the place of the empty line that ends a head
 pub head-place : (t : List ℕ) (n : ℕ) → head_len t ≡ Some n → (p : ℕ) × (empty_line (head_front t) ≡ Some p) × (p + 4 ≡ n) × (n ≤ length t) × (n ≤ max_head)
 unfolding head_len head_front
-head-place t n h =
-    let found = some_four (empty_line (take max_head t)) n h in
-    let long = empty-len (take max_head t) found.0 found.1 in
-    (found.0, found.1, found.2, omega (arith, long, found.2, length-take max_head t), omega (arith, long, found.2, length-take max_head t))
+head-place t n h = place_of max_head t n h
 
 pub head_within : (t : List ℕ) (n : ℕ) → head_len t ≡ Some n → n ≤ length t
 head_within t n h = (head-place t n h).3
