@@ -2,9 +2,11 @@
 //! them, by a script on standard input.
 #![tactic(auto)]
 
+mod by_reads;
+
 use std::alloc::{AllocError, Global};
 use std::io::{self, Read, Write};
-use suites_calls::keeps_answers;
+use suites_moved::keeps_answers;
 use suites_program::Archives;
 use suites_script::{Case, Trial, try_script};
 
@@ -35,7 +37,7 @@ fn answer_about(
     answer: &mut Vec<u8>,
 ) -> Result<(), AllocError> {
     let is_known = suites_program::answer(alloc, case, archive, answer)?
-        || suites_calls::answer(alloc, case, archive, answer)?;
+        || by_reads::answer(alloc, case, archive, answer)?;
     if is_known {
         Ok(())
     } else {

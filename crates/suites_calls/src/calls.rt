@@ -3,16 +3,11 @@
 use std::alloc::{AllocError, Allocator, Global};
 use warc::{Archive, ExtractFault};
 use warc_answer::{Answer, ReplayFault};
-use warc_frame::{Fault, MemSink, MemSource, OutFault, Sink, Source};
+use warc_frame::{Fault, MemSink, OutFault, Sink, Source};
 use warc_value::Moment;
 
-/// These bytes, of which each read gives so many at most.
-pub(crate) fn source_of(alloc: Global, bytes: &[u8], most: usize) -> Result<MemSource, AllocError> {
-    Ok(MemSource::new(bytes.to_vec(alloc)?, most.max(1)))
-}
-
 /// The archive of a source, or why it doesn't open.
-pub(crate) fn opened<S: Source + Drop, A: Allocator + Copy>(
+pub fn opened<S: Source + Drop, A: Allocator + Copy>(
     heap: A,
     source: S,
 ) -> Result<Archive<S, A>, Fault> {
@@ -35,7 +30,7 @@ pub(crate) fn listed<S: Source>(
 }
 
 /// What an archive answers to a replay.
-pub(crate) fn replayed<S: Source, W: Sink>(
+pub fn replayed<S: Source, W: Sink>(
     archive: &mut Archive<S>,
     uri: &[u8],
     moment: &Moment,
@@ -62,7 +57,7 @@ pub(crate) fn checked<S: Source, W: Sink>(
 }
 
 /// Why an archive doesn't grow by a source, if it doesn't.
-pub(crate) fn refused<S: Source + Drop, A: Allocator + Copy>(
+pub fn refused<S: Source + Drop, A: Allocator + Copy>(
     archive: &mut Archive<S, A>,
     source: S,
 ) -> Option<Fault> {

@@ -1,12 +1,12 @@
 //! Cases that check.
 
 use crate::calls::{checked, opened};
+use crate::sources::{broken, changing};
 use crate::telling::{add_check, add_line, add_number, add_text};
 use std::alloc::{AllocError, Global};
 use suites_script::Case;
 use warc::Archive;
 use warc_frame::{MemSink, Source};
-use warc_vectors::{BrokenSource, ChangingSource, changed};
 
 /// Adds what a check of an archive answers, and what it writes.
 fn add_checked<S: Source>(
@@ -51,28 +51,9 @@ pub(crate) fn add_check_thrice(
     number: u64,
     answer: &mut Vec<u8>,
 ) -> Result<(), AllocError> {
-    match opened(alloc, broken(alloc, archive, number)?) {
+    match opened(alloc, broken(alloc, archive, usize::MAX, number)?) {
         Ok(mut archive) => add_thrice(alloc, &mut archive, answer),
         Err(fault) => add_text(alloc, answer, &fault),
-    }
-}
-
-/// A source that gives other bytes once an archive of it was opened: one read is for its bytes, one for their end.
-fn changing(alloc: Global, before: &[u8], after: Vec<u8>) -> Result<ChangingSource, AllocError> {
-    Ok(ChangingSource::new(before.to_vec(alloc)?, after, 3))
-}
-
-/// The archive in which the second word of a case stands in the place of the first; nothing where it has none.
-pub(crate) fn changed_by(
-    alloc: Global,
-    case: &Case<'_>,
-    bytes: &[u8],
-) -> Result<Option<Vec<u8>>, AllocError> {
-    let old = case.bytes(alloc, 1)?;
-    let new = case.bytes(alloc, 2)?;
-    match (str::from_utf8(&old), str::from_utf8(&new)) {
-        (Ok(old), Ok(new)) => Ok(changed(alloc, bytes, old, new).ok()),
-        _ => Ok(None),
     }
 }
 
@@ -92,13 +73,8 @@ pub(crate) fn add_check_changed(
     archive: &[u8],
     answer: &mut Vec<u8>,
 ) -> Result<(), AllocError> {
-    match changed_by(alloc, case, archive)? {
+    match case.changed(alloc, 1, archive)? {
         Some(after) => add_check_of(alloc, changing(alloc, archive, after)?, answer),
         None => add_line(answer, b"no such text"),
     }
-}
-
-/// A source of which the read of a number fails.
-pub(crate) fn broken(alloc: Global, bytes: &[u8], number: u64) -> Result<BrokenSource, AllocError> {
-    Ok(BrokenSource::new(bytes.to_vec(alloc)?, usize::MAX, number))
 }

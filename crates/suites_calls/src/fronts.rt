@@ -1,7 +1,7 @@
 //! What a check writes before a read fails.
 
 use crate::calls::{checked, opened};
-use crate::checks::broken;
+use crate::sources::broken;
 use std::alloc::{AllocError, Global};
 use suites_script::Case;
 use warc_frame::{MemSink, OutFault};
@@ -13,7 +13,7 @@ fn check_broken(
     number: u64,
     out: &mut MemSink,
 ) -> Result<Option<Result<usize, OutFault>>, AllocError> {
-    match opened(alloc, broken(alloc, bytes, number)?) {
+    match opened(alloc, broken(alloc, bytes, usize::MAX, number)?) {
         Ok(mut archive) => Ok(Some(checked(&mut archive, out))),
         Err(_) => Ok(None),
     }

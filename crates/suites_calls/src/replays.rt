@@ -1,31 +1,28 @@
 //! Cases that replay, extract and take records.
 
 use crate::calls::{extracted, listed, opened, replayed};
+use crate::sources::changing;
 use crate::telling::{add_extract, add_line, add_record, add_replay, add_text};
 use std::alloc::{AllocError, Global};
 use suites_script::Case;
 use warc::Archive;
 use warc_frame::{MemSink, MemSource, Sink, Source};
 use warc_value::{Moment, read_date};
-use warc_vectors::{Break, BrokenWriter, ChangingSource};
+use warc_vectors::{Break, BrokenWriter};
 
 /// What stands in an output before a replay writes to it.
 const BEFORE: &[u8] = b"before ";
 
 /// A target and a moment.
 #[derive(Drop)]
-pub(crate) struct Asked {
+pub struct Asked {
     uri: Vec<u8>,
     moment: Moment,
 }
 
 impl Asked {
     /// Those that the words from this one on name; nothing where the date isn't one.
-    pub(crate) fn of(
-        alloc: Global,
-        case: &Case<'_>,
-        index: usize,
-    ) -> Result<Option<Asked>, AllocError> {
+    pub fn of(alloc: Global, case: &Case<'_>, index: usize) -> Result<Option<Asked>, AllocError> {
         let uri = case.bytes(alloc, index)?;
         match read_date(case.word(index.saturating_add(1))) {
             Some(moment) => Ok(Some(Asked { uri, moment })),
@@ -47,7 +44,7 @@ fn add_asked<S: Source, W: Sink>(
 }
 
 /// Adds what an archive answers to a replay, and what is written of it.
-pub(crate) fn add_replayed(
+pub fn add_replayed(
     alloc: Global,
     archive: &mut Archive<MemSource>,
     asked: &Asked,
@@ -115,11 +112,6 @@ fn add_unwritten(
     answer.extend_from_slice(out.bytes())
 }
 
-/// A source that gives nothing more once an archive of it was opened: one read is for its bytes, one for their end.
-fn silent(alloc: Global, bytes: &[u8]) -> Result<ChangingSource, AllocError> {
-    Ok(ChangingSource::new(bytes.to_vec(alloc)?, Vec::new(alloc), 3))
-}
-
 /// Adds what the replay of a case answers.
 pub(crate) fn add_replay_case(
     alloc: Global,
@@ -145,7 +137,12 @@ pub(crate) fn add_unread(
     answer: &mut Vec<u8>,
 ) -> Result<(), AllocError> {
     match Asked::of(alloc, case, 1)? {
-        Some(asked) => add_behind_text(alloc, silent(alloc, archive)?, &asked, answer),
+        Some(asked) => add_behind_text(
+            alloc,
+            changing(alloc, archive, Vec::new(alloc))?,
+            &asked,
+            answer,
+        ),
         None => add_line(answer, b"bad date"),
     }
 }

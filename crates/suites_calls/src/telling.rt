@@ -8,13 +8,13 @@ use warc_field::Fields;
 use warc_frame::{Framed, OutFault};
 
 /// Adds a text, and the end of a line.
-pub(crate) fn add_line(answer: &mut Vec<u8>, text: &[u8]) -> Result<(), AllocError> {
+pub fn add_line(answer: &mut Vec<u8>, text: &[u8]) -> Result<(), AllocError> {
     answer.extend_from_slice(text)?;
     answer.extend_from_slice(b"\n")
 }
 
 /// Adds the text of a fault or a version, and the end of a line.
-pub(crate) fn add_text<T: Display>(
+pub fn add_text<T: Display>(
     alloc: Global,
     answer: &mut Vec<u8>,
     told: &T,
@@ -24,7 +24,7 @@ pub(crate) fn add_text<T: Display>(
 }
 
 /// Adds a line of what is counted and its number.
-pub(crate) fn add_number(
+pub fn add_number(
     alloc: Global,
     answer: &mut Vec<u8>,
     name: &str,
@@ -55,7 +55,7 @@ fn add_facts(alloc: Global, answer: &mut Vec<u8>, facts: Answer) -> Result<(), A
 }
 
 /// Adds what a replay answers.
-pub(crate) fn add_replay(
+pub fn add_replay(
     alloc: Global,
     answer: &mut Vec<u8>,
     told: Result<Answer, ReplayFault>,
@@ -101,11 +101,7 @@ fn add_fields(answer: &mut Vec<u8>, fields: &Fields) -> Result<(), AllocError> {
 }
 
 /// Adds a record: its version, a line for each field, an empty one, and its block.
-pub(crate) fn add_record(
-    alloc: Global,
-    answer: &mut Vec<u8>,
-    record: &Framed,
-) -> Result<(), AllocError> {
+pub fn add_record(alloc: Global, answer: &mut Vec<u8>, record: &Framed) -> Result<(), AllocError> {
     add_text(alloc, answer, &record.version())?;
     add_fields(answer, record.fields())?;
     add_line(answer, b"")?;

@@ -1,35 +1,29 @@
 //! Records in whole texts: what is read, written and made.
 
 use std::alloc::{AllocError, Allocator, Global};
-use suites_parsed::{Attempt, tell_line, tell_outcome, tell_refusals, text_of};
+use suites_parsed::{
+    Attempt, tell_line, tell_outcome, tell_refusals, tell_written, tell_written_twice, text_of,
+};
 use suites_script::Case;
 use warc_field::{Fields, read_area};
-use warc_frame::{Fault, FaultKind, Framed, Version, read_one, write_one};
+use warc_frame::{Fault, FaultKind, Framed, Version, read_one};
 use warc_vectors::RefusingAllocator;
 
 /// A record's version, the number of its fields, the length of its block and its own.
 type Shape = (Version, usize, usize, usize);
 
-/// The text with the first of one text in it replaced by another. The texts are the words at a place and behind it;
-/// where there are none, it is as it was.
+/// The text changed by the words at a place and behind it; where there are none, or what the first one says doesn't
+/// stand there, it is as it was.
 pub(crate) fn changed(
     alloc: Global,
     case: &Case<'_>,
     place: usize,
     text: &[u8],
 ) -> Result<Vec<u8>, AllocError> {
-    let old = case.bytes(alloc, place)?;
-    let new = case.bytes(alloc, place.saturating_add(1))?;
-    if old.is_empty() {
-        return text.to_vec(alloc);
+    match case.changed(alloc, place, text)? {
+        Some(text) => Ok(text),
+        None => text.to_vec(alloc),
     }
-    for place in 0..text.len() {
-        let (front, back) = text.split_at(place);
-        if let Some(end) = back.strip_prefix(old.as_slice()) {
-            return [front, new.as_slice(), end].concat(alloc);
-        }
-    }
-    text.to_vec(alloc)
 }
 
 /// The shape of the record that a text begins with.
@@ -104,38 +98,6 @@ pub(crate) fn tell_cut(
         Some(len) => format!(in alloc; "not of that of {len}")?,
     };
     tell_line(alloc, answer, &told)
-}
-
-/// Adds what is written of a record behind what stands there.
-fn tell_written(alloc: Global, answer: &mut Vec<u8>, framed: &Framed) -> Result<(), AllocError> {
-    let mut written = b"before".to_vec(alloc)?;
-    write_one(framed, &mut written)?;
-    answer.extend_from_slice(&written)
-}
-
-/// Adds whether a record could not be written behind what stands in a vector, and what stands there then.
-fn tell_written_into<A: Allocator>(
-    answer: &mut Vec<u8>,
-    framed: &Framed,
-    written: &mut Vec<u8, A>,
-) -> Result<(), AllocError> {
-    if write_one(framed, written).is_err() {
-        answer.extend_from_slice(b"refused: ")?;
-    }
-    answer.extend_from_slice(written)?;
-    answer.extend_from_slice(b"\n")
-}
-
-/// Adds what is written where the first growth is refused, and what is written then.
-fn tell_written_twice(
-    alloc: Global,
-    answer: &mut Vec<u8>,
-    framed: &Framed,
-) -> Result<(), AllocError> {
-    let heap = RefusingAllocator::new(alloc, 2);
-    let mut written = b"before".to_vec(&heap)?;
-    tell_written_into(answer, framed, &mut written)?;
-    tell_written_into(answer, framed, &mut written)
 }
 
 /// Adds what is written of the record that a text begins with, with memory or without.

@@ -1,13 +1,12 @@
 //! Captures: which one answers for a target and a moment, which record an id or a pair names, and where revisits lead.
 
 use crate::heads::{Head, Records, Step};
-use crate::refusals::{Heap, Refusal, Refusals};
 use std::alloc::{AllocError, Global};
-use suites_script::Case;
+use suites_script::{Case, Refusal, Refusals};
 use warc_index::{Filling, Index, Unfound};
 use warc_record::{Typed, id_key};
 use warc_value::read_date;
-use warc_vectors::RefusingAllocator;
+use warc_vectors::{Heap, RefusingAllocator};
 
 /// A position, or why there is none.
 fn found_text(alloc: Global, found: Result<usize, Unfound>) -> Result<String, AllocError> {

@@ -3,7 +3,7 @@
 use crate::captures::answer_capture;
 use crate::series::answer_series;
 use std::alloc::{AllocError, Allocator, Global};
-use suites_script::{Case, Trial};
+use suites_script::{Case, Trial, number_of};
 use warc_field::read_area;
 use warc_record::{Typed, type_head};
 use warc_segment::Place;
@@ -161,7 +161,7 @@ impl Records {
                 is_count = true;
             } else if is_count {
                 is_count = false;
-                self.steps.push(Step::Keep(count_of(word)))?;
+                self.steps.push(Step::Keep(number_of(word) as usize))?;
             } else {
                 match self.number_of(word) {
                     Some(number) => self.steps.push(Step::Add(number))?,
@@ -184,14 +184,6 @@ impl Records {
             "loop" => self.add(alloc, &link_text(alloc, length, length / 2)?),
             _ => Ok(()),
         }
-    }
-}
-
-/// The number that a word is; 0 where it is none.
-fn count_of(word: &[u8]) -> usize {
-    match str::from_utf8(word) {
-        Ok(text) => text.parse().unwrap_or(0),
-        Err(_) => 0,
     }
 }
 

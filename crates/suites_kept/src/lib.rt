@@ -1,15 +1,8 @@
-//! What the suite of look-ups calls: entries in lists and in orders, series of segments, and captures.
+//! What the suite of look-ups calls of records that are kept by their heads: series of segments, and captures.
 #![tactic(auto)]
 
 mod captures;
 mod heads;
-mod lists;
-mod orders;
-mod plain;
-mod refusals;
-mod rising;
-mod rows;
 mod series;
 
 pub use heads::Records;
-pub use orders::Orders;

@@ -1,13 +1,12 @@
 //! Series of segments: which places are joined to a record, and what is missing where none are.
 
 use crate::heads::{Head, Records, Step};
-use crate::refusals::Heap;
 use std::alloc::{AllocError, Global};
 use suites_script::Case;
 use warc_record::{SegmentNumber, Typed};
 use warc_segment::{Gap, JoinFault, Parts, Place};
 use warc_value::Verdict;
-use warc_vectors::RefusingAllocator;
+use warc_vectors::{Heap, RefusingAllocator};
 
 /// What is told where memory is refused.
 const NO_MEMORY: &[u8] = b"out of memory\n";

@@ -5,7 +5,8 @@
 use std::alloc::{AllocError, Global};
 use std::io::{self, Read, Write};
 use suites_answered::Replays;
-use suites_kept::{Orders, Records};
+use suites_kept::Records;
+use suites_ordered::Orders;
 use suites_script::{Case, Trial, try_script};
 
 #[derive(Drop)]

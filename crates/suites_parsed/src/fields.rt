@@ -2,11 +2,12 @@
 
 use crate::bytes::{Reading, keeps_name, keeps_value, tell_bytes};
 use crate::refusals::{Attempt, tell_refusals};
-use crate::telling::{tell_fields, tell_line, tell_parts, text_of};
+use crate::telling::{tell_fields, tell_line, tell_parts, tell_sameness, text_of};
+use crate::written::{tell_written, tell_written_twice};
 use std::alloc::{AllocError, Allocator, Global};
 use suites_script::Case;
 use warc_field::{
-    AreaFault, Fields, Name, TextFault, Value, canonical_len, decimal, read_area, trim, write_area,
+    AreaFault, Fields, Name, TextFault, Value, canonical_len, decimal, read_area, trim,
 };
 use warc_vectors::RefusingAllocator;
 
@@ -69,12 +70,8 @@ fn are_same(alloc: Global, one: &[u8], other: &[u8]) -> Option<bool> {
 
 /// Adds whether two names are the same.
 fn tell_same(alloc: Global, case: &Case<'_>, answer: &mut Vec<u8>) -> Result<(), AllocError> {
-    let told = match are_same(alloc, case.word(1), case.word(2)) {
-        Some(true) => "same",
-        Some(false) => "other",
-        None => "told in two ways",
-    };
-    tell_line(alloc, answer, &told)
+    let is_same = are_same(alloc, case.word(1), case.word(2));
+    tell_sameness(alloc, answer, is_same)
 }
 
 /// Adds a text without the blanks around it, in a line.
@@ -193,37 +190,10 @@ fn tell_found_in(
 }
 
 /// Adds the length of fields as they are written, and their text behind what stands there.
-fn tell_written(alloc: Global, answer: &mut Vec<u8>, fields: &Fields) -> Result<(), AllocError> {
+fn tell_canonical(alloc: Global, answer: &mut Vec<u8>, fields: &Fields) -> Result<(), AllocError> {
     let len = canonical_len(fields).unwrap_or(0);
     tell_line(alloc, answer, &len)?;
-    let mut written = b"before".to_vec(alloc)?;
-    write_area(fields, &mut written)?;
-    answer.extend_from_slice(&written)
-}
-
-/// Adds whether fields could not be written behind what stands in a vector, and what stands there then.
-fn tell_written_into<A: Allocator>(
-    answer: &mut Vec<u8>,
-    fields: &Fields,
-    written: &mut Vec<u8, A>,
-) -> Result<(), AllocError> {
-    if write_area(fields, written).is_err() {
-        answer.extend_from_slice(b"refused: ")?;
-    }
-    answer.extend_from_slice(written)?;
-    answer.extend_from_slice(b"\n")
-}
-
-/// Adds what is written of fields where the first growth is refused, and what is written then.
-fn tell_written_twice(
-    alloc: Global,
-    answer: &mut Vec<u8>,
-    fields: &Fields,
-) -> Result<(), AllocError> {
-    let heap = RefusingAllocator::new(alloc, 2);
-    let mut written = b"before".to_vec(&heap)?;
-    tell_written_into(answer, fields, &mut written)?;
-    tell_written_into(answer, fields, &mut written)
+    tell_written(alloc, answer, fields)
 }
 
 /// Adds what is written of the fields of an area, with memory or without.
@@ -235,7 +205,7 @@ fn tell_written_of(
 ) -> Result<(), AllocError> {
     match read_area(alloc, area) {
         Ok(fields) if is_refused => tell_written_twice(alloc, answer, &fields),
-        Ok(fields) => tell_written(alloc, answer, &fields),
+        Ok(fields) => tell_canonical(alloc, answer, &fields),
         Err(fault) => tell_line(alloc, answer, &fault),
     }
 }

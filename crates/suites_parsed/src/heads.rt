@@ -1,7 +1,7 @@
 //! Types, ids, heads, and the findings of records.
 
 use crate::said::{tell_reference, tell_segment, tell_typed, tell_value};
-use crate::telling::{tell_line, tell_parts, text_of};
+use crate::telling::{tell_line, tell_parts, tell_sameness, text_of};
 use std::alloc::{AllocError, Allocator, Global};
 use std::cmp::Ordering;
 use suites_script::Case;
@@ -76,12 +76,8 @@ fn have_equal_keys(alloc: Global, one: &[u8], other: &[u8]) -> Option<bool> {
 
 /// Adds whether two ids are the same.
 fn tell_same(alloc: Global, case: &Case<'_>, answer: &mut Vec<u8>) -> Result<(), AllocError> {
-    let told = match have_equal_keys(alloc, case.word(1), case.word(2)) {
-        Some(true) => "same",
-        Some(false) => "other",
-        None => "told in two ways",
-    };
-    tell_line(alloc, answer, &told)
+    let is_same = have_equal_keys(alloc, case.word(1), case.word(2));
+    tell_sameness(alloc, answer, is_same)
 }
 
 /// Adds what a word asks of a head.

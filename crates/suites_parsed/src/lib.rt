@@ -9,6 +9,7 @@ mod refusals;
 mod said;
 mod telling;
 mod values;
+mod written;
 
 pub use refusals::{Attempt, tell_refusals};
 use std::alloc::{AllocError, Global};
@@ -16,6 +17,7 @@ use suites_script::Case;
 pub use telling::{
     tell, tell_done, tell_fields, tell_line, tell_outcome, tell_parts, tell_text, text_of,
 };
+pub use written::{tell_written, tell_written_twice};
 
 /// Adds what a case answers, and tells whether it is a case of these crates. `kept` is the text that cases speak of
 /// which give none.

@@ -41,6 +41,20 @@ pub fn tell_line<T: Display>(
     tell_parts(answer, &[shown.as_bytes(), b"\n"])
 }
 
+/// Adds whether two things are the same; nothing is known of that where it is told in two ways.
+pub(crate) fn tell_sameness(
+    alloc: Global,
+    answer: &mut Vec<u8>,
+    is_same: Option<bool>,
+) -> Result<(), AllocError> {
+    let told = match is_same {
+        Some(true) => "same",
+        Some(false) => "other",
+        None => "told in two ways",
+    };
+    tell_line(alloc, answer, &told)
+}
+
 /// Adds what a call answers, or its fault, in a line.
 pub fn tell_outcome<T: Display + Drop, E: Display + Drop>(
     alloc: Global,

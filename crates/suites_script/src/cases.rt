@@ -1,6 +1,7 @@
 //! One case of a script.
 
 use crate::escapes::add_unescaped;
+use memchr::memmem;
 use std::alloc::{AllocError, Global};
 
 /// The words of a case, the text that is given with them, and the one that is wanted of them.
@@ -78,6 +79,22 @@ impl<'a> Case<'a> {
         Ok(bytes)
     }
 
+    /// A text with the first of what the word at an index says replaced by what the next word says; nothing where that
+    /// doesn't stand there.
+    pub fn changed(
+        &self,
+        alloc: Global,
+        index: usize,
+        text: &[u8],
+    ) -> Result<Option<Vec<u8>>, AllocError> {
+        let old = self.bytes(alloc, index)?;
+        let new = self.bytes(alloc, index.saturating_add(1))?;
+        match around(text, &old) {
+            Some((front, back)) => Ok(Some([front, new.as_slice(), back].concat(alloc)?)),
+            None => Ok(None),
+        }
+    }
+
     /// The text that is given with it.
     pub fn given(&self) -> &[u8] {
         &self.given
@@ -89,8 +106,14 @@ impl<'a> Case<'a> {
     }
 }
 
+/// What stands in a text before the first of another one, and behind it.
+fn around<'a>(text: &'a [u8], other: &[u8]) -> Option<(&'a [u8], &'a [u8])> {
+    let (front, back) = text.split_at(memmem::find(text, other)?);
+    Some((front, back.strip_prefix(other)?))
+}
+
 /// The number that a word is; 0 where it is none.
-fn number_of(word: &[u8]) -> u64 {
+pub fn number_of(word: &[u8]) -> u64 {
     match str::from_utf8(word) {
         Ok(text) => text.parse().unwrap_or(0),
         Err(_) => 0,

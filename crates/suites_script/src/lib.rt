@@ -18,8 +18,10 @@
 
 mod cases;
 mod escapes;
+mod refusals;
 mod trying;
 
-pub use cases::Case;
+pub use cases::{Case, number_of};
 pub use escapes::add_unescaped;
+pub use refusals::{Refusal, Refusals};
 pub use trying::{Trial, try_script};

@@ -1,10 +1,8 @@
-//! What the suites share: sources and writers that break, an allocator that refuses, and texts that are changed.
+//! What the suites share: sources and writers that break, and an allocator that refuses.
 #![tactic(auto)]
 
 pub mod broken;
 pub mod refusing;
-pub mod texts;
 
 pub use broken::{Break, BrokenSource, BrokenWriter, ChangingSource};
-pub use refusing::RefusingAllocator;
-pub use texts::{Unmade, changed};
+pub use refusing::{Heap, RefusingAllocator};

@@ -2,7 +2,7 @@
 
 ghost use Rattle.std.specs.Prelude.{◌≡◌};
 
-use std::alloc::{AllocError, Allocator};
+use std::alloc::{AllocError, Allocator, Global};
 use std::cell::Cell;
 
 /// Passes each request on to another allocator, but for one, which it refuses.
@@ -12,6 +12,9 @@ pub struct RefusingAllocator<B: Allocator> {
     /// How many requests come up to the refused one, with that one; 0 where none will be refused.
     left: Cell<u64>,
 }
+
+/// An allocator that refuses one request, or none.
+pub type Heap<'a> = &'a RefusingAllocator<Global>;
 
 impl<B: Allocator> RefusingAllocator<B> {
     /// Refuses the request of that number, counted from 1; at 0 it refuses none.

@@ -1,19 +1,16 @@
 //! Cases in which archives grow. What a case gives is what is added to the archive.
 
-use crate::calls::{opened, refused, source_of};
-use crate::checks::changed_by;
-use crate::replays::{Asked, add_replayed};
-use crate::telling::{add_line, add_number, add_text};
 use std::alloc::{AllocError, Allocator, Global};
+use suites_calls::{Asked, add_line, add_replayed, add_text, opened, refused, source_of};
 use suites_script::Case;
-use warc::{Archive, Listing};
-use warc_frame::{Fault, FaultKind, MemSource, Source};
+use warc::Archive;
+use warc_frame::{MemSource, Source};
 
 /// How many records an archive has, and how many bytes of texts it keeps of them.
 #[derive(Clone, Copy, PartialEq, Eq)]
 pub(crate) struct Size {
     pub(crate) count: usize,
-    kept: u64,
+    pub(crate) kept: u64,
 }
 
 impl Size {
@@ -44,7 +41,7 @@ fn add_size(
 }
 
 /// Adds why an archive doesn't grow by a source, if it doesn't, and its size then.
-pub(crate) fn add_grown<S: Source + Drop>(
+fn add_grown<S: Source + Drop>(
     alloc: Global,
     archive: &mut Archive<S>,
     source: S,
@@ -122,95 +119,12 @@ fn add_damaged(
     (bytes, most): (&[u8], usize),
     answer: &mut Vec<u8>,
 ) -> Result<(), AllocError> {
-    let Some(damaged) = changed_by(alloc, case, case.given())? else {
+    let Some(damaged) = case.changed(alloc, 1, case.given())? else {
         return add_line(answer, b"no such text");
     };
     let first = longer(alloc, bytes, &damaged, most)?;
     let second = longer(alloc, bytes, case.given(), most)?;
     add_twice(alloc, archive, first, second, answer)
-}
-
-/// Whether an archive refuses to grow by the front of a record, which ends at this offset, and is as it was.
-fn is_torn(archive: &mut Archive<MemSource>, source: MemSource, end: usize) -> bool {
-    let before = Size::of(archive);
-    let fault = refused(archive, source);
-    let torn = FaultKind::Truncated.at(end as u64);
-    fault == Some(torn) && Size::of(archive) == before
-}
-
-/// Whether it grows by the whole record then.
-fn is_whole(archive: &mut Archive<MemSource>, source: MemSource) -> bool {
-    let before = Size::of(archive);
-    let fault = refused(archive, source);
-    let now = Size::of(archive);
-    fault.is_none() && now.count == before.count.saturating_add(1) && now.kept >= before.kept
-}
-
-/// Whether an archive does both, by these sources.
-fn recovers(
-    alloc: Global,
-    bytes: &[u8],
-    most: usize,
-    (torn, whole): (MemSource, MemSource),
-    end: usize,
-) -> Result<bool, AllocError> {
-    match opened(alloc, source_of(alloc, bytes, most)?) {
-        Ok(mut archive) => { Ok(is_torn(&mut archive, torn, end) && is_whole(&mut archive, whole)) }
-        Err(_) => Ok(false),
-    }
-}
-
-/// Adds how many fronts of the record that a case gives an archive refuses, each as torn at its end, and grows by the
-/// whole record then.
-pub(crate) fn add_torn(
-    alloc: Global,
-    case: &Case<'_>,
-    archive: &[u8],
-    most: usize,
-    answer: &mut Vec<u8>,
-) -> Result<(), AllocError> {
-    let mut count = 0u64;
-    for len in 1..case.given().len() {
-        let front = case.given().get(..len).unwrap_or(b"");
-        let torn = longer(alloc, archive, front, most)?;
-        let whole = longer(alloc, archive, case.given(), most)?;
-        let end = archive.len().saturating_add(len);
-        if recovers(alloc, archive, most, (torn, whole), end)? {
-            count = count.saturating_add(1);
-        }
-    }
-    let line = format!(in alloc; "F11 Truncated at the ends of {count} fronts, and grown then\n")?;
-    answer.extend_from_slice(line.as_bytes())
-}
-
-/// Why a listing doesn't grow by a source, if it doesn't, and how many records it has then.
-fn listing_grown(listing: &mut Listing<MemSource>, source: MemSource) -> (Option<Fault>, usize) {
-    let refused = match listing.grow(source) {
-        Ok(()) => None,
-        Err((fault, _source)) => Some(fault),
-    };
-    (refused, listing.count())
-}
-
-/// The same of a listing of no bytes.
-fn listing_from_nothing(alloc: Global, source: MemSource) -> (Option<Fault>, usize) {
-    match Listing::open(alloc, MemSource::new(Vec::new(alloc), 1)) {
-        Ok(mut listing) => listing_grown(&mut listing, source),
-        Err((fault, _source)) => (Some(fault), 0),
-    }
-}
-
-/// Adds both.
-pub(crate) fn add_from_nothing(
-    alloc: Global,
-    source: MemSource,
-    answer: &mut Vec<u8>,
-) -> Result<(), AllocError> {
-    let (refused, count) = listing_from_nothing(alloc, source);
-    if let Some(fault) = refused {
-        add_text(alloc, answer, &fault)?;
-    }
-    add_number(alloc, answer, "records", count as u64)
 }
 
 /// Adds what comes of the growth of an archive of these bytes.

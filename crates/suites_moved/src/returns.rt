@@ -1,7 +1,7 @@
 //! Cases in which records are made, written, opened and taken again.
 
-use crate::telling::{add_line, add_record};
 use std::alloc::{AllocError, Global};
+use suites_calls::{add_line, add_record};
 use suites_migration::round_trip::{Plan, round_trip};
 use suites_script::Case;
 use warc_frame::Framed;

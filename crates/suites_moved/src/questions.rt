@@ -1,8 +1,7 @@
 //! What archives are asked before they are moved and after: targets as of dates.
 
-use crate::calls::replayed;
-use crate::telling::add_replay;
 use std::alloc::{AllocError, Global};
+use suites_calls::{add_replay, replayed};
 use suites_script::{Case, add_unescaped};
 use warc::Archive;
 use warc_frame::{MemSink, MemSource};

@@ -1,8 +1,8 @@
 //! Growth in which each read or each request for memory fails in turn, and growth behind it, in which none does.
 
-use crate::calls::{opened, refused};
 use crate::growth::{Size, joined};
 use std::alloc::{AllocError, Allocator, Global};
+use suites_calls::{broken, opened, refused, source_of};
 use suites_script::Case;
 use warc::Archive;
 use warc_frame::{Fault, FaultKind, MemSource, Source};
@@ -59,23 +59,28 @@ fn grown_twice<S: Source + Drop, A: Allocator + Copy>(
     }
 }
 
-/// A source that is read one byte at a time, of which the read of a number fails; at 0 none does.
-fn broken(alloc: Global, bytes: &[u8], number: u64) -> Result<BrokenSource, AllocError> {
-    Ok(BrokenSource::new(bytes.to_vec(alloc)?, 1, number))
+/// What comes of the growth of an archive to these bytes, which are read one at a time, of which the read of a number
+/// fails.
+fn grown_unread(
+    alloc: Global,
+    archive: &mut Archive<BrokenSource>,
+    longer: &[u8],
+    number: u64,
+) -> Result<Option<Outcome>, AllocError> {
+    let source = broken(alloc, longer, 1, number)?;
+    let again = broken(alloc, longer, 1, 0)?;
+    Ok(Some(grown_twice(archive, source, again)))
 }
 
-/// What comes of the growth of an archive of these bytes to others, of which the read of a number fails; nothing where
-/// it doesn't open.
+/// The same of an archive of other bytes, that is opened for it; nothing where it doesn't open.
 fn unread(
     alloc: Global,
     bytes: &[u8],
     longer: &[u8],
     number: u64,
 ) -> Result<Option<Outcome>, AllocError> {
-    let source = broken(alloc, longer, number)?;
-    let again = broken(alloc, longer, 0)?;
-    match opened(alloc, broken(alloc, bytes, 0)?) {
-        Ok(mut archive) => Ok(Some(grown_twice(&mut archive, source, again))),
+    match opened(alloc, broken(alloc, bytes, 1, 0)?) {
+        Ok(mut archive) => grown_unread(alloc, &mut archive, longer, number),
         Err(_) => Ok(None),
     }
 }
@@ -105,23 +110,27 @@ pub(crate) fn add_unread(
     answer.extend_from_slice(line.as_bytes())
 }
 
-/// A source of bytes.
-fn whole(alloc: Global, bytes: &[u8]) -> Result<MemSource, AllocError> {
-    Ok(MemSource::new(bytes.to_vec(alloc)?, usize::MAX))
+/// What comes of the growth of an archive to these bytes.
+fn grown<A: Allocator + Copy>(
+    alloc: Global,
+    archive: &mut Archive<MemSource, A>,
+    longer: &[u8],
+) -> Result<Option<Outcome>, AllocError> {
+    let source = source_of(alloc, longer, usize::MAX)?;
+    let again = source_of(alloc, longer, usize::MAX)?;
+    Ok(Some(grown_twice(archive, source, again)))
 }
 
-/// What comes of the growth of an archive of these bytes with memory of its own; nothing where it doesn't open for
-/// want of it.
+/// The same of an archive of other bytes, that is opened for it with memory of its own; nothing where it doesn't open
+/// for want of it.
 fn grown_on<A: Allocator + Copy>(
     alloc: Global,
     heap: A,
     bytes: &[u8],
     longer: &[u8],
 ) -> Result<Option<Outcome>, AllocError> {
-    let source = whole(alloc, longer)?;
-    let again = whole(alloc, longer)?;
-    match opened(heap, whole(alloc, bytes)?) {
-        Ok(mut archive) => Ok(Some(grown_twice(&mut archive, source, again))),
+    match opened(heap, source_of(alloc, bytes, usize::MAX)?) {
+        Ok(mut archive) => grown(alloc, &mut archive, longer),
         Err(_) => Ok(None),
     }
 }

@@ -2,12 +2,11 @@
 
 use crate::lists::list;
 use crate::plain::{holds, steps};
-use crate::refusals::{Heap, Refusal, Refusals};
 use crate::rising::{Rising, Waiting};
 use crate::rows::{Row, drawn_lines, front, lines, rows};
 use std::alloc::{AllocError, Global};
-use suites_script::{Case, Trial};
-use warc_vectors::RefusingAllocator;
+use suites_script::{Case, Refusal, Refusals, Trial};
+use warc_vectors::{Heap, RefusingAllocator};
 
 /// The entries of which lists and orders are made, and the texts that they are asked for, in lines.
 #[derive(Drop)]

@@ -1,20 +1,28 @@
 //! What an archive in memory answers as it stands, moved to WARC 1.1 by the library, and moved by the command.
 
-use crate::calls::{opened, source_of};
 use crate::questions::{Answers, Questions};
 use std::alloc::{AllocError, Global};
+use suites_calls::{opened, source_of};
 use suites_migration::migration::migrate;
 use warc::Archive;
 use warc_commands::{Command, perform};
 use warc_frame::{Fault, MemSink, MemSource};
 
-/// Each target of the archive of these bytes as of each of its dates, or why it doesn't open.
+/// Each target of an archive as of each of its dates.
+fn questions_in(
+    alloc: Global,
+    archive: &Archive<MemSource>,
+) -> Result<Result<Questions, Fault>, AllocError> {
+    Ok(Ok(Questions::of_archive(alloc, archive)?))
+}
+
+/// The same of the archive of these bytes, or why it doesn't open.
 pub(crate) fn questions_of(
     alloc: Global,
     bytes: &[u8],
 ) -> Result<Result<Questions, Fault>, AllocError> {
     match opened(alloc, source_of(alloc, bytes, usize::MAX)?) {
-        Ok(archive) => Ok(Ok(Questions::of_archive(alloc, &archive)?)),
+        Ok(archive) => questions_in(alloc, &archive),
         Err(fault) => Ok(Err(fault)),
     }
 }
@@ -54,6 +62,15 @@ pub(crate) fn offsets_of(
     }
 }
 
+/// What an archive answers.
+fn answers_in(
+    alloc: Global,
+    archive: &mut Archive<MemSource>,
+    questions: &Questions,
+) -> Result<Option<Answers>, AllocError> {
+    Ok(Some(questions.ask(alloc, archive)?))
+}
+
 /// What the archive of these bytes answers; nothing where it doesn't open.
 pub(crate) fn answers_of(
     alloc: Global,
@@ -62,7 +79,7 @@ pub(crate) fn answers_of(
     questions: &Questions,
 ) -> Result<Option<Answers>, AllocError> {
     match opened(alloc, source_of(alloc, bytes, most)?) {
-        Ok(mut archive) => Ok(Some(questions.ask(alloc, &mut archive)?)),
+        Ok(mut archive) => answers_in(alloc, &mut archive, questions),
         Err(_) => Ok(None),
     }
 }
@@ -83,7 +100,7 @@ pub(crate) fn answers_migrated(
     questions: &Questions,
 ) -> Result<Option<Answers>, AllocError> {
     match migrated(alloc, source_of(alloc, bytes, most)?) {
-        Some(mut archive) => Ok(Some(questions.ask(alloc, &mut archive)?)),
+        Some(mut archive) => answers_in(alloc, &mut archive, questions),
         None => Ok(None),
     }
 }

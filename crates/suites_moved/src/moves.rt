@@ -1,10 +1,9 @@
 //! Cases in which archives are moved to WARC 1.1, by the library and by the command, and asked before and after.
 
-use crate::chains::chain_of;
 use crate::migrated::{answers_converted, answers_migrated, answers_of, offsets_of, questions_of};
 use crate::questions::{Answers, Questions};
-use crate::telling::{add_line, add_text};
 use std::alloc::{AllocError, Global};
+use suites_calls::{add_line, add_link, add_text, chain_count};
 use suites_script::Case;
 
 /// Of an archive of so many records at most each one that it begins with is asked too.
@@ -103,6 +102,15 @@ pub(crate) fn add_moved_case(
     }
     let questions = Questions::of_words(alloc, case, index)?;
     add_moved(alloc, bytes, most, &questions, answer)
+}
+
+/// An archive and behind it the chain of a case.
+fn chain_of(alloc: Global, case: &Case<'_>, archive: &[u8]) -> Result<Vec<u8>, AllocError> {
+    let mut text = archive.to_vec(alloc)?;
+    for number in 1..=chain_count(case) {
+        add_link(alloc, &mut text, case.given(), number)?;
+    }
+    Ok(text)
 }
 
 /// Adds the same of an archive and the chain of a case behind it.

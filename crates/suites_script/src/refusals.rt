@@ -1,14 +1,10 @@
 //! Runs in each of which one request for memory is refused: the first in the first run, the second in the next.
 
 use std::alloc::{AllocError, Global};
-use warc_vectors::RefusingAllocator;
-
-/// An allocator that refuses one request, or none.
-pub(crate) type Heap<'a> = &'a RefusingAllocator<Global>;
 
 /// What comes of a run.
 #[derive(Clone, Copy, PartialEq, Eq)]
-pub(crate) enum Refusal {
+pub enum Refusal {
     /// It makes fewer requests, and all is right.
     Absent,
 
@@ -19,7 +15,7 @@ pub(crate) enum Refusal {
 
 impl Refusal {
     /// What comes of a run that is right or not, in which a request was refused or none.
-    pub(crate) fn of(is_right: bool, is_refused: bool) -> Refusal {
+    pub fn of(is_right: bool, is_refused: bool) -> Refusal {
         match (is_right, is_refused) {
             (true, true) => Refusal::Harmless,
             (true, false) => Refusal::Absent,
@@ -30,13 +26,14 @@ impl Refusal {
 
 /// How many runs there were in which a request was refused, and whether one went wrong.
 #[derive(Clone, Copy)]
-pub(crate) struct Refusals {
+pub struct Refusals {
     count: u64,
     is_wrong: bool,
 }
 
 impl Refusals {
-    pub(crate) fn new() -> Refusals {
+    /// No runs.
+    pub fn new() -> Refusals {
         Refusals {
             count: 0,
             is_wrong: false,
@@ -44,7 +41,7 @@ impl Refusals {
     }
 
     /// Counts a run, and says whether another one is to come.
-    pub(crate) fn goes_on(&mut self, refusal: Refusal) -> bool {
+    pub fn goes_on(&mut self, refusal: Refusal) -> bool {
         match refusal {
             Refusal::Absent => return false,
             Refusal::Harmless => {}
@@ -55,12 +52,7 @@ impl Refusals {
     }
 
     /// Tells of the runs, of which there should be more than so many.
-    pub(crate) fn tell(
-        self,
-        alloc: Global,
-        least: u64,
-        answer: &mut Vec<u8>,
-    ) -> Result<(), AllocError> {
+    pub fn tell(self, alloc: Global, least: u64, answer: &mut Vec<u8>) -> Result<(), AllocError> {
         let (how, number) = if self.is_wrong {
             ("something else once this request is refused", self.count)
         } else if self.count > least {

@@ -1,6 +1,7 @@
 //! Entries as lines: a text, the two numbers of a mark, and a position, with one blank between two.
 
 use std::alloc::{AllocError, Global};
+use suites_script::number_of;
 use warc_order::Mark;
 
 /// An entry.
@@ -9,14 +10,6 @@ pub(crate) struct Row<'a> {
     pub(crate) text: &'a [u8],
     pub(crate) mark: Mark,
     pub(crate) position: usize,
-}
-
-/// The number that a word is; 0 where it is none.
-fn number_of(word: &[u8]) -> u64 {
-    match str::from_utf8(word) {
-        Ok(text) => text.parse().unwrap_or(0),
-        Err(_) => 0,
-    }
 }
 
 /// The word of a line at an index; one of no bytes where there is none.
