@@ -10,8 +10,8 @@
 //! same as after adding them one by one, in about half the time or less. What that takes of memory each push reserves.
 //!
 //! Each look-up halves, and takes no memory; a step from an entry to the next doesn't halve. An entry takes 8 bytes and
-//! its text, and 8 bytes of the order, also while it waits. The two numbers of a mark take 4 and 8 bytes more, each from
-//! the first entry on where it isn't 0, and a position 4 bytes more, from the first entry on whose position isn't its
+//! its text, and 8 bytes of the order, also while it waits. A mark's two numbers take 4 and 8 bytes more, each from the
+//! first entry on where it isn't 0, and a position 4 bytes more, from the first entry on whose position isn't its
 //! index. Where entries are added one by one an entry takes up to about 16 bytes of the order, which stands in blocks
 //! between half full and full. The first addition to an order that was filled at once cuts it into such blocks, which
 //! takes memory once.

@@ -1,0 +1,187 @@
+#!/usr/bin/env python3
+"""Checks of the text of the repository that the prover doesn't make. Python 3 alone; takes about a second.
+
+usage: lint.py [FOLDER]      the top of the repository; without it, the folder above this file
+
+It reports, a line each, and exits with 1 where there is any:
+
+- a word of specs/ that two specs files define (tools/lint-known.txt lists those that are known; the list may only
+  shrink: a word there that is defined once is reported too);
+- a specs file that says "no public clause cites them" where the contract of a public function cites one of its words;
+- a line of over 120 characters in src/ or specs/, but for imports (`ghost use`, `use`) and tactics, which rt fmt
+  keeps in one line;
+- a must-fail edit that doesn't apply (a text that isn't in its file exactly once), or that has no line `why:`;
+- a number of a paper or of a request in place of a plain name.
+"""
+import os
+import re
+import subprocess
+import sys
+
+WIDTH = 120
+KNOWN = "tools/lint-known.txt"
+WORD = re.compile(r"^(?:abbrev|unfoldable|opaque|record|data) pub ([^\s:({]+)|^pub (?:record|data) ([^\s:({]+)")
+IMPORT = re.compile(r"^use Rattle\.(\w+)\.specs\.(\w+)\.\{([^}]*)\}")
+GHOST_IMPORT = re.compile(r"^\s*ghost use Rattle\.(\w+)\.specs\.(\w+)\.\{([^}]*)\}")
+PRIVATE = "no public clause cites them"
+PUBLIC_FN = re.compile(r"^\s*pub (?:const )?fn (\w+)")
+PAPER = re.compile(r"\b(?:[DLTW][0-9]{1,2}(?:\.[0-9]+)?|R[0-9]{1,2}|[Rr]ow [0-9]+|document 0[1-4]|0[1-4], section)\b")
+NO_PAPER = re.compile(r"T[0-9]{2}:|[0-9]T[0-9]|urn:uuid|--stored")
+
+
+def files(top):
+    """The files that git tracks, and the new ones that it doesn't ignore."""
+    out = subprocess.run(
+        ["git", "ls-files", "-co", "--exclude-standard"], cwd=top, check=True, capture_output=True, text=True)
+    return [path for path in sorted(set(out.stdout.split("\n"))) if path and os.path.isfile(os.path.join(top, path))]
+
+
+def lines_of(top, path):
+    """The lines of a text file; none where it isn't UTF-8."""
+    try:
+        with open(os.path.join(top, path), encoding="utf-8") as file:
+            return file.read().split("\n")
+    except UnicodeDecodeError:
+        return []
+
+
+def defined(top, paths):
+    """Each word of specs/ with the places that define it."""
+    words = {}
+    for path in paths:
+        if re.fullmatch(r"crates/\w+/specs/\w+\.antt", path):
+            for number, line in enumerate(lines_of(top, path), 1):
+                found = WORD.match(line)
+                if found:
+                    words.setdefault(found.group(1) or found.group(2), []).append(f"{path}:{number}")
+    return words
+
+
+def defined_twice(top, paths):
+    known = set()
+    if KNOWN in paths:
+        known = {line for line in lines_of(top, KNOWN) if line and not line.startswith("#")}
+    words = defined(top, paths)
+    twice = {word for word, places in words.items() if len({place.split(":")[0] for place in places}) > 1}
+    for word in sorted(twice - known):
+        yield f"{words[word][0]}: {word} is defined here and at {', '.join(words[word][1:])}"
+    for word in sorted(known - twice):
+        yield f"{KNOWN}: {word} is no longer defined twice: drop it"
+
+
+def clauses_of_public_functions(lines):
+    """The lines between the head and the body of each public function."""
+    inside = False
+    for line in lines:
+        if PUBLIC_FN.match(line):
+            inside = True
+        if inside:
+            yield line
+            if re.match(r"^\s*\{\s*$", line) or (line.rstrip().endswith("{") and "ensures" not in line):
+                inside = False
+
+
+def cited_publicly(top, paths):
+    """Of each crate, the words (crate, file, word) that clauses of its public functions cite."""
+    cited = set()
+    for path in paths:
+        if not re.fullmatch(r"crates/\w+/src/.*\.rt", path):
+            continue
+        lines = lines_of(top, path)
+        imported = {}
+        for line in lines:
+            found = GHOST_IMPORT.match(line)
+            if found:
+                for name in found.group(3).split(","):
+                    imported[name.strip().split(" as ")[-1]] = (found.group(1), found.group(2))
+        text = "\n".join(clauses_of_public_functions(lines))
+        for name, (crate, file) in imported.items():
+            if re.search(rf"(?<![\w.]){re.escape(name)}(?![\w])", text):
+                cited.add((crate, file, name))
+    return cited
+
+
+def untrue_headers(top, paths):
+    cited = cited_publicly(top, paths)
+    for path in paths:
+        found = re.fullmatch(r"crates/(\w+)/specs/(\w+)\.antt", path)
+        if not found:
+            continue
+        lines = lines_of(top, path)
+        header = " ".join(line[2:].strip() for line in lines[:4] if line.startswith("--"))
+        if PRIVATE not in header:
+            continue
+        for crate, file, name in sorted(cited):
+            if (crate, file) == found.groups():
+                yield f"{path}:1: says '{PRIVATE}', and a public contract cites {name}"
+
+
+def wide_lines(top, paths):
+    for path in paths:
+        if not re.fullmatch(r"crates/\w+/(src/.*\.rt|specs/.*\.antt)", path):
+            continue
+        for number, line in enumerate(lines_of(top, path), 1):
+            if len(line) > WIDTH and not re.match(r"\s*(ghost use |use |#\[tactic)", line):
+                yield f"{path}:{number}: {len(line)} characters"
+
+
+def edit_faults(top, path):
+    """What is wrong with a must-fail edit."""
+    crate = path.rsplit("/", 2)[0]
+    texts, why, file, old = {}, False, None, None
+    for line in lines_of(top, path):
+        key, _, text = line.partition(":")
+        text = text[1:] if text.startswith(" ") else text
+        if key == "why":
+            why = True
+        elif key == "file":
+            file = f"{crate}/{text.strip()}"
+            if file not in texts:
+                texts[file] = "\n".join(lines_of(top, file)) if os.path.isfile(os.path.join(top, file)) else ""
+        elif key == "old":
+            old = text
+        elif key == "new" and file and old is not None:
+            count = texts[file].count(old)
+            if count != 1:
+                yield f"{path}: its old text is {count} times in {file}"
+            texts[file] = texts[file].replace(old, text, 1)
+            old = None
+    if not why:
+        yield f"{path}: no line 'why: PROMISE; refused by CLAUSE'"
+
+
+def bad_edits(top, paths):
+    for path in paths:
+        if re.fullmatch(r"crates/\w+/must-fail/\w+\.edit", path):
+            yield from edit_faults(top, path)
+
+
+def numbers_of_papers(top, paths):
+    for path in paths:
+        if path.endswith((".edit", "/stdin", "/stdout", ".warc", ".lock")) or path.startswith("tools/lint"):
+            continue
+        for number, line in enumerate(lines_of(top, path), 1):
+            if PAPER.search(line) and not NO_PAPER.search(line):
+                yield f"{path}:{number}: {PAPER.search(line).group(0)}"
+
+
+def main(words):
+    top = words[0] if words else os.path.join(os.path.dirname(os.path.abspath(__file__)), "..")
+    paths = files(top)
+    found = [
+        f"{what}: {line}"
+        for what, check in (
+            ("defined twice", defined_twice),
+            ("untrue header", untrue_headers),
+            ("too wide", wide_lines),
+            ("bad edit", bad_edits),
+            ("number of a paper", numbers_of_papers),
+        )
+        for line in check(top, paths)
+    ]
+    print("\n".join(found + [f"lint: {len(paths)} files, {len(found)} found"]))
+    return 1 if found else 0
+
+
+if __name__ == "__main__":
+    sys.exit(main(sys.argv[1:]))
