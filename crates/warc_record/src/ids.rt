@@ -1,4 +1,4 @@
-ghost use Rattle.std.specs.Prelude.{◌≡◌, ◌∷◌, ◌==◌, IfOk, length};
+ghost use Rattle.std.specs.Prelude.{◌≡◌, ◌∷◌, ◌==◌, IfOk, OnErr, None, true, length};
 ghost use Rattle.std.specs.List.{list_any};
 ghost use Rattle.std.proofs.Common.{rules};
 ghost use Rattle.std.specs.Cmp.{partial_order_from_own_ties};
@@ -174,7 +174,11 @@ fn uuid_form<A: Allocator>(uuid: [u8; 16]) -> Form<A>
 /// The key of the id that a text holds, or `None` where it holds none. Only an id that is no UUID
 /// takes memory.
 pub fn id_key<A: Allocator>(alloc: A, text: &[u8]) -> Result<Option<IdKey<A>>, AllocError>
-    ensures { IfOk result (λ key. key ≡ id_key text.now) }
+    ensures key { IfOk result (λ key. key ≡ id_key text.now) }
+
+    // Memory is refused only for an id that is no UUID.
+    ensures memory { let bare = bare_text text.now in
+        OnErr result ((is_bare_id bare ≡ true) × (parsed_urn bare ≡ None)) }
 {
     let bare = bare(text);
     if !is_bare_id(bare) {

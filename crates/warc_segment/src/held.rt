@@ -1,5 +1,5 @@
 //! What parts hold of the continuations: an order by origin and number, and the rest beside it.
-ghost use Rattle.std.specs.Prelude.{◌≡◌, ℕ, ◌+◌, ◌<◌, [], ◌∷◌, ◌++◌, length, map, ◌≤◌, OnOk, OnErr, IfOk, IfSome, Some, option_map, slice_get};
+ghost use Rattle.std.specs.Prelude.{◌≡◌, ℕ, ◌+◌, ◌<◌, [], ◌∷◌, ◌++◌, length, map, ◌≤◌, OnOk, OnErr, IfOk, IfSome, IsSome, Some, option_map, slice_get};
 ghost use Rattle.std.specs.Option.{option_to_list};
 ghost use Rattle.warc_record.specs.Seen.{said};
 ghost use Rattle.warc_order.specs.Entries.{entry_at};
@@ -72,6 +72,7 @@ pub(crate) fn put<A: Allocator + Copy>(
         ++ option_to_list (kept_of (position, record { head = said typed.now; place = place }))) }
     ensures err_order { OnErr result (order.new ≡ order.old) }
     ensures err_facts { OnErr result (facts.new.items ≡ facts.old.items) }
+    ensures needed { OnErr result (IsSome (kept_of (position, record { head = said typed.now; place = place }))) }
 {
     let Some(member) = find_membership(typed) else {
         return Ok(());

@@ -1,7 +1,7 @@
-ghost use Rattle.std.specs.Prelude.{◌≡◌, ℕ, ◌++◌, [], ◌∷◌, List, length, take, sum_by, map, OnOk, OnErr, IfOk};
+ghost use Rattle.std.specs.Prelude.{◌≡◌, ◌⊎◌, ◌+◌, ◌≤◌, ◌^◌, ℕ, ◌++◌, [], ◌∷◌, List, length, take, sum_by, map, OnOk, OnErr, IfOk, IsSome};
 ghost use Rattle.warc_record.specs.Seen.{said};
 ghost use Rattle.warc_segment.specs.Joined.{PlacedRecord, joined_places};
-ghost use Rattle.warc_segment.specs.Kept.{kept_in};
+ghost use Rattle.warc_segment.specs.Kept.{kept_in, kept_of};
 ghost use Rattle.warc_segment.specs.Held.{side_by_side, AreHeld, IsSeries};
 ghost use Rattle.warc_segment.specs.Joining.{IsJoin};
 
@@ -87,6 +87,10 @@ impl<A: Allocator + Copy> Parts<A> {
         ensures ok { (all : List PlacedRecord) → self.old ≡ kept_in all
             → OnOk result (self.new ≡ kept_in (all ++ record { head = said typed.now; place = place } ∷ [])) }
         ensures err { OnErr result (self.new ≡ self.old) }
+
+        // A record that is in no series is refused only where 2^64 - 1 records were added before.
+        ensures needed { let added : PlacedRecord = record { head = said typed.now; place = place } in
+            OnErr result (IsSome (kept_of (self.old.count, added)) ⊎ (2 ^ 64 ≤ self.old.count + 1)) }
     {
         let Some(count) = self.count.checked_add(1) else {
             return Err(AllocError);
