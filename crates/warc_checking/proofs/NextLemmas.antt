@@ -15,7 +15,7 @@ use Rattle.warc_record.specs.declared.checks.ArchiveFacts.{ArchiveFacts}
 use Rattle.warc_checking.specs.Checking.{findings_behind, is_used, record_key}
 use Rattle.warc_checking.specs.Examining.{findings_of_first, first_text, record_text}
 use Rattle.warc_checking.specs.Found.{IsFound, Judged, own_findings}
-use Rattle.warc_checking.specs.Noted.{AreNoted, IsNext, found_at, with_used}
+use Rattle.warc_checking.specs.Noted.{AreNoted, IsDue, found_at, with_used}
 use Rattle.warc_checking.specs.Used.{HasMet, Ids, IsTally}
 use Rattle.warc_checking.proofs.AmongLemmas.{used_among, used_count}
 use Rattle.warc_checking.proofs.CheckLemmas.{key_by_row}
@@ -30,7 +30,7 @@ found_there records i p at =
 -- the record at a place, where the ids of those before it were met
 pub next_at : (bytes : List ℕ) (records : List Placed) (rows : List Row) (found : List (List Found)) (i : ℕ) (row : Row) (met : Ids) → GoodHeadsRead → AreNoted bytes records rows found
     → IsTally (length rows) rows met.counts → slice_get rows i ≡ Some row → HasMet (take i (contents records)) met
-    → (p : Placed) × (slice_get records i ≡ Some p) × IsNext (take i (contents records)) p row (found_at found i) met
+    → (p : Placed) × (slice_get records i ≡ Some p) × IsDue (take i (contents records)) p row (found_at found i) met
 next_at bytes records rows found i row met law noted tally is has =
     let (p, at, row_is, head) = record_at bytes records rows i row noted.can is in (
       p,
@@ -45,7 +45,7 @@ next_at bytes records rows found i row met law noted tally is has =
     )
 
 -- the findings of the next record, whose id is used or isn't
-module _ (law : GoodHeadsRead) (before : List Record) (p : Placed) (row : Row) (found : List Found) (met : Ids) (next : IsNext before p row found met) (used : Bool)
+module _ (law : GoodHeadsRead) (before : List Record) (p : Placed) (row : Row) (found : List Found) (met : Ids) (next : IsDue before p row found met) (used : Bool)
     (is : used ≡ is_used before (id_key row.id)) where
   used_is : used ≡ is_used before (record_key p.content)
   used_is = is ∙ ap (is_used before) (sym (key_by_row p row next.row_is (law p.content.fields next.good)))

@@ -10,7 +10,7 @@ use Rattle.warc_record.specs.Findings.{Found, once}
 use Rattle.warc_checking.specs.Checking.{line_text, numbered_line}
 use Rattle.warc_checking.specs.Examining.{record_text}
 use Rattle.warc_checking.specs.Found.{own_findings}
-use Rattle.warc_checking.specs.Noted.{AreNamed, AreParts, IsNamed, IsPart, all_found, found_by_part, found_in, name_in, part_of}
+use Rattle.warc_checking.specs.Noted.{AreNamed, AreParts, IsNamed, IsPart, all_found, found_by_part, found_in, name_in, notes_of}
 use Rattle.warc_checking.specs.declared.noting.Note.{Note}
 use Rattle.warc_checking.specs.declared.noting.Part.{Part}
 use Rattle.warc_checking.proofs.CheckLemmas.{text_append}
@@ -90,7 +90,7 @@ part_stays : (notes more : List Found) (ps : List Part) → AreParts (length not
 part_stays notes more [] all = refl
 part_stays notes more (p ∷ ps) (here, all) =
     ap (λ f. f ∷ found_by_part (notes ++ more) ps) (slice_front p.start p.end notes more here.order here.end)
-    ∙ ap (λ l. part_of notes p ∷ l) (part_stays notes more ps all)
+    ∙ ap (λ l. notes_of notes p ∷ l) (part_stays notes more ps all)
 
 parts_longer : (a b : ℕ) (ps : List Part) → a ≤ b → AreParts a ps → AreParts b ps
 parts_longer a b [] le all = tt
@@ -109,9 +109,9 @@ pub part_more : (notes new more : List Found) (ps : List Part) (p : Part) → ne
     → AreParts (length new) (ps ++ p ∷ []) × (found_by_part new (ps ++ p ∷ []) ≡ found_by_part notes ps ++ more ∷ [])
 part_more notes new more ps p is start end all =
     let (within, same) = parts_kept notes new more ps is all in
-    let here : part_of new p ≡ more = ap (λ l. part_of l p) is ∙ slice_behind p.start p.end notes more start (end ∙ ap length is) in (
+    let here : notes_of new p ≡ more = ap (λ l. notes_of l p) is ∙ slice_behind p.start p.end notes more start (end ∙ ap length is) in (
       all_more (IsPart (length new)) ps p within (record { order = omega (arith, start, end, ap length is, length-append notes more); end = omega (arith, end) }),
-      map-append (part_of new) ps (p ∷ []) ∙ ap (λ l. l ++ part_of new p ∷ []) same ∙ ap (λ f. found_by_part notes ps ++ f ∷ []) here,
+      map-append (notes_of new) ps (p ∷ []) ∙ ap (λ l. l ++ notes_of new p ∷ []) same ∙ ap (λ f. found_by_part notes ps ++ f ∷ []) here,
     )
 
 -- the findings of one more record
@@ -154,11 +154,11 @@ pub last_texts : (position : ℕ) (a b c : List Found) (output : List ℕ) → (
 last_texts position a b c output = two_texts position a (b ++ c) output ∙ ap (λ l. output ++ record_text position l) (sym (append_assoc a b c))
 
 -- the findings of some notes
-pub part_found : (names : List ℕ) (notes : List Note) (p : Part) → all_found names (slice_range notes p.start p.end) ≡ part_of (all_found names notes) p
+pub part_found : (names : List ℕ) (notes : List Note) (p : Part) → all_found names (slice_range notes p.start p.end) ≡ notes_of (all_found names notes) p
 part_found names notes p =
     sym (ap (take (p.end - p.start)) (drop-map (found_in names) p.start notes) ∙ take-map (found_in names) (p.end - p.start) (drop p.start notes))
 
-pub part_len : (notes : List Found) (p : Part) → IsPart (length notes) p → p.end - p.start ≡ length (part_of notes p)
+pub part_len : (notes : List Found) (p : Part) → IsPart (length notes) p → p.end - p.start ≡ length (notes_of notes p)
 part_len notes p is = sym (length-take-le (p.end - p.start) (drop p.start notes) (omega (arith, length-drop p.start notes, is.order, is.end)))
 
 -- the line of N6, if it holds

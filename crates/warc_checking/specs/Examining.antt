@@ -1,5 +1,4 @@
--- What a record's head is when it is read again, and what reading it again may answer. States of the code: no
--- public clause cites them.
+-- What a record's head is when it is read again, and what reading it again may answer. This project's own notion.
 use Rattle.std.specs.Prelude.{◌≡◌, ℕ, ◌+◌, ◌++◌, ◌≤◌, ◌⊎◌, List, length, map, take, slice_get, slice_range, Result, Ok, Option, Some, None, IfErr, IfOk, OnOk}
 use Rattle.std.specs.List.{enumerate_from, flat_map}
 use Rattle.warc_frame.specs.Count.{capped, raised}

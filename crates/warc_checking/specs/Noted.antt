@@ -42,11 +42,11 @@ abbrev pub AreParts : ℕ → List Part → Type 0
 AreParts count parts = AllByRecursion (IsPart count) parts
 
 -- the findings of a part, and of each
-abbrev pub part_of : List Found → Part → List Found
-part_of notes p = slice_range notes p.start p.end
+abbrev pub notes_of : List Found → Part → List Found
+notes_of notes p = slice_range notes p.start p.end
 
 abbrev pub found_by_part : List Found → List Part → List (List Found)
-found_by_part notes parts = map (part_of notes) parts
+found_by_part notes parts = map (notes_of notes) parts
 
 -- those at a place, none behind the last
 abbrev pub found_at : List (List Found) → ℕ → List Found
@@ -62,7 +62,7 @@ abbrev pub with_used : List Found → Bool → List Found
 with_used found used = filter (is_late false) found ++ once 6 used ++ filter (is_late true) found
 
 -- what is known of a record that is told next: its row, its findings, and the ids that were met before it
-pub record IsNext (before : List Record) (p : Placed) (row : Row) (found : List Found) (met : Ids) : Type 0 where
+pub record IsDue (before : List Record) (p : Placed) (row : Row) (found : List Found) (met : Ids) : Type 0 where
   pub row_is : row ≡ row_of p
   pub good : head_fault p.content.fields ≡ None
   pub found_is : found ≡ own_findings p.content

@@ -12,7 +12,7 @@ ghost use Rattle.warc_checking.specs.Checking.{check_text, findings_behind, find
 ghost use Rattle.warc_checking.specs.Checks.{AreCutOff, AreTold, TellsFound};
 ghost use Rattle.warc_checking.specs.Examining.{PutsCheck, PutsFound, record_text};
 ghost use Rattle.warc_checking.specs.Found.{IsFound, judged_of, source_judged};
-ghost use Rattle.warc_checking.specs.Noted.{AreNoted, IsNext, found_at};
+ghost use Rattle.warc_checking.specs.Noted.{AreNoted, IsDue, found_at};
 ghost use Rattle.warc_checking.specs.Used.{HasMet, IsTally};
 ghost use Rattle.std.specs.Io.KnownBytes.{append_known};
 
@@ -38,16 +38,16 @@ fn put_next<A: Allocator + Copy, W: Sink>(
     out: &mut W,
 ) -> Result<usize, OutFault>
     ensures out { (before : List Record) (p : Placed) (start : Option (List ℕ)) (output : List ℕ) →
-        IsNext before p row.now (found_at noted.now position) met.old → IsStaged start output (W.seen out.old).tells
+        IsDue before p row.now (found_at noted.now position) met.old → IsStaged start output (W.seen out.old).tells
         buffer.old → OnOk result (IsStaged start (output ++ record_text position (findings_behind before p.content))
         (W.seen out.new).tells buffer.new) }
     ensures cut { (before : List Record) (p : Placed) (start : Option (List ℕ)) (output : List ℕ) →
-        IsNext before p row.now (found_at noted.now position) met.old → IsStaged start output (W.seen out.old).tells
+        IsDue before p row.now (found_at noted.now position) met.old → IsStaged start output (W.seen out.old).tells
         buffer.old → IfErr result (λ e. WentOut start (output ++ record_text position
         (findings_behind before p.content)) (W.seen out.new).tells (sent_of e)) }
-    ensures number { (before : List Record) (p : Placed) → IsNext before p row.now (found_at noted.now position) met.old
+    ensures number { (before : List Record) (p : Placed) → IsDue before p row.now (found_at noted.now position) met.old
         → IfOk result (λ n. n ≡ capped (length (findings_behind before p.content))) }
-    ensures met { (before : List Record) (p : Placed) → IsNext before p row.now (found_at noted.now position) met.old →
+    ensures met { (before : List Record) (p : Placed) → IsDue before p row.now (found_at noted.now position) met.old →
         OnOk result (HasMet (before ++ p.content ∷ []) met.new) }
     ensures counts { met.new.counts ≡ met.old.counts }
     ensures cause { (W.seen out.new).faults ≡ failed_by result (W.seen out.old).faults }

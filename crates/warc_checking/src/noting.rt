@@ -8,7 +8,7 @@ ghost use Rattle.warc_reading.specs.Archive.{contents};
 ghost use Rattle.warc_record.specs.Findings.{Found, finding_seen, findings_of, once};
 ghost use Rattle.warc_checking.specs.Examining.{record_text};
 ghost use Rattle.warc_checking.specs.Found.{own_findings};
-ghost use Rattle.warc_checking.specs.Noted.{AreNamed, AreParts, IsNamed, IsPart, all_found, found_at, found_by_part, found_in, is_late, name_in, part_of, with_used};
+ghost use Rattle.warc_checking.specs.Noted.{AreNamed, AreParts, IsNamed, IsPart, all_found, found_at, found_by_part, found_in, is_late, name_in, notes_of, with_used};
 ghost use Rattle.warc_value.specs.Digests.{is_bad};
 
 use crate::check::{put_finding, put_parts};
@@ -239,7 +239,7 @@ impl<A: Allocator> Notes<A> {
     ) -> Result<(), SendFault>
         requires { IsPart (length self.now) part }
         ensures { Puts (W.seen out.old) (W.seen out.new) buffer.old buffer.new result (record_text position
-            (with_used (part_of self.now part) used)) }
+            (with_used (notes_of self.now part) used)) }
     {
         put_part(
             self.names.as_slice(),
@@ -266,7 +266,7 @@ fn put_part<W: Sink>(
     requires named { AreNamed (length names.now) notes.now }
     requires within { IsPart (length notes.now) part }
     ensures { Puts (W.seen out.old) (W.seen out.new) buffer.old buffer.new result (record_text position
-        (with_used (part_of (all_found names.now notes.now) part) used)) }
+        (with_used (notes_of (all_found names.now notes.now) part) used)) }
 {
     put_found(
         position,
@@ -318,7 +318,7 @@ struct Part {
 
 /// The part at a place, an empty one behind the last.
 fn part_at(parts: &[Part], position: usize) -> Part
-    ensures is { (notes : List Found) → part_of notes result ≡ found_at (found_by_part notes parts.now) position }
+    ensures is { (notes : List Found) → notes_of notes result ≡ found_at (found_by_part notes parts.now) position }
     ensures within { (count : ℕ) → AreParts count parts.now → IsPart count result }
 {
     match parts.get(position) {

@@ -6,8 +6,8 @@ use Rattle.std.proofs.lemmas.Slice.{take-put_mid}
 use borrow.Rule.Slice.PartMut.{put_mid, post_of}
 use Rattle.warc_frame.specs.Count.{raised}
 use Rattle.warc_frame.specs.Device.{Gives}
-use Rattle.warc_frame.specs.Ranges.{HasFilled, IsReadAt}
-use Rattle.warc_frame.specs.Seen.{AsksOnly, Tapped}
+use Rattle.warc_frame.specs.Ranges.{HasFilled, HasFilledTo, IsReadAt}
+use Rattle.warc_frame.specs.Seen.{AsksOnly, IsInRange, Tapped}
 
 front_of : (xs ys : List ℕ) (m n : ℕ) → length xs ≡ m → take (m + n) (xs ++ ys) ≡ xs ++ take n ys
 front_of xs ys m n size = ap (λ k. take (k + n) (xs ++ ys)) (sym size) ∙ take-append-add xs ys n
@@ -33,31 +33,31 @@ filled_within buf part filled n within few =
 pub raised_by_one : (n : ℕ) → raised n ≤ n + 1
 raised_by_one n = elim (nat_lt (n + 1) (2 ^ 64)) as (λ b. (if b then n + 1 else n) ≤ n + 1) [ true ↦ omega arith | false ↦ omega arith ]
 
-if_raised : (watched : Bool) (n m : ℕ) → watched ≡ false → m ≡ (if watched then raised n else n) → m ≡ n
-if_raised watched n m off is = is ∙ ap (λ b. if b then raised n else n) off
-
 -- one more read
-pub asks_more : (These : ℕ → Type 0) (old mid new : Tapped) (at : ℕ) (failed : Bool) → These at → mid.watches ≡ old.watches → IsReadAt at failed mid new → AsksOnly These old mid
-    → AsksOnly These old new
-asks_more These old mid new at failed is watched read asks = λ off.
-    let here : mid.watches at ≡ false = ap (λ (w : ℕ → Bool). w at) watched ∙ off at is in
-    if_raised (mid.watches at) mid.strays new.strays here read.strayed ∙ asks off
+pub asks_more : (These : ℕ → Type 0) (old mid new : Tapped) (at len : ℕ) (failed : Bool) → ((q : ℕ) → IsInRange at len q → These q) → mid.watches ≡ old.watches
+    → IsReadAt at len failed mid new → AsksOnly These old mid → AsksOnly These old new
+asks_more These old mid new at len failed are watched read asks = λ off.
+    read.asks (λ q in_. ap (λ (w : ℕ → Bool). w q) watched ∙ off q (are q in_)) ∙ asks off
 
-pub filled_none : (at : ℕ) (s : Tapped) → HasFilled at 0 s s
-filled_none at s = record { near = λ off. refl; bound = omega arith; watched = refl }
+pub filled_none : (at len : ℕ) (s : Tapped) → HasFilledTo at len 0 s s
+filled_none at len s = record { near = λ off. refl; bound = omega arith; watched = refl }
 
--- one more read, whatever it gives
-pub filled_by : (at filled more : ℕ) (old mid new : Tapped) (failed : Bool) → HasFilled at filled old mid → IsReadAt (at + filled) failed mid new → 0 < more → HasFilled at (filled + more) old new
-filled_by at filled more old mid new failed has read some = record {
-  near = asks_more (λ q. (at ≤ q) × (q < at + (filled + more))) old mid new (at + filled) failed (omega arith, omega arith) has.watched read
-      (λ off. has.near (λ q in_. off q (in_.0, omega (arith, in_.1))));
+-- the bytes behind some of a range, up to its end, are of it
+in_rest : (at filled asked len q : ℕ) → filled + asked ≤ len → IsInRange (at + filled) asked q → IsInRange at len q
+in_rest at filled asked len q le in_ = (omega (arith, in_.0), omega (arith, in_.1, le))
+
+-- one more read inside the range, whatever it gives
+pub filled_by : (at len filled asked more : ℕ) (old mid new : Tapped) (failed : Bool) → HasFilledTo at len filled old mid → IsReadAt (at + filled) asked failed mid new
+    → filled + asked ≤ len → 0 < more → HasFilledTo at len (filled + more) old new
+filled_by at len filled asked more old mid new failed has read fits some = record {
+  near = asks_more (IsInRange at len) old mid new (at + filled) asked failed (λ q. in_rest at filled asked len q fits) has.watched read has.near;
   bound = omega (arith, has.bound, read.counted, raised_by_one mid.reads);
   watched = read.watched ∙ has.watched;
 }
 
-pub filled_no_more : (at filled len : ℕ) (old new : Tapped) → HasFilled at filled old new → filled ≤ len → HasFilled at len old new
-filled_no_more at filled len old new has le = record {
-  near = λ off. has.near (λ q in_. off q (in_.0, omega (arith, in_.1)));
+pub filled_no_more : (at len filled : ℕ) (old new : Tapped) → HasFilledTo at len filled old new → filled ≤ len → HasFilled at len old new
+filled_no_more at len filled old new has le = record {
+  near = has.near;
   bound = omega (arith, has.bound);
   watched = has.watched;
 }

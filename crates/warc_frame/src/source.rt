@@ -2,7 +2,7 @@
 ghost use Rattle.std.specs.Prelude.{◌≡◌, ℕ, ◌-◌, ◌<◌, ◌≤◌, List, length, take, min, Bool, false, Option, Some, None, Ok, IfOk, is_err, if◌then◌else◌};
 ghost use Rattle.warc_frame.specs.Count.{raised};
 ghost use Rattle.warc_frame.specs.Device.{Gives};
-ghost use Rattle.warc_frame.specs.Seen.{Tapped};
+ghost use Rattle.warc_frame.specs.Seen.{AsksOnly, IsInRange, Tapped};
 
 use crate::count::raise;
 use std::alloc::{Allocator, Global};
@@ -28,9 +28,10 @@ impl fmt::Display for ReadFault {
 /// Bytes that are read at any offset, in pieces as long as the source likes.
 pub trait Source {
     /// What contracts see of it: the bytes that it holds, where they are known, how often it has failed and was read,
-    /// the offset that was asked for last, the offsets that it watches, whichever they are, and how often it was asked
-    /// for one of those. A count stays at 2^64 - 1. So a call that leaves the last count as it was, whatever a source
-    /// watches outside some offsets, asks for those alone.
+    /// the offset of the last read, the offsets that it watches, whatever they are, and how many reads asked for a byte
+    /// at one of those. A count stays at 2^64 - 1. A read asks for as many bytes as its buffer has. So a call that
+    /// leaves the last count as it was, whatever a source watches outside some offsets, asks for the bytes at those
+    /// alone.
     ghost tapped: { Self → Tapped };
 
     /// Reads bytes at the offset into the front of the buffer, and answers how many.
@@ -43,8 +44,7 @@ pub trait Source {
         ensures counted { (tapped self.new).reads ≡ raised (tapped self.old).reads }
         ensures asked { (tapped self.new).asked ≡ at }
         ensures watched { (tapped self.new).watches ≡ (tapped self.old).watches }
-        ensures strayed { (tapped self.new).strays ≡ (if (tapped self.old).watches at then raised
-            (tapped self.old).strays else (tapped self.old).strays) };
+        ensures asks { AsksOnly (IsInRange at (length buf.old)) (tapped self.old) (tapped self.new) };
 }
 
 /// Bytes in memory, of which each read gives at most `most`.

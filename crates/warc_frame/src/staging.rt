@@ -122,8 +122,7 @@ impl OutBuffer {
     /// Adds a piece for which there is no room: sends what waits before it, and the piece too where it is longer than
     /// the buffer.
     fn put_behind<W: Sink>(&mut self, out: &mut W, piece: &[u8]) -> Result<(), SendFault>
-        ensures puts { Puts (W.seen out.old) (W.seen out.new) self.old self.new result piece.now }
-        ensures failed { IfErr result (λ e. self.new ≡ record { bytes = []; sent = e.sent }) }
+        ensures { Puts (W.seen out.old) (W.seen out.new) self.old self.new result piece.now }
     {
         self.flush(out)?;
         if piece.len() > SIZE {
@@ -137,8 +136,7 @@ impl OutBuffer {
     /// copied. After a failed write the buffer is empty.
     #[inline]
     pub fn put<W: Sink>(&mut self, out: &mut W, piece: &[u8]) -> Result<(), SendFault>
-        ensures puts { Puts (W.seen out.old) (W.seen out.new) self.old self.new result piece.now }
-        ensures failed { IfErr result (λ e. self.new ≡ record { bytes = []; sent = e.sent }) }
+        ensures { Puts (W.seen out.old) (W.seen out.new) self.old self.new result piece.now }
     {
         if piece.len() > SIZE - self.len {
             return self.put_behind(out, piece);

@@ -16,7 +16,7 @@ use Rattle.warc_frame.proofs.JudgedLemmas.{judged_cut}
 use Rattle.warc_frame.proofs.LawLemmas.{no_fault_where_spelled}
 use Rattle.warc_record.specs.Heads.{head_fault}
 use Rattle.warc_reading.specs.Archive.{Contents, IsArchiveOf, IsFaultOf, SpellsFrom, contents}
-use Rattle.warc_reading.specs.Growing.{Grows, IsOfDevice, grown}
+use Rattle.warc_reading.specs.Growing.{Grows, IsDeviceFault, grown}
 use Rattle.warc_reading.specs.Opening.{Opens, faults_after}
 use Rattle.warc_reading.specs.Row.{Placed, Row, row_of}
 use Rattle.warc_reading.specs.Stream.{Extends, HasGiven, HasGivenFrom, HasRead, IsKeptOf, IsLeft, Matches, Since, Stands, StaysRefused, WantsSince}
@@ -113,9 +113,9 @@ given_none start old = record {
   near = λ these. refl;
 }
 
-pub given_on : (start : ℕ) (old mid new : Tapped) (taken buf : List ℕ) (n at : ℕ) → HasGivenFrom start old mid taken → IsReadAt (start + length taken) false mid new → start + length taken ≤ max_archive → 0 < length (take n buf)
+pub given_on : (start : ℕ) (old mid new : Tapped) (taken buf : List ℕ) (n at len : ℕ) → HasGivenFrom start old mid taken → IsReadAt (start + length taken) len false mid new → start + length taken + len ≤ max_archive + 1 → 0 < length (take n buf)
     → length (taken ++ take n buf) ≡ length taken + n → at ≡ start + length taken → ((bytes : List ℕ) → old.holds ≡ Some bytes → Gives bytes at buf n) → HasGivenFrom start old new (taken ++ take n buf)
-given_on start old mid new taken buf n at has read short some size here gives = record {
+given_on start old mid new taken buf n at len has read fits some size here gives = record {
   part = λ bytes held.
       let there : drop at bytes ≡ drop (length taken) (drop start bytes) = ap (λ k. drop k bytes) here ∙ sym (drop-drop (length taken) start bytes) in
       ap (λ t. t ++ take n buf) (has.part bytes held) ∙ ap (λ t. take (length taken) (drop start bytes) ++ t) ((gives bytes held).same ∙ ap (take n) there)
@@ -124,7 +124,7 @@ given_on start old mid new taken buf n at has read short some size here gives = 
   sound = read.cause ∙ has.sound;
   cost = omega (arith, has.cost, read.counted, raised_by_one mid.reads, length-append taken (take n buf), some);
   watched = read.watched ∙ has.watched;
-  near = near_more old mid new (start + length taken) false short has.watched read has.near;
+  near = near_more old mid new (start + length taken) len false fits has.watched read has.near;
 }
 
 -- a piece was taken
@@ -164,7 +164,7 @@ finished K was text told r (Ok u) has lies short (none, spelled) =
 finished K was text told r (Err f) has lies short (is, frame) =
     (ap (λ (g : Fault). g.kind) is, judged_cut head_fault 0 text told f lies (accepts_told text told r has) (omega (arith, short)) frame)
 
-module _ (start : ℕ) (old mid new : Tapped) (taken : List ℕ) (has : HasGivenFrom start old mid taken) (failed : Bool) (read : IsReadAt (start + length taken) failed mid new) (short : start + length taken ≤ max_archive) where
+module _ (start : ℕ) (old mid new : Tapped) (taken : List ℕ) (has : HasGivenFrom start old mid taken) (failed : Bool) (len : ℕ) (read : IsReadAt (start + length taken) len failed mid new) (short : start + length taken ≤ max_archive) (fits : start + length taken + len ≤ max_archive + 1) where
   bound : new.reads ≤ old.reads + max_archive + 1
   bound = omega (arith, has.cost, read.counted, raised_by_one mid.reads, short)
 
@@ -182,20 +182,33 @@ module _ (start : ℕ) (old mid new : Tapped) (taken : List ℕ) (has : HasGiven
   size : (bytes : List ℕ) → start ≡ length bytes → start + length taken ≡ length (bytes ++ taken)
   size bytes at = omega (arith, at, length-append bytes taken)
 
+  tried_by : {X : Type 0} (answer : Result X Fault) → IfErr answer (λ f. f.kind ≡ Read → f.offset ≡ start + length taken) → IfErr answer (λ f. f.kind ≡ Read → new.reads ≤ old.reads + f.offset + 1)
+  tried_by (Ok x) there = tt
+  tried_by (Err f) there = λ is. omega (arith, has.cost, read.counted, raised_by_one mid.reads, there is)
+
+  tried_on : {X : Type 0} (bytes : List ℕ) → start ≡ length bytes → (answer : Result X Fault) → IfErr answer (λ f. f.kind ≡ Read → f.offset ≡ start + length taken)
+      → IfErr answer (λ f. f.kind ≡ Read → new.reads + length bytes ≤ old.reads + f.offset + 1)
+  tried_on bytes at (Ok x) there = tt
+  tried_on bytes at (Err f) there = λ is. omega (arith, has.cost, read.counted, raised_by_one mid.reads, there is, at)
+
   grows_by : {X : Type 0} {Is : List ℕ → X → Type 0} (was : X) (answer : Result X Fault) → ((bytes : List ℕ) → Is bytes was → start ≡ length bytes)
       → ((bytes more : List ℕ) → Is bytes was → old.holds ≡ Some (bytes ++ more) → Opens Is old new answer)
-      → ((bytes held : List ℕ) → Is bytes was → old.holds ≡ Some held → length held ≤ length bytes → MatchResult answer (Is bytes) IsOfDevice)
-      → MatchResult answer (λ x. new.faults ≡ old.faults) (λ f. new.faults ≡ faults_after f.kind old.faults) → IfErr answer (λ f. f.kind ≡ Read → f.offset ≡ new.asked) → Grows Is was old new answer
-  grows_by was answer at whole less cause asked = record {
+      → ((bytes held : List ℕ) → Is bytes was → old.holds ≡ Some held → length held ≤ length bytes → MatchResult answer (Is bytes) IsDeviceFault)
+      → MatchResult answer (λ x. new.faults ≡ old.faults) (λ f. new.faults ≡ faults_after f.kind old.faults) → IfErr answer (λ f. f.kind ≡ Read → f.offset ≡ new.asked)
+      → IfErr answer (λ f. f.kind ≡ Read → f.offset ≡ start + length taken) → Grows Is was old new answer
+  grows_by was answer at whole less cause asked there = record {
     whole = whole;
     less = less;
     cost = λ bytes more is held. cost bytes more (at bytes is) held;
+    tried = λ bytes is. tried_on bytes (at bytes is) answer there;
     reads = record {
       kept = read.kept ∙ has.kept;
       cause = cause;
       asked = asked;
-      near = near_more old mid new (start + length taken) failed short has.watched read has.near;
+      near = near_more old mid new (start + length taken) len failed fits has.watched read has.near;
+      watched = read.watched ∙ has.watched;
       bound = bound;
+      tried = tried_by answer there;
     };
   }
 
@@ -204,7 +217,10 @@ module _ (start : ℕ) (old mid new : Tapped) (taken : List ℕ) (has : HasGiven
     short_of : (bytes : List ℕ) → start ≡ length bytes → length (bytes ++ taken) ≤ max_archive
     short_of bytes here = omega (arith, size bytes here, short)
 
-    read_of : (bytes : List ℕ) → start ≡ length bytes → IsReadAt (length (bytes ++ taken)) failed mid new
+    fits_of : (bytes : List ℕ) → start ≡ length bytes → length (bytes ++ taken) + len ≤ max_archive + 1
+    fits_of bytes here = omega (arith, size bytes here, fits)
+
+    read_of : (bytes : List ℕ) → start ≡ length bytes → IsReadAt (length (bytes ++ taken)) len failed mid new
     read_of bytes here = read_there (size bytes here) read
 
     -- a read failed
@@ -215,11 +231,11 @@ module _ (start : ℕ) (old mid new : Tapped) (taken : List ℕ) (has : HasGiven
         let here = at bytes is in
         let s = stands bytes is in
         let P : ℕ → Type 0 = λ n. Opens (IsKeptOf K) old new (Err (fault Read n)) in
-        subst P (sym (size bytes here)) (opens_unread old mid new (bytes ++ taken) (whole_given start old mid taken bytes more has here held) failed (read_of bytes here) (short_of bytes here) s.told r fails
+        subst P (sym (size bytes here)) (opens_unread old mid new (bytes ++ taken) (whole_given start old mid taken bytes more has here held) failed len (read_of bytes here) (short_of bytes here) (fits_of bytes here) s.told r fails
         (lies (bytes ++ taken) s.told s.is_at) s.has))
         (λ bytes held is holds less. inl refl)
         (read.cause ∙ ap (λ b. if b then raised mid.faults else mid.faults) fails ∙ ap raised has.sound)
-        (λ is. sym read.asked)
+        (λ is. sym read.asked) (λ is. refl)
 
     -- a piece was refused
     pub grows_refused : (buf : List ℕ) (n place : ℕ) (f : Fault) → failed ≡ false → place ≡ start + length taken → 0 < n → f.kind ≢ Read → ((bytes : List ℕ) → old.holds ≡ Some bytes → Gives bytes place buf n)
@@ -231,12 +247,12 @@ module _ (start : ℕ) (old mid new : Tapped) (taken : List ℕ) (has : HasGiven
         let here = at bytes is in
         let s = stands bytes is in
         let given = whole_given start old mid taken bytes more has here held in
-        opens_refused old mid new (bytes ++ taken) given failed (read_of bytes here) (short_of bytes here) s.told r (take n buf) (length (bytes ++ taken) + n) f well (lies (bytes ++ taken) s.told s.is_at) s.has
+        opens_refused old mid new (bytes ++ taken) given failed len (read_of bytes here) (short_of bytes here) (fits_of bytes here) s.told r (take n buf) (length (bytes ++ taken) + n) f well (lies (bytes ++ taken) s.told s.is_at) s.has
         (λ all holds. front_grows all (bytes ++ taken) buf place n (there ∙ size bytes here) (given.part all holds) (gives all holds))
         (stays bytes is) (wants bytes is))
         (λ bytes held is holds less. absurd (omega (arith, some, less, there, at bytes is, (gives held holds).within)))
         (sound well ∙ sym (not_raised f.kind old.faults never))
-        (λ is. absurd (never is))
+        (λ is. absurd (never is)) (λ is. absurd (never is))
 
     ended : (bytes more buf : List ℕ) (n place : ℕ) (result : Result (Unit {0}) Fault) → failed ≡ false → place ≡ start + length taken → n ≡ 0 → 0 < length buf
         → ((all : List ℕ) → old.holds ≡ Some all → Gives all place buf n) → ((at : ℕ) (text : List ℕ) (told : Told) → IsAt at text told d → Finishes at text told result)
@@ -245,13 +261,13 @@ module _ (start : ℕ) (old mid new : Tapped) (taken : List ℕ) (has : HasGiven
         let here = at bytes is in
         let s = stands bytes is in
         let given = whole_given start old mid taken bytes more has here held in
-        opens_ended old mid new (bytes ++ taken) given failed (read_of bytes here) (short_of bytes here) (grown result (r.rows, r.beside)) well
+        opens_ended old mid new (bytes ++ taken) given failed len (read_of bytes here) (short_of bytes here) (fits_of bytes here) (grown result (r.rows, r.beside)) well
         (λ all holds. ends all (bytes ++ taken) buf place n (there ∙ size bytes here) (given.part all holds) (gives all holds) room zero)
         (finished K is.listed.are.records (bytes ++ taken) s.told r result s.has (lies (bytes ++ taken) s.told s.is_at) (short_of bytes here) (ends_so 0 (bytes ++ taken) s.told s.is_at))
 
     -- nothing stands behind the bytes
     unchanged : (bytes held : List ℕ) (result : Result (Unit {0}) Fault) → ((at : ℕ) (text : List ℕ) (told : Told) → IsAt at text told d → Finishes at text told result)
-        → IsKeptOf K bytes was → old.holds ≡ Some held → length held ≤ length bytes → MatchResult (grown result (r.rows, r.beside)) (IsKeptOf K bytes) IsOfDevice
+        → IsKeptOf K bytes was → old.holds ≡ Some held → length held ≤ length bytes → MatchResult (grown result (r.rows, r.beside)) (IsKeptOf K bytes) IsDeviceFault
     unchanged bytes held (Ok u) ends_so is holds less =
         let here = at bytes is in
         let s = stands bytes is in
@@ -276,7 +292,7 @@ module _ (start : ℕ) (old mid new : Tapped) (taken : List ℕ) (has : HasGiven
         grows_by was (Ok (r.rows, r.beside)) at
         (λ bytes more is held. ended bytes more buf n place (Ok u) well there zero room gives ends_so is held)
         (λ bytes held is holds less. unchanged bytes held (Ok u) ends_so is holds less)
-        (sound well) tt
+        (sound well) tt tt
     grows_ended told buf n place (Err f) is_at well there zero room gives ends_so =
         let kind : f.kind ≡ Truncated = ap (λ (g : Fault). g.kind) (ends_so start taken told is_at).0 in
         let never : f.kind ≢ Read = λ (is : f.kind ≡ Read). let no : Truncated ≡ Read = sym kind ∙ is in cc no in
@@ -284,7 +300,7 @@ module _ (start : ℕ) (old mid new : Tapped) (taken : List ℕ) (has : HasGiven
         (λ bytes more is held. ended bytes more buf n place (Err f) well there zero room gives ends_so is held)
         (λ bytes held is holds less. unchanged bytes held (Err f) ends_so is holds less)
         (sound well ∙ sym (not_raised f.kind old.faults never))
-        (λ is. absurd (never is))
+        (λ is. absurd (never is)) (λ is. absurd (never is))
 
 -- ---- the whole answer
 
@@ -299,18 +315,23 @@ grows_untried was old = record {
       cause = refl;
       asked = λ is. cc is;
       near = λ these. refl;
+      watched = refl;
       bound = omega arith;
+      tried = λ is. cc is;
     };
     cost = λ all holds. omega arith;
   };
   less = λ bytes held is holds less. inr refl;
   cost = λ bytes more is held. omega arith;
+  tried = λ bytes is not. cc not;
   reads = record {
     kept = refl;
     cause = refl;
     asked = λ is. cc is;
     near = λ these. refl;
+    watched = refl;
     bound = omega arith;
+    tried = λ is. cc is;
   };
 }
 
@@ -332,14 +353,17 @@ pub grows_as : {X Y : Type 0} {Is : List ℕ → X → Type 0} {Gives : List ℕ
     → ((bytes : List ℕ) → Is bytes x → Gives bytes y) → Grows Is was old new (grown r x) → Grows Gives seen old new (grown r y)
 grows_as {X} {Y} {Is} {Gives} {old} {new} was x seen y r begins gives grows = record {
   whole = λ bytes more is held. opens_as x y r gives (grows.whole bytes more (begins bytes is) held);
-  less = λ bytes held is holds less. match_as x y r (Is bytes) (Gives bytes) IsOfDevice (gives bytes) (grows.less bytes held (begins bytes is) holds less);
+  less = λ bytes held is holds less. match_as x y r (Is bytes) (Gives bytes) IsDeviceFault (gives bytes) (grows.less bytes held (begins bytes is) holds less);
   cost = λ bytes more is held. grows.cost bytes more (begins bytes is) held;
+  tried = λ bytes is. asked_as x y r (λ f. f.kind ≡ Read → new.reads + length bytes ≤ old.reads + f.offset + 1) (grows.tried bytes (begins bytes is));
   reads = record {
     kept = grows.reads.kept;
     cause = match_as x y r (λ z. new.faults ≡ old.faults) (λ z. new.faults ≡ old.faults) (λ f. new.faults ≡ faults_after f.kind old.faults) (λ same. same) grows.reads.cause;
     asked = asked_as x y r (λ f. f.kind ≡ Read → f.offset ≡ new.asked) grows.reads.asked;
     near = grows.reads.near;
+    watched = grows.reads.watched;
     bound = grows.reads.bound;
+    tried = asked_as x y r (λ f. f.kind ≡ Read → new.reads ≤ old.reads + f.offset + 1) grows.reads.tried;
   };
 }
 

@@ -45,7 +45,9 @@ opens_with x y gives opens = record {
     cause = opens.reads.cause;
     asked = tt;
     near = opens.reads.near;
+    watched = opens.reads.watched;
     bound = opens.reads.bound;
+    tried = opens.reads.tried;
   };
   cost = opens.cost;
 }
@@ -59,7 +61,9 @@ refuses_with f opens = record {
     cause = opens.reads.cause;
     asked = opens.reads.asked;
     near = opens.reads.near;
+    watched = opens.reads.watched;
     bound = opens.reads.bound;
+    tried = opens.reads.tried;
   };
   cost = opens.cost;
 }

@@ -1,5 +1,6 @@
 -- How the reading of a source ends.
-use Rattle.std.proofs.Common.{◌≡◌, ◌≢◌, ℕ, ◌+◌, ◌-◌, ◌<◌, ◌≤◌, inl, inr, Bool, true, false, List, [], ◌∷◌, ◌++◌, length, take, drop, if◌then◌else◌, Some, Result, Ok, Err, MatchResult, refl, sym, ap, subst, ◌∙◌, arith, length-append}
+use Rattle.std.proofs.Common.{◌≡◌, ◌≢◌, ℕ, ◌+◌, ◌-◌, ◌^◌, ◌<◌, ◌≤◌, min, inl, inr, Bool, true, false, List, [], ◌∷◌, ◌++◌, length, take, drop, if◌then◌else◌, Some, Result, Ok, Err, MatchResult, refl, sym, ap, subst, ◌∙◌, arith, length-append}
+use Rattle.std.proofs.Math.Nat.{min-le_left}
 use Rattle.std.proofs.Math.Seq.{drop-append_seam}
 use Rattle.std.proofs.lemmas.List.{append_assoc, append-nil, length-take, take-append-drop}
 use Rattle.warc_frame.specs.Count.{raised}
@@ -89,20 +90,23 @@ pub step_wants : {A L : Type 0} {K : L → List Placed → Type 0} (text piece :
     → WantsSince text piece r.begin f
 step_wants text piece told r f has some is = λ memory. wants_by f.kind f.offset text piece told r has some is memory
 
-if_raised : (watched : Bool) (n m : ℕ) → watched ≡ false → m ≡ (if watched then raised n else n) → m ≡ n
-if_raised watched n m off is = is ∙ ap (λ b. if b then raised n else n) off
-
--- one more read
-pub near_more : (old mid new : Tapped) (at : ℕ) (failed : Bool) → at ≤ max_archive → mid.watches ≡ old.watches → IsReadAt at failed mid new → AsksOnly (λ q. q ≤ max_archive) old mid
+-- one more read, of no byte above the limit
+pub near_more : (old mid new : Tapped) (at len : ℕ) (failed : Bool) → at + len ≤ max_archive + 1 → mid.watches ≡ old.watches → IsReadAt at len failed mid new → AsksOnly (λ q. q ≤ max_archive) old mid
     → AsksOnly (λ q. q ≤ max_archive) old new
-near_more old mid new at failed low watched read asks = λ these.
-    let off : mid.watches at ≡ false = ap (λ (w : ℕ → Bool). w at) watched ∙ these at low in
-    if_raised (mid.watches at) mid.strays new.strays off read.strayed ∙ asks these
+near_more old mid new at len failed fits watched read asks = λ these.
+    read.asks (λ q in_. ap (λ (w : ℕ → Bool). w q) watched ∙ these q (omega (arith, in_.1, fits))) ∙ asks these
 
-pub read_there : {old new : Tapped} {failed : Bool} {at n : ℕ} → at ≡ n → IsReadAt at failed old new → IsReadAt n failed old new
-read_there {old} {new} {failed} same read = let P : ℕ → Type 0 = λ q. IsReadAt q failed old new in subst P same read
+-- how many bytes a read asks for that has this room, so that none is above the limit
+abbrev pub near : ℕ → ℕ → ℕ
+near at room = min (max_archive + 1 - at) room
 
-module _ (old mid new : Tapped) (text : List ℕ) (has : HasGiven old mid text) (failed : Bool) (read : IsReadAt (length text) failed mid new) (short : length text ≤ max_archive) where
+pub fits_near : {at there : ℕ} (room : ℕ) → at ≡ there → at ≤ 2 ^ 48 → there + near at room ≤ max_archive + 1
+fits_near {at} {there} room same low = omega (arith, same, low, min-le_left (max_archive + 1 - at) room)
+
+pub read_there : {old new : Tapped} {failed : Bool} {at len n : ℕ} → at ≡ n → IsReadAt at len failed old new → IsReadAt n len failed old new
+read_there {old} {new} {failed} {at} {len} same read = let P : ℕ → Type 0 = λ q. IsReadAt q len failed old new in subst P same read
+
+module _ (old mid new : Tapped) (text : List ℕ) (has : HasGiven old mid text) (failed : Bool) (len : ℕ) (read : IsReadAt (length text) len failed mid new) (short : length text ≤ max_archive) (fits : length text + len ≤ max_archive + 1) where
   low : (bytes : List ℕ) → old.holds ≡ Some bytes → length text ≤ length bytes
   low bytes held = omega (arith, ap length (has.part bytes held) ∙ length-take (length text) bytes)
 
@@ -124,8 +128,10 @@ module _ (old mid new : Tapped) (text : List ℕ) (has : HasGiven old mid text) 
       kept = read.kept ∙ has.kept;
       cause = read.cause ∙ ap (λ b. if b then raised mid.faults else mid.faults) fails ∙ ap raised has.sound;
       asked = λ is. sym read.asked;
-      near = near_more old mid new (length text) failed short has.watched read has.near;
+      near = near_more old mid new (length text) len failed fits has.watched read has.near;
+      watched = read.watched ∙ has.watched;
       bound = bound;
+      tried = λ is. omega (arith, has.cost, read.counted, raised_by_one mid.reads);
     };
     cost = cost;
   }
@@ -142,8 +148,10 @@ module _ (old mid new : Tapped) (text : List ℕ) (has : HasGiven old mid text) 
       kept = read.kept ∙ has.kept;
       cause = sound well ∙ sym (not_raised f.kind old.faults never);
       asked = λ is. absurd (never is);
-      near = near_more old mid new (length text) failed short has.watched read has.near;
+      near = near_more old mid new (length text) len failed fits has.watched read has.near;
+      watched = read.watched ∙ has.watched;
       bound = bound;
+      tried = λ is. absurd (never is);
     };
     cost = cost;
   }
@@ -185,8 +193,10 @@ module _ (old mid new : Tapped) (text : List ℕ) (has : HasGiven old mid text) 
       kept = read.kept ∙ has.kept;
       cause = sound well;
       asked = tt;
-      near = near_more old mid new (length text) failed short has.watched read has.near;
+      near = near_more old mid new (length text) len failed fits has.watched read has.near;
+      watched = read.watched ∙ has.watched;
       bound = bound;
+      tried = tt;
     };
     cost = cost;
   }

@@ -6,7 +6,7 @@ use Rattle.std.proofs.lemmas.List.Sums.{sum_by-cons}
 use Rattle.warc_reading.specs.Archive.{IsArchiveOf, SpellsFrom}
 use Rattle.warc_reading.specs.Row.{Placed, Row, row_of}
 use Rattle.warc_reading.specs.Keeping.{texts_len}
-use Rattle.warc_reading.specs.Rows.{row_at, packed_row, unpacked, whole, IsWithin, IsPackedOf, AreFlat, AreKept, ArePacked, AreWithin}
+use Rattle.warc_reading.specs.Rows.{row_at, packed_row, unpacked, whole, IsInTexts, IsPackedOf, AreFlat, AreKept, ArePacked, AreWithin}
 use Rattle.warc_reading.specs.declared.rows.Entry.{Entry}
 use Rattle.warc_reading.specs.declared.rows.Packed.{Packed}
 
@@ -24,7 +24,7 @@ pub slice_behind : (a b : ℕ) (xs ys more : List ℕ) → a ≡ length xs → b
 slice_behind a b xs ys more start end =
     ap (take (b - a)) (drop_at xs (ys ++ more) a (sym start)) ∙ take_at ys more (b - a) (omega (arith, end))
 
-stays : (texts more : List ℕ) (e : Entry) → IsWithin (length texts) e → row_at (texts ++ more) e ≡ row_at texts e
+stays : (texts more : List ℕ) (e : Entry) → IsInTexts (length texts) e → row_at (texts ++ more) e ≡ row_at texts e
 stays texts more e w =
     let kind = slice_front e.kind_start e.kind_end texts more w.kind (omega (arith, w.date, w.id, w.target, w.end)) in
     let date = slice_front e.kind_end e.date_end texts more w.date (omega (arith, w.id, w.target, w.end)) in
@@ -37,14 +37,14 @@ pub rows_stay : (texts more : List ℕ) (es : List Entry) → AreWithin (length 
 rows_stay texts more [] within = refl
 rows_stay texts more (e ∷ es) (w, within) = rw (stays texts more e w) (ap (λ rows. row_at texts e ∷ rows) (rows_stay texts more es within))
 
-longer : (n m : ℕ) (e : Entry) → n ≤ m → IsWithin n e → IsWithin m e
+longer : (n m : ℕ) (e : Entry) → n ≤ m → IsInTexts n e → IsInTexts m e
 longer n m e le w = record { kind = w.kind; date = w.date; id = w.id; target = w.target; end = omega (arith, le, w.end) }
 
 pub within_longer : (n m : ℕ) (es : List Entry) → n ≤ m → AreWithin n es → AreWithin m es
 within_longer n m [] le within = tt
 within_longer n m (e ∷ es) le (w, within) = (longer n m e le w, within_longer n m es le within)
 
-pub within_more : (n : ℕ) (es : List Entry) (e : Entry) → AreWithin n es → IsWithin n e → AreWithin n (es ++ e ∷ [])
+pub within_more : (n : ℕ) (es : List Entry) (e : Entry) → AreWithin n es → IsInTexts n e → AreWithin n (es ++ e ∷ [])
 within_more n [] e within w = (w, tt)
 within_more n (x ∷ es) e (v, within) w = (v, within_more n es e within w)
 
@@ -87,7 +87,7 @@ module _ (t k d i g t1 t2 t3 t4 : List ℕ) (e : Entry) (h1 : t1 ≡ t ++ k) (h2
   target_is : slice_range t4 e.id_end e.target_end ≡ g
   target_is = ap (λ x. slice_range x e.id_end e.target_end) e4 ∙ slice_behind e.id_end e.target_end t3 g [] f (omega (arith, f, j, n4))
 
-  pub added_within : IsWithin (length t4) e
+  pub added_within : IsInTexts (length t4) e
   added_within = record {
     kind = omega (arith, a, b, n1);
     date = omega (arith, b, c, n2);
@@ -124,15 +124,15 @@ module _ (t k d i g t1 t2 t3 t4 : List ℕ) (e : Entry) (h1 : t1 ≡ t ++ k) (h2
 
 -- ---- packed texts
 
-packed_more : (start end : ℕ) (es : List Entry) (e : Entry) → ArePacked start es end → e.kind_start ≡ end → IsWithin e.target_end e → ArePacked start (es ++ e ∷ []) e.target_end
+packed_more : (start end : ℕ) (es : List Entry) (e : Entry) → ArePacked start es end → e.kind_start ≡ end → IsInTexts e.target_end e → ArePacked start (es ++ e ∷ []) e.target_end
 packed_more start end [] e packed begin w = (begin ∙ sym packed, w, refl)
 packed_more start end (x ∷ es) e (at, v, packed) begin w = (at, v, packed_more x.target_end end es e packed begin w)
 
 -- one more entry
-pub flat_more : (n m : ℕ) (es : List Entry) (e : Entry) → AreFlat n es → e.kind_start ≡ n → e.target_end ≡ m → IsWithin m e → AreWithin m (es ++ e ∷ []) → AreFlat m (es ++ e ∷ [])
+pub flat_more : (n m : ℕ) (es : List Entry) (e : Entry) → AreFlat n es → e.kind_start ≡ n → e.target_end ≡ m → IsInTexts m e → AreWithin m (es ++ e ∷ []) → AreFlat m (es ++ e ∷ [])
 flat_more n m es e flat begin end w within =
     let P : ℕ → Type 0 = λ k. ArePacked 0 (es ++ e ∷ []) k in
-    let Q : ℕ → Type 0 = λ k. IsWithin k e in
+    let Q : ℕ → Type 0 = λ k. IsInTexts k e in
     record { within = within; packed = subst P end (packed_more 0 n es e flat.packed begin (subst Q (sym end) w)) }
 
 packed_rises : (start end : ℕ) (es : List Entry) → ArePacked start es end → start ≤ end
@@ -231,7 +231,7 @@ pub rows_unpacked : (texts : List ℕ) (ps : List Packed) → map (row_at texts)
 rows_unpacked texts [] = refl
 rows_unpacked texts (p ∷ ps) = ap (λ rows. packed_row texts p ∷ rows) (rows_unpacked texts ps)
 
-all_within_kept : (n : ℕ) (ps : List Packed) → AreWithin n (map unpacked ps) → AllByRecursion (λ p. IsWithin n (unpacked p)) ps
+all_within_kept : (n : ℕ) (ps : List Packed) → AreWithin n (map unpacked ps) → AllByRecursion (λ p. IsInTexts n (unpacked p)) ps
 all_within_kept n [] within = tt
 all_within_kept n (p ∷ ps) (w, within) = (w, all_within_kept n ps within)
 

@@ -45,14 +45,17 @@ faults_after Read n = raised n
 faults_after kind n = n
 
 -- reading on in a source to its end, or to a refusal: it still holds what it held, and has failed once more exactly
--- where the refusal is a read fault, at the offset asked last. No offset above 2^48 is asked for, and at most 2^48
--- reads and one are made
+-- where the refusal is a read fault, at the offset asked last. No byte at an offset above 2^48 is asked for, and at
+-- most 2^48 reads and one are made; before a read fault at most one for each byte before it, and one. It watches what
+-- it did
 pub record ReadsOn {X : Type 0} (old new : Tapped) (answer : Result X Fault) : Type 0 where
   pub kept : new.holds ≡ old.holds
   pub cause : MatchResult answer (λ x. new.faults ≡ old.faults) (λ f. new.faults ≡ faults_after f.kind old.faults)
   pub asked : IfErr answer (λ f. f.kind ≡ Read → f.offset ≡ new.asked)
   pub near : AsksOnly (λ at. at ≤ max_archive) old new
+  pub watched : new.watches ≡ old.watches
   pub bound : new.reads ≤ old.reads + max_archive + 1
+  pub tried : IfErr answer (λ f. f.kind ≡ Read → new.reads ≤ old.reads + f.offset + 1)
 
 -- opening a source: it gives what is right for the bytes, or a refusal, by the bytes that the source holds, where
 -- they are known; at most one read is made for each of them, and one

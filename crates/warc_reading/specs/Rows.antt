@@ -21,7 +21,7 @@ row_at texts e = record {
 }
 
 -- an entry's texts lie among so many bytes
-pub record IsWithin (count : ℕ) (e : Entry) : Type 0 where
+pub record IsInTexts (count : ℕ) (e : Entry) : Type 0 where
   pub kind : e.kind_start ≤ e.kind_end
   pub date : e.kind_end ≤ e.date_end
   pub id : e.date_end ≤ e.id_end
@@ -29,12 +29,12 @@ pub record IsWithin (count : ℕ) (e : Entry) : Type 0 where
   pub end : e.target_end ≤ count
 
 abbrev pub AreWithin : ℕ → List Entry → Type 0
-AreWithin count entries = AllByRecursion (IsWithin count) entries
+AreWithin count entries = AllByRecursion (IsInTexts count) entries
 
 -- the texts of the entries lie one behind another from a place on, without a gap, and end at another
 abbrev pub ArePacked : ℕ → List Entry → ℕ → Type 0
 ArePacked start [] end = start ≡ end
-ArePacked start (e ∷ es) end = (e.kind_start ≡ start) × IsWithin e.target_end e × ArePacked e.target_end es end
+ArePacked start (e ∷ es) end = (e.kind_start ≡ start) × IsInTexts e.target_end e × ArePacked e.target_end es end
 
 -- so many bytes are the texts of the entries, and nothing else
 pub record AreFlat (count : ℕ) (entries : List Entry) : Type 0 where
@@ -82,5 +82,5 @@ packed_row texts p = row_at texts (unpacked p)
 
 -- so many bytes are the texts of these entries, and nothing else
 pub record AreKept (count : ℕ) (ps : List Packed) : Type 0 where
-  pub within : AllByRecursion (λ p. IsWithin count (unpacked p)) ps
+  pub within : AllByRecursion (λ p. IsInTexts count (unpacked p)) ps
   pub flat : AreFlat count (map unpacked ps)

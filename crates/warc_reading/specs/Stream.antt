@@ -1,4 +1,5 @@
--- What is kept of an archive while it is read as a stream. States of the code: no public clause cites them.
+-- What is kept of an archive while it is read as a stream. States of the code, but for `IsKeptOf`, which public
+-- contracts cite.
 use Rattle.std.specs.Prelude.{◌≡◌, ℕ, ◌+◌, ◌<◌, ◌≤◌, ◌⊎◌, List, [], ◌++◌, length, map, take, drop, Option, Some, None, unwrap_or}
 use Rattle.warc_field.specs.Area.{Pair}
 use Rattle.warc_value.specs.Digests.{verdict_of}

@@ -1,5 +1,5 @@
 //! Reads the good records of a source as a stream, and keeps a row of each, and what is wanted beside it.
-ghost use Rattle.std.specs.Prelude.{◌≡◌, ◌≢◌, ℕ, ◌<◌, ◌≤◌, ◌^◌, List, [], ◌∷◌, ◌++◌, length, take, Some, None, IfOk, IfErr, OnErr, OnOk, MatchResult};
+ghost use Rattle.std.specs.Prelude.{◌≡◌, ◌≢◌, ℕ, ◌+◌, ◌-◌, ◌<◌, ◌≤◌, ◌^◌, List, [], ◌∷◌, ◌++◌, length, min, take, Some, None, IfOk, IfErr, OnErr, OnOk, MatchResult, is_err};
 ghost use Rattle.warc_value.specs.Digests.{verdict_of};
 ghost use Rattle.warc_record.specs.Heads.{head_fault};
 ghost use Rattle.warc_reading.specs.Archive.{IsArchiveOf};
@@ -7,6 +7,9 @@ ghost use Rattle.warc_reading.specs.Indexed.{place_of};
 ghost use Rattle.warc_reading.specs.Growing.{Grows, grown};
 ghost use Rattle.warc_reading.specs.Row.{Placed};
 ghost use Rattle.warc_frame.specs.Decoding.{IsAt};
+ghost use Rattle.warc_frame.specs.Device.{Gives};
+ghost use Rattle.warc_frame.specs.Ranges.{IsReadAt};
+ghost use Rattle.warc_frame.specs.Record.{max_archive};
 ghost use Rattle.warc_frame.specs.Told.{Told};
 ghost use Rattle.warc_reading.specs.Stream.{BeginsSince, Extends, HasSeen, WantsSince, IsHead, IsKeptOf, IsLeft, Since, Stands, StaysRefused, place_by, row_by};
 ghost use Rattle.warc_reading.specs.declared.reading.Current.{Current as Kept};
@@ -16,7 +19,7 @@ use crate::rows::{Row, Rows};
 use crate::spare::Spare;
 use std::alloc::{AllocError, Allocator};
 use warc_field::Fields;
-use warc_frame::{Decoder, Event, Fault, FaultKind, Source};
+use warc_frame::{Decoder, Event, Fault, FaultKind, MAX_ARCHIVE, ReadFault, Source};
 use warc_record::{GoodHead, judge_head};
 use warc_segment::Place;
 use warc_value::{Running, Verdict, Wanted};
@@ -270,6 +273,19 @@ fn take_piece<A: Allocator + Copy, L: Keep<A> + Drop>(
     Ok(())
 }
 
+/// Reads at an offset, as the source does, and asks for no byte above offset 2^48.
+fn read_near<S: Source>(source: &mut S, at: u64, buf: &mut [u8]) -> Result<usize, ReadFault>
+    requires { at ≤ 2 ^ 48 }
+    ensures bound { IfOk result (λ n. n ≤ length buf.new) }
+    ensures bytes { (bytes : List ℕ) → (S.tapped source.old).holds ≡ Some bytes
+        → IfOk result (Gives bytes at buf.new) }
+    ensures read { IsReadAt at (min (max_archive + 1 - at) (length buf.old)) (is_err result) (S.tapped source.old)
+        (S.tapped source.new) }
+{
+    let room = (MAX_ARCHIVE + 1 - at).min(buf.len() as u64) as usize;
+    source.read_at(at, &mut buf[..room])
+}
+
 /// Reads a source through the buffer, from where the next record begins to its end.
 fn read_through<S: Source, A: Allocator + Copy, L: Keep<A> + Drop>(
     alloc: A,
@@ -290,7 +306,7 @@ fn read_through<S: Source, A: Allocator + Copy, L: Keep<A> + Drop>(
     let mut decoder = Decoder::new(alloc, reading.begin);
     'reading: loop {
         let at = decoder.position();
-        let n = match source.read_at(at, buf) {
+        let n = match read_near(source, at, buf) {
             Ok(n) => n,
             Err(_) => return Err(FaultKind::Read.at(at)),
         };

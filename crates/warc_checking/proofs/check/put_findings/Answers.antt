@@ -17,6 +17,7 @@ returns-in_err-put_finding g c = record {
       let whole = same_out (ap (λ l. l ++ rest) more ∙ findings_rest finding_seen c.args.position found (i + 1) output) cut in
       search rules;
   cause = search rules;
+  left = search rules;
 }
 
 pub putting-preserved : goal.putting-preserved

@@ -20,6 +20,7 @@ returns-in_err-put_notes g c = record {
       let whole = same_out (last_texts c.args.position early used late output) cut in
       search rules;
   cause = search rules;
+  left = search rules;
 }
 
 pub returns-in_err-put_used : goal.returns-in_err-put_used
@@ -35,6 +36,7 @@ returns-in_err-put_used g c = record {
       let whole = same_out (three_texts c.args.position early used late output) cut in
       search rules;
   cause = search rules;
+  left = search rules;
 }
 
 pub returns : goal.returns
@@ -50,4 +52,5 @@ returns g c = record {
       IfErr-weaker c.put_notes-2.result _ _ (λ e out. same_out text out)
       (c.put_notes-2.ensures.cut start _ (c.in_ok-put_used.ensures.out start _ (c.in_ok-put_notes.ensures.out start output is)));
   cause = search rules;
+  left = search rules;
 }

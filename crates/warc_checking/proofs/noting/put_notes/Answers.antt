@@ -24,6 +24,7 @@ returns-in_err-put_note g c = record {
       let whole = same_out (ap (λ l. l ++ rest) more ∙ told_rest seen test c.args.position notes (i + 1) output) cut in
       search rules;
   cause = search rules;
+  left = search rules;
 }
 
 pub putting-preserved : goal.putting-preserved

@@ -1,6 +1,6 @@
-use Rattle.std.proofs.Common.{rules, ◌≡◌, ◌+◌, ◌++◌, length-take, take, drop, false, refl, arith, ap, ◌∙◌}
+use Rattle.std.proofs.Common.{rules, ◌≡◌, ◌+◌, ◌++◌, length, length-take, take, drop, false, refl, arith, ap, ◌∙◌}
 use Rattle.warc_frame.proofs.CopyLemmas.{same_out, same_staged, piece_more, range_out}
-use Rattle.warc_frame.proofs.RangeLemmas.{filled_by, filled_none}
+use Rattle.warc_frame.proofs.RangeLemmas.{filled_by, filled_no_more, filled_none}
 use Rattle.warc_frame.proofs.ranges.put_range.Goals as goal
 use Rattle.warc_frame.proofs.ranges.put_range.Goals.{in_default-via-in-Ok+else-n-gt0, in_default-via-in-Err-1}
 
@@ -8,7 +8,7 @@ pub copying-init : goal.copying-init
 copying-init g c = record {
   within = omega arith;
   staged = search rules;
-  read = filled_none c.args.at _;
+  read = filled_none c.args.at _ _;
   kept = refl;
   sound = refl;
   silent = refl;
@@ -36,7 +36,7 @@ returns-in-Err-clause-copied g c = record {
       let text = drop c.args.at bytes in
       let done = c.copying.done in
       let gives = c.in-Ok.ensures.bytes bytes (c.copying.invariant.kept ∙ held) in
-      let cut = c.in-Err.ensures.puts.cut start (output ++ take done text) (c.copying.invariant.staged bytes start output held is) in
+      let cut = c.in-Err.ensures.cut start (output ++ take done text) (c.copying.invariant.staged bytes start output held is) in
       let same = piece_more bytes output c.read_at.new.buf c.args.at done c.in-Ok.n gives.same in
       range_out output text (done + c.in-Ok.n) c.args.len (omega (arith, c.in-Ok.ensures.bound, c.read_at.auto.buf, length-take c.next_len-want.result c.copying.scratch)) (same_out same cut);
   device = search rules;
@@ -46,6 +46,18 @@ returns-in-Err-clause-copied g c = record {
   failed = search rules;
 }
 
+pub returns-in-Err-clause-filled : goal.returns-in-Err-clause-filled
+returns-in-Err-clause-filled g c =
+    let has = filled_by c.args.at c.args.len c.copying.done (length (take c.next_len-want.result c.copying.scratch)) c.in-Ok.n _ _ _ false c.copying.invariant.read (record {
+      kept = c.in-Ok.ensures.kept;
+      cause = c.in-Ok.ensures.cause;
+      counted = c.in-Ok.ensures.counted;
+      asked = c.in-Ok.ensures.asked;
+      watched = c.in-Ok.ensures.watched;
+      asks = c.in-Ok.ensures.asks;
+    }) (omega (arith, c.copying.invariant.within, c.next_len-want.ensures.left, length-take c.next_len-want.result c.copying.scratch)) (omega (arith, c.if-n-gt0.true)) in
+    filled_no_more _ _ _ _ _ has (omega (arith, c.copying.invariant.within, c.in-Ok.ensures.bound, c.read_at.auto.buf, c.next_len-want.ensures.left, length-take c.next_len-want.result c.copying.scratch))
+
 pub copying-preserved : goal.copying-preserved
 copying-preserved g c = record {
   within = omega (arith, c.in-Ok.ensures.bound, c.read_at.auto.buf, length-take c.next_len-want.result c.copying.scratch);
@@ -54,15 +66,15 @@ copying-preserved g c = record {
       let done = c.copying.done in
       let gives = c.in-Ok.ensures.bytes bytes (c.copying.invariant.kept ∙ held) in
       let same = piece_more bytes output c.read_at.new.buf c.args.at done c.in-Ok.n gives.same in
-      same_staged same (c.in_default-put.ensures.puts.out start (output ++ take done text) (c.copying.invariant.staged bytes start output held is));
-  read = filled_by c.args.at c.copying.done c.in-Ok.n _ _ _ false c.copying.invariant.read (record {
+      same_staged same (c.in_default-put.ensures.out start (output ++ take done text) (c.copying.invariant.staged bytes start output held is));
+  read = filled_by c.args.at c.args.len c.copying.done (length (take c.next_len-want.result c.copying.scratch)) c.in-Ok.n _ _ _ false c.copying.invariant.read (record {
     kept = c.in-Ok.ensures.kept;
     cause = c.in-Ok.ensures.cause;
     counted = c.in-Ok.ensures.counted;
     asked = c.in-Ok.ensures.asked;
     watched = c.in-Ok.ensures.watched;
-    strayed = c.in-Ok.ensures.strayed;
-  }) (omega (arith, c.if-n-gt0.true));
+    asks = c.in-Ok.ensures.asks;
+  }) (omega (arith, c.copying.invariant.within, c.next_len-want.ensures.left, length-take c.next_len-want.result c.copying.scratch)) (omega (arith, c.if-n-gt0.true));
   kept = search rules;
   sound = search rules;
   silent = search rules;

@@ -1,5 +1,5 @@
 use Rattle.std.proofs.Common.{◌≡◌, ◌≤◌, ◌-◌, ◌++◌, ℕ, List, Option, Some, take, drop}
-use Rattle.warc_frame.specs.Ranges.{HasFilled}
+use Rattle.warc_frame.specs.Ranges.{HasFilledTo}
 use Rattle.warc_frame.specs.Send.{IsStaged}
 use Rattle.warc_frame.proofs.ranges.put_range.Given as goal
 
@@ -10,7 +10,7 @@ invariant-copying g l = record {
   staged : (bytes : List ℕ) (start : Option (List ℕ)) (output : List ℕ) → (g.S.Source.tapped l.fn.source).holds ≡ Some bytes
       → IsStaged start output ((g.W.Sink.seen l.fn.out).tells) l.fn.buffer
       → IsStaged start (output ++ take l.done (drop l.at bytes)) ((g.W.Sink.seen l.out).tells) l.buffer;
-  read : HasFilled l.at l.done
+  read : HasFilledTo l.at l.len l.done
       (g.S.Source.tapped l.fn.source)
       (g.S.Source.tapped l.source);
   kept : (g.S.Source.tapped l.source).holds ≡ (g.S.Source.tapped l.fn.source).holds;

@@ -1,4 +1,5 @@
-use Rattle.std.proofs.Common.{rules, ◌-◌, ◌<◌, length, true, false, refl, ◌∙◌, arith}
+use Rattle.std.proofs.Common.{rules, ◌-◌, ◌<◌, length, drop, take, true, false, refl, ◌∙◌, arith}
+use Rattle.std.proofs.lemmas.List.{length-drop, length-take}
 use Rattle.warc_frame.proofs.RangeLemmas.{filled_by, filled_more, filled_no_more, filled_none, filled_within}
 use Rattle.warc_frame.proofs.ranges.read_range.Goals as goal
 
@@ -6,7 +7,7 @@ pub filling-init : goal.filling-init
 filling-init g c = record {
   within = omega arith;
   bytes = λ bytes held. refl;
-  read = filled_none c.args.at _;
+  read = filled_none c.args.at _ _;
   kept = refl;
   sound = refl;
 }
@@ -14,27 +15,27 @@ filling-init g c = record {
 pub returns-in_default-clause-filled : goal.returns-in_default-clause-filled
 returns-in_default-clause-filled g c =
     let some : 0 < length c.args.buf.now - c.filling.filled = omega (arith, c.filling-test.true, c.filling.auto.buf) in
-    let has = filled_by c.args.at c.filling.filled _ _ _ _ false c.filling.invariant.read (record {
+    let has = filled_by c.args.at _ c.filling.filled (length (take (length c.filling.buf - c.filling.filled) (drop c.filling.filled c.filling.buf))) 1 _ _ _ false c.filling.invariant.read (record {
       kept = c.in-Ok.ensures.kept;
       cause = c.in-Ok.ensures.cause;
       counted = c.in-Ok.ensures.counted;
       asked = c.in-Ok.ensures.asked;
       watched = c.in-Ok.ensures.watched;
-      strayed = c.in-Ok.ensures.strayed;
-    }) some in
+      asks = c.in-Ok.ensures.asks;
+    }) (omega (arith, length-take (length c.filling.buf - c.filling.filled) (drop c.filling.filled c.filling.buf), length-drop c.filling.filled c.filling.buf, some, c.filling.auto.buf)) (omega arith) in
     filled_no_more _ _ _ _ _ has (omega (arith, c.filling-test.true, c.filling.auto.buf))
 
 pub returns-in_default-2-clause-filled : goal.returns-in_default-2-clause-filled
 returns-in_default-2-clause-filled g c =
     let some : 0 < length c.args.buf.now - c.filling.filled = omega (arith, c.filling-test.true, c.filling.auto.buf) in
-    let has = filled_by c.args.at c.filling.filled _ _ _ _ true c.filling.invariant.read (record {
+    let has = filled_by c.args.at _ c.filling.filled (length (take (length c.filling.buf - c.filling.filled) (drop c.filling.filled c.filling.buf))) 1 _ _ _ true c.filling.invariant.read (record {
       kept = c.in_default.ensures.kept;
       cause = c.in_default.ensures.cause;
       counted = c.in_default.ensures.counted;
       asked = c.in_default.ensures.asked;
       watched = c.in_default.ensures.watched;
-      strayed = c.in_default.ensures.strayed;
-    }) some in
+      asks = c.in_default.ensures.asks;
+    }) (omega (arith, length-take (length c.filling.buf - c.filling.filled) (drop c.filling.filled c.filling.buf), length-drop c.filling.filled c.filling.buf, some, c.filling.auto.buf)) (omega arith) in
     filled_no_more _ _ _ _ _ has (omega (arith, c.filling-test.true, c.filling.auto.buf))
 
 pub returns-clause-filled : goal.returns-clause-filled
@@ -46,14 +47,14 @@ filling-preserved g c = record {
   bytes = λ bytes held.
       filled_more bytes c.filling.buf c.read_at.new.buf c.args.at c.filling.filled c.in-Ok.n c.filling.invariant.within c.in-Ok.ensures.bound
       (c.filling.invariant.bytes bytes held) (c.in-Ok.ensures.bytes bytes (c.filling.invariant.kept ∙ held));
-  read = filled_by c.args.at c.filling.filled c.in-Ok.n _ _ _ false c.filling.invariant.read (record {
+  read = filled_by c.args.at _ c.filling.filled (length (take (length c.filling.buf - c.filling.filled) (drop c.filling.filled c.filling.buf))) c.in-Ok.n _ _ _ false c.filling.invariant.read (record {
     kept = c.in-Ok.ensures.kept;
     cause = c.in-Ok.ensures.cause;
     counted = c.in-Ok.ensures.counted;
     asked = c.in-Ok.ensures.asked;
     watched = c.in-Ok.ensures.watched;
-    strayed = c.in-Ok.ensures.strayed;
-  }) (omega (arith, c.if-n-gt0.true));
+    asks = c.in-Ok.ensures.asks;
+  }) (omega (arith, length-take (length c.filling.buf - c.filling.filled) (drop c.filling.filled c.filling.buf), length-drop c.filling.filled c.filling.buf, c.filling-test.true, c.filling.auto.buf)) (omega (arith, c.if-n-gt0.true));
   kept = search rules;
   sound = search rules;
 }

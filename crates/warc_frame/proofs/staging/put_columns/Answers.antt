@@ -15,6 +15,7 @@ returns-in_err-put_ended g c = record {
       let whole = same_out (ap (λ l. l ++ concat (map ended (drop (i + 1) columns))) more ∙ pieces_rest ended output columns (i + 1)) (longer _ cut) in
       search rules;
   cause = search rules;
+  left = search rules;
 }
 
 pub putting-preserved : goal.putting-preserved

@@ -2,7 +2,7 @@ use Rattle.std.proofs.Common.{rules, ℕ, ◌<◌, true, false, List, ◌++◌, 
 use Rattle.std.proofs.lemmas.Result.{err_from_is_err_and}
 use Rattle.warc_frame.specs.Told.{nothing}
 use Rattle.warc_reading.proofs.GrowLemmas.{begun, extends_more, extends_none, given_none, given_on, grows_ended, grows_refused, grows_unread, on_err, part_grows, since_left}
-use Rattle.warc_reading.proofs.OpeningLemmas.{read_there}
+use Rattle.warc_reading.proofs.OpeningLemmas.{fits_near, near, read_there}
 use Rattle.warc_reading.proofs.SourceLemmas.{length_grows}
 use Rattle.warc_reading.proofs.reading.read_through.Goals as goal
 
@@ -21,14 +21,7 @@ pub returns-in-Err-clause-grows : goal.returns-in-Err-clause-grows
 returns-in-Err-clause-grows g c =
     let i = c.reading.invariant in
     let (end, lies) = c.position-at.ensures.history c.args.reading.now.begin i.taken i.told i.is_at in
-    let grows = grows_unread c.args.reading.now.begin _ _ _ i.taken i.given true (read_there end (record {
-      kept = c.in-Err.ensures.kept;
-      cause = c.in-Err.ensures.cause;
-      counted = c.in-Err.ensures.counted;
-      asked = c.in-Err.ensures.asked;
-      watched = c.in-Err.ensures.watched;
-      strayed = c.in-Err.ensures.strayed;
-    })) (omega (arith, end, c.position-at.ensures.limit)) g.L.Keep.keeps (c.args.reading.now.rows, c.args.reading.now.beside) (λ bytes is. c.requires.begin bytes is.listed) c.reading.decoder c.reading.reading
+    let grows = grows_unread c.args.reading.now.begin _ _ _ i.taken i.given true (near c.position-at.result (length c.reading.buf)) (read_there end c.in-Err.ensures.read) (omega (arith, end, c.position-at.ensures.limit)) (fits_near (length c.reading.buf) end c.position-at.ensures.limit) g.L.Keep.keeps (c.args.reading.now.rows, c.args.reading.now.beside) (λ bytes is. c.requires.begin bytes is.listed) c.reading.decoder c.reading.reading
     i.stands (λ text told is. (c.position-at.ensures.history 0 text told is).1) refl in
     rw (c.at.ensures, end) grows
 
@@ -44,7 +37,7 @@ pub reading-smaller : goal.reading-smaller
 reading-smaller g c =
     let i = c.reading.invariant in
     let (now, here) = c.in_ok-take_piece.ensures.taken c.args.reading.now.begin i.taken i.told i.is_at in
-    let size = length_grows i.taken c.read_at.new.buf c.in-Ok.n c.in-Ok.ensures.bound in
+    let size = length_grows i.taken c.read_near.new.buf c.in-Ok.n c.in-Ok.ensures.bound in
     omega (arith, i.is_at.position_is, here.position_is, size, c.if-n-eq0.false, c.position-at.ensures.value, c.position-at.ensures.limit)
 
 pub reading-preserved : goal.reading-preserved
@@ -53,7 +46,7 @@ reading-preserved g c =
     let start : ℕ = c.args.reading.now.begin in
     let (end, lies) = c.position-at.ensures.history start i.taken i.told i.is_at in
     let n : ℕ = c.in-Ok.n in
-    let buf : List ℕ = c.read_at.new.buf in
+    let buf : List ℕ = c.read_near.new.buf in
     let size = length_grows i.taken buf n c.in-Ok.ensures.bound in
     let some : 0 < length (take n buf) = omega (arith, size, c.if-n-eq0.false, length-append i.taken (take n buf)) in
     let (now, here) = c.in_ok-take_piece.ensures.taken start i.taken i.told i.is_at in
@@ -63,14 +56,7 @@ reading-preserved g c =
       is_at = here;
       stands = λ bytes is. part_grows g.L.Keep.keeps is.listed.are.records bytes i.taken (take n buf) _ _ (c.in_ok-take_piece.ensures.history is.listed.are.records (bytes ++ i.taken) (i.stands bytes is));
       rows = extends_more _ _ _ i.rows c.take_piece.ensures.rows;
-      given = given_on start _ _ _ i.taken buf n c.position-at.result i.given (read_there end (record {
-        kept = c.in-Ok.ensures.kept;
-        cause = c.in-Ok.ensures.cause;
-        counted = c.in-Ok.ensures.counted;
-        asked = c.in-Ok.ensures.asked;
-        watched = c.in-Ok.ensures.watched;
-        strayed = c.in-Ok.ensures.strayed;
-      })) (omega (arith, end, c.position-at.ensures.limit)) some size end (λ bytes held. c.in-Ok.ensures.bytes bytes (i.given.kept ∙ held));
+      given = given_on start _ _ _ i.taken buf n c.position-at.result (near c.position-at.result (length c.reading.buf)) i.given (read_there end c.in-Ok.ensures.read) (fits_near (length c.reading.buf) end c.position-at.ensures.limit) some size end (λ bytes held. c.in-Ok.ensures.bytes bytes (i.given.kept ∙ held));
       room = search rules;
     }
 
@@ -80,15 +66,8 @@ returns-in_err-take_piece-clause-grows g c =
     let i = c.reading.invariant in
     let start : ℕ = c.args.reading.now.begin in
     let (end, lies) = c.position-at.ensures.history start i.taken i.told i.is_at in
-    rw (p.1, p.2) (grows_refused start _ _ _ i.taken i.given false (read_there end (record {
-      kept = c.in-Ok.ensures.kept;
-      cause = c.in-Ok.ensures.cause;
-      counted = c.in-Ok.ensures.counted;
-      asked = c.in-Ok.ensures.asked;
-      watched = c.in-Ok.ensures.watched;
-      strayed = c.in-Ok.ensures.strayed;
-    })) (omega (arith, end, c.position-at.ensures.limit)) g.L.Keep.keeps (c.args.reading.now.rows, c.args.reading.now.beside) (λ bytes is. c.requires.begin bytes is.listed) c.reading.decoder c.reading.reading
-    i.stands (λ text told is. (c.position-at.ensures.history 0 text told is).1) c.read_at.new.buf c.in-Ok.n c.position-at.result c.in_err-take_piece.field-0.0 refl end (omega (arith, c.if-n-eq0.false))
+    rw (p.1, p.2) (grows_refused start _ _ _ i.taken i.given false (near c.position-at.result (length c.reading.buf)) (read_there end c.in-Ok.ensures.read) (omega (arith, end, c.position-at.ensures.limit)) (fits_near (length c.reading.buf) end c.position-at.ensures.limit) g.L.Keep.keeps (c.args.reading.now.rows, c.args.reading.now.beside) (λ bytes is. c.requires.begin bytes is.listed) c.reading.decoder c.reading.reading
+    i.stands (λ text told is. (c.position-at.ensures.history 0 text told is).1) c.read_near.new.buf c.in-Ok.n c.position-at.result c.in_err-take_piece.field-0.0 refl end (omega (arith, c.if-n-eq0.false))
     (c.in_err-take_piece.ensures.taken start i.taken i.told i.is_at)
     (λ bytes held. c.in-Ok.ensures.bytes bytes (i.given.kept ∙ held))
     (λ bytes is. c.in_err-take_piece.ensures.history is.listed.are.records (bytes ++ i.taken) (i.stands bytes is))
@@ -107,16 +86,9 @@ returns-clause-grows g c =
     let i = c.reading.invariant in
     let start : ℕ = c.args.reading.now.begin in
     let (end, lies) = c.position-at.ensures.history start i.taken i.told i.is_at in
-    grows_ended start _ _ _ i.taken i.given false (read_there end (record {
-      kept = c.in-Ok.ensures.kept;
-      cause = c.in-Ok.ensures.cause;
-      counted = c.in-Ok.ensures.counted;
-      asked = c.in-Ok.ensures.asked;
-      watched = c.in-Ok.ensures.watched;
-      strayed = c.in-Ok.ensures.strayed;
-    })) (omega (arith, end, c.position-at.ensures.limit)) g.L.Keep.keeps (c.args.reading.now.rows, c.args.reading.now.beside) (λ bytes is. c.requires.begin bytes is.listed) c.reading.decoder c.reading.reading
-    i.stands (λ text told is. (c.position-at.ensures.history 0 text told is).1) i.told c.read_at.new.buf c.in-Ok.n c.position-at.result c.finish.result i.is_at refl end c.if-n-eq0.true
-    (omega (arith, c.requires.room, i.room, c.read_at.auto.buf))
+    grows_ended start _ _ _ i.taken i.given false (near c.position-at.result (length c.reading.buf)) (read_there end c.in-Ok.ensures.read) (omega (arith, end, c.position-at.ensures.limit)) (fits_near (length c.reading.buf) end c.position-at.ensures.limit) g.L.Keep.keeps (c.args.reading.now.rows, c.args.reading.now.beside) (λ bytes is. c.requires.begin bytes is.listed) c.reading.decoder c.reading.reading
+    i.stands (λ text told is. (c.position-at.ensures.history 0 text told is).1) i.told c.read_near.new.buf c.in-Ok.n c.position-at.result c.finish.result i.is_at refl end c.if-n-eq0.true
+    (omega (arith, c.requires.room, i.room, c.read_near.auto.buf))
     (λ bytes held. c.in-Ok.ensures.bytes bytes (i.given.kept ∙ held))
     (λ at text told is. c.finish.ensures.history at text told is)
 

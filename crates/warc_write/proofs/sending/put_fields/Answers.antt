@@ -16,6 +16,7 @@ returns-in_err-put_line g c = record {
       let whole = same_out (ap (λ l. l ++ rest) more ∙ texts_rest canonical_line output fields (i + 1)) cut in
       search rules;
   cause = search rules;
+  left = search rules;
 }
 
 pub putting-preserved : goal.putting-preserved

@@ -13,6 +13,7 @@ returns g c = record {
       let whole = record_from c.args.framed.now c.version.result c.fields.result.now c.block.result.now output c.version.ensures c.fields.ensures.fields c.block.ensures.block in
       IfErr-weaker c.put_all.result _ _ (λ e out. same_out whole out) (c.put_all.ensures.cut start _ (c.in_ok-put_head.ensures.out start output is));
   cause = search rules;
+  left = search rules;
 }
 
 pub returns-in_err-put_head : goal.returns-in_err-put_head
@@ -24,4 +25,5 @@ returns-in_err-put_head g c = record {
       let whole = same_out (record_from r c.version.result c.fields.result.now r.block output c.version.ensures c.fields.ensures.fields refl) longer in
       search rules;
   cause = search rules;
+  left = search rules;
 }

@@ -17,6 +17,7 @@ returns-in_err-put_record g c = record {
       let whole = same_out (ap (λ l. l ++ rest) more ∙ texts_rest canonical output records (i + 1)) cut in
       search rules;
   cause = search rules;
+  left = search rules;
 }
 
 pub putting-preserved : goal.putting-preserved

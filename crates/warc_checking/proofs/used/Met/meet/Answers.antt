@@ -11,17 +11,17 @@ use Rattle.warc_checking.proofs.TallyLemmas.{met_alone}
 use Rattle.warc_checking.proofs.used.Met.meet.Goals as goal
 
 pub returns-in_default-clause-used : goal.returns-in_default-clause-used
-returns-in_default-clause-used g c = λ before met lone. sym (ap (is_used before) (sym (c.in_ok-key.ensures) ∙ c.in_default.is) ∙ none_used before)
+returns-in_default-clause-used g c = λ before met lone. sym (ap (is_used before) (sym (c.in_ok-key.ensures.key) ∙ c.in_default.is) ∙ none_used before)
 
 pub returns-then-not-is_shared-clause-met : goal.returns-then-not-is_shared-clause-met
 returns-then-not-is_shared-clause-met g c = λ before r met key.
-    let is : record_key r ≡ Some c.in-Some.key = key ∙ sym c.in_ok-key.ensures ∙ c.in-Some.is in
+    let is : record_key r ≡ Some c.in-Some.key = key ∙ sym c.in_ok-key.ensures.key ∙ c.in-Some.is in
     let low : level c.args.self.now.counts c.in-Some.key ≤ 1 = rw (← c.bytes.ensures) (ltb-false 1 (level c.args.self.now.counts c.bytes.result.now) (sym c.if-not-is_shared.ensures.shared)) in
     met_alone before r c.in-Some.key c.args.self.now met is low
 
 pub returns-clause-met : goal.returns-clause-met
 returns-clause-met g c = λ before r met key.
-    let is : record_key r ≡ Some c.in-Some.key = key ∙ sym c.in_ok-key.ensures ∙ c.in-Some.is in
+    let is : record_key r ≡ Some c.in-Some.key = key ∙ sym c.in_ok-key.ensures.key ∙ c.in-Some.is in
     met_more before r c.in-Some.key c.args.self.now (record { counts = c.self.inside.counts.items; keys = c.insert.new.self }) met is
     (λ q. c.in-Ok.ensures.updates.0 q ∙ ap (λ (s : BTreeSet (List ℕ)). cond (is_at (slice_cmp nat_cmp c.in-Some.key) q) true (contains (slice_cmp nat_cmp) s q)) (ap (λ (m : Ids). m.keys) c.self.view_is))
     (ap (λ (m : Ids). m.counts) c.self.view_is)

@@ -3,18 +3,19 @@ use Rattle.warc_frame.proofs.LawLemmas.{went_out_of_longer}
 use Rattle.warc_frame.proofs.Sending.{sent_is_staged}
 use Rattle.warc_frame.proofs.staging.OutBuffer.put_behind.Goals as goal
 
-pub returns-in_err-flush-clause-puts : goal.returns-in_err-flush-clause-puts
-returns-in_err-flush-clause-puts g c = record {
+pub returns-in_err-flush : goal.returns-in_err-flush
+returns-in_err-flush g c = record {
   out = search rules;
   cut = λ start output is.
       let cut = c.in_err-flush.ensures.cut start output is in
       let longer = went_out_of_longer start _ output c.args.piece.now _ cut in
       search rules;
   cause = search rules;
+  left = search rules;
 }
 
-pub returns-then-piece-gt-SIZE-clause-puts : goal.returns-then-piece-gt-SIZE-clause-puts
-returns-then-piece-gt-SIZE-clause-puts g c = record {
+pub returns-then-piece-gt-SIZE : goal.returns-then-piece-gt-SIZE
+returns-then-piece-gt-SIZE g c = record {
   out = λ start output is.
       let staged = c.in_ok-flush.ensures.out start output is in
       let empty : c.flush.new.self.bytes ≡ [] = search rules in
@@ -27,4 +28,5 @@ returns-then-piece-gt-SIZE-clause-puts g c = record {
       let all : output ≡ staged.gone = staged.whole ∙ ap (λ l. staged.gone ++ l) empty ∙ append-nil staged.gone in
       rw all (c.send_counted.ensures.cut start staged.gone staged.told (search rules));
   cause = search rules;
+  left = search rules;
 }
