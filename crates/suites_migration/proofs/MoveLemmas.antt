@@ -29,7 +29,7 @@ use Rattle.warc.specs.Taking.{IsTaken}
 use Rattle.warc.specs.declared.copying.Form.TheVariants.{Canonical, Converted}
 use Rattle.suites_migration.specs.Migration.{IsMigrationOf, IsUnopened}
 use Rattle.suites_migration.specs.Opened.{IsRefused}
-use Rattle.suites_migration.specs.RoundTrip.{plan_of}
+use Rattle.suites_migration.specs.RoundTrip.{plan_of_draft}
 use Rattle.suites_migration.specs.declared.round_trip.Plan.{Plan}
 
 -- why a source isn't opened
@@ -118,7 +118,7 @@ good_more (s ∷ rs) r all good = (all.0, good_more rs r all.1 good)
 
 -- what a record is made to
 abbrev pub made_of : Plan → Result Record MakeFault
-made_of plan = made (plan_of plan)
+made_of plan = made (plan_of_draft plan)
 
 abbrev pub all_made : List Record → List (Result Record MakeFault)
 all_made records = map (λ (r : Record). Ok r) records

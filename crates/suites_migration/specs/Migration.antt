@@ -36,7 +36,7 @@ pub record IsUnopened (bytes : List ℕ) (fault : Fault) : Type 0 where
 
 -- why none is given: a read failed, memory was wanted, or this is the bytes' first fault; or the archive opened, and
 -- wasn't written, or what was written doesn't open
-abbrev pub IsFailed : List ℕ → MoveFault → Type 0
-IsFailed bytes (Refused fault) = (fault.kind ≡ Read) ⊎ IsRefused bytes fault
-IsFailed bytes (Unwritten fault) = (rows : List Row) × IsArchiveOf bytes rows
-IsFailed bytes (Unopened fault) = IsUnopened bytes fault
+abbrev pub IsNotMoved : List ℕ → MoveFault → Type 0
+IsNotMoved bytes (Refused fault) = (fault.kind ≡ Read) ⊎ IsRefused bytes fault
+IsNotMoved bytes (Unwritten fault) = (rows : List Row) × IsArchiveOf bytes rows
+IsNotMoved bytes (Unopened fault) = IsUnopened bytes fault

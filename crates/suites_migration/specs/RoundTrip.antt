@@ -9,8 +9,8 @@ use Rattle.suites_migration.specs.declared.round_trip.RoundFault.{RoundFault}
 use Rattle.suites_migration.specs.declared.round_trip.RoundFault.TheVariants.{Unmade, Unwritten, Unopened, Unread}
 
 -- what a record is made of, as the definition of made records has it
-abbrev pub plan_of : Plan → making.Plan
-plan_of plan = record {
+abbrev pub plan_of_draft : Plan → making.Plan
+plan_of_draft plan = record {
   kind = plan.kind;
   uri = plan.uri.now;
   date = plan.date.now;
@@ -21,8 +21,8 @@ plan_of plan = record {
 
 -- why records that stand aren't read back: what is written of them doesn't open, where it isn't too long for want of
 -- memory; or a growth of the memory was refused to the sink, or to what reads
-abbrev pub IsUnread : List Record → RoundFault → Type 0
-IsUnread records (Unmade fault) = ⊥
-IsUnread records (Unwritten fault) = ⊤
-IsUnread records (Unopened fault) = length (canonical_texts records) ≤ max_archive → fault.kind ≡ Memory
-IsUnread records (Unread fault) = ⊤
+abbrev pub IsNotReadBack : List Record → RoundFault → Type 0
+IsNotReadBack records (Unmade fault) = ⊥
+IsNotReadBack records (Unwritten fault) = ⊤
+IsNotReadBack records (Unopened fault) = length (canonical_texts records) ≤ max_archive → fault.kind ≡ Memory
+IsNotReadBack records (Unread fault) = ⊤

@@ -4,7 +4,7 @@ ghost use Rattle.warc_frame.specs.Seen.{IfHeld};
 ghost use Rattle.warc_reading.specs.Archive.{IsArchiveOf, contents};
 ghost use Rattle.warc.specs.Forms.{texts_as};
 ghost use Rattle.warc.specs.declared.copying.Form.TheVariants.{Converted};
-ghost use Rattle.suites_migration.specs.Migration.{IsFailed, IsMigrationOf};
+ghost use Rattle.suites_migration.specs.Migration.{IsNotMoved, IsMigrationOf};
 
 use crate::opening::opened;
 use std::alloc::Global;
@@ -42,7 +42,7 @@ fn converted<S: Source>(alloc: Global, listing: &mut Listing<S>) -> Result<Vec<u
 /// bytes.
 pub fn migrate<S: Source + Drop>(alloc: Global, source: S) -> Result<Archive<MemSource>, MoveFault>
     ensures moved { IfHeld (S.tapped source).holds (λ bytes. IfOk result (IsMigrationOf bytes)) }
-    ensures refused { IfHeld (S.tapped source).holds (λ bytes. IfErr result (IsFailed bytes)) }
+    ensures refused { IfHeld (S.tapped source).holds (λ bytes. IfErr result (IsNotMoved bytes)) }
 {
     written_opens_as_same();
     migration_keeps_answers();

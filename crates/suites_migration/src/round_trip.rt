@@ -4,7 +4,7 @@ ghost use Rattle.warc_record.specs.Good.{IsGood};
 ghost use Rattle.warc_write.specs.Making.{made};
 ghost use Rattle.warc_write.specs.Rendering.{AllGood, canonical_texts};
 ghost use Rattle.warc_reading.specs.Archive.{IsArchiveOf, contents};
-ghost use Rattle.suites_migration.specs.RoundTrip.{IsUnread, plan_of};
+ghost use Rattle.suites_migration.specs.RoundTrip.{IsNotReadBack, plan_of_draft};
 
 use crate::opening::opened;
 use std::alloc::Global;
@@ -53,7 +53,7 @@ impl From<MakeFault> for RoundFault {
 
 /// The record that is made, which is good, or the refusal.
 fn make_one(alloc: Global, plan: &Plan<'_>) -> Result<Framed, MakeFault>
-    ensures made { IfOk result (λ r. made (plan_of plan.now) ≡ Ok r) }
+    ensures made { IfOk result (λ r. made (plan_of_draft plan.now) ≡ Ok r) }
     ensures good { IfOk result IsGood }
 {
     make(
@@ -69,7 +69,7 @@ fn make_one(alloc: Global, plan: &Plan<'_>) -> Result<Framed, MakeFault>
 
 /// The records that are made, in their order, each of them good; or the first refusal.
 fn make_all(alloc: Global, plans: &[Plan<'_>]) -> Result<Vec<Framed>, MakeFault>
-    ensures made { IfOk result (λ records. map Ok records.items ≡ map (λ plan. made (plan_of plan)) plans.now) }
+    ensures made { IfOk result (λ records. map Ok records.items ≡ map (λ plan. made (plan_of_draft plan)) plans.now) }
     ensures good { IfOk result (λ records. AllGood records.items) }
 {
     let mut records = Vec::new(alloc);
@@ -114,7 +114,7 @@ fn rendered(alloc: Global, records: &[Framed]) -> Result<Vec<u8>, OutFault>
 pub fn read_back(alloc: Global, records: &[Framed]) -> Result<Vec<Framed>, RoundFault>
     requires { AllGood records.now }
     ensures same { IfOk result (λ back. back.items ≡ records.now) }
-    ensures why { IfErr result (IsUnread records.now) }
+    ensures why { IfErr result (IsNotReadBack records.now) }
 {
     written_opens_as_same();
     no_fault_where_spelled();
@@ -134,7 +134,7 @@ pub fn read_back(alloc: Global, records: &[Framed]) -> Result<Vec<Framed>, Round
 
 /// Makes records, renders them to memory, opens that, and reads them back: exactly those that are made.
 pub fn round_trip(alloc: Global, plans: &[Plan<'_>]) -> Result<Vec<Framed>, RoundFault>
-    ensures { IfOk result (λ back. map Ok back.items ≡ map (λ plan. made (plan_of plan)) plans.now) }
+    ensures { IfOk result (λ back. map Ok back.items ≡ map (λ plan. made (plan_of_draft plan)) plans.now) }
 {
     let records = make_all(alloc, plans)?;
     read_back(alloc, &records)

@@ -30,7 +30,7 @@ use Rattle.warc_reading.specs.Archive.{SpellsFrom}
 use Rattle.warc_reading.specs.Indexed.{Archived, IsIndexed, indexed_record, placed_record}
 use Rattle.warc_reading.specs.Keeping.{kept_bytes, texts_len}
 use Rattle.warc_reading.specs.Row.{Placed, row_of}
-use Rattle.warc.specs.Bounds.{IsKeptCount, head_len}
+use Rattle.warc.specs.Bounds.{IsKeptCount, head_length}
 use Rattle.warc.proofs.LengthLemmas.{AreApart, named_in_area, named_len}
 
 abbrev text_len : Option (List ℕ) → ℕ
@@ -203,7 +203,7 @@ head_of v area =
 -- a record's head, by its row
 head_spelled : (q : ℕ) (p : Placed) (front : List ℕ) → Spells p.content front → p.offset ≡ q
     → p.block_start + length p.content.block + 4 ≡ q + length front
-    → (named_len kept_names p.content.fields ≤ head_len (row_of p)) × (head_len (row_of p) ≤ length front)
+    → (named_len kept_names p.content.fields ≤ head_length (row_of p)) × (head_length (row_of p) ≤ length front)
 head_spelled q p front is at behind =
     let head = head_text p.content.version is.area in
     let size : length (record_text p.content is.area) ≡ length head + length p.content.block + 4 =
@@ -239,12 +239,12 @@ kept_more n p ps =
     )
 
 all_short : (n q : ℕ) (ps : List Placed) (text : List ℕ) → SpellsFrom q ps text
-    → (kept_len n ps ≤ 3 * sum_by head_len (map row_of ps)) × (sum_by head_len (map row_of ps) ≤ length text)
+    → (kept_len n ps ≤ 3 * sum_by head_length (map row_of ps)) × (sum_by head_length (map row_of ps) ≤ length text)
 all_short n q [] text is = (omega arith, omega arith)
 all_short n q (p ∷ ps) text (front, rest, one, at, behind, whole, more) =
     let head = head_spelled q p front one at behind in
     let later = all_short (n + 1) (q + length front) ps rest more in
-    let heads = sum_by-cons head_len (row_of p) (map row_of ps) in (
+    let heads = sum_by-cons head_length (row_of p) (map row_of ps) in (
       omega (arith, head.0, later.0, heads, kept_more n p ps, record_short n p),
       omega (arith, head.1, later.1, heads, ap length whole, length-append front rest),
     )
@@ -265,6 +265,6 @@ kept_is_bounded n bytes archive counted is =
       ap (sum_by link_bytes) index.links,
       ap (λ (parts : Parts). origins_len parts.members) is.kept.parts_are,
     ) in
-    let heads = ap (sum_by head_len) rows in
+    let heads = ap (sum_by head_length) rows in
     let exact : n ≡ kept_bytes archive = omega (arith, counted, all, short.0, short.1, is.listed.short) in
     record { exact = exact; least = omega (arith, exact); most = omega (arith, exact, all, short.0, heads) }

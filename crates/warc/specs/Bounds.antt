@@ -6,12 +6,12 @@ use Rattle.warc_reading.specs.Keeping.{kept_bytes, texts_len}
 use Rattle.warc_reading.specs.Row.{Row}
 
 -- how many bytes the head of a row's record has, from its version line to its empty line
-abbrev pub head_len : Row → ℕ
-head_len row = row.block_start - row.offset
+abbrev pub head_length : Row → ℕ
+head_length row = row.block_start - row.offset
 
 -- so many bytes of texts are kept of an archive: no fewer than those of the texts that are listed, and at most three
 -- times as many as its heads have
 pub record IsKeptCount {S : Type 0} (archive : Archived S) (n : ℕ) : Type 0 where
   pub exact : n ≡ kept_bytes archive
   pub least : sum_by texts_len archive.listing.rows ≤ n
-  pub most : n ≤ 3 * sum_by head_len archive.listing.rows
+  pub most : n ≤ 3 * sum_by head_length archive.listing.rows

@@ -7,7 +7,7 @@ use Rattle.std.proofs.lemmas.List.Folds.{list_any_more}
 use Rattle.std.specs.List.{enumerate_from, list_any}
 use Rattle.warc_value.specs.Dates.{Instant, is_before}
 use Rattle.warc_index.specs.Captures.{Indexed}
-use Rattle.warc_index.specs.Captures.{Entry, is_earlier, is_later, is_latest, latest}
+use Rattle.warc_index.specs.Captures.{Numbered, is_earlier, is_later, is_latest, latest}
 
 -- the test fails at each place below i
 abbrev pub NoneBelow : (Indexed → Bool) → List Indexed → ℕ → Type 0
@@ -29,7 +29,7 @@ BestBelow test all i (Some p) = IsBestBelow test all i p
 
 -- ---- a list with its positions
 
-pub any_at : (t : Entry → Bool) (n : ℕ) (all : List Indexed) (k : ℕ) (r : Indexed) → slice_get all k ≡ Some r
+pub any_at : (t : Numbered → Bool) (n : ℕ) (all : List Indexed) (k : ℕ) (r : Indexed) → slice_get all k ≡ Some r
     → t (n + k, r) ≡ true → list_any t (enumerate_from n all) ≡ true
 any_at t n [] k r e hit = cc
 any_at t n (x ∷ all) zero r e hit =
@@ -43,7 +43,7 @@ any_at t n (x ∷ all) (suc k) r e hit =
     any_at t (n + 1) all k r e (ap (λ (m : ℕ). t (m, r)) z ∙ hit) in
     grind (arith, h)
 
-none_of : (t : Entry → Bool) (n : ℕ) (all : List Indexed) → ((k : ℕ) (r : Indexed) → slice_get all k ≡ Some r
+none_of : (t : Numbered → Bool) (n : ℕ) (all : List Indexed) → ((k : ℕ) (r : Indexed) → slice_get all k ≡ Some r
     → t (n + k, r) ≡ false) → list_any t (enumerate_from n all) ≡ false
 none_of t n [] miss = refl
 none_of t n (x ∷ all) miss =
@@ -53,7 +53,7 @@ none_of t n (x ∷ all) miss =
     ∙ none_of t (n + 1) all (λ k r e. let w : (n + 1) + k ≡ n + suc k = omega arith in
     ap (λ (m : ℕ). t (m, r)) w ∙ miss (suc k) r e)
 
-find_none : (t : Entry → Bool) (n : ℕ) (all : List Indexed) → ((k : ℕ) (r : Indexed) → slice_get all k ≡ Some r
+find_none : (t : Numbered → Bool) (n : ℕ) (all : List Indexed) → ((k : ℕ) (r : Indexed) → slice_get all k ≡ Some r
     → t (n + k, r) ≡ false) → find t (enumerate_from n all) ≡ None
 find_none t n [] miss = refl
 find_none t n (x ∷ all) miss =
@@ -63,7 +63,7 @@ find_none t n (x ∷ all) miss =
     ∙ find_none t (n + 1) all (λ k r e. let w : (n + 1) + k ≡ n + suc k = omega arith in
     ap (λ (m : ℕ). t (m, r)) w ∙ miss (suc k) r e)
 
-find_at : (t : Entry → Bool) (n : ℕ) (all : List Indexed) (k : ℕ) (r : Indexed) → slice_get all k ≡ Some r
+find_at : (t : Numbered → Bool) (n : ℕ) (all : List Indexed) (k : ℕ) (r : Indexed) → slice_get all k ≡ Some r
     → t (n + k, r) ≡ true → ((j : ℕ) (s : Indexed) → j < k → slice_get all j ≡ Some s → t (n + j, s) ≡ false)
     → find t (enumerate_from n all) ≡ Some (n + k, r)
 find_at t n [] k r e hit miss = cc
@@ -112,15 +112,15 @@ one_way (Some a) (Some b) e = one_way_before a b e
 pub latest-none : (test : Indexed → Bool) (all : List Indexed) → NoneBelow test all (length all)
     → latest test all ≡ None
 latest-none test all none =
-    ap (option_map (λ (a : Entry). a.0)) (find_none (is_latest test (enumerate_from 0 all)) 0 all
+    ap (option_map (λ (a : Numbered). a.0)) (find_none (is_latest test (enumerate_from 0 all)) 0 all
     (λ k r e. and_left (test r) _ (none k r (slice_get_within all k r e) e)))
 
 pub latest-best : (test : Indexed → Bool) (all : List Indexed) (p : ℕ) → IsBestBelow test all (length all) p
     → latest test all ≡ Some p
 latest-best test all p best =
-    let entries : List Entry = enumerate_from 0 all in
+    let entries : List Numbered = enumerate_from 0 all in
     let z : 0 + p ≡ p = omega arith in
-    let quiet : list_any (λ (b : Entry). test b.1 && is_later b (0 + p, best.it)) entries ≡ false =
+    let quiet : list_any (λ (b : Numbered). test b.1 && is_later b (0 + p, best.it)) entries ≡ false =
     none_of (λ b. test b.1 && is_later b (0 + p, best.it)) 0 all (λ k r e. elim (cases_Bool (test r)) [
       | inl hit ↦ and_right (test r) _ (ap (λ (m : ℕ). is_later (m, r) (0 + p, best.it)) (omega arith)
           ∙ (ap (λ (m : ℕ). is_later (k, r) (m, best.it)) z ∙ best.last k r (slice_get_within all k r e) e hit))
@@ -138,12 +138,12 @@ latest-best test all p best =
           let after0 : is_later (0 + p, best.it) (0 + j, s) ≡ true =
           ap (λ (m : ℕ). is_later (m, best.it) (0 + j, s)) z
           ∙ (ap (λ (m : ℕ). is_later (p, best.it) (m, s)) zj ∙ after) in
-          let some : list_any (λ (b : Entry). test b.1 && is_later b (0 + j, s)) entries ≡ true =
+          let some : list_any (λ (b : Numbered). test b.1 && is_later b (0 + j, s)) entries ≡ true =
           any_at (λ b. test b.1 && is_later b (0 + j, s)) 0 all p best.it best.stands (grind
           (arith, after0, best.passes)) in
           grind (arith, some)
     ]) in
-    ap (option_map (λ (a : Entry). a.0)) found ∙ ap Some z
+    ap (option_map (λ (a : Numbered). a.0)) found ∙ ap Some z
 
 -- ---- a step of the scan
 

@@ -6,7 +6,7 @@ use Rattle.std.proofs.lemmas.List.{take-append-drop}
 use Rattle.std.proofs.lemmas.List.Sums.{sum_by-cons}
 use Rattle.std.proofs.Math.Seq.{take-append_seam, drop-append_seam}
 use Rattle.warc_order.specs.declared.mark.Mark.{Mark}
-use Rattle.warc_order.specs.Columns.{Sparse, values, IsAt, IsBlankAt}
+use Rattle.warc_order.specs.Columns.{Sparse, values, HoldsAt, IsBlankAt}
 use Rattle.warc_order.specs.Entries.{Entry, entry_of, no_entry}
 use Rattle.warc_index.specs.declared.link.Role.{Role}
 use Rattle.warc_index.specs.Links.{Link, link, link_bytes, at_start, told, links_in}
@@ -28,7 +28,7 @@ links_push (r ∷ roles) (n ∷ middles) (e ∷ es) role first second mark posit
     arith))
 
 -- what is read of a column of middles
-pub middle_at : (middles : Sparse ℕ) (i : ℕ) (read : Option ℕ) → IfSome read (IsAt middles i) →
+pub middle_at : (middles : Sparse ℕ) (i : ℕ) (read : Option ℕ) → IfSome read (HoldsAt middles i) →
     IfNone read (IsBlankAt middles i) → unwrap_or read 0 ≡ get_or (values at_start middles) i 0
 middle_at middles i None some none = sym (none at_start)
 middle_at middles i (Some middle) some none = sym (some at_start)

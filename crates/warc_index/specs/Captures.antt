@@ -56,15 +56,15 @@ abbrev pub is_by : Option Instant → Indexed → Bool
 is_by moment r = not (is_earlier moment r.instant)
 
 -- a position and what stands there
-abbrev pub Entry : Type 0
-Entry = ℕ × Indexed
+abbrev pub Numbered : Type 0
+Numbered = ℕ × Indexed
 
 -- the first stands later than the second: by instant, then by position
-abbrev pub is_later : Entry → Entry → Bool
+abbrev pub is_later : Numbered → Numbered → Bool
 is_later a b = is_earlier b.1.instant a.1.instant || (not (is_earlier a.1.instant b.1.instant) && nat_lt b.0 a.0)
 
 -- it passes, and nothing that passes is later
-abbrev pub is_latest : (Indexed → Bool) → List Entry → Entry → Bool
+abbrev pub is_latest : (Indexed → Bool) → List Numbered → Numbered → Bool
 is_latest test entries a = test a.1 && not (list_any (λ b. test b.1 && is_later b a) entries)
 
 -- the position of the latest that passes

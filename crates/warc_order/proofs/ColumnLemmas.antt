@@ -6,7 +6,7 @@ use Rattle.std.proofs.lemmas.Bool.{cases_lt}
 use Rattle.std.proofs.lemmas.List.{get_or_append_left, get_or-append_right, append-nil, take-append-le}
 use Rattle.std.proofs.lemmas.List.FromFn.{get_or-map-range_with_len, length-map-range_with_len, map-range_with_len_more, take-map-range_with_len}
 use Rattle.std.proofs.Math.Seq.{take-append-add}
-use Rattle.warc_order.specs.Columns.{Sparse, values, IsAt, IsBlankAt}
+use Rattle.warc_order.specs.Columns.{Sparse, values, HoldsAt, IsBlankAt}
 
 -- a blank at the front
 pub blank_at : {A : Type 0} (n : ℕ) (s : Sparse A) (i : ℕ) → n ≡ s.blanks → i < n → IsBlankAt s i
@@ -25,7 +25,7 @@ item_at n items s i blank e f le =
 
 -- what is read behind the blanks
 pub some_at : {A : Type 0} (n : ℕ) (items : List A) (s : Sparse A) (i : ℕ) (r : Option A) → n ≡ s.blanks →
-    items ≡ s.items → n ≤ i → ((d : A) → unwrap_or r d ≡ get_or items (i - n) d) → IfSome r (IsAt s i)
+    items ≡ s.items → n ≤ i → ((d : A) → unwrap_or r d ≡ get_or items (i - n) d) → IfSome r (HoldsAt s i)
 some_at n items s i None e f le read = tt
 some_at n items s i (Some value) e f le read = λ blank. item_at n items s i blank e f le ∙ sym (read (blank i))
 

@@ -8,7 +8,7 @@ use Rattle.std.proofs.Math.Seq.{take-append-add, drop-append-add}
 use Rattle.std.specs.List.{concat, slice_range, sum_by}
 use Rattle.warc_order.specs.declared.mark.Mark.{Mark}
 use Rattle.warc_order.specs.Entries.{Entry, entry_at, entry_of, no_entry}
-use Rattle.warc_order.specs.Layout.{texts_of, Parts, ends_of, parts_of, entries_from, entries_of, IsFlat}
+use Rattle.warc_order.specs.Layout.{texts_of, Parts, ends_of, parts_of, entries_at, entries_of, IsFlat}
 
 -- parts are the same where each of them is
 pub same : (p q : Parts) → p.ends ≡ q.ends → p.bytes ≡ q.bytes → p.majors ≡ q.majors → p.minors ≡ q.minors →
@@ -23,7 +23,7 @@ same p q a b c d e =
     } in rw (a, b, c, d, e) refl
 
 -- the entries come back
-entries_from-parts : (from : ℕ) (es : List Entry) → entries_from from (ends_of from es) (concat (texts_of es)) (map
+entries_from-parts : (from : ℕ) (es : List Entry) → entries_at from (ends_of from es) (concat (texts_of es)) (map
     (λ e. e.mark.major) es) (map (λ e. e.mark.minor) es) (map (λ e. e.position) es) ≡ es
 entries_from-parts from [] = refl
 entries_from-parts from (e ∷ es) =

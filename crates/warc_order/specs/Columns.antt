@@ -17,8 +17,8 @@ abbrev pub is_skipped : {A : Type 0} → Bool → Sparse A → Bool
 is_skipped blank column = (blank && length column.items == 0) && nat_lt column.blanks 18_446_744_073_709_551_615
 
 -- whether one more value, blank or not, needs no growth
-abbrev pub has_room : {A : Type 0} → Bool → Sparse A → Bool
-has_room blank column = is_skipped blank column || nat_lt 0 column.free
+abbrev pub needs_no_growth : {A : Type 0} → Bool → Sparse A → Bool
+needs_no_growth blank column = is_skipped blank column || nat_lt 0 column.free
 
 -- ---- what holds whatever the blanks stand for
 
@@ -36,12 +36,12 @@ IsPushed {A} old new value is_blank = (blank : ℕ → A) →
     (is_blank ≡ true → value ≡ blank (length (values blank old))) → values blank new ≡ values blank old ++ value ∷ []
 
 -- the first n values
-abbrev pub IsCut : {A : Type 0} → Sparse A → Sparse A → ℕ → Type 0
-IsCut {A} old new n = (blank : ℕ → A) → values blank new ≡ take n (values blank old)
+abbrev pub IsCutTo : {A : Type 0} → Sparse A → Sparse A → ℕ → Type 0
+IsCutTo {A} old new n = (blank : ℕ → A) → values blank new ≡ take n (values blank old)
 
 -- the i-th value is this one, and past the end what a blank stands for
-abbrev pub IsAt : {A : Type 0} → Sparse A → ℕ → A → Type 0
-IsAt {A} column i value = (blank : ℕ → A) → slice_index_or (values blank column) i (blank i) ≡ value
+abbrev pub HoldsAt : {A : Type 0} → Sparse A → ℕ → A → Type 0
+HoldsAt {A} column i value = (blank : ℕ → A) → slice_index_or (values blank column) i (blank i) ≡ value
 
 -- the i-th value is what its blank stands for
 abbrev pub IsBlankAt : {A : Type 0} → Sparse A → ℕ → Type 0

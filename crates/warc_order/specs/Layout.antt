@@ -56,14 +56,14 @@ parts_of es = record {
 }
 
 -- the entries of parts, where the bytes begin at `from`
-abbrev pub entries_from : ℕ → (ends bytes majors minors positions : List ℕ) → List Entry
-entries_from from (end ∷ ends) bytes (major ∷ majors) (minor ∷ minors) (position ∷ positions) =
+abbrev pub entries_at : ℕ → (ends bytes majors minors positions : List ℕ) → List Entry
+entries_at from (end ∷ ends) bytes (major ∷ majors) (minor ∷ minors) (position ∷ positions) =
     entry_of (take (end - from) bytes) (record { major = major; minor = minor }) position
-    ∷ entries_from end ends (drop (end - from) bytes) majors minors positions
-entries_from from _ bytes _ _ _ = []
+    ∷ entries_at end ends (drop (end - from) bytes) majors minors positions
+entries_at from _ bytes _ _ _ = []
 
 abbrev pub entries_of : Parts → List Entry
-entries_of p = entries_from 0 p.ends p.bytes p.majors p.minors p.positions
+entries_of p = entries_at 0 p.ends p.bytes p.majors p.minors p.positions
 
 -- parts hold just these entries
 abbrev pub IsFlat : Parts → List Entry → Type 0

@@ -1,7 +1,7 @@
 //! Values by index, of which the blank ones at the front take no memory.
 
-ghost use Rattle.std.specs.Prelude.{◌≡◌, IsTrue, OnOk, IfSome, IfNone};
-ghost use Rattle.warc_order.specs.Columns.{is_skipped, has_room, IsEmpty, IsSame, IsPushed, IsCut, IsAt, IsBlankAt};
+ghost use Rattle.std.specs.Prelude.{◌≡◌, false, IsTrue, OnErr, OnOk, IfSome, IfNone};
+ghost use Rattle.warc_order.specs.Columns.{is_skipped, needs_no_growth, IsEmpty, IsSame, IsPushed, IsCutTo, HoldsAt, IsBlankAt};
 
 use std::alloc::{AllocError, Allocator};
 use std::marker::Model;
@@ -40,7 +40,7 @@ impl<T: Copy, A: Allocator + Copy> Column<T, A> {
 
     /// The value at an index, or none where it is blank and not kept, and past the end.
     pub fn get(&self, i: usize) -> Option<T>
-        ensures some { IfSome result (IsAt self.now i) }
+        ensures some { IfSome result (HoldsAt self.now i) }
         ensures none { IfNone result (IsBlankAt self.now i) }
     {
         if i < self.blanks {
@@ -60,7 +60,10 @@ impl<T: Copy, A: Allocator + Copy> Column<T, A> {
     /// Makes room for one more value, blank or not. `Err`: no memory for it.
     pub fn reserve(&mut self, blank: bool) -> Result<(), AllocError>
         ensures same { IsSame self.old self.new }
-        ensures room { OnOk result (IsTrue (has_room blank self.new)) }
+        ensures room { OnOk result (IsTrue (needs_no_growth blank self.new)) }
+
+        // A value that is only counted is never refused.
+        ensures needed { OnErr result (is_skipped blank self.old ≡ false) }
     {
         if self.skips(blank) {
             Ok(())
@@ -71,7 +74,7 @@ impl<T: Copy, A: Allocator + Copy> Column<T, A> {
 
     /// Adds a value, blank or not, for which `reserve` has made room.
     pub fn push_reserved(&mut self, value: T, blank: bool)
-        requires { IsTrue (has_room blank self.old) }
+        requires { IsTrue (needs_no_growth blank self.old) }
         ensures { IsPushed self.old self.new value blank }
     {
         if self.skips(blank) {
@@ -83,7 +86,7 @@ impl<T: Copy, A: Allocator + Copy> Column<T, A> {
 
     /// Keeps the first so many values. It takes no memory.
     pub fn truncate(&mut self, count: usize)
-        ensures { IsCut self.old self.new count }
+        ensures { IsCutTo self.old self.new count }
     {
         let kept = count.saturating_sub(self.blanks);
         self.items.truncate(kept);

@@ -93,8 +93,8 @@ pub record SegmentReading : Type 0 where
   pub origin : Option (List ℕ)
   pub total : Option ℕ
 
-abbrev pub segment_of : List Pair → SegmentReading
-segment_of fields = record {
+abbrev pub segment_reading : List Pair → SegmentReading
+segment_reading fields = record {
   number = segment_number fields;
   origin = key_in (codes "WARC-Segment-Origin-ID") fields;
   total = number_in (codes "WARC-Segment-Total-Length") fields;
@@ -129,7 +129,7 @@ reading_of fields = record {
   instant = option_and_then instant_of (first_value (codes "WARC-Date") fields);
   target = target_of fields;
   reference = reference_of fields;
-  segment = segment_of fields;
+  segment = segment_reading fields;
   wanted = digest_wanted fields;
   payload_digest = present_value (codes "WARC-Payload-Digest") fields;
   truncated = is_some (present_value (codes "WARC-Truncated") fields);

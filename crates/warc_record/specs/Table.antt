@@ -13,19 +13,19 @@ pub record Rule : Type 0 where
   pub repeats : Bool
 
 -- a kind by its place in the order of the standard, to compare it
-abbrev pub place_of : Kind → ℕ
-place_of Warcinfo = 0
-place_of Response = 1
-place_of Resource = 2
-place_of Request = 3
-place_of Metadata = 4
-place_of Revisit = 5
-place_of Conversion = 6
-place_of Continuation = 7
-place_of Other = 8
+abbrev pub column_of : Kind → ℕ
+column_of Warcinfo = 0
+column_of Response = 1
+column_of Resource = 2
+column_of Request = 3
+column_of Metadata = 4
+column_of Revisit = 5
+column_of Conversion = 6
+column_of Continuation = 7
+column_of Other = 8
 
 abbrev pub is_among : Kind → List Kind → Bool
-is_among kind kinds = list_any (λ other. place_of other == place_of kind) kinds
+is_among kind kinds = list_any (λ other. column_of other == column_of kind) kinds
 
 -- a field that stands at most once, by its name, the kinds that require it and those that forbid it
 abbrev pub rule : List ℕ → List Kind → List Kind → Rule

@@ -4,7 +4,7 @@ ghost use Rattle.warc_field.specs.Area.{first_value};
 ghost use Rattle.warc_value.specs.Dates.{instant_of};
 ghost use Rattle.warc_frame.specs.FaultText.{name_of};
 ghost use Rattle.warc_record.specs.Ids.{is_id};
-ghost use Rattle.warc_record.specs.Readings.{bare_present, both, present_bare, instant_in, unless_empty, reference_of, segment_of, digest_wanted, reading_of, target_of};
+ghost use Rattle.warc_record.specs.Readings.{bare_present, both, present_bare, instant_in, unless_empty, reference_of, segment_reading, digest_wanted, reading_of, target_of};
 ghost use Rattle.warc_record.specs.Known.{ArePlaces, known_name, value_at};
 ghost use Rattle.warc_record.specs.Heads.{count_fault, type_fault, id_fault, head_fault};
 ghost use Rattle.warc_record.specs.Seen.{pair_said, reference_said, segment_said, said, RefusesFor};
@@ -130,7 +130,7 @@ fn read_segment<A: Allocator + Copy>(
     alloc: A,
     fields: &ByName<'_, A>,
 ) -> Result<Segment<A>, AllocError>
-    ensures { IfOk result (λ segment. segment_said segment ≡ segment_of fields.now) }
+    ensures { IfOk result (λ segment. segment_said segment ≡ segment_reading fields.now) }
 {
     Ok(Segment {
         number: segment_number(fields),

@@ -1,6 +1,6 @@
 ghost use Rattle.std.specs.Prelude.{◌≡◌, map};
 ghost use Rattle.warc_record.specs.Known.{known_name};
-ghost use Rattle.warc_record.specs.Table.{rules, rule_seen, place_of, is_among};
+ghost use Rattle.warc_record.specs.Table.{rules, rule_seen, column_of, is_among};
 
 use crate::known::Known;
 use crate::types::Kind;
@@ -204,7 +204,7 @@ pub fn field_rules() -> &'static [FieldRule]
 
 /// The place of a kind in the standard's order.
 fn place(kind: Kind) -> u8
-    ensures { result ≡ place_of kind }
+    ensures { result ≡ column_of kind }
 {
     match kind {
         Kind::Warcinfo => 0,

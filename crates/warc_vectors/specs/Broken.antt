@@ -11,7 +11,7 @@ pub record Read : Type 0 where
   pub faults : ℕ
 
 -- the bytes taken, and how often a write failed
-pub record Written : Type 0 where
+pub record WriterState : Type 0 where
   pub bytes : List ℕ
   pub faults : ℕ
 

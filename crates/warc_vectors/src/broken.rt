@@ -180,9 +180,9 @@ pub struct BrokenWriter<A: Allocator = Global> {
 }
 
 impl<A: Allocator> Model for BrokenWriter<A> {
-    ghost use Rattle.warc_vectors.specs.Broken.{Written};
+    ghost use Rattle.warc_vectors.specs.Broken.{WriterState};
 
-    ghost Value = { Written };
+    ghost Value = { WriterState };
 
     ghost view = { λ w. record { bytes = w.inner.bytes; faults = w.faults } };
 }

@@ -27,7 +27,7 @@ use Rattle.warc_record.specs.Ids.{bare_text}
 use Rattle.uuid.specs.Text.{parsed}
 use Rattle.warc_write.specs.declared.making.MakeFault.{MakeFault}
 use Rattle.warc_write.specs.declared.making.MakeFault.TheVariants.{Date, Text, TooLong, Memory, Kind as BadKind}
-use Rattle.warc_write.specs.Making.{Makes, Plan, fitted, made, made_fields, record_1_1, is_target, is_text}
+use Rattle.warc_write.specs.Making.{Makes, Plan, fitted, made, made_fields, record_1_1, is_target, is_one_text}
 use Rattle.warc_write.specs.Making.{is_block, type_of}
 use Rattle.warc_write.proofs.TextLemmas.{decimal_is_read, decimal_is_value, id_is_id, id_is_value, sha1_fits}
 use Rattle.warc_write.proofs.TextLemmas.{sha1_len}
@@ -102,17 +102,17 @@ unfolding made
 no_uuid plan type kind date target uuid = rw (kind, date, target, uuid) refl
 
 pub no_content_type : (plan : Plan) (type uuid : List ℕ) → type_of plan.kind ≡ Some type → is_date plan.date ≡ true → is_target plan.uri ≡ true
-    → parsed plan.uuid ≡ Some uuid → is_text plan.content_type ≡ false → made plan ≡ Err Text
+    → parsed plan.uuid ≡ Some uuid → is_one_text plan.content_type ≡ false → made plan ≡ Err Text
 unfolding made
 no_content_type plan type uuid kind date target id text = rw (kind, date, target, id, text) refl
 
 pub no_block : (plan : Plan) (type uuid : List ℕ) → type_of plan.kind ≡ Some type → is_date plan.date ≡ true → is_target plan.uri ≡ true
-    → parsed plan.uuid ≡ Some uuid → is_text plan.content_type ≡ true → is_block plan.block ≡ false → made plan ≡ Err TooLong
+    → parsed plan.uuid ≡ Some uuid → is_one_text plan.content_type ≡ true → is_block plan.block ≡ false → made plan ≡ Err TooLong
 unfolding made
 no_block plan type uuid kind date target id text block = rw (kind, date, target, id, text, block) refl
 
 pub made_is : (plan : Plan) (type uuid : List ℕ) → type_of plan.kind ≡ Some type → is_date plan.date ≡ true → is_target plan.uri ≡ true
-    → parsed plan.uuid ≡ Some uuid → is_text plan.content_type ≡ true → is_block plan.block ≡ true
+    → parsed plan.uuid ≡ Some uuid → is_one_text plan.content_type ≡ true → is_block plan.block ≡ true
     → made plan ≡ fitted (made_fields type uuid plan) plan.block
 unfolding made
 made_is plan type uuid kind date target id text block = rw (kind, date, target, id, text, block) refl
@@ -162,9 +162,9 @@ no_parse (Err e) (Some u) both never = absurd (true≢false (sym (both.1 (u, ref
 
 -- what is read of a target and of a content type
 pub target_is_value : (uri : List ℕ) → is_target uri ≡ true → is_value uri ≡ true
-target_is_value uri is = (and_parts (is_value uri) (not (length uri == 0)) (and_parts (is_text uri) (bytes_eq (bare_text uri) uri) is).0).0
+target_is_value uri is = (and_parts (is_value uri) (not (length uri == 0)) (and_parts (is_one_text uri) (bytes_eq (bare_text uri) uri) is).0).0
 
-pub text_is_value : (text : List ℕ) → is_text text ≡ true → is_value text ≡ true
+pub text_is_value : (text : List ℕ) → is_one_text text ≡ true → is_value text ≡ true
 text_is_value text is = (and_parts (is_value text) (not (length text == 0)) is).0
 
 -- ---- a made record is good

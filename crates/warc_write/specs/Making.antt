@@ -41,12 +41,12 @@ type_of Continuation = None
 type_of Other = None
 
 -- a value that isn't empty
-abbrev pub is_text : List ℕ → Bool
-is_text text = is_value text && not (length text == 0)
+abbrev pub is_one_text : List ℕ → Bool
+is_one_text text = is_value text && not (length text == 0)
 
 -- a target: such a value that is its own bare text
 abbrev pub is_target : List ℕ → Bool
-is_target uri = is_text uri && bytes_eq (bare_text uri) uri
+is_target uri = is_one_text uri && bytes_eq (bare_text uri) uri
 
 -- the fields of a record with this type and id, in their order
 abbrev pub made_fields : List ℕ → List ℕ → Plan → List Pair
@@ -78,7 +78,7 @@ made plan = do
   _ ← checks (is_date plan.date) Date
   _ ← checks (is_target plan.uri) Text
   uuid ← needs (parsed plan.uuid) Text
-  _ ← checks (is_text plan.content_type) Text
+  _ ← checks (is_one_text plan.content_type) Text
   _ ← checks (is_block plan.block) TooLong
   fitted (made_fields type uuid plan) plan.block
 

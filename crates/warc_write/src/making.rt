@@ -6,7 +6,7 @@ ghost use Rattle.warc_field.specs.Text.{is_value};
 ghost use Rattle.warc_frame.specs.Record.{IsFramed, block_len, max_block};
 ghost use Rattle.warc_record.specs.Good.{IsGood};
 ghost use Rattle.warc_record.specs.Heads.{is_date};
-ghost use Rattle.warc_write.specs.Making.{Makes, fitted, is_target, is_text, made, made_fields};
+ghost use Rattle.warc_write.specs.Making.{Makes, fitted, is_target, is_one_text, made, made_fields};
 ghost use Rattle.warc_write.specs.Making.{make_fault_text, type_of};
 
 use crate::parts::{Label, add_field, add_number};
@@ -89,7 +89,7 @@ fn type_of(kind: Kind) -> Option<&'static [u8]>
 
 /// Whether the text is a value that isn't empty.
 fn is_text(text: &[u8]) -> bool
-    ensures { result ≡ is_text text.now }
+    ensures { result ≡ is_one_text text.now }
 {
     is_value(text) && !text.is_empty()
 }
@@ -158,7 +158,7 @@ fn judge(uri: &[u8], date: &[u8], uuid: &[u8], content_type: &[u8]) -> Result<Uu
     ensures date { OnOk result (is_date date.now ≡ true) }
     ensures target { OnOk result (is_target uri.now ≡ true) }
     ensures id { IfOk result (λ id. parsed uuid.now ≡ Some id) }
-    ensures content_type { OnOk result (is_text content_type.now ≡ true) }
+    ensures content_type { OnOk result (is_one_text content_type.now ≡ true) }
     ensures refused { (kind : Kind) (type block : List ℕ) → type_of kind ≡ Some type →
         IfErr result (λ fault. made (record {
           kind = kind;
