@@ -1,7 +1,7 @@
 -- Reading on in a source behind records that are kept.
 use Rattle.std.proofs.Common.{◌≡◌, ◌≢◌, ℕ, ◌+◌, ◌<◌, ◌≤◌, inl, inr, Bool, true, false, List, [], ◌∷◌, ◌++◌, length, take, drop, if◌then◌else◌, Option, None, Some, Result, Ok, Err, MatchResult, IfErr, OnErr, refl, sym, ap, subst, ◌∙◌, arith, length-append}
 use Rattle.std.proofs.Math.Seq.{drop-append_seam, take-add, take-append_seam, take-append-add}
-use Rattle.std.proofs.lemmas.List.{append_assoc, append-nil, drop-drop, length-drop, length-map, length-take}
+use Rattle.std.proofs.lemmas.List.{append_assoc, append-nil, drop-drop, length-drop, length-map, length-take, take-append-drop, take_all}
 use Rattle.warc_frame.specs.Count.{raised}
 use Rattle.warc_frame.specs.Decoding.{Finishes, IsAt, PhaseIs, State}
 use Rattle.warc_frame.specs.Device.{Gives}
@@ -16,12 +16,14 @@ use Rattle.warc_frame.proofs.JudgedLemmas.{judged_cut}
 use Rattle.warc_frame.proofs.LawLemmas.{no_fault_where_spelled}
 use Rattle.warc_record.specs.Heads.{head_fault}
 use Rattle.warc_reading.specs.Archive.{Contents, IsArchiveOf, IsFaultOf, SpellsFrom, contents}
+use Rattle.warc_reading.specs.Fronts.{AreFrontRows, IsLongestFront, reach_by, reach_of}
 use Rattle.warc_reading.specs.Growing.{Grows, IsDeviceFault, grown}
 use Rattle.warc_reading.specs.Opening.{Opens, faults_after}
 use Rattle.warc_reading.specs.Row.{Placed, Row, row_of}
-use Rattle.warc_reading.specs.Stream.{Extends, HasGiven, HasGivenFrom, HasRead, IsKeptOf, IsLeft, Matches, Since, Stands, StaysRefused, WantsSince}
+use Rattle.warc_reading.specs.Stream.{Extends, HasGiven, HasGivenFrom, HasRead, IsKeptOf, IsLeft, Matches, Since, Stands, StaysRefused, Stops, WantsSince}
 use Rattle.warc_reading.specs.declared.reading.Current.{Current}
 use Rattle.warc_reading.specs.declared.reading.Reading.{Reading}
+use Rattle.warc_reading.proofs.FrontLemmas.{longest_cut, none_read}
 use Rattle.warc_reading.proofs.GoodLemmas.{accepted}
 use Rattle.warc_reading.proofs.IndexedLemmas.{opens_with, refuses_with}
 use Rattle.warc_reading.proofs.OpeningLemmas.{near_more, opens_ended, opens_refused, opens_unread, read_there}
@@ -302,6 +304,59 @@ module _ (start : ℕ) (old mid new : Tapped) (taken : List ℕ) (has : HasGiven
         (sound well ∙ sym (not_raised f.kind old.faults never))
         (λ is. absurd (never is)) (λ is. absurd (never is))
 
+-- ---- the front that was read
+
+module _ (start : ℕ) (old mid : Tapped) (taken : List ℕ) (has : HasGivenFrom start old mid taken) (short : start + length taken ≤ max_archive) {A L : Type 0} (K : L → List Placed → Type 0) (was : List Row × L)
+    (at : (bytes : List ℕ) → IsKeptOf K bytes was → start ≡ length bytes) (d : State) (r : Reading A L)
+    (stands : (bytes : List ℕ) (is : IsKeptOf K bytes was) → Stands (Since K is.listed.are.records) (bytes ++ taken) d r) (lies : (text : List ℕ) (told : Told) → IsAt 0 text told d → Lies text told) where
+  -- what was read is a front of less than one more record
+  cut_there : (bytes : List ℕ) → IsKeptOf K bytes was → IsLongestFront (bytes ++ taken) r.rows
+  cut_there bytes is = let s = stands bytes is in longest_cut (bytes ++ taken) s.told r s.has r.rows refl (omega (arith, at bytes is, short, length-append bytes taken)) (lies (bytes ++ taken) s.told s.is_at)
+
+  -- a read failed
+  pub stops_unread : (bytes more : List ℕ) → IsKeptOf K bytes was → old.holds ≡ Some (bytes ++ more) → IsLongestFront (take (start + length taken) (bytes ++ more)) r.rows
+  stops_unread bytes more is held =
+      let here = at bytes is in
+      let given = whole_given start old mid taken bytes more has here held in
+      let size : length (bytes ++ taken) ≡ start + length taken = omega (arith, here, length-append bytes taken) in
+      let front : bytes ++ taken ≡ take (start + length taken) (bytes ++ more) = given.part (bytes ++ more) held ∙ ap (λ n. take n (bytes ++ more)) size in
+      let P : List ℕ → Type 0 = λ t. IsLongestFront t r.rows in
+      subst P front (cut_there bytes is)
+
+  -- a piece was refused
+  pub stops_refused : (buf : List ℕ) (n place : ℕ) (rows : List Row) (f : Fault) → place ≡ start + length taken → ((all : List ℕ) → old.holds ≡ Some all → Gives all place buf n)
+      → ((bytes : List ℕ) (is : IsKeptOf K bytes was) → Stops ((bytes ++ taken) ++ take n buf) rows f) → (bytes more : List ℕ) → IsKeptOf K bytes was → old.holds ≡ Some (bytes ++ more)
+      → IsLongestFront (take (reach_of f) (bytes ++ more)) rows
+  stops_refused buf n place rows f there gives stops bytes more is held =
+      let here = at bytes is in
+      let all : List ℕ = bytes ++ more in
+      let given = whole_given start old mid taken bytes more has here held in
+      let size : place ≡ length (bytes ++ taken) = omega (arith, there, here, length-append bytes taken) in
+      let m : ℕ = length (bytes ++ taken) + n in
+      let front : (bytes ++ taken) ++ take n buf ≡ take m all = front_grows all (bytes ++ taken) buf place n size (given.part all held) (gives all held) in
+      let whole : ((bytes ++ taken) ++ take n buf) ++ drop m all ≡ all = ap (λ t. t ++ drop m all) front ∙ take-append-drop m all in
+      let P : List ℕ → Type 0 = λ t. IsLongestFront (take (reach_of f) t) rows in
+      subst P whole (stops bytes is (drop m all))
+
+  -- the source ended
+  pub stops_ended : (buf : List ℕ) (n place : ℕ) (result : Result (Unit {0}) Fault) → place ≡ start + length taken → n ≡ 0 → 0 < length buf → ((all : List ℕ) → old.holds ≡ Some all → Gives all place buf n)
+      → ((at : ℕ) (text : List ℕ) (told : Told) → IsAt at text told d → Finishes at text told result) → (bytes more : List ℕ) → IsKeptOf K bytes was → old.holds ≡ Some (bytes ++ more)
+      → IfErr result (λ f. IsLongestFront (take (reach_of f) (bytes ++ more)) r.rows)
+  stops_ended buf n place (Ok u) there zero room gives ends_so bytes more is held = tt
+  stops_ended buf n place (Err f) there zero room gives ends_so bytes more is held =
+      let here = at bytes is in
+      let s = stands bytes is in
+      let all : List ℕ = bytes ++ more in
+      let given = whole_given start old mid taken bytes more has here held in
+      let size : place ≡ length (bytes ++ taken) = omega (arith, there, here, length-append bytes taken) in
+      let whole : bytes ++ taken ≡ all = ends all (bytes ++ taken) buf place n size (given.part all held) (gives all held) room zero in
+      let f_is : f ≡ fault Truncated (0 + length (bytes ++ taken)) = (ends_so 0 (bytes ++ taken) s.told s.is_at).0 in
+      let low : length (bytes ++ taken) ≤ max_archive = omega (arith, size, there, short) in
+      let reach : reach_of f ≡ max_archive = ap reach_of f_is in
+      let cut : bytes ++ taken ≡ take (reach_of f) all = sym (take_all max_archive (bytes ++ taken) low) ∙ ap (take max_archive) whole ∙ ap (λ k. take k all) (sym reach) in
+      let P : List ℕ → Type 0 = λ t. IsLongestFront t r.rows in
+      subst P cut (cut_there bytes is)
+
 -- ---- the whole answer
 
 -- memory was refused before the first read
@@ -384,6 +439,19 @@ none_kept K l is = record {
   };
   beside = is;
 }
+
+-- the rows that reading from nothing gives
+pub front_rows : {L : Type 0} {K : L → List Placed → Type 0} (old new : Tapped) (l : L) (none rows : List Row) (answer : Result (Unit {0}) Fault) → none ≡ [] → K l [] → Opens IsArchiveOf old new (grown answer rows)
+    → ((bytes more : List ℕ) → IsKeptOf K bytes (none, l) → old.holds ≡ Some (bytes ++ more) → IfErr answer (λ f. IsLongestFront (take (reach_of f) (bytes ++ more)) rows))
+    → (bytes : List ℕ) → old.holds ≡ Some bytes → AreFrontRows bytes answer rows
+front_rows old new l none rows (Ok u) empty_rows begins opens stops bytes held = opens.accepted bytes held
+front_rows {L} {K} old new l none rows (Err f) empty_rows begins opens stops bytes held =
+    let P : List Row → Type 0 = λ xs. IsKeptOf K [] (xs, l) in
+    stops [] bytes (subst P (sym empty_rows) (none_kept K l begins)) held
+
+-- memory was refused before the first read
+pub front_untried : (bytes : List ℕ) (rows : List Row) → rows ≡ [] → AreFrontRows bytes (Err (fault Memory 0)) rows
+front_untried bytes rows none = let P : List Row → Type 0 = λ xs. IsLongestFront (take 0 bytes) xs in subst P (sym none) none_read
 
 pub grows_from : {L : Type 0} {Is : List ℕ → List Row × L → Type 0} {old new : Tapped} (rows now : List Row) (l m : L) (answer : Result (List Row × L) Fault) → rows ≡ now → l ≡ m → Grows Is (rows, l) old new answer → Grows Is (now, m) old new answer
 grows_from {L} {Is} {old} {new} rows now l m answer same also grows =

@@ -1,3 +1,4 @@
+pub mod FrontLemmas
 pub mod GoodLemmas
 pub mod GrowLemmas
 pub mod IndexedLemmas

@@ -14,11 +14,12 @@ use Rattle.warc_frame.specs.declared.stream.Event.TheVariants as events
 use Rattle.warc_frame.specs.declared.version.Version.{Version}
 use Rattle.warc_record.specs.Heads.{head_fault}
 use Rattle.warc_reading.specs.Indexed.{place_of}
-use Rattle.warc_reading.specs.Stream.{HasRead, HasSeen, IsHead, Stands, StaysRefused, place_by, row_by}
+use Rattle.warc_reading.specs.Stream.{HasRead, HasSeen, IsHead, Stands, StaysRefused, Stops, place_by, row_by}
 use Rattle.warc_reading.specs.Row.{Placed, Row}
 use Rattle.warc_reading.specs.declared.reading.Current.{Current}
 use Rattle.warc_reading.specs.declared.reading.Reading.{Reading}
 use Rattle.warc_reading.proofs.StreamLemmas.{TakesPart, end_kept_by, head_kept, more_kept, part_kept}
+use Rattle.warc_reading.proofs.FrontLemmas.{head_stops_at, stops_more}
 use Rattle.warc_reading.proofs.RefusalLemmas.{head_refused, memory_at, stays_more}
 
 pub ok_then : {E : Type 0} {P : Type 0} (r : Result (Unit {0}) E) (x : Unit {0}) → OnOk r P → r ≡ Ok x → P
@@ -102,6 +103,16 @@ module _ {A B L : Type 0} {K : L → List Placed → Type 0} (text piece : List 
       let u : Unclosed = record { version = version; fields = fields; block_len = n; bytes = [] } in
       further (fault kind old.begin)
       (head_refused text (take took piece) told.records u old kind (unclosed_as text told None old here.may has) here.exact fault_is short)
+
+  pub head_front : (version : Version) (fields : List Pair) (n : ℕ) (kind : FaultKind) (rows : List Row) → event ≡ events.Head version fields n → head_fault fields ≡ Some kind
+      → length (text ++ take took piece) ≤ max_archive → rows ≡ old.rows → length text ≤ max_archive → Stops (text ++ piece) rows (fault kind old.begin)
+  head_front version fields n kind rows is fault_is short same low =
+      let T : Event B → Type 0 = λ e. Takes 0 text told d piece took e in
+      let here = subst T is takes in
+      let u : Unclosed = record { version = version; fields = fields; block_len = n; bytes = [] } in
+      let P : List ℕ → Type 0 = λ t. Stops t rows (fault kind old.begin) in
+      subst P whole (stops_more (text ++ take took piece) (drop took piece) rows (fault kind old.begin)
+      (head_stops_at text (take took piece) told old has rows same low u kind old.begin here.may here.exact fault_is short))
 
 -- memory was wanted for the record that was being read
 pub memory_stops : {A L : Type 0} {K : L → List Placed → Type 0} (text piece : List ℕ) (told : Told) (r : Reading A L) → HasRead K text told r → (kind : FaultKind) → kind ≡ Memory → StaysRefused (text ++ piece) (fault kind r.begin)

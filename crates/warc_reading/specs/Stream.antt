@@ -17,6 +17,7 @@ use Rattle.warc_record.specs.Heads.{head_fault}
 use Rattle.warc_record.specs.Readings.{digest_wanted, reading_of}
 use Rattle.warc_segment.specs.declared.place.Place.{Place}
 use Rattle.warc_reading.specs.Archive.{IsArchiveOf, SpellsFrom, contents, IsFaultOf, IsRecordEnd}
+use Rattle.warc_reading.specs.Fronts.{IsLongestFront, reach_of}
 use Rattle.warc_reading.specs.Row.{Placed, Row, row_of}
 use Rattle.warc_frame.specs.Seen.{AsksOnly, IfHeld, Tapped}
 use Rattle.warc_reading.specs.declared.reading.BlockDigest.{BlockDigest}
@@ -127,6 +128,10 @@ StaysBy kind bytes f = IsFaultOf bytes f
 
 abbrev pub StaysRefused : List ℕ → Fault → Type 0
 StaysRefused bytes f = StaysBy f.kind bytes f
+
+-- whatever follows this text, these are the rows of the longest front of what was read before it was refused
+abbrev pub Stops : List ℕ → List Row → Fault → Type 0
+Stops text rows f = (more : List ℕ) → IsLongestFront (take (reach_of f) (text ++ more)) rows
 
 -- behind this text the record that is being read is still the same, or it begins behind the text
 abbrev pub BeginsSince : List ℕ → ℕ → ℕ → Type 0

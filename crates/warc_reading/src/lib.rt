@@ -7,5 +7,5 @@ mod rows;
 mod spare;
 
 pub use beside::{Gathering, Keep, Lookup, Nothing};
-pub use reading::read_on;
+pub use reading::{read_front, read_on};
 pub use rows::{Row, Rows};

@@ -3,18 +3,21 @@ ghost use Rattle.std.specs.Prelude.{◌≡◌, ◌≢◌, ℕ, ◌+◌, ◌-◌,
 ghost use Rattle.warc_value.specs.Digests.{verdict_of};
 ghost use Rattle.warc_record.specs.Heads.{head_fault};
 ghost use Rattle.warc_reading.specs.Archive.{IsArchiveOf};
+ghost use Rattle.warc_reading.specs.Fronts.{AreFrontRows, IsLongestFront, reach_of};
 ghost use Rattle.warc_reading.specs.Indexed.{place_of};
 ghost use Rattle.warc_reading.specs.Growing.{Grows, grown};
+ghost use Rattle.warc_reading.specs.Opening.{Opens};
 ghost use Rattle.warc_reading.specs.Row.{Placed};
 ghost use Rattle.warc_frame.specs.Decoding.{IsAt};
 ghost use Rattle.warc_frame.specs.Device.{Gives};
 ghost use Rattle.warc_frame.specs.Ranges.{IsReadAt};
 ghost use Rattle.warc_frame.specs.Record.{max_archive};
+ghost use Rattle.warc_frame.specs.Seen.{IfHeld};
 ghost use Rattle.warc_frame.specs.Told.{Told};
-ghost use Rattle.warc_reading.specs.Stream.{BeginsSince, Extends, HasSeen, WantsSince, IsHead, IsKeptOf, IsLeft, Since, Stands, StaysRefused, place_by, row_by};
+ghost use Rattle.warc_reading.specs.Stream.{BeginsSince, Extends, HasSeen, WantsSince, IsHead, IsKeptOf, IsLeft, Since, Stands, StaysRefused, Stops, place_by, row_by};
 ghost use Rattle.warc_reading.specs.declared.reading.Current.{Current as Kept};
 
-use crate::beside::Keep;
+use crate::beside::{Keep, Nothing};
 use crate::rows::{Row, Rows};
 use crate::spare::Spare;
 use std::alloc::{AllocError, Allocator};
@@ -162,6 +165,7 @@ impl<A: Allocator + Copy, L: Keep<A> + Drop> Reading<A, L> {
         ensures row { (c : Kept A) (bytes : List ℕ) → self.old.current ≡ Some c → HasSeen c.digest bytes →
             OnOk result (self.new.rows ≡ self.old.rows ++ row_by self.old.begin c bytes ∷ []) }
         ensures extends { Extends self.old.rows self.new.rows }
+        ensures untouched { OnErr result (self.new.rows ≡ self.old.rows) }
         ensures beside { (c : Kept A) (bytes : List ℕ) (records : List Placed) (p : Placed) →
             self.old.current ≡ Some c → HasSeen c.digest bytes → L.keeps self.old.beside records →
             length self.old.rows ≡ length records → c.head ≡ p.content.fields →
@@ -197,7 +201,14 @@ impl<A: Allocator + Copy, L: Keep<A> + Drop> Reading<A, L> {
                 verdict,
                 truncated: texts.is_truncated,
             };
-            self.beside.keep(alloc, position, head.fields(), place)?;
+            match self.beside.keep(alloc, position, head.fields(), place) {
+                Ok(()) => {}
+                Err(refused) => {
+                    // The row is taken back, which takes no memory.
+                    self.rows.truncate(position);
+                    return Err(refused);
+                }
+            }
             self.spare.keep(head.into_fields());
         }
         self.begin = end;
@@ -221,11 +232,14 @@ fn take_front<A: Allocator + Copy, L: Keep<A> + Drop>(
         (WantsSince text piece.now reading.old.begin) }
     ensures left { (was : List Placed) (text : List ℕ) → Stands (Since L.keeps was) text decoder.old reading.old
         → OnErr result (IsLeft L.keeps was reading.new.beside) }
+    ensures stops { (was : List Placed) (text : List ℕ) → Stands (Since L.keeps was) text decoder.old reading.old
+        → IfErr result (Stops (text ++ piece.now) reading.new.rows) }
     ensures rows { Extends reading.old.rows reading.new.rows }
     ensures taken { (at : ℕ) (taken : List ℕ) (told : Told) → IsAt at taken told decoder.old → MatchResult result
         (λ took. (now : Told) × IsAt at (taken ++ take took piece.now) now decoder.new) (λ f. f.kind ≢ FaultKind.Read) }
     ensures within { IfOk result (λ took. (0 < took) × (took ≤ length piece.now)) }
 {
+    let _begin = decoder.position();
     let (took, event) = decoder.step(piece)?;
     let position = decoder.position();
     let begin = reading.begin;
@@ -261,6 +275,8 @@ fn take_piece<A: Allocator + Copy, L: Keep<A> + Drop>(
         → IfErr result (WantsSince text piece.now reading.old.begin) }
     ensures left { (was : List Placed) (text : List ℕ) → Stands (Since L.keeps was) text decoder.old reading.old
         → OnErr result (IsLeft L.keeps was reading.new.beside) }
+    ensures stops { (was : List Placed) (text : List ℕ) → Stands (Since L.keeps was) text decoder.old reading.old
+        → IfErr result (Stops (text ++ piece.now) reading.new.rows) }
     ensures rows { Extends reading.old.rows reading.new.rows }
     ensures taken { (at : ℕ) (taken : List ℕ) (told : Told) → IsAt at taken told decoder.old → MatchResult result
         (λ _. (now : Told) × IsAt at (taken ++ piece.now) now decoder.new) (λ f. f.kind ≢ FaultKind.Read) }
@@ -302,6 +318,9 @@ fn read_through<S: Source, A: Allocator + Copy, L: Keep<A> + Drop>(
     ensures rows { Extends reading.old.rows reading.new.rows }
     ensures left { (bytes : List ℕ) (is : IsKeptOf L.keeps bytes (reading.old.rows, reading.old.beside))
         → OnErr result (IsLeft L.keeps is.listed.are.records reading.new.beside) }
+    ensures stops { (bytes more : List ℕ) → IsKeptOf L.keeps bytes (reading.old.rows, reading.old.beside) →
+        (S.tapped source.old).holds ≡ Some (bytes ++ more) → IfErr result (λ f. IsLongestFront (take (reach_of f)
+        (bytes ++ more)) reading.new.rows) }
 {
     let mut decoder = Decoder::new(alloc, reading.begin);
     'reading: loop {
@@ -344,4 +363,21 @@ pub fn read_on<S: Source, A: Allocator + Copy, L: Keep<A> + Drop>(
             (Err(fault), reading.rows, reading.beside)
         }
     }
+}
+
+/// Reads a source from its front to its end: keeps a row of each good record before the first fault, or before what
+/// couldn't be read. A refusal comes beside these rows.
+pub fn read_front<S: Source, A: Allocator + Copy>(
+    alloc: A,
+    source: &mut S,
+) -> (Result<(), Fault>, Rows<A>)
+    ensures opens { Opens IsArchiveOf (S.tapped source.old) (S.tapped source.new) (grown result.0 result.1) }
+    ensures front { IfHeld (S.tapped source.old).holds (λ bytes. AreFrontRows bytes result.0 result.1) }
+{
+    let Ok(mut buf) = vec![in alloc; 0u8; PIECE] else {
+        return (Err(FaultKind::Memory.at(0)), Rows::new(alloc));
+    };
+    let mut reading = Reading::behind(Rows::new(alloc), Nothing);
+    let answer = read_through(alloc, source, &mut buf, &mut reading);
+    (answer, reading.rows)
 }

@@ -1,7 +1,7 @@
 use Rattle.std.proofs.Common.{rules, ℕ, ◌<◌, true, false, List, ◌++◌, [], length, take, refl, ◌∙◌, arith, length-append}
 use Rattle.std.proofs.lemmas.Result.{err_from_is_err_and}
 use Rattle.warc_frame.specs.Told.{nothing}
-use Rattle.warc_reading.proofs.GrowLemmas.{begun, extends_more, extends_none, given_none, given_on, grows_ended, grows_refused, grows_unread, on_err, part_grows, since_left}
+use Rattle.warc_reading.proofs.GrowLemmas.{begun, extends_more, extends_none, given_none, given_on, grows_ended, grows_refused, grows_unread, on_err, part_grows, since_left, stops_ended, stops_refused, stops_unread}
 use Rattle.warc_reading.proofs.OpeningLemmas.{fits_near, near, read_there}
 use Rattle.warc_reading.proofs.SourceLemmas.{length_grows}
 use Rattle.warc_reading.proofs.reading.read_through.Goals as goal
@@ -32,6 +32,38 @@ pub returns-in-Err-clause-left : goal.returns-in-Err-clause-left
 returns-in-Err-clause-left g c = λ bytes is.
     let s = c.reading.invariant.stands bytes is in
     since_left g.L.Keep.keeps is.listed.are.records c.reading.reading.beside s.has.records s.has.beside
+
+pub returns-in-Err-clause-stops : goal.returns-in-Err-clause-stops
+returns-in-Err-clause-stops g c =
+    let i = c.reading.invariant in
+    let (end, lies) = c.position-at.ensures.history c.args.reading.now.begin i.taken i.told i.is_at in
+    let stops = stops_unread c.args.reading.now.begin _ _ i.taken i.given (omega (arith, end, c.position-at.ensures.limit)) g.L.Keep.keeps (c.args.reading.now.rows, c.args.reading.now.beside)
+    (λ bytes is. c.requires.begin bytes is.listed) c.reading.decoder c.reading.reading i.stands (λ text told is. (c.position-at.ensures.history 0 text told is).1) in
+    rw (c.at.ensures, end) stops
+
+pub returns-in_err-take_piece-clause-stops : goal.returns-in_err-take_piece-clause-stops
+returns-in_err-take_piece-clause-stops g c =
+    let p = err_from_is_err_and c.from_residual.result c.from_residual.ensures.1 in
+    let i = c.reading.invariant in
+    let start : ℕ = c.args.reading.now.begin in
+    let (end, lies) = c.position-at.ensures.history start i.taken i.told i.is_at in
+    rw (p.1, p.2) (stops_refused start _ _ i.taken i.given (omega (arith, end, c.position-at.ensures.limit)) g.L.Keep.keeps (c.args.reading.now.rows, c.args.reading.now.beside)
+    (λ bytes is. c.requires.begin bytes is.listed) c.reading.decoder c.reading.reading i.stands (λ text told is. (c.position-at.ensures.history 0 text told is).1)
+    c.read_near.new.buf c.in-Ok.n c.position-at.result c.take_piece.new.reading.rows c.in_err-take_piece.field-0.0 end
+    (λ bytes held. c.in-Ok.ensures.bytes bytes (i.given.kept ∙ held))
+    (λ bytes is. c.in_err-take_piece.ensures.stops is.listed.are.records (bytes ++ i.taken) (i.stands bytes is)))
+
+pub returns-clause-stops : goal.returns-clause-stops
+returns-clause-stops g c =
+    let i = c.reading.invariant in
+    let start : ℕ = c.args.reading.now.begin in
+    let (end, lies) = c.position-at.ensures.history start i.taken i.told i.is_at in
+    stops_ended start _ _ i.taken i.given (omega (arith, end, c.position-at.ensures.limit)) g.L.Keep.keeps (c.args.reading.now.rows, c.args.reading.now.beside)
+    (λ bytes is. c.requires.begin bytes is.listed) c.reading.decoder c.reading.reading i.stands (λ text told is. (c.position-at.ensures.history 0 text told is).1)
+    c.read_near.new.buf c.in-Ok.n c.position-at.result c.finish.result end c.if-n-eq0.true
+    (omega (arith, c.requires.room, i.room, c.read_near.auto.buf))
+    (λ bytes held. c.in-Ok.ensures.bytes bytes (i.given.kept ∙ held))
+    (λ at text told is. c.finish.ensures.history at text told is)
 
 pub reading-smaller : goal.reading-smaller
 reading-smaller g c =

@@ -1,13 +1,15 @@
-use Rattle.std.proofs.Common.{◌≡◌, ℕ, List, ◌++◌, length, take, inl, inr, sym, ap, ◌∙◌, arith, length-append}
+use Rattle.std.proofs.Common.{◌≡◌, ℕ, ◌≤◌, List, ◌++◌, length, take, inl, inr, refl, sym, ap, ◌∙◌, arith, length-append}
 use Rattle.std.proofs.lemmas.Result.{err_from_is_err_and}
 use Rattle.std.proofs.lemmas.List.{length-map}
+use Rattle.warc_frame.specs.Record.{max_archive}
 use Rattle.warc_frame.specs.Told.{tell}
 use Rattle.warc_frame.specs.declared.fault.FaultKind.TheVariants.{Memory, Read}
 use Rattle.warc_reading.specs.Row.{row_of}
+use Rattle.warc_reading.proofs.FrontLemmas.{memory_stops_at, step_stops}
 use Rattle.warc_reading.proofs.GrowLemmas.{extends_none, extends_same, left_by, since_left, since_more}
 use Rattle.warc_reading.proofs.OpeningLemmas.{step_wants}
 use Rattle.warc_reading.proofs.RefusalLemmas.{head_not_read, refuses_not_read, step_refused}
-use Rattle.warc_reading.proofs.StepLemmas.{end_stands, head_stands, err_then, head_stops, memory_stops, more_stands, ok_then, part_stands}
+use Rattle.warc_reading.proofs.StepLemmas.{end_stands, head_stands, err_then, head_front, head_stops, memory_stops, more_stands, ok_then, part_stands}
 use Rattle.warc_reading.proofs.reading.take_front.Goals as goal
 use Rattle.warc_reading.proofs.reading.take_front.Goals.{in-More, in-Head, in-Part, in-End+in-Ok, in-End+in-Err}
 
@@ -103,6 +105,36 @@ returns-in-Err-kept-clause-left g c = λ was text stands.
       | in-End+in-Err w ↦
           left_by g.L.Keep.keeps was old.beside new.beside records stands.has.beside (rw w.reading-is (w.in-Err.ensures.left records stands.has.beside.0 (ap length stands.has.rows_are ∙ length-map records row_of)))
     ]
+
+pub returns-in_err-took-clause-stops : goal.returns-in_err-took-clause-stops
+returns-in_err-took-clause-stops g c =
+    let p = err_from_is_err_and c.from_residual.result c.from_residual.ensures.1 in
+    rw (p.1, p.2) (λ was text stands.
+    let (at, lies) = c.position-begin.ensures.history 0 text stands.told stands.is_at in
+    step_stops text stands.told c.args.reading.now stands.has c.args.reading.now.rows refl (omega (arith, at, c.position-begin.ensures.limit)) c.args.piece.now c.in_err-took.field-0.0 (c.in_err-took.ensures.history 0 text stands.told stands.is_at))
+
+pub returns-in-Err-kept-clause-stops : goal.returns-in-Err-kept-clause-stops
+returns-in-Err-kept-clause-stops g c = λ was text stands.
+    let takes = c.in_ok-took.ensures.history 0 text stands.told stands.is_at in
+    let piece : List ℕ = c.args.piece.now in
+    let took : ℕ = c.in_ok-took.took in
+    let old = c.args.reading.now in
+    let new = c.match-event.reading in
+    let at = (c.position-position.ensures.history 0 (text ++ take took piece) _ takes.is_at).0 in
+    let here : c.position-position.result ≡ length (text ++ take took piece) = omega (arith, at) in
+    let first = (c.position-begin.ensures.history 0 text stands.told stands.is_at).0 in
+    let low : length text ≤ max_archive = omega (arith, first, c.position-begin.ensures.limit) in
+    rw c.at.ensures (elim c.match-event.branch [
+      | in-More w ↦ cc (sym c.in-Err-kept.is ∙ w.kept-is)
+      | in-Head w ↦
+          head_front text piece stands.told c.step.new.self took c.in_ok-took.event takes old new stands.has w.in-Head.field-0 w.in-Head.fields w.in-Head.block_len c.in-Err-kept.kind new.rows w.in-Head.is
+          (err_then _ w.begin_block-kept.result c.in-Err-kept.kind w.begin_block-kept.ensures.fault (sym w.kept-is ∙ c.in-Err-kept.is)) (omega (arith, here, c.position-position.ensures.limit))
+          (ap (λ r. r.rows) w.reading-is ∙ w.begin_block-kept.ensures.rows) low
+      | in-Part w ↦ cc (sym c.in-Err-kept.is ∙ w.kept-is)
+      | in-End+in-Ok w ↦ cc (sym c.in-Err-kept.is ∙ w.kept-is)
+      | in-End+in-Err w ↦
+          memory_stops_at text stands.told old stands.has new.rows (ap (λ r. r.rows) w.reading-is ∙ w.in-Err.ensures.untouched) low piece c.in-Err-kept.kind (cc (sym c.in-Err-kept.is ∙ w.kept-is))
+    ])
 
 pub returns-in_err-took-clause-rows : goal.returns-in_err-took-clause-rows
 returns-in_err-took-clause-rows g c = extends_none c.args.reading.now.rows

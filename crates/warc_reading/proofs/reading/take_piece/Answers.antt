@@ -2,7 +2,7 @@ use Rattle.std.proofs.Common.{◌≡◌, ℕ, ◌+◌, ◌-◌, List, ◌++◌, 
 use Rattle.std.proofs.lemmas.List.{append_assoc, append-nil, length-drop, take-append-drop, take_all, take_rest}
 use Rattle.std.proofs.lemmas.Result.{err_from_is_err_and}
 use Rattle.warc_frame.specs.Decoding.{IsAt}
-use Rattle.warc_reading.specs.Stream.{Since, Stands, StaysRefused}
+use Rattle.warc_reading.specs.Stream.{Since, Stands, StaysRefused, Stops}
 use Rattle.std.proofs.Math.Seq.{take-add}
 use Rattle.warc_reading.proofs.GrowLemmas.{extends_more, extends_none, on_err}
 use Rattle.warc_reading.proofs.OpeningLemmas.{begins_behind, wants_before}
@@ -53,6 +53,15 @@ returns-in_err-from-clause-memory g c =
 pub returns-in_err-from-clause-left : goal.returns-in_err-from-clause-left
 returns-in_err-from-clause-left g c =
     λ was text is. on_err c.from_residual.result (c.in_err-from.ensures.left was (text ++ take c.taking.from c.args.piece.now) (c.taking.invariant.stands was text is))
+
+pub returns-in_err-from-clause-stops : goal.returns-in_err-from-clause-stops
+returns-in_err-from-clause-stops g c =
+    let p = err_from_is_err_and c.from_residual.result c.from_residual.ensures.1 in
+    let piece : List ℕ = c.args.piece.now in
+    let from : ℕ = c.taking.from in
+    rw (p.1, p.2) (λ was text is.
+    let P : List ℕ → Type 0 = λ t. Stops t c.take_front.new.reading.rows c.in_err-from.field-0.0 in
+    subst P (whole text piece from) (c.in_err-from.ensures.stops was (text ++ take from piece) (c.taking.invariant.stands was text is)))
 
 pub returns-in_err-from-clause-rows : goal.returns-in_err-from-clause-rows
 returns-in_err-from-clause-rows g c = extends_more _ _ _ c.taking.invariant.rows c.take_front.ensures.rows
