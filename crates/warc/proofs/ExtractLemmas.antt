@@ -1,8 +1,9 @@
 -- What extracting the block of a record promises.
-use Rattle.std.proofs.Common.{◌≡◌, ℕ, ◌≤◌, List, length, take, drop, Option, Some, None, Ok, Err, refl, sym, ap, subst, ◌∙◌, arith}
-use Rattle.std.specs.Prelude.{option_and_then, option_map, Result}
+use Rattle.std.proofs.Common.{◌≡◌, ℕ, ◌+◌, ◌-◌, ◌≤◌, List, length, take, drop, Option, Some, None, Ok, Err, length-take, refl, sym, ap, subst, ◌∙◌, arith}
+use Rattle.std.specs.Prelude.{option_and_then, option_map, slice_range, Result}
 use Rattle.std.specs.Io.KnownBytes.{append_known}
 use Rattle.std.specs.List.{slice_get}
+use Rattle.std.proofs.lemmas.List.{length-drop}
 use Rattle.std.proofs.lemmas.Option.{slice_get-map}
 use Rattle.warc_frame.specs.Copying.{HasRange, IsOfDevice}
 use Rattle.warc_frame.specs.Failing.{HasFailedBy, MayHaveFailedBy, failed_with}
@@ -13,75 +14,109 @@ use Rattle.warc_frame.specs.Send.{WentOut, sent_of}
 use Rattle.warc_frame.specs.declared.fault.OutFault.{OutFault}
 use Rattle.warc_frame.specs.declared.fault.OutFault.TheVariants as outs
 use Rattle.warc_reading.specs.Archive.{IsArchiveOf}
-use Rattle.warc.specs.Extracting.{Extracts, ExtractsAt, IsExtract, IsExtractCut, ReadsBlock, extracted, position_with}
+use Rattle.warc.specs.Extracting.{Extracts, IsExtract, extracted, position_with}
+use Rattle.warc.specs.Parts.{GivesPart, IsGiven, IsGivenCut, ReadsPart, part_len, part_start, part_text}
 use Rattle.warc_reading.specs.Indexed.{Archived, AreOf}
 use Rattle.warc_reading.specs.Row.{Placed, Row, row_of}
 use Rattle.warc.specs.Standing.{IsWritten}
 use Rattle.warc.specs.declared.fault.ExtractFault.{ExtractFault}
 use Rattle.warc.specs.declared.fault.ExtractFault.TheVariants.{NoRecord, Out}
+use Rattle.warc.specs.declared.part.Part.{Part}
+use Rattle.warc.specs.declared.part.Part.TheVariants.{Head, Block}
 use Rattle.warc_checking.proofs.RecordsLemmas.{placed}
 use Rattle.warc.proofs.StandLemmas.{written}
 use Rattle.warc.proofs.TakeLemmas.{absent}
 
-nothing_read : (found : Option Row) (s : Tapped) → ReadsBlock found s s
-nothing_read found s = record { near = λ off. refl; bound = omega arith; watched = refl }
+nothing_read : (part : Part) (found : Option Row) (s : Tapped) → ReadsPart part found s s
+nothing_read part found s = record { near = λ off. refl; bound = omega arith; watched = refl }
 
-pub extracts_none : (rows : List Row) (i : ℕ) (s : Tapped) (o : Seen) → slice_get rows i ≡ None → ExtractsAt rows i s s o o (Err NoRecord)
-extracts_none rows i s o none = record {
-  told = λ bytes held is. (absent is.are.records i (ap (λ l. slice_get l i) (sym is.are.rows_are) ∙ none), refl);
+no_row : (bytes : List ℕ) (rows : List Row) (is : IsArchiveOf bytes rows) (i : ℕ) → slice_get rows i ≡ None → slice_get is.are.records i ≡ None
+no_row bytes rows is i none = absent is.are.records i (ap (λ l. slice_get l i) (sym is.are.rows_are) ∙ none)
+
+pub gives_none : (part : Part) (rows : List Row) (i : ℕ) (s : Tapped) (o : Seen) → slice_get rows i ≡ None → GivesPart part rows i s s o o (Err NoRecord)
+gives_none part rows i s o none = record {
+  told = λ bytes held is. (ap (option_map (λ p. part_text part bytes p)) (no_row bytes rows is i none), refl);
   failed = λ bytes held is. refl;
   silent = λ e. refl;
+  absent = (λ e. none, λ e. refl);
   kept = refl;
-  reads = nothing_read (slice_get rows i) s;
+  reads = nothing_read part (slice_get rows i) s;
   may = refl;
   cause = refl;
 }
 
-cut_by : (e : OutFault) (found : Option Placed) (p : Placed) (old new : Option (List ℕ)) → IsOfDevice e → found ≡ Some p → WentOut old p.content.block new (sent_of e) → IsExtractCut found e old new
-cut_by (outs.Read n) found p old new device is went = (p, is, went)
-cut_by (outs.Write n) found p old new device is went = (p, is, went)
-cut_by (outs.Memory n) found p old new device is went = absurd device
+cut_by : (e : OutFault) (found : Option (List ℕ)) (text : List ℕ) (old new : Option (List ℕ)) → IsOfDevice e → found ≡ Some text → WentOut old text new (sent_of e) → IsGivenCut found e old new
+cut_by (outs.Read n) found text old new device is went = (text, is, went)
+cut_by (outs.Write n) found text old new device is went = (text, is, went)
+cut_by (outs.Memory n) found text old new device is went = absurd device
 
--- where the block of a row's record lies
-block_text : (bytes : List ℕ) (p : Placed) (row : Row) → IsWritten bytes p → row ≡ row_of p → take row.block_len (drop row.block_start bytes) ≡ p.content.block
-block_text bytes p row has same =
-    ap (λ (r : Row). take r.block_len (drop r.block_start bytes)) same ∙ has.block
+-- where a part of a row's record lies
+part_there : (part : Part) (bytes : List ℕ) (p : Placed) → IsWritten bytes p → take (part_len part (row_of p)) (drop (part_start part (row_of p)) bytes) ≡ part_text part bytes p
+part_there Head bytes p has = refl
+part_there Block bytes p has = has.block
 
-block_range : (bytes : List ℕ) (p : Placed) (row : Row) → IsWritten bytes p → row ≡ row_of p → length bytes ≤ max_archive → HasRange row.block_start row.block_len bytes
-block_range bytes p row has same short =
-    (omega (arith, ap (λ (r : Row). r.block_start) same, ap (λ (r : Row). r.block_len) same, has.end, has.within), omega (arith, short))
+part_range : (part : Part) (bytes : List ℕ) (p : Placed) → IsWritten bytes p → length bytes ≤ max_archive → HasRange (part_start part (row_of p)) (part_len part (row_of p)) bytes
+part_range Head bytes p has short = (omega (arith, has.order, has.end, has.within), omega (arith, short))
+part_range Block bytes p has short = (omega (arith, has.end, has.within), omega (arith, short))
 
-module _ (rows : List Row) (i : ℕ) (row : Row) (old new : Tapped) (before after : Seen) (at : slice_get rows i ≡ Some row) (kept : new.holds ≡ old.holds)
-    (filled : HasFilled row.block_start row.block_len old new) where
-  reads : ReadsBlock (slice_get rows i) old new
-  reads = subst (λ o. ReadsBlock o old new) (sym at) (record { near = filled.near; bound = filled.bound; watched = filled.watched })
+-- so many bytes at an offset
+range_len : (start len : ℕ) (bytes : List ℕ) → start + len ≤ length bytes → length (take len (drop start bytes)) ≡ len
+range_len start len bytes within = omega (arith, within, length-take len (drop start bytes), length-drop start bytes)
 
-  -- the record of the row, where the bytes are those of the archive
-  there : (bytes : List ℕ) (is : IsArchiveOf bytes rows) → (p : Placed) × (slice_get is.are.records i ≡ Some p) × (row ≡ row_of p) × IsWritten bytes p
+module _ (part : Part) (rows : List Row) (i : ℕ) (row : Row) (start len : ℕ) (old new : Tapped) (before after : Seen) (at : slice_get rows i ≡ Some row) (start_is : start ≡ part_start part row)
+    (len_is : len ≡ part_len part row) (kept : new.holds ≡ old.holds) (filled : HasFilled start len old new) where
+  reads : ReadsPart part (slice_get rows i) old new
+  reads =
+      let P : ℕ → Type 0 = λ s. HasFilled s len old new in
+      let Q : ℕ → Type 0 = λ n. HasFilled (part_start part row) n old new in
+      let there = subst Q len_is (subst P start_is filled) in
+      subst (λ o. ReadsPart part o old new) (sym at) (record { near = there.near; bound = there.bound; watched = there.watched })
+
+  some_row : slice_get rows i ≡ None → ⊥
+  some_row none = cc (sym at ∙ none)
+
+  -- the part of the record of the row, where the bytes are those of the archive
+  there : (bytes : List ℕ) (is : IsArchiveOf bytes rows) → (text : List ℕ) × (option_map (λ p. part_text part bytes p) (slice_get is.are.records i) ≡ Some text)
+      × (take len (drop start bytes) ≡ text) × HasRange start len bytes
   there bytes is =
       let (p, stands, same) = placed is.are.records i row (sym (ap (λ l. slice_get l i) is.are.rows_are) ∙ at) in
-      (p, stands, same, written bytes is.are.records is.are.spelled i p stands)
+      let text = written bytes is.are.records is.are.spelled i p stands in
+      let from : start ≡ part_start part (row_of p) = start_is ∙ ap (part_start part) same in
+      let long : len ≡ part_len part (row_of p) = len_is ∙ ap (part_len part) same in
+      let R : ℕ → Type 0 = λ s. HasRange s len bytes in
+      let L : ℕ → Type 0 = λ n. HasRange (part_start part (row_of p)) n bytes in (
+        part_text part bytes p,
+        ap (option_map (λ p. part_text part bytes p)) stands,
+        ap (λ n. take n (drop start bytes)) long ∙ ap (λ s. take (part_len part (row_of p)) (drop s bytes)) from ∙ part_there part bytes p text,
+        subst R (sym from) (subst L (sym long) (part_range part bytes p text is.short)),
+      )
 
-  pub extracts_ok : ((bytes : List ℕ) → old.holds ≡ Some bytes → HasRange row.block_start row.block_len bytes → after.tells ≡ append_known before.tells (take row.block_len (drop row.block_start bytes)))
-      → new.faults ≡ old.faults → after.faults ≡ before.faults → ExtractsAt rows i old new before after (Ok row.block_len)
-  extracts_ok told sound cause = record {
-    told = λ bytes held is. let (p, stands, same, text) = there bytes is in (p, stands, ap (λ (r : Row). r.block_len) same, told bytes held (block_range bytes p row text same is.short) ∙ ap (append_known before.tells) (block_text bytes p row text same));
+  pub gives_ok : ((bytes : List ℕ) → old.holds ≡ Some bytes → HasRange start len bytes → after.tells ≡ append_known before.tells (take len (drop start bytes)))
+      → new.faults ≡ old.faults → after.faults ≡ before.faults → GivesPart part rows i old new before after (Ok len)
+  gives_ok told sound cause = record {
+    told = λ bytes held is.
+        let (text, found, same, range) = there bytes is in
+        (text, found, sym (range_len start len bytes range.0) ∙ ap length same, told bytes held range ∙ ap (append_known before.tells) same);
     failed = λ bytes held is. sound;
     silent = λ e. cc e;
+    absent = (λ e. cc e, λ none. absurd (some_row none));
     kept = kept;
     reads = reads;
     may = sound;
     cause = cause;
   }
 
-  pub extracts_cut : (e : OutFault) → IsOfDevice e
-      → ((bytes : List ℕ) → old.holds ≡ Some bytes → HasRange row.block_start row.block_len bytes → WentOut before.tells (take row.block_len (drop row.block_start bytes)) after.tells (sent_of e))
-      → ((bytes : List ℕ) → old.holds ≡ Some bytes → HasRange row.block_start row.block_len bytes → HasFailedBy {X = Unit {0}} (Err e) old.faults new.faults)
-      → MayHaveFailedBy {X = Unit {0}} (Err e) old.faults new.faults → after.faults ≡ failed_with e before.faults → ExtractsAt rows i old new before after (Err (Out e))
-  extracts_cut e device cut failed may cause = record {
-    told = λ bytes held is. let (p, stands, same, text) = there bytes is in cut_by e (slice_get is.are.records i) p before.tells after.tells device stands (subst (λ b. WentOut before.tells b after.tells (sent_of e)) (block_text bytes p row text same) (cut bytes held (block_range bytes p row text same is.short)));
-    failed = λ bytes held is. let (p, stands, same, text) = there bytes is in failed bytes held (block_range bytes p row text same is.short);
+  pub gives_cut : (e : OutFault) → IsOfDevice e
+      → ((bytes : List ℕ) → old.holds ≡ Some bytes → HasRange start len bytes → WentOut before.tells (take len (drop start bytes)) after.tells (sent_of e))
+      → ((bytes : List ℕ) → old.holds ≡ Some bytes → HasRange start len bytes → HasFailedBy {X = Unit {0}} (Err e) old.faults new.faults)
+      → MayHaveFailedBy {X = Unit {0}} (Err e) old.faults new.faults → after.faults ≡ failed_with e before.faults → GivesPart part rows i old new before after (Err (Out e))
+  gives_cut e device cut failed may cause = record {
+    told = λ bytes held is.
+        let (text, found, same, range) = there bytes is in
+        cut_by e (option_map (λ p. part_text part bytes p) (slice_get is.are.records i)) text before.tells after.tells device found (subst (λ b. WentOut before.tells b after.tells (sent_of e)) same (cut bytes held range));
+    failed = λ bytes held is. let (text, found, same, range) = there bytes is in failed bytes held range;
     silent = λ no. cc no;
+    absent = (λ no. cc no, λ none. absurd (some_row none));
     kept = kept;
     reads = reads;
     may = may;
@@ -92,11 +127,11 @@ module _ (rows : List Row) (i : ℕ) (row : Row) (old new : Tapped) (before afte
 pub extracts_refused : {S : Type 0} (archive : Archived S) (id : List ℕ) (s : Tapped) (o : Seen) → Extracts archive id s s o o (Err (Out (outs.Memory 0)))
 extracts_refused archive id s o = record {
   told = λ bytes held is. (refl, refl);
-  reads = λ bytes held is. nothing_read (option_map row_of (extracted is.listed.are.records id)) s;
+  reads = λ bytes held is. nothing_read Block (option_map row_of (extracted is.listed.are.records id)) s;
   failed = λ bytes held is. refl;
   silent = λ no. cc no;
   kept = refl;
-  near = (0, nothing_read (slice_get archive.listing.rows 0) s);
+  near = (0, nothing_read Block (slice_get archive.listing.rows 0) s);
   may = refl;
   cause = refl;
 }
@@ -105,12 +140,12 @@ extracts_refused archive id s o = record {
 pub extracts_missing : {S : Type 0} (archive : Archived S) (id : List ℕ) (s : Tapped) (o : Seen)
     → ((records : List Placed) → AreOf records archive.index archive.parts → position_with records id ≡ None) → Extracts archive id s s o o (Err NoRecord)
 extracts_missing archive id s o none = record {
-  told = λ bytes held is. (ap (option_and_then (slice_get is.listed.are.records)) (none is.listed.are.records is.kept), refl);
-  reads = λ bytes held is. nothing_read (option_map row_of (extracted is.listed.are.records id)) s;
+  told = λ bytes held is. (ap (option_map (λ p. part_text Block bytes p)) (ap (option_and_then (slice_get is.listed.are.records)) (none is.listed.are.records is.kept)), refl);
+  reads = λ bytes held is. nothing_read Block (option_map row_of (extracted is.listed.are.records id)) s;
   failed = λ bytes held is. refl;
   silent = λ no. refl;
   kept = refl;
-  near = (0, nothing_read (slice_get archive.listing.rows 0) s);
+  near = (0, nothing_read Block (slice_get archive.listing.rows 0) s);
   may = refl;
   cause = refl;
 }
@@ -118,7 +153,7 @@ extracts_missing archive id s o none = record {
 -- the record at a position has it first
 pub extracts_at : {S : Type 0} (archive : Archived S) (id : List ℕ) (position : ℕ) (old new : Tapped) (before after : Seen) (answer : Result ℕ ExtractFault)
     → ((records : List Placed) → AreOf records archive.index archive.parts → position_with records id ≡ Some position)
-    → ExtractsAt archive.listing.rows position old new before after answer → Extracts archive id old new before after answer
+    → GivesPart Block archive.listing.rows position old new before after answer → Extracts archive id old new before after answer
 extracts_at archive id position old new before after answer found at = record {
   told = λ bytes held is.
       let records = is.listed.are.records in
@@ -129,7 +164,7 @@ extracts_at archive id position old new before after answer found at = record {
       let here : extracted records id ≡ slice_get records position = ap (option_and_then (slice_get records)) (found records is.kept) in
       let row : option_map row_of (extracted records id) ≡ slice_get archive.listing.rows position =
       ap (option_map row_of) here ∙ sym (slice_get-map row_of records position) ∙ ap (λ l. slice_get l position) (sym is.listed.are.rows_are) in
-      subst (λ o. ReadsBlock o old new) (sym row) at.reads;
+      subst (λ o. ReadsPart Block o old new) (sym row) at.reads;
   failed = λ bytes held is. at.failed bytes held is.listed;
   silent = at.silent;
   kept = at.kept;

@@ -5,6 +5,7 @@ pub mod Copied
 pub mod Extracting
 pub mod Laws
 pub mod Listing
+pub mod Parts
 pub mod Replaying
 pub mod Segments
 pub mod Standing

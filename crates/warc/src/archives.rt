@@ -168,7 +168,7 @@ impl<S: Source, A: Allocator + Copy> Archive<S, A> {
         let Some(position) = found else {
             return Err(ExtractFault::NoRecord);
         };
-        self.listing.extract_at(position, out)
+        self.listing.block_to(position, out)
     }
 
     /// Writes the body that was captured of a URI, as of a moment: the payload of the origin of the latest capture

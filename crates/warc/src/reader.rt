@@ -7,8 +7,8 @@ ghost use Rattle.warc_reading.specs.Archive.{IsArchiveOf, rows_of, source_of};
 ghost use Rattle.warc_checking.specs.Checks.{Checks};
 ghost use Rattle.warc.specs.Forms.{Writes, WritesEach, WritesSplit};
 ghost use Rattle.warc.specs.Copied.{len_by, text_by};
-ghost use Rattle.warc.specs.Extracting.{ExtractsAt};
 ghost use Rattle.warc.specs.Listing.{listing};
+ghost use Rattle.warc.specs.Parts.{GivesPart};
 ghost use Rattle.warc_reading.specs.Growing.{Grows, grown, source_grown, without_source};
 ghost use Rattle.warc_reading.specs.Opening.{Opens};
 ghost use Rattle.warc_reading.specs.Stream.{IsKeptOf};
@@ -19,6 +19,7 @@ use crate::anew::{Manner, write_rows};
 use crate::blocks::send_range;
 use crate::copying::Form;
 use crate::fault::{ExtractFault, TakeFault};
+use crate::part::Part;
 use crate::replay::replay_rows;
 use crate::row::put_line;
 use crate::taking::take_record;
@@ -170,23 +171,54 @@ impl<S: Source, A: Allocator + Copy> Listing<S, A> {
         take_record(alloc, &mut self.source, &row)
     }
 
-    /// Writes the block of the record at a position, and answers its length.
-    pub(crate) fn extract_at<W: Sink>(
+    /// Writes a part of the record at a position, as the source has it, and answers its length. Where there is no record
+    /// it is `NoRecord`, and nothing is written. The part isn't kept: it goes through a buffer of 8,192 bytes.
+    ///
+    /// A read that fails, or a source that no longer gives what it gave at opening, is `Read`; a write that fails is
+    /// `Write`. Each tells how many bytes went out, which are the first of the part.
+    pub fn part_to<W: Sink>(
         &mut self,
         position: usize,
+        part: Part,
         out: &mut W,
     ) -> Result<u64, ExtractFault>
-        ensures extracts { ExtractsAt self.old.rows position (S.tapped self.old.source) (S.tapped self.new.source)
+        ensures gives { GivesPart part self.old.rows position (S.tapped self.old.source) (S.tapped self.new.source)
             (W.seen out.old) (W.seen out.new) result }
+
+        // The rows stay.
         ensures rows { self.new.rows ≡ self.old.rows }
     {
         let Some(row) = self.rows.get(position) else {
             return Err(ExtractFault::NoRecord);
         };
-        if let Err(fault) = send_range(&mut self.source, row.block_start, row.block_len, out) {
+        let (start, len) = part.range(&row);
+        if let Err(fault) = send_range(&mut self.source, start, len, out) {
             return Err(ExtractFault::Out(fault));
         }
-        Ok(row.block_len)
+        Ok(len)
+    }
+
+    /// Writes the head of the record at a position, from its version line to its empty line, byte for byte, as
+    /// `part_to` does.
+    pub fn head_to<W: Sink>(&mut self, position: usize, out: &mut W) -> Result<u64, ExtractFault>
+        ensures gives { GivesPart Part.Head self.old.rows position (S.tapped self.old.source)
+            (S.tapped self.new.source) (W.seen out.old) (W.seen out.new) result }
+
+        // The rows stay.
+        ensures rows { self.new.rows ≡ self.old.rows }
+    {
+        self.part_to(position, Part::Head, out)
+    }
+
+    /// Writes the block of the record at a position, byte for byte, as `part_to` does.
+    pub fn block_to<W: Sink>(&mut self, position: usize, out: &mut W) -> Result<u64, ExtractFault>
+        ensures gives { GivesPart Part.Block self.old.rows position (S.tapped self.old.source)
+            (S.tapped self.new.source) (W.seen out.old) (W.seen out.new) result }
+
+        // The rows stay.
+        ensures rows { self.new.rows ≡ self.old.rows }
+    {
+        self.part_to(position, Part::Block, out)
     }
 
     /// Writes the payload that the records give for a URI as of a moment.

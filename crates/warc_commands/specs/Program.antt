@@ -18,7 +18,8 @@ use Rattle.warc_frame.specs.declared.fault.FaultKind.TheVariants.{Read, Memory}
 use Rattle.warc_frame.specs.declared.fault.OutFault.{OutFault}
 use Rattle.warc_frame.specs.declared.fault.OutFault.TheVariants.{Read as NoRead, Write, Memory as NoMemory}
 use Rattle.warc_value.specs.Dates.{Instant, instant_of}
-use Rattle.warc.specs.Extracting.{IsExtract, extract_result, extracted}
+use Rattle.warc.specs.Extracting.{IsExtract, extracted}
+use Rattle.warc.specs.Parts.{extract_result}
 use Rattle.warc_record.specs.Kinds.{kind_named}
 use Rattle.warc_write.specs.Making.{Makes, Plan, made, make_fault_text}
 use Rattle.warc_write.specs.declared.making.MakeFault.{MakeFault}

@@ -1,5 +1,5 @@
 use Rattle.std.proofs.Common.{inl, inr, sym, ap, ◌∙◌}
-use Rattle.warc.specs.Extracting.{extract_result}
+use Rattle.warc.specs.Parts.{extract_result}
 use Rattle.warc_commands.proofs.ProgramLemmas.{failed_as, may_have_failed_as, not_opened}
 use Rattle.warc_commands.proofs.giving.extract.Goals as goal
 
