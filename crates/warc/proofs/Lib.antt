@@ -1,6 +1,7 @@
 pub mod OutputLemmas
 pub mod EmitLemmas
 pub mod ExtractLemmas
+pub mod FixityLemmas
 pub mod LawLemmas
 pub mod LineLemmas
 pub mod ReplayLemmas

@@ -25,26 +25,33 @@ enumerate_from-append n (x ∷ xs) ys =
     let e : n + 1 + length xs ≡ n + length (x ∷ xs) = omega arith in
     ap (λ l. (n, x) ∷ l) (enumerate_from-append (n + 1) xs ys ∙ ap (λ k. enumerate_from (n + 1) xs ++ enumerate_from k ys) e)
 
-listing-append : (xs ys : List Row) → listing (xs ++ ys) ≡ listing xs ++ flat_map (λ p. line_of p.0 p.1) (enumerate_from (length xs) ys)
-unfolding listing
-listing-append xs ys =
-    ap (flat_map (λ p. line_of p.0 p.1)) (enumerate_from-append 0 xs ys ∙ ap (λ k. enumerate_from 0 xs ++ enumerate_from k ys) (omega arith))
-    ∙ flat_map-append (λ p. line_of p.0 p.1) (enumerate_from 0 xs) (enumerate_from (length xs) ys)
+-- lines of rows, by their positions
+abbrev pub lines : (ℕ → Row → List ℕ) → List Row → List ℕ
+lines line rows = flat_map (λ p. line p.0 p.1) (enumerate_from 0 rows)
 
--- one more line
-pub listing_more : (rows : List Row) (i : ℕ) (d : Row) → i < length rows → listing (take (i + 1) rows) ≡ listing (take i rows) ++ line_of i (get_or rows i d)
-unfolding listing
-listing_more rows i d lt =
-    let more = ap listing (take_more rows i d lt) ∙ listing-append (take i rows) (get_or rows i d ∷ []) in
-    let size : length (take i rows) ≡ i = length-take-le i rows (omega (arith, lt)) in
-    more ∙ ap (λ k. listing (take i rows) ++ flat_map (λ p. line_of p.0 p.1) (enumerate_from k (get_or rows i d ∷ []))) size
-    ∙ ap (λ l. listing (take i rows) ++ l) (append-nil (line_of i (get_or rows i d)))
+lines-append : (line : ℕ → Row → List ℕ) (xs ys : List Row) → lines line (xs ++ ys) ≡ lines line xs ++ flat_map (λ p. line p.0 p.1) (enumerate_from (length xs) ys)
+lines-append line xs ys =
+    ap (flat_map (λ p. line p.0 p.1)) (enumerate_from-append 0 xs ys ∙ ap (λ k. enumerate_from 0 xs ++ enumerate_from k ys) (omega arith))
+    ∙ flat_map-append (λ p. line p.0 p.1) (enumerate_from 0 xs) (enumerate_from (length xs) ys)
 
 -- the line of the row at a place
-pub listing_next : (rows : List Row) (i : ℕ) (row : Row) → slice_get rows i ≡ Some row → listing (take i rows) ++ line_of i row ≡ listing (take (i + 1) rows)
-listing_next rows i row is =
-    ap (λ r. listing (take i rows) ++ line_of i r) (sym (get_or_from_slice_get rows i row row is)) ∙ sym (listing_more rows i row (slice_get_within rows i row is))
+pub lines_next : (line : ℕ → Row → List ℕ) (rows : List Row) (i : ℕ) (row : Row) → slice_get rows i ≡ Some row → lines line (take i rows) ++ line i row ≡ lines line (take (i + 1) rows)
+lines_next line rows i row is =
+    let within = slice_get_within rows i row is in
+    let more = ap (lines line) (take_more rows i row within) ∙ lines-append line (take i rows) (get_or rows i row ∷ []) in
+    let size : length (take i rows) ≡ i = length-take-le i rows (omega (arith, within)) in
+    sym (more ∙ ap (λ k. lines line (take i rows) ++ flat_map (λ p. line p.0 p.1) (enumerate_from k (get_or rows i row ∷ []))) size
+    ∙ ap (λ l. lines line (take i rows) ++ l) (append-nil (line i (get_or rows i row)))
+    ∙ ap (λ r. lines line (take i rows) ++ line i r) (get_or_from_slice_get rows i row row is))
 
 -- the lines of the first rows, and the others
+pub lines_front : (line : ℕ → Row → List ℕ) (rows : List Row) (i : ℕ) → lines line rows ≡ lines line (take i rows) ++ flat_map (λ p. line p.0 p.1) (enumerate_from (length (take i rows)) (drop i rows))
+lines_front line rows i = ap (lines line) (sym (take-append-drop i rows)) ∙ lines-append line (take i rows) (drop i rows)
+
+pub listing_next : (rows : List Row) (i : ℕ) (row : Row) → slice_get rows i ≡ Some row → listing (take i rows) ++ line_of i row ≡ listing (take (i + 1) rows)
+unfolding listing
+listing_next rows i row is = lines_next line_of rows i row is
+
 pub listing_front : (rows : List Row) (i : ℕ) → listing rows ≡ listing (take i rows) ++ flat_map (λ p. line_of p.0 p.1) (enumerate_from (length (take i rows)) (drop i rows))
-listing_front rows i = ap listing (sym (take-append-drop i rows)) ∙ listing-append (take i rows) (drop i rows)
+unfolding listing
+listing_front rows i = lines_front line_of rows i

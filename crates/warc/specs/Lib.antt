@@ -1,5 +1,6 @@
 pub mod Bounds
 pub mod Emitting
+pub mod Fixity
 pub mod Forms
 pub mod Copied
 pub mod Extracting

@@ -30,7 +30,7 @@ pub(crate) fn put_line<W: Sink>(
 }
 
 /// A text, or `-` for an empty one.
-fn shown_as(text: &[u8]) -> &[u8]
+pub(crate) fn shown_as(text: &[u8]) -> &[u8]
     ensures { result.now ≡ shown text.now }
 {
     if text.is_empty() { b"-" } else { text }

@@ -1,0 +1,69 @@
+-- The lines of blocks that aren't good, and how many blocks have a verdict.
+use Rattle.std.proofs.Common.{◌≡◌, ℕ, ◌+◌, ◌≤◌, Bool, true, false, List, [], ◌∷◌, ◌++◌, length, map, take, drop, if◌then◌else◌, append_assoc, codes, decimal, filter, refl, sym, ap, ◌∙◌, arith, length-append, Some}
+use Rattle.std.proofs.lemmas.List.{append-nil, take_all}
+use Rattle.std.proofs.lemmas.List.Elements.{filter-append}
+use Rattle.std.specs.List.{concat, enumerate_from, flat_map, join_with_byte, slice_get}
+use Rattle.warc_record.specs.Ids.{bare_text}
+use Rattle.warc_reading.specs.Row.{Row}
+use Rattle.warc_value.specs.declared.hash.Verdict.{Verdict}
+use Rattle.warc_value.specs.declared.hash.Verdict.TheVariants.{Good, Bad, Unchecked}
+use Rattle.warc_checking.proofs.RecordsLemmas.{take_one}
+use Rattle.warc.specs.Fixity.{Digested, counts_line, counts_of, fixity_line, fixity_lines, fixity_text, is_verdict, verdict_count, verdict_line, verdict_text}
+use Rattle.warc.specs.Listing.{shown}
+use Rattle.warc.proofs.LineLemmas.{lines_front}
+use Rattle.warc.specs.declared.fixity.Counts.{Counts}
+
+abbrev pub one_if : Bool → ℕ
+one_if test = if test then 1 else 0
+
+single : (test : Row → Bool) (row : Row) → length (filter test (row ∷ [])) ≡ one_if (test row)
+single test row = elim (test row) as (λ b. length (if b then row ∷ [] else []) ≡ one_if b) [ true ↦ refl | false ↦ refl ]
+
+-- one more row
+pub verdict_more : (verdict : Verdict) (rows : List Row) (i : ℕ) (row : Row) → slice_get rows i ≡ Some row
+    → verdict_count verdict (take (i + 1) rows) ≡ verdict_count verdict (take i rows) + one_if (is_verdict verdict row.verdict)
+verdict_more verdict rows i row is =
+    let test : Row → Bool = λ r. is_verdict verdict r.verdict in
+    ap (λ l. length (filter test l)) (take_one rows i row is) ∙ ap length (filter-append test (take i rows) (row ∷ []))
+    ∙ length-append (filter test (take i rows)) (filter test (row ∷ [])) ∙ ap (λ n. length (filter test (take i rows)) + n) (single test row)
+
+four : (a b c d : List ℕ) → concat ((a ++ 9 ∷ []) ∷ (b ++ 9 ∷ []) ∷ (c ++ 9 ∷ []) ∷ (d ++ 10 ∷ []) ∷ []) ≡ join_with_byte 9 (a ∷ b ∷ c ∷ d ∷ []) ++ 10 ∷ []
+four a b c d = simp append_assoc
+
+-- the columns that a line is put together from
+pub verdict_from : (position : ℕ) (row : Row) (digest a b c d : List ℕ) → a ≡ decimal position → b ≡ verdict_text row.verdict → c ≡ bare_text row.id → d ≡ shown digest
+    → concat ((a ++ 9 ∷ []) ∷ (b ++ 9 ∷ []) ∷ (c ++ 9 ∷ []) ∷ (d ++ 10 ∷ []) ∷ []) ≡ verdict_line position row digest
+unfolding verdict_line
+verdict_from position row digest a b c d is_a is_b is_c is_d = four a b c d ∙ rw (is_a, is_b, is_c, is_d) refl
+
+eight : (a b c d e f g h : List ℕ)
+    → concat ((a ++ 32 ∷ []) ∷ (b ++ 32 ∷ []) ∷ (c ++ 32 ∷ []) ∷ (d ++ 32 ∷ []) ∷ (e ++ 32 ∷ []) ∷ (f ++ 32 ∷ []) ∷ (g ++ 32 ∷ []) ∷ (h ++ 10 ∷ []) ∷ [])
+    ≡ join_with_byte 32 (a ∷ b ∷ c ∷ d ∷ e ∷ f ∷ g ∷ h ∷ []) ++ 10 ∷ []
+eight a b c d e f g h = simp append_assoc
+
+-- the words and numbers that the last line is put together from
+pub counts_from : (counts : Counts) (a b c d e f g h : List ℕ) → a ≡ codes "records" → b ≡ decimal counts.records → c ≡ verdict_text Good → d ≡ decimal counts.good → e ≡ verdict_text Bad → f ≡ decimal counts.bad
+    → g ≡ verdict_text Unchecked → h ≡ decimal counts.unchecked
+    → concat ((a ++ 32 ∷ []) ∷ (b ++ 32 ∷ []) ∷ (c ++ 32 ∷ []) ∷ (d ++ 32 ∷ []) ∷ (e ++ 32 ∷ []) ∷ (f ++ 32 ∷ []) ∷ (g ++ 32 ∷ []) ∷ (h ++ 10 ∷ []) ∷ []) ≡ counts_line counts
+unfolding counts_line
+counts_from counts a b c d e f g h is_a is_b is_c is_d is_e is_f is_g is_h = eight a b c d e f g h ∙ rw (is_a, is_b, is_c, is_d, is_e, is_f, is_g, is_h) refl
+
+-- the lines of the first rows, and all that follows them
+pub all_lines : (digests : List (List ℕ)) (rows : List Row) (i : ℕ) (last : List ℕ)
+    → fixity_lines digests (take i rows) ++ (flat_map (λ p. fixity_line digests p.0 p.1) (enumerate_from (length (take i rows)) (drop i rows)) ++ last) ≡ fixity_lines digests rows ++ last
+all_lines digests rows i last =
+    let rest = flat_map (λ p. fixity_line digests p.0 p.1) (enumerate_from (length (take i rows)) (drop i rows)) in
+    sym (append_assoc (fixity_lines digests (take i rows)) rest last) ∙ ap (λ t. t ++ last) (sym (lines_front (fixity_line digests) rows i))
+
+-- the same rows and values
+pub same_listed : {S : Type 0} {a b : Digested S} → a ≡ b → a.listing.rows ≡ b.listing.rows
+same_listed {S} same = ap (λ (d : Digested S). d.listing.rows) same
+
+pub same_digests : {S : Type 0} {a b : Digested S} → a ≡ b → a.digests ≡ b.digests
+same_digests {S} same = ap (λ (d : Digested S). d.digests) same
+
+-- all lines, and the last one
+pub whole_text : (digests : List (List ℕ)) (rows : List Row) (i len : ℕ) (counts : Counts) → len ≡ length rows → len ≤ i → counts ≡ counts_of rows
+    → fixity_lines digests (take i rows) ++ counts_line counts ≡ fixity_text rows digests
+whole_text digests rows i len counts size past is =
+    ap (λ t. fixity_lines digests t ++ counts_line counts) (take_all i rows (omega (arith, size, past))) ∙ ap (λ k. fixity_lines digests rows ++ counts_line k) is

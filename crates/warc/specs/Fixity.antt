@@ -1,0 +1,98 @@
+-- How the blocks of an archive compare with the digests that their heads tell, and the lines that say so. This project's
+-- own notion.
+use Rattle.std.specs.Prelude.{◌≡◌, ℕ, Bool, true, false, List, [], ◌∷◌, ◌++◌, length, map, filter, slice_get, unwrap_or, codes, decimal, Result, Ok, Err}
+use Rattle.std.specs.List.{enumerate_from, flat_map, join_with_byte}
+use Rattle.warc_field.specs.Area.{Pair, first_value}
+use Rattle.warc_value.specs.declared.hash.Verdict.{Verdict}
+use Rattle.warc_value.specs.declared.hash.Verdict.TheVariants.{Good, Bad, Unchecked}
+use Rattle.warc_frame.specs.declared.fault.Fault.{Fault}
+use Rattle.warc_record.specs.Ids.{bare_text}
+use Rattle.warc_reading.specs.Archive.{Contents, IsArchiveOf}
+use Rattle.warc_reading.specs.Row.{Placed, Row, row_of}
+use Rattle.warc.specs.Listing.{shown}
+use Rattle.warc.specs.declared.fixity.Counts.{Counts}
+
+-- the value that tells the digest of a block, empty where no field does
+abbrev pub digest_value : List Pair → List ℕ
+digest_value fields = unwrap_or (first_value (codes "WARC-Block-Digest") fields) []
+
+-- that value where the block isn't good by it, and nothing where it is
+abbrev pub unless_good : Verdict → List ℕ → List ℕ
+unless_good Good text = []
+unless_good Bad text = text
+unless_good Unchecked text = text
+
+abbrev pub digest_kept : Placed → List ℕ
+digest_kept p = unless_good (row_of p).verdict (digest_value p.content.fields)
+
+-- a listing, and for each record that value
+pub record Digested (S : Type 0) : Type 0 where
+  pub listing : Contents S
+  pub digests : List (List ℕ)
+
+-- these are the rows of the good records that the bytes spell, and those values of theirs
+pub record AreDigested (bytes : List ℕ) (rows : List Row) (digests : List (List ℕ)) : Type 0 where
+  pub listed : IsArchiveOf bytes rows
+  pub digests_are : digests ≡ map digest_kept listed.are.records
+
+abbrev pub IsDigested : {S : Type 0} → List ℕ → Digested S → Type 0
+IsDigested bytes digested = AreDigested bytes digested.listing.rows digested.digests
+
+-- what opening gives, or why it gives none; and the source that it leaves
+abbrev pub digested_of : {S : Type 0} → Result (Digested S) (Fault × S) → Result (Digested S) Fault
+digested_of (Ok digested) = Ok digested
+digested_of (Err refused) = Err refused.0
+
+abbrev pub source_digested : {S : Type 0} → Result (Digested S) (Fault × S) → S
+source_digested (Ok digested) = digested.listing.source
+source_digested (Err refused) = refused.1
+
+-- how many of the rows have a verdict
+abbrev pub is_verdict : Verdict → Verdict → Bool
+is_verdict Good Good = true
+is_verdict Bad Bad = true
+is_verdict Unchecked Unchecked = true
+is_verdict _ _ = false
+
+abbrev pub verdict_count : Verdict → List Row → ℕ
+verdict_count verdict rows = length (filter (λ r. is_verdict verdict r.verdict) rows)
+
+abbrev pub counts_of : List Row → Counts
+counts_of rows = record {
+  records = length rows;
+  good = verdict_count Good rows;
+  bad = verdict_count Bad rows;
+  unchecked = verdict_count Unchecked rows;
+}
+
+abbrev pub verdict_text : Verdict → List ℕ
+verdict_text Good = codes "good"
+verdict_text Bad = codes "bad"
+verdict_text Unchecked = codes "unchecked"
+
+-- the line of a block that isn't good: the position of its record, the verdict, the bare id and the digest's value, with
+-- a tab between two, ended by LF
+unfoldable pub verdict_line : ℕ → Row → List ℕ → List ℕ
+verdict_line position row digest =
+    join_with_byte 9 (decimal position ∷ verdict_text row.verdict ∷ bare_text row.id ∷ shown digest ∷ [])
+    ++ codes "\n"
+
+-- the line of the row at a position, if its block isn't good
+abbrev pub fixity_line : List (List ℕ) → ℕ → Row → List ℕ
+fixity_line digests position row =
+    unless_good row.verdict (verdict_line position row (unwrap_or (slice_get digests position) []))
+
+-- the last line: how many records there are, and how many blocks of each verdict, with a space between two
+unfoldable pub counts_line : Counts → List ℕ
+counts_line counts =
+    join_with_byte 32 (codes "records" ∷ decimal counts.records ∷ verdict_text Good ∷ decimal counts.good
+    ∷ verdict_text Bad ∷ decimal counts.bad ∷ verdict_text Unchecked ∷ decimal counts.unchecked ∷ [])
+    ++ codes "\n"
+
+-- the lines of the blocks that aren't good
+abbrev pub fixity_lines : List (List ℕ) → List Row → List ℕ
+fixity_lines digests rows = flat_map (λ p. fixity_line digests p.0 p.1) (enumerate_from 0 rows)
+
+-- all lines
+abbrev pub fixity_text : List Row → List (List ℕ) → List ℕ
+fixity_text rows digests = fixity_lines digests rows ++ counts_line (counts_of rows)

@@ -1,0 +1,298 @@
+//! How the blocks of an archive compare with the digests that their heads tell.
+ghost use Rattle.std.specs.Prelude.{◌≡◌, ◌≤◌, [], codes, IfErr, OnErr, OnOk, is_err, map, slice_get, unwrap_or, if◌then◌else◌};
+ghost use Rattle.std.specs.Io.KnownBytes.{append_known};
+ghost use Rattle.warc_frame.specs.Count.{raised};
+ghost use Rattle.warc_frame.specs.Putting.{Puts};
+ghost use Rattle.warc_frame.specs.Send.{WentOut, sent_of};
+ghost use Rattle.warc_reading.specs.Opening.{Opens};
+ghost use Rattle.warc.specs.Fixity.{IsDigested, verdict_count, counts_line, counts_of, digest_kept, digest_value, fixity_text, is_verdict, digested_of, source_digested};
+ghost use Rattle.warc.specs.Fixity.{unless_good, verdict_line, verdict_text};
+
+use crate::row::shown_as;
+use itoa::Buffer;
+use std::alloc::{AllocError, Allocator, Global};
+use std::marker::Model;
+use warc_field::Fields;
+use warc_frame::{Fault, OutBuffer, OutFault, SendFault, Sink, Source, put_columns};
+use warc_reading::{Keep, Row, Rows, read_on};
+use warc_record::bare;
+use warc_segment::Place;
+use warc_value::Verdict;
+
+/// How many records an archive has, and how many of them have a block that its digest fits, one that it doesn't fit,
+/// and one that can't be checked.
+#[derive(Clone, Copy, PartialEq, Eq, Debug)]
+pub struct Counts {
+    pub records: usize,
+    pub good: usize,
+    pub bad: usize,
+    pub unchecked: usize,
+}
+
+/// The value of each digest by which a block isn't good.
+#[derive(Drop)]
+struct Digests<A: Allocator> {
+    values: Vec<Vec<u8, A>, A>,
+}
+
+impl<A: Allocator> Model for Digests<A> {
+    ghost use Rattle.std.specs.Prelude.{List, ℕ, map};
+
+    ghost Value = { List (List ℕ) };
+
+    ghost view = { λ d. map (λ v. v.items) d.values.items };
+}
+
+/// The value that tells the digest of a block.
+fn digest_value<A: Allocator>(fields: &Fields<A>) -> &[u8]
+    ensures { result.now ≡ digest_value fields.now }
+{
+    match fields.first(b"WARC-Block-Digest") {
+        Some(value) => value.bytes(),
+        None => b"",
+    }
+}
+
+/// A text, unless a block is good.
+fn unless_good(verdict: Verdict, text: &[u8]) -> &[u8]
+    ensures { result.now ≡ unless_good verdict text.now }
+{
+    match verdict {
+        Verdict::Good => b"",
+        Verdict::Bad | Verdict::Unchecked => text,
+    }
+}
+
+impl<A: Allocator + Copy> Digests<A> {
+    /// Of no records.
+    fn new(alloc: A) -> Digests<A>
+        ensures { result ≡ [] }
+    {
+        Digests {
+            values: Vec::new(alloc),
+        }
+    }
+}
+
+impl<A: Allocator> Digests<A> {
+    /// The value that is kept of the record at a position, empty where none is.
+    fn at(&self, position: usize) -> &[u8]
+        ensures { result.now ≡ unwrap_or (slice_get self.now position) [] }
+    {
+        match self.values.get(position) {
+            Some(value) => value.as_slice(),
+            None => b"",
+        }
+    }
+}
+
+impl<A: Allocator + Copy> Keep<A> for Digests<A> {
+    ghost keeps = { λ d records. d ≡ map digest_kept records };
+
+    fn keep(
+        &mut self,
+        alloc: A,
+        _position: usize,
+        fields: &Fields<A>,
+        place: Place,
+    ) -> Result<(), AllocError> {
+        self.values.reserve(1)?;
+        let value = unless_good(place.verdict, digest_value(fields)).to_vec(alloc)?;
+        self.values.push_reserved(value);
+        Ok(())
+    }
+
+    fn forget_after(&mut self, count: usize) {
+        self.values.truncate(count);
+    }
+}
+
+/// Whether a verdict is another.
+fn is_verdict(one: Verdict, other: Verdict) -> bool
+    ensures { result ≡ is_verdict one other }
+{
+    match one {
+        Verdict::Good => matches!(other, Verdict::Good),
+        Verdict::Bad => matches!(other, Verdict::Bad),
+        Verdict::Unchecked => matches!(other, Verdict::Unchecked),
+    }
+}
+
+/// One where a test holds, and else nothing.
+fn one_if(test: bool) -> usize
+    ensures value { result ≡ (if test then 1 else 0) }
+    ensures most { result ≤ 1 }
+{
+    if test { 1 } else { 0 }
+}
+
+/// How many of the rows have a verdict.
+fn verdict_count<A: Allocator>(verdict: Verdict, rows: &Rows<A>) -> usize
+    ensures { result ≡ verdict_count verdict rows.now }
+{
+    let mut count = 0usize;
+    'counting: for position in 0..rows.len() {
+        let Some(row) = rows.get(position) else {
+            unreachable!()
+        };
+        count += one_if(is_verdict(verdict, row.verdict));
+    }
+    count
+}
+
+/// What a verdict is called.
+fn verdict_text(verdict: Verdict) -> &'static [u8]
+    ensures { result.now ≡ verdict_text verdict }
+{
+    match verdict {
+        Verdict::Good => b"good",
+        Verdict::Bad => b"bad",
+        Verdict::Unchecked => b"unchecked",
+    }
+}
+
+/// What the records are called.
+fn records_text() -> &'static [u8]
+    ensures { result.now ≡ codes "records" }
+{
+    b"records"
+}
+
+/// Adds the line of a block that isn't good to the output, by the position of its record.
+fn put_verdict<W: Sink>(
+    position: u64,
+    row: &Row<'_>,
+    digest: &[u8],
+    buffer: &mut OutBuffer,
+    out: &mut W,
+) -> Result<(), SendFault>
+    ensures { Puts (W.seen out.old) (W.seen out.new) buffer.old buffer.new result
+        (verdict_line position row.now digest.now) }
+{
+    let mut digits = Buffer::new();
+    let columns = [
+        (digits.format(position).as_bytes(), b'\t'),
+        (verdict_text(row.verdict), b'\t'),
+        (bare(row.id), b'\t'),
+        (shown_as(digest), b'\n'),
+    ];
+    put_columns(&columns, buffer, out)
+}
+
+/// Adds the line of a block to the output, unless the block is good.
+fn put_if<W: Sink>(
+    position: u64,
+    row: &Row<'_>,
+    digest: &[u8],
+    buffer: &mut OutBuffer,
+    out: &mut W,
+) -> Result<(), SendFault>
+    ensures { Puts (W.seen out.old) (W.seen out.new) buffer.old buffer.new result
+        (unless_good row.now.verdict (verdict_line position row.now digest.now)) }
+{
+    match row.verdict {
+        Verdict::Good => put_columns(&[], buffer, out),
+        Verdict::Bad | Verdict::Unchecked => put_verdict(position, row, digest, buffer, out),
+    }
+}
+
+/// Adds the last line to the output.
+fn put_counts<W: Sink>(counts: Counts, buffer: &mut OutBuffer, out: &mut W) -> Result<(), SendFault>
+    ensures { Puts (W.seen out.old) (W.seen out.new) buffer.old buffer.new result (counts_line counts) }
+{
+    let (mut first, mut second) = (Buffer::new(), Buffer::new());
+    let (mut third, mut fourth) = (Buffer::new(), Buffer::new());
+    let columns = [
+        (records_text(), b' '),
+        (first.format(counts.records).as_bytes(), b' '),
+        (verdict_text(Verdict::Good), b' '),
+        (second.format(counts.good).as_bytes(), b' '),
+        (verdict_text(Verdict::Bad), b' '),
+        (third.format(counts.bad).as_bytes(), b' '),
+        (verdict_text(Verdict::Unchecked), b' '),
+        (fourth.format(counts.unchecked).as_bytes(), b'\n'),
+    ];
+    put_columns(&columns, buffer, out)
+}
+
+/// An archive whose blocks were compared with the digests that their heads tell. Contracts see its listing, and the
+/// values of the digests by which blocks aren't good.
+#[derive(Drop)]
+pub struct Fixity<S: Source, A: Allocator = Global> {
+    source: S,
+    rows: Rows<A>,
+    digests: Digests<A>,
+}
+
+impl<S: Source, A: Allocator> Model for Fixity<S, A> {
+    ghost use Rattle.warc.specs.Fixity.{Digested};
+
+    ghost Value = { Digested S };
+
+    ghost view = { λ a. record { listing = record { source = a.source; rows = a.rows }; digests = a.digests } };
+}
+
+impl<S: Source, A: Allocator> Fixity<S, A> {
+    /// How many blocks are good, bad and unchecked.
+    pub fn counts(&self) -> Counts
+        ensures { result ≡ counts_of self.now.listing.rows }
+    {
+        Counts {
+            records: self.rows.len(),
+            good: verdict_count(Verdict::Good, &self.rows),
+            bad: verdict_count(Verdict::Bad, &self.rows),
+            unchecked: verdict_count(Verdict::Unchecked, &self.rows),
+        }
+    }
+
+    /// Gives the source back.
+    pub fn into_source(self) -> S
+        ensures { result ≡ self.listing.source }
+    {
+        self.source
+    }
+
+    /// Writes a line for each block that isn't good: the position of its record, `bad` or `unchecked`, the bare id and
+    /// the digest's value, `-` for none, with a tab between two; and a last line with the counts. It takes no memory.
+    pub fn list<W: Sink>(&self, out: &mut W) -> Result<(), OutFault>
+        ensures told { OnOk result ((W.seen out.new).tells ≡ append_known (W.seen out.old).tells
+            (fixity_text self.now.listing.rows self.now.digests)) }
+        ensures cut { IfErr result (λ e. WentOut (W.seen out.old).tells (fixity_text self.now.listing.rows
+            self.now.digests) (W.seen out.new).tells (sent_of e)) }
+        ensures write { IfErr result (λ e. e ≡ OutFault.Write (sent_of e)) }
+        ensures cause { (W.seen out.new).faults ≡ (if is_err result then raised (W.seen out.old).faults else
+            (W.seen out.old).faults) }
+    {
+        let mut buffer = OutBuffer::new();
+        'listing: for position in 0..self.rows.len() {
+            let Some(row) = self.rows.get(position) else {
+                unreachable!()
+            };
+            let digest = self.digests.at(position);
+            put_if(position as u64, &row, digest, &mut buffer, out)?;
+        }
+        put_counts(self.counts(), &mut buffer, out)?;
+        buffer.flush(out)?;
+        Ok(())
+    }
+}
+
+impl<S: Source, A: Allocator + Copy> Fixity<S, A> {
+    /// Reads the source as a listing is read, and keeps beside the rows the values of the digests by which blocks aren't
+    /// good.
+    pub fn open(alloc: A, source: S) -> Result<Fixity<S, A>, (Fault, S)>
+        ensures { Opens IsDigested (S.tapped source) (S.tapped (source_digested result)) (digested_of result) }
+    {
+        let mut source = source;
+        let kept = Digests::new(alloc);
+        let (answer, rows, digests) = read_on(alloc, &mut source, Rows::new(alloc), kept);
+        match answer {
+            Ok(()) => Ok(Fixity {
+                source,
+                rows,
+                digests,
+            }),
+            Err(fault) => Err((fault, source)),
+        }
+    }
+}
