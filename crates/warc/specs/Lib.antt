@@ -4,6 +4,7 @@ pub mod Fixity
 pub mod Forms
 pub mod Copied
 pub mod Extracting
+pub mod Front
 pub mod Laws
 pub mod Listing
 pub mod Parts

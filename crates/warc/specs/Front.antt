@@ -1,0 +1,53 @@
+-- The good front of a source: what can be opened of an archive that is refused. This project's own notion.
+use Rattle.std.specs.Prelude.{◌≡◌, ℕ, ◌+◌, ◌^◌, ◌<◌, ◌≤◌, List, ◌++◌, length, take, Option, Some, None, Result, Ok, Err, IfErr, IfOk, OnOk}
+use Rattle.std.specs.Io.KnownBytes.{append_known}
+use Rattle.warc_frame.specs.Failing.{HasFailedBy, MayHaveFailedBy, failed_by}
+use Rattle.warc_frame.specs.Seen.{AsksOnly, IfHeld, Seen, Tapped}
+use Rattle.warc_frame.specs.Send.{WentOut, sent_of}
+use Rattle.warc_frame.specs.declared.fault.Fault.{Fault}
+use Rattle.warc_frame.specs.declared.fault.OutFault.{OutFault}
+use Rattle.warc_reading.specs.Archive.{Contents, IsArchiveOf}
+use Rattle.warc_reading.specs.Fronts.{IsLongestFront, reach_of}
+use Rattle.warc_reading.specs.Opening.{Opens}
+use Rattle.warc_reading.specs.Row.{Row}
+
+-- why a whole source isn't an archive, if it isn't
+abbrev pub refused_by : Option Fault → List Row → Result (List Row) Fault
+refused_by None rows = Ok rows
+refused_by (Some f) rows = Err f
+
+-- the rows are those of an archive of these bytes, or of the longest front of what was read of them before a fault
+abbrev pub IsFrontOf : List ℕ → Option Fault → List Row → Type 0
+IsFrontOf bytes None rows = IsArchiveOf bytes rows
+IsFrontOf bytes (Some f) rows = IsLongestFront (take (reach_of f) bytes) rows
+
+-- a source that may hold more, the rows of the good records at its front, and the fault behind these, if there is one
+pub record Fronted (S : Type 0) : Type 0 where
+  pub listing : Contents S
+  pub fault : Option Fault
+
+-- Opening the good front of a source. The fault is the one by which opening the whole refuses it, and where the source
+-- holds bytes, the rows are those of the longest list of good records that they begin with.
+pub record OpensFront {S : Type 0} (old new : Tapped) (front : Fronted S) : Type 0 where
+  pub opens : Opens IsArchiveOf old new (refused_by front.fault front.listing.rows)
+  pub rows_are : IfHeld old.holds (λ bytes. IsFrontOf bytes front.fault front.listing.rows)
+
+-- a fact about the bytes of an archive of these rows, with which those begin that a source holds, fewer than 2^64
+abbrev pub IfBegun : Tapped → List Row → (List ℕ → Type 0) → Type 0
+IfBegun source rows P = (text more : List ℕ) → source.holds ≡ Some (text ++ more) → length (text ++ more) < 2 ^ 64
+    → IsArchiveOf text rows → P text
+
+-- Writing the bytes of the good records at the front of a source. Where it holds them, they go out and are counted, or a
+-- front of them does, the source has failed once more exactly where a read is told, and no other byte is asked for. Any
+-- source still holds what it held.
+pub record CopiesFront (rows : List Row) (old new : Tapped) (before after : Seen) (answer : Result ℕ OutFault)
+    : Type 0 where
+  pub told : IfBegun old rows (λ text.
+      OnOk answer (after.tells ≡ append_known before.tells text) × IfOk answer (λ n. n ≡ length text))
+  pub cut : IfBegun old rows (λ text. IfErr answer (λ e. WentOut before.tells text after.tells (sent_of e)))
+  pub failed : IfBegun old rows (λ text. HasFailedBy answer old.faults new.faults)
+  pub near : IfBegun old rows (λ text. AsksOnly (λ at. at < length text) old new)
+  pub cost : IfBegun old rows (λ text. new.reads ≤ old.reads + length text)
+  pub kept : new.holds ≡ old.holds
+  pub may : MayHaveFailedBy answer old.faults new.faults
+  pub cause : after.faults ≡ failed_by answer before.faults
