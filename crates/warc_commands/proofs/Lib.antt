@@ -1,4 +1,5 @@
 pub mod ClapLaws
 pub mod MakingLemmas
 pub mod ProgramLemmas
+pub mod SalvageLemmas
 mod WorkedValues

@@ -19,6 +19,10 @@ view_of (command.Rewrite archive) = (codes "rewrite", archive.now ∷ [])
 view_of (command.Convert archive) = (codes "convert", archive.now ∷ [])
 view_of (command.Split archive size) = (codes "split", archive.now ∷ size.now ∷ [])
 view_of (command.Write draft file) = (codes "write", draft_texts draft ++ file.now ∷ [])
+view_of (command.Head archive position) = (codes "head", archive.now ∷ position.now ∷ [])
+view_of (command.Block archive position) = (codes "block", archive.now ∷ position.now ∷ [])
+view_of (command.Fixity archive) = (codes "fixity", archive.now ∷ [])
+view_of (command.Salvage archive) = (codes "salvage", archive.now ∷ [])
 
 -- the path of the file that it reads
 abbrev pub path_of : Command → Text
@@ -30,3 +34,7 @@ path_of (command.Rewrite archive) = archive.now
 path_of (command.Convert archive) = archive.now
 path_of (command.Split archive size) = archive.now
 path_of (command.Write draft file) = file.now
+path_of (command.Head archive position) = archive.now
+path_of (command.Block archive position) = archive.now
+path_of (command.Fixity archive) = archive.now
+path_of (command.Salvage archive) = archive.now

@@ -37,6 +37,10 @@ layouts =
     ∷ layout (codes "convert") (codes "archive" ∷ [])
     ∷ layout (codes "split") (codes "archive" ∷ codes "size" ∷ [])
     ∷ layout (codes "write") (draft_words ++ codes "file" ∷ [])
+    ∷ layout (codes "head") (codes "archive" ∷ codes "position" ∷ [])
+    ∷ layout (codes "block") (codes "archive" ∷ codes "position" ∷ [])
+    ∷ layout (codes "fixity") (codes "archive" ∷ [])
+    ∷ layout (codes "salvage") (codes "archive" ∷ [])
     ∷ []
 
 -- what the program's table says of a command

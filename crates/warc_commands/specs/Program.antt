@@ -17,19 +17,16 @@ use Rattle.warc_frame.specs.declared.fault.FaultKind.{FaultKind}
 use Rattle.warc_frame.specs.declared.fault.FaultKind.TheVariants.{Read, Memory}
 use Rattle.warc_frame.specs.declared.fault.OutFault.{OutFault}
 use Rattle.warc_frame.specs.declared.fault.OutFault.TheVariants.{Read as NoRead, Write, Memory as NoMemory}
-use Rattle.warc_value.specs.Dates.{Instant, instant_of}
+use Rattle.warc_value.specs.Dates.{Instant}
 use Rattle.warc.specs.Extracting.{IsExtract, extracted}
 use Rattle.warc.specs.Parts.{extract_result}
 use Rattle.warc_record.specs.Kinds.{kind_named}
 use Rattle.warc_write.specs.Making.{Makes, Plan, made, make_fault_text}
 use Rattle.warc_write.specs.declared.making.MakeFault.{MakeFault}
-use Rattle.warc.specs.Forms.{split_texts, texts_as}
+use Rattle.warc.specs.Forms.{split_texts}
 use Rattle.warc.specs.TakeText.{extract_fault_text}
-use Rattle.warc.specs.declared.copying.Form.TheVariants.{Canonical, Converted}
 use Rattle.warc.specs.declared.fault.ExtractFault.{ExtractFault}
 use Rattle.warc.specs.declared.fault.ExtractFault.TheVariants.{NoRecord, Out as ExtractOut}
-use Rattle.warc_commands.specs.declared.words.Command.{Command}
-use Rattle.warc_commands.specs.declared.words.Command.TheVariants as command
 use Rattle.warc_commands.specs.declared.words.Draft.{Draft}
 use Rattle.warc_commands.specs.declared.words.CommandFault.{CommandFault}
 use Rattle.warc_commands.specs.declared.words.CommandFault.TheVariants.{Usage, Memory as OutOfMemory}
@@ -339,28 +336,6 @@ abbrev pub MakeEnds : Draft → Devices → Devices → ℕ → Type 0
 MakeEnds d old new status =
     IsMade d old new status
     ⊎ (IsNotMade d old new status ⊎ (IsNotRead old new status ⊎ IsMadeCutOff d old new status))
-
--- how a command ends
-abbrev pub Ends : Command → Devices → Devices → ℕ → Type 0
-Ends (command.List archive) old new status = ListEnds old new status
-Ends (command.Check archive) old new status = CheckEnds old new status
-Ends (command.Extract archive id) old new status = ExtractEnds id.now old new status
-Ends (command.Replay archive uri date) old new status = ReplayEnds uri.now (instant_of date.now) old new status
-Ends (command.Rewrite archive) old new status = WriteEnds (texts_as Canonical) old new status
-Ends (command.Convert archive) old new status = WriteEnds (texts_as Converted) old new status
-Ends (command.Split archive size) old new status = SplitEnds (size_of size.now) old new status
-Ends (command.Write draft file) old new status = MakeEnds draft old new status
-
--- the exit statuses of a command
-abbrev pub IsStatusOf : Command → ℕ → Type 0
-IsStatusOf (command.List archive) status = (status ≡ 0) ⊎ ((status ≡ 2) ⊎ (status ≡ 3))
-IsStatusOf (command.Check archive) status = (status ≡ 0) ⊎ ((status ≡ 1) ⊎ ((status ≡ 2) ⊎ (status ≡ 3)))
-IsStatusOf (command.Extract archive id) status = (status ≡ 0) ⊎ ((status ≡ 1) ⊎ ((status ≡ 2) ⊎ (status ≡ 3)))
-IsStatusOf (command.Replay archive uri date) status = (status ≡ 0) ⊎ ((status ≡ 1) ⊎ ((status ≡ 2) ⊎ (status ≡ 3)))
-IsStatusOf (command.Rewrite archive) status = (status ≡ 0) ⊎ ((status ≡ 2) ⊎ (status ≡ 3))
-IsStatusOf (command.Convert archive) status = (status ≡ 0) ⊎ ((status ≡ 2) ⊎ (status ≡ 3))
-IsStatusOf (command.Split archive size) status = (status ≡ 0) ⊎ ((status ≡ 2) ⊎ (status ≡ 3))
-IsStatusOf (command.Write draft file) status = (status ≡ 0) ⊎ (status ≡ 3)
 
 -- a text that was asked for went out, or a write failed and a front of it did
 abbrev pub IsShown : List ℕ → Seen → Seen → Seen → Seen → ℕ → Type 0

@@ -99,7 +99,7 @@ where
 }
 
 /// Tells why a block isn't written, or not whole, and answers the exit status.
-fn tell_extract<E: Sink>(answer: Result<u64, ExtractFault>, err: &mut E) -> u8
+pub(crate) fn tell_extract<E: Sink>(answer: Result<u64, ExtractFault>, err: &mut E) -> u8
     ensures told { TellsIf (extract_line answer) (E.seen err.old) (E.seen err.new) }
     ensures status { result ≡ extract_status answer }
 {

@@ -1,9 +1,12 @@
 //! The commands of the program `warc`: the words that name them, and what each does with a source and two sinks.
 #![tactic(auto)]
 
+mod fixity;
 mod giving;
 mod making;
+mod parts;
 mod program;
+mod salvage;
 mod splitting;
 mod words;
 

@@ -1,19 +1,23 @@
 //! What the program does with a command, a source and two sinks.
-ghost use Rattle.std.specs.Prelude.{◌≡◌, ◌≤◌, ◌⊎◌, ◌++◌, decimal, length, min};
+ghost use Rattle.std.specs.Prelude.{◌≡◌, ◌≤◌, ◌⊎◌, ◌++◌, decimal, false, length, min};
 ghost use Rattle.warc_frame.specs.FaultText.{out_fault_text};
 ghost use Rattle.warc_frame.specs.Send.{sent_of};
-ghost use Rattle.warc_commands.specs.Program.{CheckEnds, Ends, FaultEnds, IsShown, IsStatusOf, ListEnds, Tells, WriteEnds, fault_line, status_of_kind, told_line};
+ghost use Rattle.warc_commands.specs.Ends.{Ends, IsStatusOf, writes_front};
+ghost use Rattle.warc_commands.specs.Program.{CheckEnds, FaultEnds, IsShown, ListEnds, Tells, WriteEnds, fault_line, status_of_kind, told_line};
 ghost use Rattle.warc_commands.specs.Devices.{devices};
 ghost use Rattle.warc.specs.Forms.{texts_as};
 
+use crate::fixity::fixity;
 use crate::giving::{extract, replay};
 use crate::making::write;
+use crate::parts::give;
+use crate::salvage::salvage;
 use crate::splitting::split;
 use crate::words::{Command, CommandFault};
 use arrayvec::ArrayString;
 use itoa::Buffer;
 use std::alloc::Allocator;
-use warc::{Checked, Form, Listing};
+use warc::{Checked, Form, Listing, Part};
 use warc_frame::{Fault, FaultKind, OutFault, Sink, Source, send_all};
 
 /// The exit status where all was done.
@@ -33,9 +37,9 @@ pub(crate) const LINE: usize = 128;
 
 /// Does what a command says. The output goes to `out` and a line on what went wrong to `err`, where
 /// failures to write are ignored. The answer is the exit status, 0 done, 1 checked and something was
-/// found, or what was asked for isn't there, 2 the archive is refused, 3 a date or a size that is none, a record
-/// that isn't made, or a read, a write or a growth of the memory failed; and the source. A date and a size are
-/// judged before the source is read.
+/// found, or what was asked for isn't there, 2 the archive is refused, 3 a date, a size or a position that is none, a
+/// record that isn't made, or a read, a write or a growth of the memory failed, 4 some block can't be checked; and the
+/// source. A date, a size and a position are judged before the source is read.
 pub fn perform<A, S, W, E>(
     alloc: A,
     command: &Command<'_>,
@@ -54,9 +58,9 @@ where
     // The source still holds what it held.
     ensures kept { (S.tapped result.1).holds ≡ (S.tapped source).holds }
 
-    // Nothing is written where the archive is refused, whatever the source holds.
-    ensures refused { result.0 ≡ 2 → ((W.seen out.new).tells ≡ (W.seen out.old).tells) × ((W.seen out.new).faults ≡
-        (W.seen out.old).faults) }
+    // Nothing is written where the archive is refused, whatever the source holds, but by `salvage`.
+    ensures refused { writes_front command.now ≡ false → result.0 ≡ 2 → ((W.seen out.new).tells ≡
+        (W.seen out.old).tells) × ((W.seen out.new).faults ≡ (W.seen out.old).faults) }
     ensures answers { IsStatusOf command.now result.0 }
 {
     match command {
@@ -72,6 +76,16 @@ where
         Command::Convert { archive: _ } => write_anew(alloc, Form::Converted, source, out, err),
         Command::Split { archive: _, size } => split(alloc, size, source, out, err),
         Command::Write { draft, file: _ } => write(alloc, draft, source, out, err),
+        Command::Head {
+            archive: _,
+            position,
+        } => give(alloc, Part::Head, position, source, out, err),
+        Command::Block {
+            archive: _,
+            position,
+        } => give(alloc, Part::Block, position, source, out, err),
+        Command::Fixity { archive: _ } => fixity(alloc, source, out, err),
+        Command::Salvage { archive: _ } => salvage(alloc, source, out, err),
     }
 }
 

@@ -58,6 +58,24 @@ pub enum Command<'a> {
         draft: Draft<'a>,
         file: &'a str,
     },
+    /// The head of the record at a position.
+    Head {
+        archive: &'a str,
+        position: &'a str,
+    },
+    /// The block of the record at a position.
+    Block {
+        archive: &'a str,
+        position: &'a str,
+    },
+    /// A line for each block that isn't good by its digest.
+    Fixity {
+        archive: &'a str,
+    },
+    /// The records before the first fault.
+    Salvage {
+        archive: &'a str,
+    },
 }
 
 /// What `write` makes a record of, beside its block.
@@ -93,6 +111,16 @@ impl<'a> Command<'a> {
             Command::Convert { archive } => archive,
             Command::Split { archive, size: _ } => archive,
             Command::Write { draft: _, file } => file,
+            Command::Head {
+                archive,
+                position: _,
+            } => archive,
+            Command::Block {
+                archive,
+                position: _,
+            } => archive,
+            Command::Fixity { archive } => archive,
+            Command::Salvage { archive } => archive,
         }
     }
 }
@@ -219,6 +247,45 @@ Exit status: 0 written; 3 the record isn't made, or see 'warc --help'.
 Example: warc write resource http://a.example/x 2020-01-01T00:00:00Z 00000000-0000-4000-8000-000000000001 \
   text/plain page.txt > page.warc";
 
+const HEAD_NOTES: &str =
+    "The head is written byte for byte as the archive has it, from its version line to its empty line. Positions
+count from 0, as 'warc list' prints them in its first column.
+
+Exit status: 0 written; 1 no record is at the position, and nothing was written; 2 the archive is refused, and
+nothing was written; 3 the position isn't a number from 0 to 281474976710656, or see 'warc --help'.
+
+Example: warc head examples/abc.warc 0";
+
+const BLOCK_NOTES: &str =
+    "The block is written byte for byte as the archive has it: it isn't joined to its segments, and nothing in
+it is decoded. Positions count from 0, as 'warc list' prints them in its first column.
+
+Exit status: 0 written; 1 no record is at the position, and nothing was written; 2 the archive is refused, and
+nothing was written; 3 the position isn't a number from 0 to 281474976710656, or see 'warc --help'.
+
+Example: warc block examples/abc.warc 0";
+
+const FIXITY_NOTES: &str =
+    "Every block is compared with the block digest that its head states. A line for each one that isn't good has
+four columns, with a tab between two: the record's position from 0, 'bad' or 'unchecked', its id without
+brackets, and the digest as the head states it; '-' for none. A block is unchecked where no digest is stated or
+it isn't SHA-1 in base32. The last line counts all records: 'records 60 good 58 bad 0 unchecked 2'.
+
+Exit status: 0 all blocks are good; 1 some block is bad; 4 none is bad, and some can't be checked; 2 the archive
+is refused, and nothing was written; 3 see 'warc --help'.
+
+Example: warc fixity examples/abc.warc";
+
+const SALVAGE_NOTES: &str =
+    "The records before the first fault are written byte for byte as the archive has them: nothing is skipped
+and nothing is mended. What is written is an archive. Standard error tells the fault, and then how much was
+written: 'warc: salvaged 59 records, 14352 bytes'; of a good archive 'warc: good 60 records, 15000 bytes'.
+
+Exit status: 0 the archive is good; 2 it isn't, and the records before the first fault were written; 3 a read or
+memory failed (F13, F14), and the records before it were written, or see 'warc --help'. There is no status 1.
+
+Example: warc salvage examples/damaged.warc > good.warc";
+
 const ARCHIVE: Word = Word {
     name: "archive",
     help: "The path of the archive; /dev/stdin is standard input, also a pipe, as from 'gunzip -c a.warc.gz'",
@@ -242,6 +309,11 @@ const DATE: Word = Word {
 const SIZE: Word = Word {
     name: "size",
     help: "The most bytes of a block that a segment has, from 1 on",
+};
+
+const POSITION: Word = Word {
+    name: "position",
+    help: "The position of the record, from 0 on",
 };
 
 /// What `write` wants, in its order.
@@ -273,7 +345,7 @@ const DRAFT: [Word; 6] = [
 ];
 
 /// The commands, in the order in which help lists them.
-const COMMANDS: [Entry; 8] = [
+const COMMANDS: [Entry; 12] = [
     Entry {
         name: "list",
         about: "Prints a line for each record",
@@ -321,6 +393,30 @@ const COMMANDS: [Entry; 8] = [
         about: "Writes one record, made of a file",
         notes: WRITE_NOTES,
         words: &DRAFT,
+    },
+    Entry {
+        name: "head",
+        about: "Writes the head of the record at a position",
+        notes: HEAD_NOTES,
+        words: &[ARCHIVE, POSITION],
+    },
+    Entry {
+        name: "block",
+        about: "Writes the block of the record at a position",
+        notes: BLOCK_NOTES,
+        words: &[ARCHIVE, POSITION],
+    },
+    Entry {
+        name: "fixity",
+        about: "Prints a line for each block that its digest doesn't fit, or that can't be checked",
+        notes: FIXITY_NOTES,
+        words: &[ARCHIVE],
+    },
+    Entry {
+        name: "salvage",
+        about: "Writes the records before the first fault",
+        notes: SALVAGE_NOTES,
+        words: &[ARCHIVE],
     },
 ];
 
@@ -441,6 +537,16 @@ fn read_command<'a>(name: &str, texts: &ArgMatches<'a>) -> Command<'a>
             draft: read_draft(texts),
             file: text_at(texts, "file"),
         },
+        "head" => Command::Head {
+            archive,
+            position: text_at(texts, "position"),
+        },
+        "block" => Command::Block {
+            archive,
+            position: text_at(texts, "position"),
+        },
+        "fixity" => Command::Fixity { archive },
+        "salvage" => Command::Salvage { archive },
         _ => Command::List { archive },
     }
 }

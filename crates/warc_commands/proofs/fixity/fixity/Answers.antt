@@ -1,0 +1,35 @@
+use Rattle.std.proofs.Common.{inl, inr, refl, ap, ◌∙◌}
+use Rattle.warc_frame.specs.FaultText.{out_fault_text}
+use Rattle.warc_frame.specs.Send.{sent_of}
+use Rattle.warc_commands.specs.Fixity.{fixity_status}
+use Rattle.warc_commands.specs.Program.{told_line}
+use Rattle.warc_commands.proofs.ProgramLemmas.{not_opened, told_as}
+use Rattle.warc_commands.proofs.fixity.fixity.Goals as goal
+
+pub returns-in-Err-clause-ends : goal.returns-in-Err-clause-ends
+returns-in-Err-clause-ends g c = inr (inl (not_opened _ _ _ _ _ _ c.in-Err.fault _ c.in-Err.ensures c.tell_refusal.ensures.told c.tell_refusal.ensures.status))
+
+pub returns-in-Ok-list-clause-ends : goal.returns-in-Ok-list-clause-ends
+returns-in-Ok-list-clause-ends g c = inl (record {
+  rows = c.in-Ok.fixity.listing.rows;
+  digests = c.in-Ok.fixity.digests;
+  are = c.in-Ok.ensures.accepted;
+  told = c.in-Ok-list.ensures.told;
+  sound = ap (λ s. (g.S.Source.tapped s).faults) c.into_source.ensures ∙ c.in-Ok.ensures.reads.cause;
+  silent = refl;
+  status_is = c.status_of.ensures.value ∙ ap fixity_status c.counts.ensures;
+  status_in = c.status_of.ensures.cases;
+})
+
+pub returns-in-Err-list-clause-ends : goal.returns-in-Err-list-clause-ends
+returns-in-Err-list-clause-ends g c = inr (inr (record {
+  rows = c.in-Ok.fixity.listing.rows;
+  digests = c.in-Ok.fixity.digests;
+  are = c.in-Ok.ensures.accepted;
+  sent = sent_of c.in-Err-list.fault;
+  front = c.in-Err-list.ensures.cut;
+  failed = c.in-Err-list.ensures.cause;
+  sound = ap (λ s. (g.S.Source.tapped s).faults) c.into_source-in-Err-list.ensures ∙ c.in-Ok.ensures.reads.cause;
+  told = told_as (ap (λ e. told_line (out_fault_text e)) c.in-Err-list.ensures.write) c.tell_cut.ensures.told;
+  status_is = c.tell_cut.ensures.status;
+}))

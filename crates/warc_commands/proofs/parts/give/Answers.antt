@@ -1,0 +1,35 @@
+use Rattle.std.proofs.Common.{◌≡◌, ℕ, List, Option, Some, inl, inr, sym, ap, subst, ◌∙◌}
+use Rattle.warc.specs.Parts.{extract_result}
+use Rattle.warc.specs.declared.part.Part.{Part}
+use Rattle.warc_commands.specs.Devices.{Devices}
+use Rattle.warc_commands.specs.Parts.{PartEnds, position_of}
+use Rattle.warc_commands.proofs.ProgramLemmas.{failed_as, may_have_failed_as, not_opened}
+use Rattle.warc_commands.proofs.parts.give.Goals as goal
+
+part_by : (part : Part) (word : List ℕ) (n : ℕ) (old new : Devices) (status : ℕ) → Some n ≡ position_of word → PartEnds part (Some n) old new status → PartEnds part (position_of word) old new status
+part_by part word n old new status same ends = let P : Option ℕ → Type 0 = λ position. PartEnds part position old new status in subst P same ends
+
+pub returns-in-Err-clause-ends : goal.returns-in-Err-clause-ends
+returns-in-Err-clause-ends g c =
+    part_by c.args.part c.args.position.now c.in-Some.position _ _ _ (c.in-Some.ensures ∙ ap position_of c.as_bytes.ensures.value)
+    (inr (not_opened _ _ _ _ _ _ c.in-Err.fault _ c.in-Err.ensures c.tell_refusal.ensures.told c.tell_refusal.ensures.status))
+
+pub returns-clause-ends : goal.returns-clause-ends
+returns-clause-ends g c =
+    part_by c.args.part c.args.position.now c.in-Some.position _ _ _ (c.in-Some.ensures ∙ ap position_of c.as_bytes.ensures.value)
+    (inl (record {
+      answer = c.part_to-answer.result;
+      is = λ bytes held.
+          let archive = c.in-Ok.ensures.accepted bytes held in
+          record {
+            rows = c.in-Ok.archive.rows;
+            is = archive;
+            told = c.part_to-answer.ensures.gives.told bytes (c.in-Ok.ensures.reads.kept ∙ held) archive;
+            source = failed_as (extract_result c.part_to-answer.result) _ _ _ _ c.in-Ok.ensures.reads.cause (ap (λ s. (g.S.Source.tapped s).faults) (sym c.into_source.ensures)) (c.part_to-answer.ensures.gives.failed bytes (c.in-Ok.ensures.reads.kept ∙ held) archive);
+          };
+      silent = c.part_to-answer.ensures.gives.silent;
+      source = may_have_failed_as (extract_result c.part_to-answer.result) _ _ _ _ c.in-Ok.ensures.reads.cause (ap (λ s. (g.S.Source.tapped s).faults) (sym c.into_source.ensures)) c.part_to-answer.ensures.gives.may;
+      failed = c.part_to-answer.ensures.gives.cause;
+      told = c.tell_extract.ensures.told;
+      status_is = c.tell_extract.ensures.status;
+    }))

@@ -1,0 +1,49 @@
+-- How each command ends, and its exit statuses.
+use Rattle.std.specs.Prelude.{◌≡◌, ℕ, ◌⊎◌, Bool, true, false}
+use Rattle.warc_value.specs.Dates.{instant_of}
+use Rattle.warc.specs.Forms.{texts_as}
+use Rattle.warc.specs.declared.copying.Form.TheVariants.{Canonical, Converted}
+use Rattle.warc.specs.declared.part.Part.TheVariants.{Head, Block}
+use Rattle.warc_commands.specs.Devices.{Devices}
+use Rattle.warc_commands.specs.Fixity.{FixityEnds}
+use Rattle.warc_commands.specs.Parts.{PartEnds, position_of}
+use Rattle.warc_commands.specs.Program.{CheckEnds, ExtractEnds, ListEnds, MakeEnds, ReplayEnds, SplitEnds, WriteEnds, size_of}
+use Rattle.warc_commands.specs.Salvage.{SalvageEnds}
+use Rattle.warc_commands.specs.declared.words.Command.{Command}
+use Rattle.warc_commands.specs.declared.words.Command.TheVariants as command
+
+-- how a run of the command ends
+abbrev pub Ends : Command → Devices → Devices → ℕ → Type 0
+Ends (command.List archive) old new status = ListEnds old new status
+Ends (command.Check archive) old new status = CheckEnds old new status
+Ends (command.Extract archive id) old new status = ExtractEnds id.now old new status
+Ends (command.Replay archive uri date) old new status = ReplayEnds uri.now (instant_of date.now) old new status
+Ends (command.Rewrite archive) old new status = WriteEnds (texts_as Canonical) old new status
+Ends (command.Convert archive) old new status = WriteEnds (texts_as Converted) old new status
+Ends (command.Split archive size) old new status = SplitEnds (size_of size.now) old new status
+Ends (command.Write draft file) old new status = MakeEnds draft old new status
+Ends (command.Head archive position) old new status = PartEnds Head (position_of position.now) old new status
+Ends (command.Block archive position) old new status = PartEnds Block (position_of position.now) old new status
+Ends (command.Fixity archive) old new status = FixityEnds old new status
+Ends (command.Salvage archive) old new status = SalvageEnds old new status
+
+-- the exit statuses of a command
+abbrev pub IsStatusOf : Command → ℕ → Type 0
+IsStatusOf (command.List archive) status = (status ≡ 0) ⊎ ((status ≡ 2) ⊎ (status ≡ 3))
+IsStatusOf (command.Check archive) status = (status ≡ 0) ⊎ ((status ≡ 1) ⊎ ((status ≡ 2) ⊎ (status ≡ 3)))
+IsStatusOf (command.Extract archive id) status = (status ≡ 0) ⊎ ((status ≡ 1) ⊎ ((status ≡ 2) ⊎ (status ≡ 3)))
+IsStatusOf (command.Replay archive uri date) status = (status ≡ 0) ⊎ ((status ≡ 1) ⊎ ((status ≡ 2) ⊎ (status ≡ 3)))
+IsStatusOf (command.Rewrite archive) status = (status ≡ 0) ⊎ ((status ≡ 2) ⊎ (status ≡ 3))
+IsStatusOf (command.Convert archive) status = (status ≡ 0) ⊎ ((status ≡ 2) ⊎ (status ≡ 3))
+IsStatusOf (command.Split archive size) status = (status ≡ 0) ⊎ ((status ≡ 2) ⊎ (status ≡ 3))
+IsStatusOf (command.Write draft file) status = (status ≡ 0) ⊎ (status ≡ 3)
+IsStatusOf (command.Head archive position) status = (status ≡ 0) ⊎ ((status ≡ 1) ⊎ ((status ≡ 2) ⊎ (status ≡ 3)))
+IsStatusOf (command.Block archive position) status = (status ≡ 0) ⊎ ((status ≡ 1) ⊎ ((status ≡ 2) ⊎ (status ≡ 3)))
+IsStatusOf (command.Fixity archive) status =
+    (status ≡ 0) ⊎ ((status ≡ 1) ⊎ ((status ≡ 2) ⊎ ((status ≡ 3) ⊎ (status ≡ 4))))
+IsStatusOf (command.Salvage archive) status = (status ≡ 0) ⊎ ((status ≡ 2) ⊎ (status ≡ 3))
+
+-- whether a command writes what is good of an archive that it refuses: `salvage` alone does
+abbrev pub writes_front : Command → Bool
+writes_front (command.Salvage archive) = true
+writes_front _ = false

@@ -1,0 +1,43 @@
+-- How `fixity` ends.
+use Rattle.std.specs.Prelude.{◌≡◌, ℕ, ◌⊎◌, List, nat_lt, if◌then◌else◌}
+use Rattle.std.specs.Io.KnownBytes.{append_known}
+use Rattle.warc_frame.specs.Count.{raised}
+use Rattle.warc_frame.specs.FaultText.{out_fault_text}
+use Rattle.warc_frame.specs.Seen.{IfHeld}
+use Rattle.warc_frame.specs.Send.{WentOut}
+use Rattle.warc_frame.specs.declared.fault.OutFault.TheVariants.{Write}
+use Rattle.warc_reading.specs.Row.{Row}
+use Rattle.warc.specs.Fixity.{AreDigested, counts_of, fixity_text}
+use Rattle.warc.specs.declared.fixity.Counts.{Counts}
+use Rattle.warc_commands.specs.Devices.{Devices}
+use Rattle.warc_commands.specs.Program.{IsNotOpened, Tells, told_line}
+
+-- the status where all was told: 1 where a block is bad, else 4 where one can't be checked, else 0
+abbrev pub fixity_status : Counts → ℕ
+fixity_status counts = if nat_lt 0 counts.bad then 1 else if nat_lt 0 counts.unchecked then 4 else 0
+
+-- all lines of `fixity` went out
+pub record IsFixityTold (old new : Devices) (status : ℕ) : Type 0 where
+  pub rows : List Row
+  pub digests : List (List ℕ)
+  pub are : IfHeld old.source.holds (λ bytes. AreDigested bytes rows digests)
+  pub told : new.out.tells ≡ append_known old.out.tells (fixity_text rows digests)
+  pub sound : new.source.faults ≡ old.source.faults
+  pub silent : new.err ≡ old.err
+  pub status_is : status ≡ fixity_status (counts_of rows)
+  pub status_in : (status ≡ 0) ⊎ ((status ≡ 1) ⊎ (status ≡ 4))
+
+-- a write failed: a front of the lines went out
+pub record IsFixityCutOff (old new : Devices) (status : ℕ) : Type 0 where
+  pub rows : List Row
+  pub digests : List (List ℕ)
+  pub are : IfHeld old.source.holds (λ bytes. AreDigested bytes rows digests)
+  pub sent : ℕ
+  pub front : WentOut old.out.tells (fixity_text rows digests) new.out.tells sent
+  pub failed : new.out.faults ≡ raised old.out.faults
+  pub sound : new.source.faults ≡ old.source.faults
+  pub told : Tells (told_line (out_fault_text (Write sent))) old.err new.err
+  pub status_is : status ≡ 3
+
+abbrev pub FixityEnds : Devices → Devices → ℕ → Type 0
+FixityEnds old new status = IsFixityTold old new status ⊎ (IsNotOpened old new status ⊎ IsFixityCutOff old new status)

@@ -1,0 +1,43 @@
+-- How the commands end that give a part of the record at a position.
+use Rattle.std.specs.Prelude.{◌≡◌, ℕ, ◌⊎◌, List, codes, option_and_then, option_map, slice_get, Option, Some, None, Result, Err, nat_le, if◌then◌else◌}
+use Rattle.warc_field.specs.Decimal.{decimal_of}
+use Rattle.warc_frame.specs.Failing.{HasFailedBy, MayHaveFailedBy, failed_by}
+use Rattle.warc_frame.specs.Record.{max_archive}
+use Rattle.warc_frame.specs.Seen.{IfHeld}
+use Rattle.warc_reading.specs.Archive.{IsArchiveOf}
+use Rattle.warc_reading.specs.Row.{Row}
+use Rattle.warc.specs.Parts.{IsGiven, extract_result, part_text}
+use Rattle.warc.specs.declared.fault.ExtractFault.{ExtractFault}
+use Rattle.warc.specs.declared.fault.ExtractFault.TheVariants.{NoRecord}
+use Rattle.warc.specs.declared.part.Part.{Part}
+use Rattle.warc_commands.specs.Devices.{Devices}
+use Rattle.warc_commands.specs.Program.{IsBadWord, IsNotOpened, TellsIf, extract_line, extract_status}
+
+-- the position that a word names: decimal digits, a number up to that of the bytes of the longest archive
+abbrev pub position_of : List ℕ → Option ℕ
+position_of word = option_and_then (λ n. if nat_le n max_archive then Some n else None) (decimal_of word)
+
+-- the part of the record at the position, of those that the bytes spell, went out as was answered
+pub record IsPartOf (part : Part) (position : ℕ) (answer : Result ℕ ExtractFault) (bytes : List ℕ)
+    (old new : Devices) : Type 0 where
+  pub rows : List Row
+  pub is : IsArchiveOf bytes rows
+  pub told : IsGiven (option_map (λ p. part_text part bytes p) (slice_get is.are.records position)) answer
+      old.out.tells new.out.tells
+  pub source : HasFailedBy (extract_result answer) old.source.faults new.source.faults
+
+-- the archive was opened, and a part of a record was asked for
+pub record IsPartGiven (part : Part) (position : ℕ) (old new : Devices) (status : ℕ) : Type 0 where
+  pub answer : Result ℕ ExtractFault
+  pub is : IfHeld old.source.holds (λ bytes. IsPartOf part position answer bytes old new)
+  pub silent : answer ≡ Err NoRecord → new.out.tells ≡ old.out.tells
+  pub source : MayHaveFailedBy (extract_result answer) old.source.faults new.source.faults
+  pub failed : new.out.faults ≡ failed_by (extract_result answer) old.out.faults
+  pub told : TellsIf (extract_line answer) old.err new.err
+  pub status_is : status ≡ extract_status answer
+
+-- how giving a part of the record at a position ends
+abbrev pub PartEnds : Part → Option ℕ → Devices → Devices → ℕ → Type 0
+PartEnds part None old new status = IsBadWord (codes "bad position") old new status
+PartEnds part (Some position) old new status =
+    IsPartGiven part position old new status ⊎ IsNotOpened old new status

@@ -1,0 +1,80 @@
+-- How `salvage` ends.
+use Rattle.std.specs.Prelude.{◌≡◌, ℕ, ◌^◌, ◌<◌, ◌⊎◌, List, ◌++◌, length, codes, decimal, Option, Some, None, Err}
+use Rattle.std.specs.Io.KnownBytes.{append_known}
+use Rattle.warc_frame.specs.Failing.{MayHaveFailedBy, failed_with}
+use Rattle.warc_frame.specs.FaultText.{out_fault_text}
+use Rattle.warc_frame.specs.Seen.{IfHeld, Seen, Tapped}
+use Rattle.warc_frame.specs.Send.{WentOut, sent_of}
+use Rattle.warc_frame.specs.declared.fault.Fault.{Fault}
+use Rattle.warc_frame.specs.declared.fault.OutFault.{OutFault}
+use Rattle.warc_reading.specs.Archive.{IsArchiveOf}
+use Rattle.warc_reading.specs.Opening.{Opens}
+use Rattle.warc_reading.specs.Row.{Row}
+use Rattle.warc.specs.Front.{IsFrontOf, refused_by}
+use Rattle.warc_commands.specs.Devices.{Devices}
+use Rattle.warc_commands.specs.Program.{Tells, fault_line, status_of_kind, told_line}
+
+-- a line of how many records and bytes went out
+abbrev pub amount_line : List ℕ → ℕ → ℕ → List ℕ
+amount_line word records bytes =
+    told_line (word ++ codes " " ++ decimal records ++ codes " records, " ++ decimal bytes ++ codes " bytes")
+
+-- what is told: of a good archive one line, and else the fault's line and then one
+abbrev pub TellsAmount : Option Fault → ℕ → ℕ → Seen → Seen → Type 0
+TellsAmount None records bytes old new = Tells (amount_line (codes "good") records bytes) old new
+TellsAmount (Some f) records bytes old new =
+    (mid : Seen) × Tells (fault_line f) old mid × Tells (amount_line (codes "salvaged") records bytes) mid new
+
+-- the status: 0 where the archive is good, else that of its fault
+abbrev pub salvage_status : Option Fault → ℕ
+salvage_status None = 0
+salvage_status (Some f) = status_of_kind f.kind
+
+-- the good records that the bytes begin with, before this fault, are these bytes
+pub record IsFrontText (bytes : List ℕ) (found : Option Fault) (rows : List Row) (text : List ℕ) : Type 0 where
+  pub front : IsFrontOf bytes found rows
+  pub is : IsArchiveOf text rows
+
+-- all of them went out
+pub record IsSalvageOf (bytes : List ℕ) (found : Option Fault) (rows : List Row) (size : ℕ) (old new : Seen)
+    : Type 0 where
+  pub text : List ℕ
+  pub front : IsFrontText bytes found rows text
+  pub told : new.tells ≡ append_known old.tells text
+  pub size_is : size ≡ length text
+
+-- a front of them did
+pub record IsSalvageFront (bytes : List ℕ) (found : Option Fault) (rows : List Row) (sent : ℕ) (old new : Seen)
+    : Type 0 where
+  pub text : List ℕ
+  pub front : IsFrontText bytes found rows text
+  pub out : WentOut old.tells text new.tells sent
+
+-- the records before the first fault were written, of a source of fewer than 2^64 bytes; opening the whole is refused by that fault, if by any
+pub record IsSalvaged (old new : Devices) (status : ℕ) : Type 0 where
+  pub rows : List Row
+  pub size : ℕ
+  pub found : Option Fault
+  pub mid : Tapped
+  pub opens : Opens IsArchiveOf old.source mid (refused_by found rows)
+  pub is : IfHeld old.source.holds (λ bytes. length bytes < 2 ^ 64 → IsSalvageOf bytes found rows size old.out new.out)
+  pub sound : new.source.faults ≡ mid.faults
+  pub told : TellsAmount found (length rows) size old.err new.err
+  pub status_is : status ≡ salvage_status found
+
+-- a read or a write failed while they were written
+pub record IsSalvageCutOff (old new : Devices) (status : ℕ) : Type 0 where
+  pub rows : List Row
+  pub found : Option Fault
+  pub mid : Tapped
+  pub opens : Opens IsArchiveOf old.source mid (refused_by found rows)
+  pub fault : OutFault
+  pub is : IfHeld old.source.holds (λ bytes. length bytes < 2 ^ 64
+      → IsSalvageFront bytes found rows (sent_of fault) old.out new.out)
+  pub source : MayHaveFailedBy {X = ℕ} (Err fault) mid.faults new.source.faults
+  pub failed : new.out.faults ≡ failed_with fault old.out.faults
+  pub told : Tells (told_line (out_fault_text fault)) old.err new.err
+  pub status_is : status ≡ 3
+
+abbrev pub SalvageEnds : Devices → Devices → ℕ → Type 0
+SalvageEnds old new status = IsSalvaged old new status ⊎ IsSalvageCutOff old new status

@@ -1,0 +1,50 @@
+//! The command that tells which blocks their digests don't fit.
+ghost use Rattle.std.specs.Prelude.{◌≡◌, ◌⊎◌};
+ghost use Rattle.warc_commands.specs.Devices.{devices};
+ghost use Rattle.warc_commands.specs.Fixity.{FixityEnds, fixity_status};
+
+use crate::program::{DONE, FOUND, tell_cut, tell_refusal};
+use std::alloc::Allocator;
+use warc::{Counts, Fixity};
+use warc_frame::{Sink, Source};
+
+/// The exit status where no block is bad, and one can't be checked.
+const UNCHECKED: u8 = 4;
+
+/// The status where all was told.
+fn status_of(counts: Counts) -> u8
+    ensures value { result ≡ fixity_status counts }
+    ensures cases { (result ≡ 0) ⊎ ((result ≡ 1) ⊎ (result ≡ 4)) }
+{
+    if counts.bad > 0 {
+        return FOUND;
+    }
+    if counts.unchecked > 0 {
+        UNCHECKED
+    } else {
+        DONE
+    }
+}
+
+/// Writes a line for each block that isn't good, and the counts.
+pub(crate) fn fixity<A, S, W, E>(alloc: A, source: S, out: &mut W, err: &mut E) -> (u8, S)
+where
+    A: Allocator + Copy,
+    S: Source + Drop,
+    W: Sink,
+    E: Sink,
+    ensures ends { FixityEnds (devices (S.tapped source) (W.seen out.old) (E.seen err.old)) (devices
+        (S.tapped result.1) (W.seen out.new) (E.seen err.new)) result.0 }
+
+    // The source still holds what it held.
+    ensures kept { (S.tapped result.1).holds ≡ (S.tapped source).holds }
+{
+    let fixity = match Fixity::open(alloc, source) {
+        Ok(fixity) => fixity,
+        Err((fault, source)) => return (tell_refusal(fault, err), source),
+    };
+    match fixity.list(out) {
+        Ok(()) => (status_of(fixity.counts()), fixity.into_source()),
+        Err(fault) => (tell_cut(fault, err), fixity.into_source()),
+    }
+}

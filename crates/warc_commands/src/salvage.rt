@@ -1,0 +1,86 @@
+//! The command that writes the records before the first fault.
+ghost use Rattle.std.specs.Prelude.{◌≡◌, ◌≤◌, Some, length};
+ghost use Rattle.warc_commands.specs.Devices.{devices};
+ghost use Rattle.warc_commands.specs.Program.{Tells, status_of_kind};
+ghost use Rattle.warc_commands.specs.Salvage.{SalvageEnds, TellsAmount, amount_line, salvage_status};
+
+use crate::program::{DONE, LINE, tell, tell_cut, tell_refusal};
+use arrayvec::ArrayString;
+use itoa::Buffer;
+use std::alloc::Allocator;
+use warc::open_front;
+use warc_frame::{Fault, Sink, Source};
+
+/// The line of how many records and bytes went out.
+fn line_of_amount(word: &str, records: usize, bytes: u64) -> ArrayString<LINE>
+    requires { length word.now ≤ 8 }
+    ensures { result.bytes ≡ amount_line word.now records bytes }
+{
+    let (mut first, mut second) = (Buffer::new(), Buffer::new());
+    let mut line = ArrayString::new();
+    line.push_str("warc: ");
+    line.push_str(word);
+    line.push_str(" ");
+    line.push_str(first.format(records));
+    line.push_str(" records, ");
+    line.push_str(second.format(bytes));
+    line.push_str(" bytes");
+    line.push_str("\n");
+    line
+}
+
+/// Tells how many records and bytes went out.
+fn tell_line<E: Sink>(word: &str, records: usize, bytes: u64, err: &mut E)
+    requires { length word.now ≤ 8 }
+    ensures { Tells (amount_line word.now records bytes) (E.seen err.old) (E.seen err.new) }
+{
+    tell(line_of_amount(word, records, bytes).as_str(), err);
+}
+
+/// Tells a fault and how many records and bytes before it went out, and answers the exit status.
+fn tell_salvaged<E: Sink>(fault: Fault, records: usize, bytes: u64, err: &mut E) -> u8
+    ensures told { TellsAmount (Some fault) records bytes (E.seen err.old) (E.seen err.new) }
+    ensures status { result ≡ status_of_kind fault.kind }
+{
+    let status = tell_refusal(fault, err);
+    tell_line("salvaged", records, bytes, err);
+    status
+}
+
+/// Tells the fault behind the records that were written, if there is one, and how many they are; and answers the exit
+/// status.
+fn tell_amount<E: Sink>(found: Option<Fault>, records: usize, bytes: u64, err: &mut E) -> u8
+    ensures told { TellsAmount found records bytes (E.seen err.old) (E.seen err.new) }
+    ensures status { result ≡ salvage_status found }
+{
+    match found {
+        None => {
+            tell_line("good", records, bytes, err);
+            DONE
+        }
+        Some(fault) => tell_salvaged(fault, records, bytes, err),
+    }
+}
+
+/// Writes the records before the first fault, byte for byte.
+pub(crate) fn salvage<A, S, W, E>(alloc: A, source: S, out: &mut W, err: &mut E) -> (u8, S)
+where
+    A: Allocator + Copy,
+    S: Source + Drop,
+    W: Sink,
+    E: Sink,
+    ensures ends { SalvageEnds (devices (S.tapped source) (W.seen out.old) (E.seen err.old)) (devices
+        (S.tapped result.1) (W.seen out.new) (E.seen err.new)) result.0 }
+
+    // The source still holds what it held.
+    ensures kept { (S.tapped result.1).holds ≡ (S.tapped source).holds }
+{
+    let mut front = open_front(alloc, source);
+    match front.copy_to(out) {
+        Ok(bytes) => {
+            let status = tell_amount(front.fault(), front.count(), bytes, err);
+            (status, front.into_source())
+        }
+        Err(fault) => (tell_cut(fault, err), front.into_source()),
+    }
+}
