@@ -1,5 +1,5 @@
 -- A command of the program.
-use Rattle.std.specs.Prelude.{List, [], ◌∷◌, ◌++◌, codes}
+use Rattle.std.specs.Prelude.{List, [], ◌∷◌, ◌++◌, Bool, true, false, codes}
 use Rattle.clap.specs.Walk.{Text}
 use Rattle.warc_commands.specs.declared.words.Command.{Command}
 use Rattle.warc_commands.specs.declared.words.Command.TheVariants as command
@@ -38,3 +38,10 @@ path_of (command.Head archive position) = archive.now
 path_of (command.Block archive position) = archive.now
 path_of (command.Fixity archive) = archive.now
 path_of (command.Salvage archive) = archive.now
+
+-- whether it asks for each offset once, in order
+abbrev pub reads_once : Command → Bool
+reads_once (command.List archive) = true
+reads_once (command.Check archive) = true
+reads_once (command.Fixity archive) = true
+reads_once _ = false

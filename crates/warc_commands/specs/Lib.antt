@@ -5,4 +5,5 @@ pub mod Ends
 pub mod Fixity
 pub mod Parts
 pub mod Program
+pub mod Running
 pub mod Salvage

@@ -6,9 +6,11 @@ mod giving;
 mod making;
 mod parts;
 mod program;
+mod running;
 mod salvage;
 mod splitting;
 mod words;
 
 pub use program::{perform, refuse};
+pub use running::{System, run};
 pub use words::{Command, CommandFault, Draft, parse};

@@ -50,6 +50,24 @@ fn read_through<S: Source, A: Allocator>(
     Ok(read)
 }
 
+/// All bytes of a source, or as many of its first.
+pub(crate) fn read_front<S: Source, A: Allocator + Copy>(
+    alloc: A,
+    source: &mut S,
+    most: u64,
+) -> Result<Vec<u8, A>, OutFault>
+    ensures bytes { (bytes : List ℕ) → (S.tapped source.old).holds ≡ Some bytes → IfOk result
+        (λ read. read.items ≡ take most bytes) }
+    ensures kept { (S.tapped source.new).holds ≡ (S.tapped source.old).holds }
+    ensures failed { HasFailedBy result (S.tapped source.old).faults (S.tapped source.new).faults }
+    ensures unsent { IfErr result IsUnsent }
+{
+    let Ok(mut buf) = vec![in alloc; 0u8; PIECE] else {
+        return Err(OutFault::Memory(0));
+    };
+    read_through(alloc, source, most, &mut buf)
+}
+
 /// Whether a byte stands at the offset of a source.
 fn has_byte_at<S: Source>(source: &mut S, at: u64) -> Result<bool, OutFault>
     ensures stands { (bytes : List ℕ) → (S.tapped source.old).holds ≡ Some bytes → IfOk result (λ stands. stands ≡
@@ -100,10 +118,7 @@ fn read_block<S: Source, A: Allocator + Copy>(
     if is_long(source)? {
         return Ok(None);
     }
-    let Ok(mut buf) = vec![in alloc; 0u8; PIECE] else {
-        return Err(OutFault::Memory(0));
-    };
-    Ok(Some(read_through(alloc, source, MAX_BLOCK + 1, &mut buf)?))
+    Ok(Some(read_front(alloc, source, MAX_BLOCK + 1)?))
 }
 
 /// The record of these words and the bytes of a file.

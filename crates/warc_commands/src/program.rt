@@ -230,7 +230,7 @@ fn line_of_cut(fault: OutFault) -> ArrayString<LINE>
 
 /// The line that tells a short text.
 pub(crate) fn line_of(text: &str) -> ArrayString<LINE>
-    requires { length text.now ≤ 17 }
+    requires { length text.now ≤ 100 }
     ensures { result.bytes ≡ told_line text.now }
 {
     let mut line = ArrayString::new();

@@ -7,7 +7,7 @@ ghost use Rattle.clap.specs.Takes.{takes};
 ghost use Rattle.clap.specs.Values.{kind_of};
 ghost use Rattle.clap.specs.Walk.{rows_of, rule_of};
 ghost use Rattle.clap.specs.declared.builder.command.Command.TheViews.{out-Command};
-ghost use Rattle.warc_commands.specs.Command.{draft_texts, path_of, view_of};
+ghost use Rattle.warc_commands.specs.Command.{draft_texts, path_of, reads_once, view_of};
 ghost use Rattle.warc_commands.specs.CommandLine.{IsToldBy, command_fault_text, command_of, draft_words, layout_seen, named, required_word};
 ghost use Rattle.warc_commands.specs.CommandLine.{text_of, warc_app, with_layout};
 
@@ -121,6 +121,18 @@ impl<'a> Command<'a> {
             } => archive,
             Command::Fixity { archive } => archive,
             Command::Salvage { archive } => archive,
+        }
+    }
+
+    /// Whether the command asks for each offset once, in order, so that it can read a pipe as it comes.
+    pub fn reads_once(&self) -> bool
+        ensures { result ≡ reads_once self.now }
+    {
+        match self {
+            Command::List { archive: _ }
+            | Command::Check { archive: _ }
+            | Command::Fixity { archive: _ } => true,
+            _ => false,
         }
     }
 }

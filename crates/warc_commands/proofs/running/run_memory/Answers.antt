@@ -1,0 +1,30 @@
+use Rattle.std.proofs.Common.{inl, inr, refl}
+use Rattle.warc_commands.proofs.running.run_memory.Goals as goal
+
+pub returns-in-Ok : goal.returns-in-Ok
+returns-in-Ok g c = record {
+  source = g.Y.Stream.Source.tapped c.stream-source.result;
+  given = c.stream-source.ensures;
+  last = g.Y.Stream.Source.tapped c.read_front.new.source;
+  ends = inl (record {
+    bytes = c.in-Ok.bytes.items;
+    are = c.in-Ok.ensures.bytes;
+    sound = c.in-Ok.ensures.failed;
+    ends = c.run_bytes.ensures;
+  });
+}
+
+pub returns : goal.returns
+returns g c = record {
+  source = g.Y.Stream.Source.tapped c.stream-source.result;
+  given = c.stream-source.ensures;
+  last = g.Y.Stream.Source.tapped c.read_front.new.source;
+  ends = inr (record {
+    fault = c.in-Err.fault;
+    source = c.in-Err.ensures.failed;
+    unsent = c.in-Err.ensures.unsent;
+    untouched = refl;
+    told = c.tell_cut.ensures.told;
+    status_is = c.tell_cut.ensures.status;
+  });
+}

@@ -1,0 +1,143 @@
+-- How a run of the program ends, by its words and by what the system gives it.
+use Rattle.std.specs.Prelude.{◌≡◌, ℕ, ◌+◌, Bool, true, false, List, [], map, length, nat_le, take, Option, Some, Result, Ok, Err, IfOk, IfErr, MatchOption, MatchResult, Vec, String, codes, string_bytes, ◌⊎◌, if◌then◌else◌}
+use Rattle.std.specs.Str.{bytes_eq}
+use Rattle.std.specs.IoError.{error_kind}
+use Rattle.std.specs.declared.io.Error.{Error}
+use Rattle.std.specs.declared.io.ErrorKind.{ErrorKind}
+use Rattle.std.specs.declared.io.ErrorKind.TheVariants.{OutOfMemory}
+use Rattle.clap.specs.Faults.{fault_of}
+use Rattle.clap.specs.Takes.{takes}
+use Rattle.clap.specs.Walk.{Text}
+use Rattle.warc_frame.specs.FaultText.{out_fault_text}
+use Rattle.warc_frame.specs.Seen.{IfHeld, Seen, Tapped}
+use Rattle.warc_frame.specs.declared.fault.OutFault.TheVariants.{Memory}
+use Rattle.warc_commands.specs.Command.{path_of, reads_once, view_of}
+use Rattle.warc_commands.specs.CommandLine.{IsToldBy, command_of, warc_app}
+use Rattle.warc_commands.specs.Devices.{devices}
+use Rattle.warc_commands.specs.Program.{Ends, FaultEnds, IsNotRead, IsStatusOf, Tells, told_line}
+use Rattle.warc_commands.specs.declared.running.Place.{Place}
+use Rattle.warc_commands.specs.declared.running.Place.TheVariants.{File, Memory as InMemory, Input}
+use Rattle.warc_commands.specs.declared.words.Command.{Command}
+use Rattle.warc_commands.specs.declared.words.CommandFault.{CommandFault}
+use Rattle.warc_commands.specs.declared.words.CommandFault.TheVariants.{Memory as NoMemory}
+
+-- what the system may give a run: for a path a file or an error; standard input as a file, if it is one; standard input
+-- as it comes
+pub data Given : Type 0 where
+  opened : List ℕ → Result Tapped Error → Given
+  redirected : Option Tapped → Given
+  streamed : Tapped → Given
+
+-- the two outputs of a run
+pub record Outputs : Type 0 where
+  pub out : Seen
+  pub err : Seen
+
+abbrev pub outputs : Seen → Seen → Outputs
+outputs out err = record { out = out; err = err }
+
+-- where the bytes of a command are, by its path
+abbrev pub place_of : Text → Place
+place_of path = if bytes_eq path (codes "-") then Input else (if bytes_eq path (codes "/dev/stdin") then InMemory else File)
+
+-- the most bytes of standard input that are kept in memory
+abbrev pub max_input : ℕ
+max_input = 1073741824
+
+-- why a run can't begin, by the kind of an error
+abbrev pub stop_text : List ℕ → ErrorKind → List ℕ
+stop_text why OutOfMemory = out_fault_text (Memory 0)
+stop_text why kind = why
+
+-- a run couldn't begin: a line says why, nothing went to standard output, and the status is 3
+pub record IsStopped (why : List ℕ) (old new : Outputs) (status : ℕ) : Type 0 where
+  pub untouched : new.out ≡ old.out
+  pub told : Tells (told_line why) old.err new.err
+  pub status_is : status ≡ 3
+
+-- a command was done over a source
+pub record IsDone (command : Command) (source : Tapped) (old new : Outputs) (status : ℕ) : Type 0 where
+  pub last : Tapped
+  pub kept : last.holds ≡ source.holds
+  pub ends : Ends command (devices source old.out old.err) (devices last new.out new.err) status
+  pub silent : status ≡ 2 → (new.out.tells ≡ old.out.tells) × (new.out.faults ≡ old.out.faults)
+  pub answers : IsStatusOf command status
+
+-- a command reads the file at its path
+pub record ReadsFile (gives : Given → Type 0) (command : Command) (old new : Outputs) (status : ℕ) : Type 0 where
+  pub file : Result Tapped Error
+  pub given : gives (opened (path_of command) file)
+  pub ends : MatchResult file (λ source. IsDone command source old new status)
+      (λ error. IsStopped (stop_text (codes "open failed") (error_kind error)) old new status)
+
+-- a source of bytes in memory, which nobody has read
+abbrev pub in_memory : List ℕ → Tapped
+in_memory bytes = record { holds = Some bytes; faults = 0; reads = 0; asked = 0; watches = λ _. false; strays = 0 }
+
+-- a command over bytes in memory, if they are few enough
+abbrev pub MemoryEnds : Bool → List ℕ → Command → List ℕ → Outputs → Outputs → ℕ → Type 0
+MemoryEnds true long command bytes old new status = IsDone command (in_memory bytes) old new status
+MemoryEnds false long command bytes old new status = IsStopped long old new status
+
+-- a command was done over all bytes of a source, which were read into memory, or stopped since they are too long
+pub record IsDoneInMemory (long : List ℕ) (command : Command) (source last : Tapped) (old new : Outputs) (status : ℕ)
+    : Type 0 where
+  pub bytes : List ℕ
+  pub are : IfHeld source.holds (λ all. bytes ≡ take (max_input + 1) all)
+  pub sound : last.faults ≡ source.faults
+  pub ends : MemoryEnds (nat_le (length bytes) max_input) long command bytes old new status
+
+-- a command reads standard input into memory first; where that fails the run stops
+pub record ReadsMemory (gives : Given → Type 0) (long : List ℕ) (command : Command) (old new : Outputs) (status : ℕ)
+    : Type 0 where
+  pub source : Tapped
+  pub given : gives (streamed source)
+  pub last : Tapped
+  pub ends : IsDoneInMemory long command source last old new status
+      ⊎ IsNotRead (devices source old.out old.err) (devices last new.out new.err) status
+
+-- a command reads standard input as it comes
+pub record ReadsStream (gives : Given → Type 0) (command : Command) (old new : Outputs) (status : ℕ) : Type 0 where
+  pub source : Tapped
+  pub given : gives (streamed source)
+  pub ends : IsDone command source old new status
+
+abbrev pub too_long : List ℕ
+too_long = codes "standard input is too long for this command; write it to a file first"
+
+-- a command reads standard input that is no file: as it comes, if it asks for each offset once, in order
+abbrev pub PipeEnds : Bool → (Given → Type 0) → Command → Outputs → Outputs → ℕ → Type 0
+PipeEnds true gives command old new status = ReadsStream gives command old new status
+PipeEnds false gives command old new status = ReadsMemory gives too_long command old new status
+
+-- a command reads standard input: at any offset where it is a file
+pub record ReadsInput (gives : Given → Type 0) (command : Command) (old new : Outputs) (status : ℕ) : Type 0 where
+  pub file : Option Tapped
+  pub given : gives (redirected file)
+  pub ends : MatchOption file (PipeEnds (reads_once command) gives command old new status)
+      (λ source. IsDone command source old new status)
+
+-- how a command ends, by where its bytes are
+abbrev pub PlaceEnds : Place → (Given → Type 0) → Command → Outputs → Outputs → ℕ → Type 0
+PlaceEnds File gives command old new status = ReadsFile gives command old new status
+PlaceEnds InMemory gives command old new status = ReadsMemory gives (codes "read failed after 0") command old new status
+PlaceEnds Input gives command old new status = ReadsInput gives command old new status
+
+-- what words name, as `parse` answers it
+pub record IsParsed (words : List Text) (parsed : Result Command CommandFault) : Type 0 where
+  pub named : IfOk parsed (λ c. Some (view_of c) ≡ command_of words)
+  pub accepted : IfOk parsed (λ _. fault_of warc_app words ≡ [])
+  pub taken : IfErr parsed (λ e. takes warc_app words ≡ true → e ≡ NoMemory)
+  pub told : IfErr parsed (IsToldBy (fault_of warc_app words))
+
+-- how a run ends whose words are texts
+pub record WordsEnd (gives : Given → Type 0) (words : List Text) (old new : Outputs) (status : ℕ) : Type 0 where
+  pub parsed : Result Command CommandFault
+  pub is : IsParsed words parsed
+  pub ends : MatchResult parsed (λ command. PlaceEnds (place_of (path_of command)) gives command old new status)
+      (λ fault. FaultEnds fault old.out new.out old.err new.err status)
+
+-- how a run ends
+abbrev pub RunEnds : {A B : Type 0} → (Given → Type 0) → Result (Vec (String A) B) Error → Outputs → Outputs → ℕ → Type 0
+RunEnds gives (Ok words) old new status = WordsEnd gives (map string_bytes words.items) old new status
+RunEnds gives (Err error) old new status = IsStopped (stop_text (codes "the arguments aren't text") (error_kind error)) old new status

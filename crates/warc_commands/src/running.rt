@@ -1,0 +1,279 @@
+//! A run of the program: its words, what the system gives it, and how it ends.
+ghost use Rattle.std.specs.Option.{option_map};
+ghost use Rattle.std.specs.Prelude.{◌≡◌, ◌≤◌, length, map, nat_le, string_bytes};
+ghost use Rattle.std.specs.Result.{result_map_both};
+ghost use Rattle.std.specs.IoError.{error_kind};
+ghost use Rattle.warc_commands.specs.Program.{Tells, told_line};
+ghost use Rattle.warc_commands.specs.Running.{Given, IsDone, MemoryEnds, PipeEnds, PlaceEnds, ReadsFile, ReadsInput, ReadsMemory, ReadsStream, RunEnds, WordsEnd};
+ghost use Rattle.warc_commands.specs.Running.{max_input, opened, outputs, place_of, redirected, stop_text, streamed};
+ghost use Rattle.warc_commands.specs.Command.{path_of, reads_once};
+
+use crate::making::read_front;
+use crate::program::{FAILED, line_of, perform, refuse, tell, tell_cut};
+use crate::words::{Command, parse};
+use std::alloc::Global;
+use std::io::{self, ErrorKind};
+use warc_frame::{MemSource, OutFault, Sink, Source};
+
+/// The most bytes of standard input that are kept in memory.
+const MOST_INPUT: u64 = 1 << 30;
+
+/// What is told where standard input is too long for memory, of the path `/dev/stdin` and of `-`.
+const READ_FAILED: &str = "read failed after 0";
+
+const TOO_LONG: &str = "standard input is too long for this command; write it to a file first";
+
+/// What a run asks of the system: a file by its path, and standard input.
+pub trait System {
+    /// A file, which is read at any offset.
+    type File: Source + Drop;
+
+    /// Standard input, which is read as it comes.
+    type Stream: Source + Drop;
+
+    /// What the system may give.
+    ghost gives: { Self → Given → Type 0 };
+
+    /// Opens the file at a path.
+    fn open(&self, path: &str) -> io::Result<Self::File>
+        ensures { gives self.now (opened path.now (result_map_both Self.File.tapped (λ e. e) result)) };
+
+    /// Standard input as a file from its first byte on, where it is one that opens.
+    fn redirected(&self) -> Option<Self::File>
+        ensures { gives self.now (redirected (option_map Self.File.tapped result)) };
+
+    /// Standard input as it comes.
+    fn stream(&self) -> Self::Stream
+        ensures { gives self.now (streamed (Self.Stream.tapped result)) };
+}
+
+/// Where the bytes of a command are: in the file at its path, in memory, into which standard input is read first, or in
+/// standard input.
+#[derive(Clone, Copy, Debug, PartialEq, Eq)]
+enum Place {
+    File,
+    Memory,
+    Input,
+}
+
+/// Does what words say, the program's name being the first: all of `main` but opening itself. The answer is the exit
+/// status. Words that aren't text and a file that doesn't open are told on `err`, with status 3. The path `-` is
+/// standard input: at any offset where it is a file, as it comes where the command asks for each offset once, in order,
+/// and else read into memory, at most 2^30 bytes of it. The path `/dev/stdin` is always read into memory.
+pub fn run<Y, W, E>(
+    alloc: Global,
+    system: &Y,
+    words: &io::Result<Vec<String>>,
+    out: &mut W,
+    err: &mut E,
+) -> u8
+where
+    Y: System,
+    W: Sink,
+    E: Sink,
+    ensures { RunEnds (Y.gives system.now) words.now (outputs (W.seen out.old) (E.seen err.old)) (outputs
+        (W.seen out.new) (E.seen err.new)) result }
+{
+    match words {
+        Ok(words) => run_words(alloc, system, words.as_slice(), out, err),
+        Err(error) => stop(error, "the arguments aren't text", err),
+    }
+}
+
+/// Does what words say that are texts.
+fn run_words<Y, W, E>(alloc: Global, system: &Y, words: &[String], out: &mut W, err: &mut E) -> u8
+where
+    Y: System,
+    W: Sink,
+    E: Sink,
+    ensures { WordsEnd (Y.gives system.now) (map string_bytes words.now) (outputs (W.seen out.old) (E.seen err.old))
+        (outputs (W.seen out.new) (E.seen err.new)) result }
+{
+    match parse(alloc, words) {
+        Ok(command) => run_command(alloc, system, &command, out, err),
+        Err(fault) => refuse(&fault, out, err),
+    }
+}
+
+/// Does what a command says, over the bytes at its path.
+fn run_command<Y, W, E>(
+    alloc: Global,
+    system: &Y,
+    command: &Command<'_>,
+    out: &mut W,
+    err: &mut E,
+) -> u8
+where
+    Y: System,
+    W: Sink,
+    E: Sink,
+    ensures { PlaceEnds (place_of (path_of command.now)) (Y.gives system.now) command.now (outputs (W.seen out.old)
+        (E.seen err.old)) (outputs (W.seen out.new) (E.seen err.new)) result }
+{
+    match place_of(command.path()) {
+        Place::File => run_file(alloc, system, command, out, err),
+        Place::Memory => run_memory(alloc, system, command, READ_FAILED, out, err),
+        Place::Input => run_input(alloc, system, command, out, err),
+    }
+}
+
+/// Where the bytes at a path are.
+fn place_of(path: &str) -> Place
+    ensures { result ≡ place_of path.now }
+{
+    match path {
+        "-" => Place::Input,
+        "/dev/stdin" => Place::Memory,
+        _ => Place::File,
+    }
+}
+
+/// Does what a command says, over the file at its path.
+fn run_file<Y, W, E>(
+    alloc: Global,
+    system: &Y,
+    command: &Command<'_>,
+    out: &mut W,
+    err: &mut E,
+) -> u8
+where
+    Y: System,
+    W: Sink,
+    E: Sink,
+    ensures { ReadsFile (Y.gives system.now) command.now (outputs (W.seen out.old) (E.seen err.old)) (outputs
+        (W.seen out.new) (E.seen err.new)) result }
+{
+    match system.open(command.path()) {
+        Ok(file) => run_over(alloc, command, file, out, err),
+        Err(error) => stop(&error, "open failed", err),
+    }
+}
+
+/// Does what a command says, over standard input.
+fn run_input<Y, W, E>(
+    alloc: Global,
+    system: &Y,
+    command: &Command<'_>,
+    out: &mut W,
+    err: &mut E,
+) -> u8
+where
+    Y: System,
+    W: Sink,
+    E: Sink,
+    ensures { ReadsInput (Y.gives system.now) command.now (outputs (W.seen out.old) (E.seen err.old)) (outputs
+        (W.seen out.new) (E.seen err.new)) result }
+{
+    match system.redirected() {
+        Some(file) => run_over(alloc, command, file, out, err),
+        None => run_pipe(alloc, system, command, out, err),
+    }
+}
+
+/// Does what a command says, over standard input that is no file.
+fn run_pipe<Y, W, E>(
+    alloc: Global,
+    system: &Y,
+    command: &Command<'_>,
+    out: &mut W,
+    err: &mut E,
+) -> u8
+where
+    Y: System,
+    W: Sink,
+    E: Sink,
+    ensures { PipeEnds (reads_once command.now) (Y.gives system.now) command.now (outputs (W.seen out.old)
+        (E.seen err.old)) (outputs (W.seen out.new) (E.seen err.new)) result }
+{
+    if command.reads_once() {
+        run_over(alloc, command, system.stream(), out, err)
+    } else {
+        run_memory(alloc, system, command, TOO_LONG, out, err)
+    }
+}
+
+/// Does what a command says, over standard input, which is read into memory first. The line is told where it is too
+/// long for that.
+fn run_memory<Y, W, E>(
+    alloc: Global,
+    system: &Y,
+    command: &Command<'_>,
+    long: &str,
+    out: &mut W,
+    err: &mut E,
+) -> u8
+where
+    Y: System,
+    W: Sink,
+    E: Sink,
+    requires { length long.now ≤ 100 }
+    ensures { ReadsMemory (Y.gives system.now) long.now command.now (outputs (W.seen out.old) (E.seen err.old)) (outputs
+        (W.seen out.new) (E.seen err.new)) result }
+{
+    let mut source = system.stream();
+    match read_front(alloc, &mut source, MOST_INPUT + 1) {
+        Ok(bytes) => run_bytes(alloc, command, bytes, long, out, err),
+        Err(fault) => tell_cut(fault, err),
+    }
+}
+
+/// Does what a command says, over bytes in memory, if they aren't too many.
+fn run_bytes<W: Sink, E: Sink>(
+    alloc: Global,
+    command: &Command<'_>,
+    bytes: Vec<u8>,
+    long: &str,
+    out: &mut W,
+    err: &mut E,
+) -> u8
+    requires { length long.now ≤ 100 }
+    ensures { MemoryEnds (nat_le (length bytes.items) max_input) long.now command.now bytes.items (outputs
+        (W.seen out.old) (E.seen err.old)) (outputs (W.seen out.new) (E.seen err.new)) result }
+{
+    if bytes.len() as u64 <= MOST_INPUT {
+        run_over(alloc, command, MemSource::new(bytes, usize::MAX), out, err)
+    } else {
+        tell_stop(long, err)
+    }
+}
+
+/// Does what a command says, over a source.
+fn run_over<S, W, E>(
+    alloc: Global,
+    command: &Command<'_>,
+    source: S,
+    out: &mut W,
+    err: &mut E,
+) -> u8
+where
+    S: Source + Drop,
+    W: Sink,
+    E: Sink,
+    ensures { IsDone command.now (S.tapped source) (outputs (W.seen out.old) (E.seen err.old)) (outputs
+        (W.seen out.new) (E.seen err.new)) result }
+{
+    let (status, _) = perform(alloc, command, source, out, err);
+    status
+}
+
+/// Tells why a run can't begin: the text, or that memory was refused; and answers the exit status.
+fn stop<E: Sink>(error: &io::Error, why: &str, err: &mut E) -> u8
+    requires { length why.now ≤ 100 }
+    ensures told { Tells (told_line (stop_text why.now (error_kind error.now))) (E.seen err.old) (E.seen err.new) }
+    ensures status { result ≡ 3 }
+{
+    match error.kind() {
+        ErrorKind::OutOfMemory => tell_cut(OutFault::Memory(0), err),
+        _ => tell_stop(why, err),
+    }
+}
+
+/// Tells a short text, and answers the exit status.
+fn tell_stop<E: Sink>(why: &str, err: &mut E) -> u8
+    requires { length why.now ≤ 100 }
+    ensures told { Tells (told_line why.now) (E.seen err.old) (E.seen err.new) }
+    ensures status { result ≡ 3 }
+{
+    tell(line_of(why).as_str(), err);
+    FAILED
+}
