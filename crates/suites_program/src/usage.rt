@@ -3,7 +3,7 @@
 use crate::words::words_from;
 use std::alloc::{AllocError, Global};
 use suites_script::Case;
-use warc_commands::{Command, CommandFault, parse};
+use warc_commands::{CommandFault, Request, parse};
 
 /// Whether a case asks about the words of a command line. Adds what it answers.
 pub(crate) fn answer_usage(
@@ -25,17 +25,19 @@ pub(crate) fn answer_usage(
 fn tell_parsed(alloc: Global, case: &Case<'_>, answer: &mut Vec<u8>) -> Result<(), AllocError> {
     let words = words_from(alloc, case, 1)?;
     match parse(alloc, &words) {
-        Ok(command) => tell_command(alloc, &command, answer),
+        Ok(request) => tell_request(alloc, &request, answer),
         Err(fault) => tell_fault(&fault, answer),
     }
 }
 
-fn tell_command(
+fn tell_request(
     alloc: Global,
-    command: &Command<'_>,
+    request: &Request<'_>,
     answer: &mut Vec<u8>,
 ) -> Result<(), AllocError> {
-    let line = format!(in alloc; "{command:?} reads {}\n", command.path())?;
+    let command = request.command;
+    let manner = if request.quiet { " quietly" } else { "" };
+    let line = format!(in alloc; "{command:?} reads {}{manner}\n", command.path())?;
     answer.extend_from_slice(line.as_bytes())
 }
 

@@ -17,21 +17,22 @@ use Rattle.clap.proofs.SimpleLemmas.{plain_fields}
 use Rattle.clap.proofs.WalkLemmas.{first_value-rows}
 use Rattle.warc_commands.specs.declared.words.CommandFault.{CommandFault}
 use Rattle.warc_commands.specs.declared.words.CommandFault.TheVariants.{Usage, Memory}
-use Rattle.warc_commands.specs.CommandLine.{IsToldBy, is_request, command_of, named, text_of, warc_app}
+use Rattle.warc_commands.specs.Command.{Asked}
+use Rattle.warc_commands.specs.CommandLine.{IsToldBy, asked_in, asked_of, is_request, text_of, warc_app}
 
 -- what a reading of the matches names, the words name
-pub words_name : (a : App) (words : List Text) (m : ArgMatches) (view : Option (Text × List Text)) → a ≡ warc_app → HasMatchesOf a words m
-    → view ≡ option_map (λ p. named p.0 p.1) (subcommand_rows_of m) → view ≡ command_of words
-words_name a words m view same has read =
+pub words_name : (a : App) (words : List Text) (m : ArgMatches) (asked : Option Asked) → a ≡ warc_app → HasMatchesOf a words m
+    → asked ≡ option_map (λ p. asked_in p.0 p.1) (subcommand_rows_of m) → asked ≡ asked_of words
+words_name a words m asked same has read =
     let rows = (let P : App → Type 0 = λ x. HasMatchesOf x words m in subst P same has refl).1 in
-    read ∙ ap (option_map (λ p. named p.0 p.1)) rows
+    read ∙ ap (option_map (λ p. asked_in p.0 p.1)) rows
 
 -- a parse that met a subcommand names a command
 through : {X Y Z : Type 0} (f : Y → Z) (g : X → Y) (o : Option X) → is_some o ≡ true → None ≡ option_map f (option_map g o) → ⊥
 through f g None has none = true≢false (sym has)
 through f g (Some x) has none = cc none
 
-pub names_some : (m : ArgMatches) → has_subcommand m ≡ true → None ≡ option_map (λ p. named p.0 p.1) (subcommand_rows_of m) → ⊥
+pub names_some : (m : ArgMatches) → has_subcommand m ≡ true → None ≡ option_map (λ p. asked_in p.0 p.1) (subcommand_rows_of m) → ⊥
 names_some m has none = through _ _ (out-ArgMatches m).subcommand has none
 
 -- words that the program's parser takes

@@ -1,5 +1,5 @@
 -- How a run ends, from what its calls answered.
-use Rattle.std.proofs.Common.{◌≡◌, ℕ, false, List, [], ◌∷◌, length, min, Ok, Err, refl, sym, subst, ◌∙◌, arith}
+use Rattle.std.proofs.Common.{◌≡◌, ℕ, List, [], ◌∷◌, length, min, Ok, Err, refl, sym, subst, ◌∙◌, arith}
 use Rattle.std.specs.List.{flat_map}
 use Rattle.warc_frame.specs.FaultText.{out_fault_text}
 use Rattle.warc_frame.specs.Record.{Record}
@@ -9,8 +9,7 @@ use Rattle.warc_frame.specs.declared.fault.Fault.{Fault}
 use Rattle.warc_frame.specs.declared.fault.OutFault.{OutFault}
 use Rattle.warc_reading.specs.Archive.{IsArchiveOf, contents}
 use Rattle.warc_checking.specs.Checking.{Line}
-use Rattle.warc_frame.specs.Failing.{HasFailedBy, MayHaveFailedBy, is_read}
-use Rattle.warc_frame.specs.declared.fault.OutFault.TheVariants.{Read, Write, Memory}
+use Rattle.warc_frame.specs.Failing.{HasFailedBy, MayHaveFailedBy}
 use Rattle.warc_commands.specs.Devices.{devices}
 use Rattle.warc_reading.specs.Opening.{Opens}
 use Rattle.warc_commands.specs.Program.{AreGoodRecordsOf, IsCutOff, IsNotOpened, IsWritten, Tells, fault_line, status_of_findings, status_of_kind, told_line}

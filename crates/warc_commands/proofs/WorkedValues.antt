@@ -1,15 +1,20 @@
 -- What words name, and which sizes a word tells, computed.
-use Rattle.std.proofs.Common.{◌≡◌, ◌^◌, true, [], ◌∷◌, None, Some, codes, refl}
+use Rattle.std.proofs.Common.{◌≡◌, ℕ, ◌^◌, true, false, List, [], ◌∷◌, Option, None, Some, codes, refl}
 use Rattle.clap.specs.Faults.{fault_of}
 use Rattle.clap.specs.Takes.{takes}
 use Rattle.clap.specs.declared.error.kind.ErrorKind.TheVariants.{DisplayHelp, DisplayVersion, MissingRequiredArgument, MissingSubcommand, UnknownArgument}
 use Rattle.clap.proofs.OnLiterals.{clap_on_literals}
 use Rattle.warc_field.specs.Decimal.{decimal_of}
-use Rattle.warc_commands.specs.CommandLine.{command_of, warc_app}
+use Rattle.warc_commands.specs.Command.{Asked}
+use Rattle.warc_commands.specs.CommandLine.{asked_of, warc_app}
 use Rattle.warc_commands.specs.Program.{size_of}
 
+-- a command with these texts, and without a flag
+abbrev plainly : List ℕ → List (List ℕ) → Option Asked
+plainly name texts = Some (record { command = (name, texts); flags = []; quiet = false })
+
 -- warc list a.warc
-list_names : command_of (codes "warc" ∷ codes "list" ∷ codes "a.warc" ∷ []) ≡ Some (codes "list", codes "a.warc" ∷ [])
+list_names : asked_of (codes "warc" ∷ codes "list" ∷ codes "a.warc" ∷ []) ≡ plainly (codes "list") (codes "a.warc" ∷ [])
 unfolding clap_on_literals
 list_names = refl
 
@@ -18,17 +23,26 @@ unfolding clap_on_literals
 list_takes = refl
 
 -- an empty word is a word, and a word with a minus stands behind `--`
-empty_names : command_of (codes "warc" ∷ codes "list" ∷ [] ∷ []) ≡ Some (codes "list", [] ∷ [])
+empty_names : asked_of (codes "warc" ∷ codes "list" ∷ [] ∷ []) ≡ plainly (codes "list") ([] ∷ [])
 unfolding clap_on_literals
 empty_names = refl
 
-minus_names : command_of (codes "warc" ∷ codes "list" ∷ codes "--" ∷ codes "-a" ∷ []) ≡ Some (codes "list", codes "-a" ∷ [])
+minus_names : asked_of (codes "warc" ∷ codes "list" ∷ codes "--" ∷ codes "-a" ∷ []) ≡ plainly (codes "list") (codes "-a" ∷ [])
 unfolding clap_on_literals
 minus_names = refl
 
 minus_faults : fault_of warc_app (codes "warc" ∷ codes "list" ∷ codes "-a" ∷ []) ≡ UnknownArgument ∷ []
 unfolding clap_on_literals
 minus_faults = refl
+
+-- the flag of every command, before or after its words
+quiet_asked : asked_of (codes "warc" ∷ codes "list" ∷ codes "a.warc" ∷ codes "--quiet" ∷ []) ≡ Some (record { command = (codes "list", codes "a.warc" ∷ []); flags = []; quiet = true })
+unfolding clap_on_literals
+quiet_asked = refl
+
+quiet_first : asked_of (codes "warc" ∷ codes "split" ∷ codes "--quiet" ∷ codes "a.warc" ∷ codes "2" ∷ []) ≡ Some (record { command = (codes "split", codes "a.warc" ∷ codes "2" ∷ []); flags = []; quiet = true })
+unfolding clap_on_literals
+quiet_first = refl
 
 -- requests
 help_faults : fault_of warc_app (codes "warc" ∷ codes "--help" ∷ []) ≡ DisplayHelp ∷ []
@@ -49,7 +63,7 @@ unfolding clap_on_literals
 list_faults = refl
 
 -- warc check a.warc
-check_names : command_of (codes "warc" ∷ codes "check" ∷ codes "a.warc" ∷ []) ≡ Some (codes "check", codes "a.warc" ∷ [])
+check_names : asked_of (codes "warc" ∷ codes "check" ∷ codes "a.warc" ∷ []) ≡ plainly (codes "check") (codes "a.warc" ∷ [])
 unfolding clap_on_literals
 check_names = refl
 
@@ -58,7 +72,7 @@ unfolding clap_on_literals
 check_faults = refl
 
 -- warc split a.warc 2
-split_names : command_of (codes "warc" ∷ codes "split" ∷ codes "a.warc" ∷ codes "2" ∷ []) ≡ Some (codes "split", codes "a.warc" ∷ codes "2" ∷ [])
+split_names : asked_of (codes "warc" ∷ codes "split" ∷ codes "a.warc" ∷ codes "2" ∷ []) ≡ plainly (codes "split") (codes "a.warc" ∷ codes "2" ∷ [])
 unfolding clap_on_literals
 split_names = refl
 

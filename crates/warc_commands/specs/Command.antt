@@ -1,15 +1,16 @@
 -- A command of the program.
-use Rattle.std.specs.Prelude.{List, [], ◌∷◌, ◌++◌, Bool, true, false, codes}
+use Rattle.std.specs.Prelude.{Bool, true, false, List, [], ◌∷◌, ◌++◌, codes}
 use Rattle.clap.specs.Walk.{Text}
 use Rattle.warc_commands.specs.declared.words.Command.{Command}
 use Rattle.warc_commands.specs.declared.words.Command.TheVariants as command
 use Rattle.warc_commands.specs.declared.words.Draft.{Draft}
+use Rattle.warc_commands.specs.declared.words.Request.{Request}
 
 -- the words of `write` before the path of its file
 abbrev pub draft_texts : Draft → List Text
 draft_texts d = d.kind.now ∷ d.uri.now ∷ d.date.now ∷ d.uuid.now ∷ d.content_type.now ∷ []
 
--- its name and its texts in order
+-- its name, and the texts in order of the words that are given
 abbrev pub view_of : Command → Text × List Text
 view_of (command.List archive) = (codes "list", archive.now ∷ [])
 view_of (command.Check archive) = (codes "check", archive.now ∷ [])
@@ -23,6 +24,19 @@ view_of (command.Head archive position) = (codes "head", archive.now ∷ positio
 view_of (command.Block archive position) = (codes "block", archive.now ∷ position.now ∷ [])
 view_of (command.Fixity archive) = (codes "fixity", archive.now ∷ [])
 view_of (command.Salvage archive) = (codes "salvage", archive.now ∷ [])
+
+-- whether each of its flags is given, in order; `--quiet`, which every command has, isn't one of them
+abbrev pub flags_of : Command → List Bool
+flags_of _ = []
+
+-- what words ask for
+pub record Asked : Type 0 where
+  pub command : Text × List Text
+  pub flags : List Bool
+  pub quiet : Bool
+
+abbrev pub asked_by : Request → Asked
+asked_by r = record { command = view_of r.command; flags = flags_of r.command; quiet = r.quiet }
 
 -- the path of the file that it reads
 abbrev pub path_of : Command → Text

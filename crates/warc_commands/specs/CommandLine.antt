@@ -1,23 +1,30 @@
 -- The command line, in the terms of `clap`: what it defines, and what words name by it.
-use Rattle.std.specs.Prelude.{◌≡◌, ℕ, Bool, true, false, List, [], ◌∷◌, ◌++◌, fold, map, find, Option, option_map, unwrap_or, codes, string_bytes}
+use Rattle.std.specs.Prelude.{◌≡◌, ℕ, Bool, true, false, List, [], ◌∷◌, ◌++◌, fold, map, find, filter_map, Option, Some, option_map, unwrap_or, codes, string_bytes}
 use Rattle.std.specs.Str.{bytes_eq}
 use Rattle.clap.specs.Kinds.{Kinds, IsAmong}
 use Rattle.clap.specs.Simple.{App, new_app, new_rule, on_top, with_rule, with_subcommand, subcommand_of}
 use Rattle.clap.specs.Walk.{Row, Rule, Text, first_of}
 use Rattle.clap.specs.declared.error.kind.ErrorKind.{ErrorKind}
 use Rattle.clap.specs.declared.error.kind.ErrorKind.TheVariants.{DisplayHelp, DisplayVersion}
+use Rattle.clap.specs.declared.builder.action.ArgAction.TheVariants.{SetTrue}
+use Rattle.warc_commands.specs.Command.{Asked}
 use Rattle.warc_commands.specs.declared.words.CommandFault.{CommandFault}
 use Rattle.warc_commands.specs.declared.words.Entry.{Entry}
+use Rattle.warc_commands.specs.declared.words.Form.{Form}
+use Rattle.warc_commands.specs.declared.words.Form.TheVariants.{Required, Optional, Flag}
 use Rattle.warc_commands.specs.declared.words.CommandFault.TheVariants.{Usage, Memory}
 
--- a command's name, and the names of the words that it requires, in order
+-- a command's name, the names of the words that it requires, in order, of those after them that may be left out, and
+-- of its flags
 pub record Layout : Type 0 where
   pub name : Text
   pub words : List Text
+  pub optional : List Text
+  pub flags : List Text
 
--- a command that requires these words
+-- a command that has these words, each of them required
 abbrev pub layout : Text → List Text → Layout
-layout name words = record { name = name; words = words }
+layout name words = record { name = name; words = words; optional = []; flags = [] }
 
 abbrev pub list_layout : Layout
 list_layout = layout (codes "list") (codes "archive" ∷ [])
@@ -45,14 +52,28 @@ layouts =
 
 -- what the program's table says of a command
 abbrev pub layout_seen : Entry → Layout
-layout_seen e = layout e.name.now (map (λ w. w.name.now) e.words.now)
+layout_seen e = record {
+  name = e.name.now;
+  words = map (λ w. w.name.now) e.words.now;
+  optional = map (λ w. w.name.now) e.optional.now;
+  flags = map (λ w. w.name.now) e.flags.now;
+}
 
-abbrev pub required_word : Text → Rule
-required_word name = record (new_rule name) { required = true }
+-- what clap is told of a word: that it is required, that it may be left out, or that it is a flag `--NAME`
+abbrev pub rule_as : Form → Text → Rule
+rule_as Required name = record (new_rule name) { required = true }
+rule_as Optional name = new_rule name
+rule_as Flag name = record (new_rule name) { long = Some name; action = Some SetTrue }
 
--- a command by itself
+-- a command with more words of a form
+abbrev pub with_rules : Form → App → List Text → App
+with_rules form app words = fold (λ a word. with_rule a (rule_as form word)) app words
+
+-- a command by itself; the last flag of each is `--quiet`
 abbrev pub layout_app : Layout → App
-layout_app l = fold (λ app word. with_rule app (required_word word)) (new_app l.name) l.words
+layout_app l = with_rule
+    (with_rules Flag (with_rules Optional (with_rules Required (new_app l.name) l.words) l.optional) l.flags)
+    (rule_as Flag (codes "quiet"))
 
 -- the program with one more command
 abbrev pub with_layout : App → Layout → App
@@ -72,13 +93,32 @@ layout_of name = unwrap_or (find (λ l. bytes_eq name l.name) layouts) list_layo
 abbrev pub text_of : List Row → Text → Text
 text_of rows word = unwrap_or (first_of word rows) []
 
--- the name of a command and its texts in order, from what clap read
-abbrev pub named : Text → List Row → Text × List Text
-named name rows = let l = layout_of name in (l.name, map (text_of rows) l.words)
+-- a flag is given: clap reads it as a word of its own, `true` or `false`
+abbrev pub is_flagged : List Row → Text → Bool
+is_flagged rows flag = bytes_eq (text_of rows flag) (codes "true")
 
--- the command's name and its texts that the words name, the program's name being the first word
-abbrev pub command_of : List Text → Option (Text × List Text)
-command_of words = option_map (λ p. named p.0 p.1) (subcommand_of warc_app words)
+-- the name of a command, and in order the texts of the words that it requires and of the others that are given, from
+-- what clap read
+abbrev pub named : Text → List Row → Text × List Text
+named name rows =
+    let l = layout_of name in
+    (l.name, map (text_of rows) l.words ++ filter_map (λ word. first_of word rows) l.optional)
+
+-- whether each of its flags is given
+abbrev pub flags_in : Text → List Row → List Bool
+flags_in name rows = map (is_flagged rows) (layout_of name).flags
+
+-- what is asked for, from what clap read
+abbrev pub asked_in : Text → List Row → Asked
+asked_in name rows = record {
+  command = named name rows;
+  flags = flags_in name rows;
+  quiet = is_flagged rows (codes "quiet");
+}
+
+-- what the words ask for, the program's name being the first word
+abbrev pub asked_of : List Text → Option Asked
+asked_of words = option_map (λ p. asked_in p.0 p.1) (subcommand_of warc_app words)
 
 -- a kind that answers a request
 abbrev pub is_request : ErrorKind → Bool

@@ -11,8 +11,8 @@ use Rattle.clap.specs.Walk.{Text}
 use Rattle.warc_frame.specs.FaultText.{out_fault_text}
 use Rattle.warc_frame.specs.Seen.{IfHeld, Seen, Tapped}
 use Rattle.warc_frame.specs.declared.fault.OutFault.TheVariants.{Memory}
-use Rattle.warc_commands.specs.Command.{path_of, reads_once, view_of}
-use Rattle.warc_commands.specs.CommandLine.{IsToldBy, command_of, warc_app}
+use Rattle.warc_commands.specs.Command.{asked_by, path_of, reads_once}
+use Rattle.warc_commands.specs.CommandLine.{IsToldBy, asked_of, warc_app}
 use Rattle.warc_commands.specs.Devices.{devices}
 use Rattle.warc_commands.specs.Program.{Ends, FaultEnds, IsNotRead, IsStatusOf, Tells, told_line}
 use Rattle.warc_commands.specs.declared.running.Place.{Place}
@@ -20,6 +20,7 @@ use Rattle.warc_commands.specs.declared.running.Place.TheVariants.{File, Memory 
 use Rattle.warc_commands.specs.declared.words.Command.{Command}
 use Rattle.warc_commands.specs.declared.words.CommandFault.{CommandFault}
 use Rattle.warc_commands.specs.declared.words.CommandFault.TheVariants.{Memory as NoMemory}
+use Rattle.warc_commands.specs.declared.words.Request.{Request}
 
 -- what the system may give a run: for a path a file or an error; standard input as a file, if it is one; standard input
 -- as it comes
@@ -124,17 +125,18 @@ PlaceEnds InMemory gives command old new status = ReadsMemory gives (codes "read
 PlaceEnds Input gives command old new status = ReadsInput gives command old new status
 
 -- what words name, as `parse` answers it
-pub record IsParsed (words : List Text) (parsed : Result Command CommandFault) : Type 0 where
-  pub named : IfOk parsed (λ c. Some (view_of c) ≡ command_of words)
+pub record IsParsed (words : List Text) (parsed : Result Request CommandFault) : Type 0 where
+  pub named : IfOk parsed (λ r. Some (asked_by r) ≡ asked_of words)
   pub accepted : IfOk parsed (λ _. fault_of warc_app words ≡ [])
   pub taken : IfErr parsed (λ e. takes warc_app words ≡ true → e ≡ NoMemory)
   pub told : IfErr parsed (IsToldBy (fault_of warc_app words))
 
 -- how a run ends whose words are texts
 pub record WordsEnd (gives : Given → Type 0) (words : List Text) (old new : Outputs) (status : ℕ) : Type 0 where
-  pub parsed : Result Command CommandFault
+  pub parsed : Result Request CommandFault
   pub is : IsParsed words parsed
-  pub ends : MatchResult parsed (λ command. PlaceEnds (place_of (path_of command)) gives command old new status)
+  pub ends : MatchResult parsed
+      (λ request. PlaceEnds (place_of (path_of request.command)) gives request.command old new status)
       (λ fault. FaultEnds fault old.out new.out old.err new.err status)
 
 -- how a run ends

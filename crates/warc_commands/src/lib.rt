@@ -13,4 +13,4 @@ mod words;
 
 pub use program::{perform, refuse};
 pub use running::{System, run};
-pub use words::{Command, CommandFault, Draft, parse};
+pub use words::{Command, CommandFault, Draft, Request, parse};

@@ -90,7 +90,7 @@ where
         (outputs (W.seen out.new) (E.seen err.new)) result }
 {
     match parse(alloc, words) {
-        Ok(command) => run_command(alloc, system, &command, out, err),
+        Ok(request) => run_command(alloc, system, &request.command, out, err),
         Err(fault) => refuse(&fault, out, err),
     }
 }

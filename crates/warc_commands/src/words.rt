@@ -7,12 +7,12 @@ ghost use Rattle.clap.specs.Takes.{takes};
 ghost use Rattle.clap.specs.Values.{kind_of};
 ghost use Rattle.clap.specs.Walk.{rows_of, rule_of};
 ghost use Rattle.clap.specs.declared.builder.command.Command.TheViews.{out-Command};
-ghost use Rattle.warc_commands.specs.Command.{draft_texts, path_of, reads_once, view_of};
-ghost use Rattle.warc_commands.specs.CommandLine.{IsToldBy, command_fault_text, command_of, draft_words, layout_seen, named, required_word};
-ghost use Rattle.warc_commands.specs.CommandLine.{text_of, warc_app, with_layout};
+ghost use Rattle.warc_commands.specs.Command.{asked_by, draft_texts, flags_of, path_of, reads_once, view_of};
+ghost use Rattle.warc_commands.specs.CommandLine.{IsToldBy, asked_in, asked_of, command_fault_text, draft_words, flags_in, is_flagged};
+ghost use Rattle.warc_commands.specs.CommandLine.{layout_seen, named, rule_as, text_of, warc_app, with_layout, with_rules};
 
 use clap::error::ErrorKind;
-use clap::{Arg, ArgMatches};
+use clap::{Arg, ArgAction, ArgMatches};
 use std::alloc::{AllocError, Global};
 use std::convert::AsStr;
 use std::fmt;
@@ -157,20 +157,41 @@ impl fmt::Display for CommandFault {
     }
 }
 
-/// A word that a command requires: its name in the usage, and what it is.
+/// What words ask for: a command, and whether no progress is to be shown.
+#[derive(Clone, Copy, Debug, PartialEq, Eq)]
+pub struct Request<'a> {
+    pub command: Command<'a>,
+    pub quiet: bool,
+}
+
+/// A word of a command, or a flag: its name in the usage, and what it is.
 #[derive(Clone, Copy)]
 struct Word {
     name: &'static str,
     help: &'static str,
 }
 
-/// A command as help shows it: its name, what it does, what it writes and how it ends, and its words in order.
+/// How a command takes a word.
+#[derive(Clone, Copy)]
+enum Form {
+    /// The word is required.
+    Required,
+    /// The word may be left out.
+    Optional,
+    /// `--NAME`, which has no value and may be left out.
+    Flag,
+}
+
+/// A command as help shows it: its name, what it does, what it writes and how it ends, the words that it requires, in
+/// order, the words that may be left out, which come after those, and its flags.
 #[derive(Clone, Copy)]
 struct Entry {
     name: &'static str,
     about: &'static str,
     notes: &'static str,
     words: &'static [Word],
+    optional: &'static [Word],
+    flags: &'static [Word],
 }
 
 const VERSION: &str = "0.1.0";
@@ -356,6 +377,12 @@ const DRAFT: [Word; 6] = [
     },
 ];
 
+/// The flag that every command has.
+const QUIET: Word = Word {
+    name: "quiet",
+    help: "Shows no progress",
+};
+
 /// The commands, in the order in which help lists them.
 const COMMANDS: [Entry; 12] = [
     Entry {
@@ -363,72 +390,96 @@ const COMMANDS: [Entry; 12] = [
         about: "Prints a line for each record",
         notes: LIST_NOTES,
         words: &[ARCHIVE],
+        optional: &[],
+        flags: &[],
     },
     Entry {
         name: "check",
         about: "Prints a line for each finding: what is wrong with records that can be read",
         notes: CHECK_NOTES,
         words: &[ARCHIVE],
+        optional: &[],
+        flags: &[],
     },
     Entry {
         name: "extract",
         about: "Writes the block of the first record with an id",
         notes: EXTRACT_NOTES,
         words: &[ARCHIVE, ID],
+        optional: &[],
+        flags: &[],
     },
     Entry {
         name: "replay",
         about: "Writes the body that was captured of a URI, as of a date",
         notes: REPLAY_NOTES,
         words: &[ARCHIVE, URI, DATE],
+        optional: &[],
+        flags: &[],
     },
     Entry {
         name: "rewrite",
         about: "Writes the archive in canonical form",
         notes: REWRITE_NOTES,
         words: &[ARCHIVE],
+        optional: &[],
+        flags: &[],
     },
     Entry {
         name: "convert",
         about: "Writes the archive as one of WARC/1.1",
         notes: CONVERT_NOTES,
         words: &[ARCHIVE],
+        optional: &[],
+        flags: &[],
     },
     Entry {
         name: "split",
         about: "Writes the archive with its records split into segments",
         notes: SPLIT_NOTES,
         words: &[ARCHIVE, SIZE],
+        optional: &[],
+        flags: &[],
     },
     Entry {
         name: "write",
         about: "Writes one record, made of a file",
         notes: WRITE_NOTES,
         words: &DRAFT,
+        optional: &[],
+        flags: &[],
     },
     Entry {
         name: "head",
         about: "Writes the head of the record at a position",
         notes: HEAD_NOTES,
         words: &[ARCHIVE, POSITION],
+        optional: &[],
+        flags: &[],
     },
     Entry {
         name: "block",
         about: "Writes the block of the record at a position",
         notes: BLOCK_NOTES,
         words: &[ARCHIVE, POSITION],
+        optional: &[],
+        flags: &[],
     },
     Entry {
         name: "fixity",
         about: "Prints a line for each block that its digest doesn't fit, or that can't be checked",
         notes: FIXITY_NOTES,
         words: &[ARCHIVE],
+        optional: &[],
+        flags: &[],
     },
     Entry {
         name: "salvage",
         about: "Writes the records before the first fault",
         notes: SALVAGE_NOTES,
         words: &[ARCHIVE],
+        optional: &[],
+        flags: &[],
     },
 ];
 
@@ -459,7 +510,7 @@ fn with_commands<'a>(
     Ok(parser)
 }
 
-/// The parser with one more command, which requires the words in their order.
+/// The parser with one more command.
 fn with_command<'a>(
     parser: clap::Command<'a>,
     alloc: Global,
@@ -468,35 +519,61 @@ fn with_command<'a>(
     ensures { (app : App) → app_of parser.entry ≡ app →
         IfOk result (λ c. app_of c ≡ with_layout app (layout_seen entry.now)) }
 {
-    let mut command = clap::Command::new(alloc, entry.name)
+    let plain = clap::Command::new(alloc, entry.name)
         .about(entry.about)
         .after_help(entry.notes);
-    for word in entry.words {
-        command = with_word(command, alloc, word.name, word.help)?;
-    }
+    let required = with_words(plain, alloc, Form::Required, entry.words)?;
+    let optional = with_words(required, alloc, Form::Optional, entry.optional)?;
+    let flagged = with_words(optional, alloc, Form::Flag, entry.flags)?;
+    let command = with_word(flagged, alloc, Form::Flag, QUIET.name, QUIET.help)?;
     parser.subcommand(command)
 }
 
-/// The command with one more word.
+/// The command with more words of a form, in their order.
+fn with_words<'a>(
+    command: clap::Command<'a>,
+    alloc: Global,
+    form: Form,
+    words: &[Word],
+) -> Result<clap::Command<'a>, AllocError>
+    ensures app { (app : App) → app_of command.entry ≡ app
+        → IfOk result (λ c. app_of c ≡ with_rules form app (map (λ w. w.name.now) words.now)) }
+    ensures local { (out-Command command.entry).has_globals ≡ false
+        → IfOk result (λ c. (out-Command c).has_globals ≡ false) }
+{
+    let mut command = command;
+    for word in words {
+        command = with_word(command, alloc, form, word.name, word.help)?;
+    }
+    Ok(command)
+}
+
+/// The command with one more word of a form.
 fn with_word<'a>(
     command: clap::Command<'a>,
     alloc: Global,
+    form: Form,
     name: &'static str,
     help: &'static str,
 ) -> Result<clap::Command<'a>, AllocError>
     ensures app { (app : App) → app_of command.entry ≡ app
-        → IfOk result (λ c. app_of c ≡ with_rule app (required_word name.entry.now)) }
+        → IfOk result (λ c. app_of c ≡ with_rule app (rule_as form name.entry.now)) }
     ensures local { (out-Command command.entry).has_globals ≡ false
         → IfOk result (λ c. (out-Command c).has_globals ≡ false) }
 {
-    command.arg(required(alloc, name, help))
+    command.arg(argument(alloc, form, name, help))
 }
 
-fn required<'a>(alloc: Global, name: &'static str, help: &'static str) -> Arg<'a>
-    ensures rule { rule_of result ≡ required_word name.entry.now }
+fn argument<'a>(alloc: Global, form: Form, name: &'static str, help: &'static str) -> Arg<'a>
+    ensures rule { rule_of result ≡ rule_as form name.entry.now }
     ensures local { result.global ≡ false }
 {
-    Arg::new(alloc, name).help(help).required(true)
+    let word = Arg::new(alloc, name).help(help);
+    match form {
+        Form::Required => word.required(true),
+        Form::Optional => word,
+        Form::Flag => word.long(name).action(ArgAction::SetTrue),
+    }
 }
 
 /// The text of a word, which is there where `clap` takes the words.
@@ -507,6 +584,13 @@ fn text_at<'a>(matches: &ArgMatches<'a>, name: &str) -> &'a str
         Some(text) => text,
         None => "",
     }
+}
+
+/// Whether a flag is given.
+fn is_given(matches: &ArgMatches<'_>, name: &str) -> bool
+    ensures { result ≡ is_flagged (rows_of (found_of matches.now)) name.now }
+{
+    text_at(matches, name) == "true"
 }
 
 /// What `write` makes a record of.
@@ -525,7 +609,8 @@ fn read_draft<'a>(texts: &ArgMatches<'a>) -> Draft<'a>
 /// What the command of a name is asked to do. `clap` meets no command but the program's own, so one of them,
 /// `list`, needs no test.
 fn read_command<'a>(name: &str, texts: &ArgMatches<'a>) -> Command<'a>
-    ensures { view_of result ≡ named name.now (rows_of (found_of texts.now)) }
+    ensures view { view_of result ≡ named name.now (rows_of (found_of texts.now)) }
+    ensures flags { flags_of result ≡ flags_in name.now (rows_of (found_of texts.now)) }
 {
     let archive = text_at(texts, "archive");
     match name {
@@ -563,13 +648,16 @@ fn read_command<'a>(name: &str, texts: &ArgMatches<'a>) -> Command<'a>
     }
 }
 
-/// The command that was met.
-fn read<'a>(matches: &ArgMatches<'a>) -> Option<Command<'a>>
-    ensures { option_map view_of result
-        ≡ option_map (λ p. named p.0 p.1) (subcommand_rows_of matches.now) }
+/// What the command that was met is asked to do, and whether it is to be quiet.
+fn read<'a>(matches: &ArgMatches<'a>) -> Option<Request<'a>>
+    ensures { option_map asked_by result
+        ≡ option_map (λ p. asked_in p.0 p.1) (subcommand_rows_of matches.now) }
 {
     let (name, texts) = matches.subcommand()?;
-    Some(read_command(name, texts))
+    Some(Request {
+        command: read_command(name, texts),
+        quiet: is_given(texts, QUIET.name),
+    })
 }
 
 /// What `clap` refused, or was asked to show.
@@ -589,11 +677,11 @@ fn refusal(alloc: Global, error: &clap::Error) -> CommandFault
     }
 }
 
-/// The command and the texts that the words name, the program's name being the first word. Words
-/// that `clap` refuses are a `Usage` with its text, and so are `help`, `--help` and `--version`,
+/// The command and the texts that the words name, and whether `--quiet` is among them, the program's name being the
+/// first word. Words that `clap` refuses are a `Usage` with its text, and so are `help`, `--help` and `--version`,
 /// which ask for one.
-pub fn parse<'a, S: AsStr>(alloc: Global, words: &'a [S]) -> Result<Command<'a>, CommandFault>
-    ensures named { IfOk result (λ c. Some (view_of c) ≡ command_of (map S.text words.entry.now)) }
+pub fn parse<'a, S: AsStr>(alloc: Global, words: &'a [S]) -> Result<Request<'a>, CommandFault>
+    ensures named { IfOk result (λ r. Some (asked_by r) ≡ asked_of (map S.text words.entry.now)) }
     ensures accepted { IfOk result (λ _. fault_of warc_app (map S.text words.entry.now) ≡ []) }
     ensures taken { IfErr result (λ e. takes warc_app (map S.text words.entry.now) ≡ true
         → e ≡ CommandFault.Memory) }
@@ -604,7 +692,7 @@ pub fn parse<'a, S: AsStr>(alloc: Global, words: &'a [S]) -> Result<Command<'a>,
     };
     match parser.try_get_matches_from(words) {
         Ok(matches) => match read(&matches) {
-            Some(command) => Ok(command),
+            Some(request) => Ok(request),
             None => unreachable!(),
         },
         Err(error) => Err(refusal(alloc, &error)),

@@ -3,13 +3,13 @@ use Rattle.clap.specs.Faults.{fault_of}
 use Rattle.clap.specs.Simple.{app_of}
 use Rattle.clap.specs.Values.{kind_of}
 use Rattle.warc_commands.specs.CommandLine.{warc_app}
-use Rattle.warc_commands.specs.Command.{view_of}
+use Rattle.warc_commands.specs.Command.{asked_by}
 use Rattle.warc_commands.proofs.ClapLaws.{fails_by, no_fault, taken_by, told_by, words_name}
 use Rattle.warc_commands.proofs.words.parse.Goals as goal
 
 pub returns-in-Some-clause-named : goal.returns-in-Some-clause-named
 returns-in-Some-clause-named g c =
-    words_name (app_of c.in-Ok.parser) (map g.S.AsStr.text c.args.words.now) c.in-Ok-try_get_matches_from.matches (Some (view_of c.in-Some.command))
+    words_name (app_of c.in-Ok.parser) (map g.S.AsStr.text c.args.words.now) c.in-Ok-try_get_matches_from.matches (Some (asked_by c.in-Some.request))
     c.in-Ok.ensures c.in-Ok-try_get_matches_from.ensures.matches c.in-Some.ensures
 
 pub returns-in-Some-clause-accepted : goal.returns-in-Some-clause-accepted
