@@ -6,6 +6,7 @@ pub mod FrontLemmas
 pub mod LawLemmas
 pub mod LineLemmas
 pub mod ReplayLemmas
+pub mod BodyLemmas
 pub mod SplitLemmas
 pub mod StandLemmas
 pub mod WholeLemmas

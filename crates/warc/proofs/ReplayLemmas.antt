@@ -9,8 +9,6 @@ use Rattle.warc_frame.specs.Seen.{AsksOnly, Tapped}
 use Rattle.warc_frame.specs.Send.{sent_of}
 use Rattle.warc_record.specs.Readings.{reading_of}
 use Rattle.std.proofs.lemmas.List.{length-map}
-use Rattle.warc_index.specs.Captures.{ChosenIsLatest, Indexed, chosen_of}
-use Rattle.warc_index.specs.Referents.{OriginsStand, ok_then, origin_of}
 use Rattle.warc_index.specs.declared.unfound.Unfound.{Unfound}
 use Rattle.warc_segment.specs.Joined.{ArePlacesJoined, ArePlacesOf, AreStored, IsPlaceOf, PlacedRecord, PlacesAreOfRecords, ReadRecord, joined_places, joined_records}
 use Rattle.std.specs.declared.vec.Vec.{Vec}
@@ -19,15 +17,15 @@ use Rattle.warc_segment.specs.declared.fault.JoinFault.{JoinFault}
 use Rattle.warc_segment.specs.declared.fault.JoinFault.TheVariants.{Gap as IsGap}
 use Rattle.warc_segment.specs.declared.gap.Gap.{Gap}
 use Rattle.warc_segment.specs.declared.place.Place.{Place}
-use Rattle.warc_answer.specs.Answers.{index_of, path_of}
-use Rattle.warc_answer.specs.Laws.{IsFound, PlacesAreAsLong}
+use Rattle.warc_answer.specs.Answers.{index_of, path_at, path_for, path_from, path_of}
+use Rattle.warc_answer.specs.Laws.{EndsInside, IsFound, PlacesAreAsLong}
 use Rattle.warc_answer.specs.Payloads.{read_record}
 use Rattle.warc_answer.specs.Places.{IsInOne, len_of}
 use Rattle.warc_answer.specs.declared.answer.Path.{Path}
 use Rattle.warc_reading.specs.Archive.{contents}
 use Rattle.warc_checking.specs.Heads.{IsInHead, ReadsHeads, heads_len}
 use Rattle.warc_reading.specs.Indexed.{indexed_record, place_of, placed_record}
-use Rattle.warc.specs.Replaying.{IsJoined, IsOfOrigin, IsOnPath, IsWanted, joined_len, most_reads, origin_reads, path_reads}
+use Rattle.warc.specs.Replaying.{IsJoined, IsOfOrigin, IsOnPath, joined_len, origin_reads, path_reads}
 use Rattle.warc_checking.specs.Examining.{HasFailed, MayHaveFailed, halted}
 use Rattle.warc_reading.specs.Row.{Placed, Row, row_of}
 use Rattle.warc.specs.Standing.{IsOrigin, IsWritten}
@@ -60,7 +58,7 @@ read_at [] i p is = absurd (cc is)
 read_at (x ∷ xs) zero p is = let same : x ≡ p = cc is in ap (λ (q : Placed). Some (read_record q.content)) same
 read_at (x ∷ xs) (suc i) p is = read_at xs i p is
 
-module _ (bytes : List ℕ) (records : List Placed) (uri : List ℕ) (moment : Instant) (path : Path) (p : Placed) (is : IsOrigin bytes records uri moment path p) where
+module _ (bytes : List ℕ) (records : List Placed) (found : Result Path Unfound) (path : Path) (p : Placed) (is : IsOrigin bytes records found path p) where
   there : IsWritten bytes p
   there = written bytes records is.spelled path.given p is.stands
 
@@ -70,9 +68,9 @@ module _ (bytes : List ℕ) (records : List Placed) (uri : List ℕ) (moment : I
       law bytes (map placed_record records) (read_all records) q (read_record p.content) (stored_by bytes records (λ i r at. written bytes records is.spelled i r at)) head
       (subst (λ (x : Place). IsPlaceOf bytes x (read_record p.content)) (sym place) (place_here bytes p there))
 
-  pub found_as : (joined : Result (List ReadRecord) Gap) → joined_records (read_all records) (read_record p.content) ≡ joined → IsFound (read_all records) uri moment path (read_record p.content) joined
+  pub found_as : (joined : Result (List ReadRecord) Gap) → joined_records (read_all records) (read_record p.content) ≡ joined → IsFound (read_all records) found path (read_record p.content) joined
   found_as joined same = record {
-    path_is = ap (λ l. path_of l uri moment) (same_index records) ∙ is.path_is;
+    path_is = is.path_is;
     stands = read_at records path.given p is.stands;
     joined_is = same;
   }
@@ -126,51 +124,45 @@ row_reads p row old mid new n same head rest =
     let one : row.block_start - row.offset ≡ p.block_start - p.offset = ap (λ (r : Row). r.block_start - r.offset) same in
     omega (arith, head, rest, one, sum_by-cons (λ (r : Row). r.block_start - r.offset) row [])
 
--- the two ends of a path
-path_from : (n : ℕ) (r : Result ℕ Unfound) (path : Path) → ok_then (λ given. let x : Result Path Unfound = Ok (record { chosen = n; given = given }) in x) r ≡ Ok path → (n ≡ path.chosen) × (r ≡ Ok path.given)
-path_from n (Ok m) path is =
-    let same : ◌≡◌ {A = Path} (record { chosen = n; given = m }) path = cc is in
-    (ap (λ (x : Path). x.chosen) same, ap (λ (x : Path). Ok x.given) same)
-path_from n (Err u) path is = cc is
-
-path_by : (all : List Indexed) (c : Result ℕ Unfound) (path : Path)
-    → ok_then (λ chosen. ok_then (λ given. let x : Result Path Unfound = Ok (record { chosen = chosen; given = given }) in x) (origin_of all chosen)) c ≡ Ok path
-    → (c ≡ Ok path.chosen) × (origin_of all path.chosen ≡ Ok path.given)
-path_by all (Ok n) path is =
-    let (same, origin) = path_from n (origin_of all n) path is in
-    (ap (λ (m : ℕ). Ok m) same, ap (origin_of all) (sym same) ∙ origin)
-path_by all (Err u) path is = cc is
-
-in_list : {X : Type 0} (xs : List X) (i : ℕ) (x : X) → slice_get xs i ≡ Some x → i < length xs
+pub in_list : {X : Type 0} (xs : List X) (i : ℕ) (x : X) → slice_get xs i ≡ Some x → i < length xs
 in_list [] i x is = absurd (cc is)
 in_list (y ∷ ys) zero x is = omega arith
 in_list (y ∷ ys) (suc i) x is = let lt = in_list ys i x is in omega (arith, lt)
 
 -- an origin stands among the records
-given_below : (all : List Indexed) (uri : List ℕ) (moment : Instant) (path : Path) → ChosenIsLatest → OriginsStand → path_of all uri moment ≡ Ok path → path.given < length all
-given_below all uri moment path latest stand is =
-    let (chosen, origin) = path_by all (chosen_of all uri moment) path is in
-    let first = ((latest all uri moment).0 path.chosen).0 chosen in
-    stand all path.chosen path.given (in_list all path.chosen first.it first.stands) origin
+pub origin_inside : (bytes : List ℕ) (records : List Placed) (found : Result Path Unfound) (path : Path) (p : Placed) → IsOrigin bytes records found path p → EndsInside (contents records) found
+origin_inside bytes records found path p is other same =
+    let one : path ≡ other = (let f : Ok path ≡ Ok other = sym is.path_is ∙ same in cc f) in
+    let low = in_list records path.given p is.stands in
+    subst (λ (x : Path). x.given < length (contents records)) one (omega (arith, low, length-map records (λ (q : Placed). q.content)))
+
+-- the path that an index finds is that of the records
+pub path_by_index : (records : List Placed) (uri : List ℕ) (moment : Instant) → path_of (map indexed_record records) uri moment ≡ path_for (contents records) uri moment
+unfolding path_for
+path_by_index records uri moment = ap (λ l. path_of l uri moment) (sym (same_index records))
+
+pub path_by_links : (records : List Placed) (position : ℕ) → path_from (map indexed_record records) position ≡ path_at (contents records) position
+unfolding path_at
+path_by_links records position = ap (λ l. path_from l position) (sym (same_index records))
 
 not_there : (records : List Placed) (i : ℕ) → i < length records → slice_get (map row_of records) i ≡ None → ⊥
 not_there [] i low is = omega (arith, low)
 not_there (p ∷ ps) zero low is = cc is
 not_there (p ∷ ps) (suc i) low is = not_there ps i (omega (arith, low)) is
 
-pub row_missing : (records : List Placed) (uri : List ℕ) (moment : Instant) (path : Path) → ChosenIsLatest → OriginsStand → path_of (map indexed_record records) uri moment ≡ Ok path
+pub row_missing : (records : List Placed) (found : Result Path Unfound) (path : Path) → found ≡ Ok path → EndsInside (contents records) found
     → slice_get (map row_of records) path.given ≡ None → ⊥
-row_missing records uri moment path latest stand is none =
-    let low = given_below (map indexed_record records) uri moment path latest stand is in
-    not_there records path.given (omega (arith, low, length-map records indexed_record)) none
+row_missing records found path is inside none =
+    let low = inside path is in
+    not_there records path.given (omega (arith, low, length-map records (λ (q : Placed). q.content))) none
 
 pub join_gap : {A : Type 0} (r : Result (Vec Place A) JoinFault) (gap : Gap) (joined : Result (List Place) Gap) → r ≡ Err (IsGap gap) → IsJoin r joined → joined ≡ Err gap
 join_gap {A} r gap joined is join = let P : Result (Vec Place A) JoinFault → Type 0 = λ x. IsJoin x joined in subst P is join
 
 -- the most reads, where there is an origin
-pub most_is : (records : List Placed) (uri : List ℕ) (moment : Instant) (path : Path) (p : Placed) → path_of (map indexed_record records) uri moment ≡ Ok path → slice_get records path.given ≡ Some p
-    → most_reads records uri moment ≡ origin_reads records (Some p)
-most_is records uri moment path p is there = ap (path_reads records) is ∙ ap (origin_reads records) there
+pub most_is : (records : List Placed) (found : Result Path Unfound) (path : Path) (p : Placed) → found ≡ Ok path → slice_get records path.given ≡ Some p
+    → path_reads records found ≡ origin_reads records (Some p)
+most_is records found path p is there = ap (path_reads records) is ∙ ap (origin_reads records) there
 
 -- a source that watches none of these offsets has been asked for none that it watches
 abbrev Asks : (ℕ → Type 0) → (ℕ → Bool) → ℕ → ℕ → Type 0
@@ -202,7 +194,7 @@ near_origin records p row old mid new same head joined =
     λ off. joined (λ at in_. ap (λ (w : ℕ → Bool). w at) head.watched ∙ off at (inr in_)) ∙ near_head records p row old mid same head off
 
 -- what is read for the origin is wanted
-pub near_path : (records : List Placed) (uri : List ℕ) (moment : Instant) (path : Path) (p : Placed) (watches : ℕ → Bool) (old new : ℕ) → path_of (map indexed_record records) uri moment ≡ Ok path
-    → slice_get records path.given ≡ Some p → Asks (IsOfOrigin records (Some p)) watches old new → Asks (IsWanted records uri moment) watches old new
-near_path records uri moment path p watches old new is there near =
+pub near_path : (records : List Placed) (found : Result Path Unfound) (path : Path) (p : Placed) (watches : ℕ → Bool) (old new : ℕ) → found ≡ Ok path
+    → slice_get records path.given ≡ Some p → Asks (IsOfOrigin records (Some p)) watches old new → Asks (IsOnPath records found) watches old new
+near_path records found path p watches old new is there near =
     λ off. near (λ at in_. off at (subst (λ r. IsOnPath records r at) (sym is) (subst (λ o. IsOfOrigin records o at) (sym there) in_)))

@@ -1,9 +1,11 @@
+pub mod Bodies
 pub mod Bounds
 pub mod Emitting
 pub mod Fixity
 pub mod Forms
 pub mod Copied
 pub mod Extracting
+pub mod Finding
 pub mod Front
 pub mod Laws
 pub mod Listing

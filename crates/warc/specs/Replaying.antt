@@ -2,22 +2,23 @@
 use Rattle.std.specs.Prelude.{◌≡◌, ℕ, ◌+◌, ◌-◌, ◌*◌, ◌<◌, ◌≤◌, ◌⊎◌, List, length, map, slice_get, Option, Some, None, Result, Ok, Err}
 use Rattle.warc_value.specs.Dates.{Instant}
 use Rattle.warc_frame.specs.Failing.{HasFailedBy, MayHaveFailedBy, failed_by}
+use Rattle.warc_frame.specs.Record.{Record}
 use Rattle.warc_frame.specs.Seen.{AsksOnly, IfHeld, Seen, Tapped}
 use Rattle.warc_index.specs.declared.unfound.Unfound.{Unfound}
 use Rattle.warc_segment.specs.Joined.{ReadRecord, joined_places, joined_records}
 use Rattle.warc_segment.specs.declared.gap.Gap.{Gap}
 use Rattle.warc_segment.specs.declared.place.Place.{Place}
-use Rattle.warc_answer.specs.Answers.{path_of}
+use Rattle.warc_answer.specs.Answers.{path_for}
 use Rattle.warc_answer.specs.Payloads.{read_record, whole_block}
 use Rattle.warc_answer.specs.Places.{IsInOne}
-use Rattle.warc_answer.specs.Replays.{IsReplay, IsSilent, out_result}
+use Rattle.warc_answer.specs.Replays.{IsReplayOn, IsSilent, out_result}
 use Rattle.warc_answer.specs.declared.answer.Answer.{Answer}
 use Rattle.warc_answer.specs.declared.answer.Path.{Path}
 use Rattle.warc_answer.specs.declared.answer.ReplayFault.{ReplayFault}
 use Rattle.warc_index.specs.Orders.{Kept as Indexes}
 use Rattle.warc_segment.specs.Kept.{Kept as Parts}
 use Rattle.warc_reading.specs.Archive.{IsArchiveOf, contents}
-use Rattle.warc_reading.specs.Indexed.{AreOf, indexed_record, placed_record}
+use Rattle.warc_reading.specs.Indexed.{AreOf, placed_record}
 use Rattle.warc_reading.specs.Row.{Placed, Row}
 
 -- how many bytes the blocks have that are joined, none where they don't join
@@ -37,9 +38,6 @@ abbrev pub path_reads : List Placed → Result Path Unfound → ℕ
 path_reads all (Ok path) = origin_reads all (slice_get all path.given)
 path_reads all (Err unfound) = 0
 
-abbrev pub most_reads : List Placed → List ℕ → Instant → ℕ
-most_reads all uri moment = path_reads all (path_of (map indexed_record all) uri moment)
-
 -- the offset of a byte of a block that is joined, of none where they don't join
 abbrev pub IsJoined : Result (List Place) Gap → ℕ → Type 0
 IsJoined (Ok places) at = IsInOne places at
@@ -56,24 +54,26 @@ abbrev pub IsOnPath : List Placed → Result Path Unfound → ℕ → Type 0
 IsOnPath all (Ok path) at = IsOfOrigin all (slice_get all path.given) at
 IsOnPath all (Err unfound) at = ⊥
 
-abbrev pub IsWanted : List Placed → List ℕ → Instant → ℕ → Type 0
-IsWanted all uri moment at = IsOnPath all (path_of (map indexed_record all) uri moment) at
-
--- A replay for a URI as of a moment, by rows, an index and parts. Where the archive's source holds its bytes, what goes
--- out and what is answered are as the definition of the answer says of its records, in so many reads at most, of the
--- origin's head and the joined blocks alone, and the source has failed once more exactly where a read is told. Any
+-- A replay on a way from records to a path, by rows, an index and parts. Where the archive's source holds its bytes, what
+-- goes out and what is answered are as the definition of the answer says of its records, in at most `path_reads` reads, of
+-- the origin's head and the joined blocks alone, and the source has failed once more exactly where a read is told. Any
 -- source still holds what it held; before a reason nothing goes out
-pub record Replays (rows : List Row) (index : Indexes) (parts : Parts) (uri : List ℕ) (moment : Instant)
+pub record ReplaysOn (rows : List Row) (index : Indexes) (parts : Parts) (way : List Record → Result Path Unfound)
     (old new : Tapped) (before after : Seen) (answer : Result Answer ReplayFault) : Type 0 where
   pub told : IfHeld old.holds (λ bytes. (is : IsArchiveOf bytes rows) → AreOf is.are.records index parts
-      → IsReplay (contents is.are.records) uri moment answer before.tells after.tells)
+      → IsReplayOn (contents is.are.records) (way (contents is.are.records)) answer before.tells after.tells)
   pub failed : IfHeld old.holds (λ bytes. (is : IsArchiveOf bytes rows) → AreOf is.are.records index parts
       → HasFailedBy (out_result answer) old.faults new.faults)
   pub cost : IfHeld old.holds (λ bytes. (is : IsArchiveOf bytes rows) → AreOf is.are.records index parts
-      → new.reads ≤ old.reads + most_reads is.are.records uri moment)
+      → new.reads ≤ old.reads + path_reads is.are.records (way (contents is.are.records)))
   pub near : IfHeld old.holds (λ bytes. (is : IsArchiveOf bytes rows) → AreOf is.are.records index parts
-      → AsksOnly (IsWanted is.are.records uri moment) old new)
+      → AsksOnly (IsOnPath is.are.records (way (contents is.are.records))) old new)
   pub silent : IsSilent answer before.tells after.tells
   pub kept : new.holds ≡ old.holds
   pub may : MayHaveFailedBy (out_result answer) old.faults new.faults
   pub cause : after.faults ≡ failed_by (out_result answer) before.faults
+
+-- a replay for a URI as of a moment
+abbrev pub Replays : List Row → Indexes → Parts → List ℕ → Instant → Tapped → Tapped → Seen → Seen
+    → Result Answer ReplayFault → Type 0
+Replays rows index parts uri moment = ReplaysOn rows index parts (λ records. path_for records uri moment)

@@ -3,6 +3,7 @@ ghost use Rattle.std.specs.Prelude.{◌≡◌, ℕ, List, length, IfErr, IfOk, O
 ghost use Rattle.std.specs.Io.KnownBytes.{append_known};
 ghost use Rattle.warc_frame.specs.Count.{raised};
 ghost use Rattle.warc_frame.specs.Send.{WentOut, sent_of};
+ghost use Rattle.warc.specs.Bodies.{GivesBodyAt};
 ghost use Rattle.warc.specs.Bounds.{IsKeptCount};
 ghost use Rattle.warc_checking.specs.Checks.{Checks};
 ghost use Rattle.warc.specs.Extracting.{Extracts, position_with};
@@ -15,7 +16,7 @@ ghost use Rattle.warc.specs.Replaying.{Replays};
 ghost use Rattle.warc_reading.specs.Row.{Placed};
 ghost use Rattle.warc.specs.Taking.{Takes};
 
-use crate::fault::{ExtractFault, TakeFault};
+use crate::fault::{BodyFault, ExtractFault, TakeFault};
 use crate::reader::Listing;
 use std::alloc::{AllocError, Allocator, Global};
 use std::marker::Model;
@@ -192,6 +193,23 @@ impl<S: Source, A: Allocator + Copy> Archive<S, A> {
         ensures parts { self.new.parts ≡ self.old.parts }
     {
         self.listing.replay(&self.lookup, uri, moment, out)
+    }
+
+    /// Writes the body that the capture at a position gives, as `replay` writes that of the capture that it chooses. Where
+    /// there is no record it is `NoRecord`, and where the record there is no capture `NoCapture`; then, and for a reason
+    /// P3 to P10, nothing is written. No block is kept.
+    ///
+    /// A read that fails, or a source that no longer gives what it gave at opening, is `Read`; a write that fails is
+    /// `Write`. Each tells how many bytes went out, which are the first of the body. `Memory` comes before any byte.
+    pub fn replay_at<W: Sink>(&mut self, position: usize, out: &mut W) -> Result<Answer, BodyFault>
+        ensures gives { GivesBodyAt self.old.listing.rows self.old.index self.old.parts position
+            (S.tapped self.old.listing.source) (S.tapped self.new.listing.source) (W.seen out.old) (W.seen out.new)
+            result }
+        ensures rows { self.new.listing.rows ≡ self.old.listing.rows }
+        ensures index { self.new.index ≡ self.old.index }
+        ensures parts { self.new.parts ≡ self.old.parts }
+    {
+        self.listing.give_body(&self.lookup, position, out)
     }
 
     /// Writes a line for each finding, as a listing does, and answers how many there are.

@@ -4,6 +4,7 @@
 mod anew;
 mod archives;
 mod blocks;
+mod bodies;
 mod copying;
 mod fault;
 mod fixity;
@@ -18,7 +19,7 @@ mod taking;
 
 pub use archives::Archive;
 pub use copying::Form;
-pub use fault::{ExtractFault, TakeFault};
+pub use fault::{BodyFault, ExtractFault, TakeFault};
 pub use fixity::{Counts, Fixity};
 pub use front::{Front, open_front};
 pub use part::Part;

@@ -5,6 +5,7 @@ ghost use Rattle.warc_frame.specs.Count.{raised};
 ghost use Rattle.warc_frame.specs.Send.{WentOut, sent_of};
 ghost use Rattle.warc_reading.specs.Archive.{IsArchiveOf, rows_of, source_of};
 ghost use Rattle.warc_checking.specs.Checks.{Checks};
+ghost use Rattle.warc.specs.Bodies.{GivesBodyAt};
 ghost use Rattle.warc.specs.Forms.{Writes, WritesEach, WritesSplit};
 ghost use Rattle.warc.specs.Copied.{len_by, text_by};
 ghost use Rattle.warc.specs.Listing.{listing};
@@ -17,8 +18,9 @@ ghost use Rattle.warc.specs.Taking.{Takes};
 
 use crate::anew::{Manner, write_rows};
 use crate::blocks::send_range;
+use crate::bodies::give_body;
 use crate::copying::Form;
-use crate::fault::{ExtractFault, TakeFault};
+use crate::fault::{BodyFault, ExtractFault, TakeFault};
 use crate::part::Part;
 use crate::replay::replay_rows;
 use crate::row::put_line;
@@ -234,6 +236,20 @@ impl<S: Source, A: Allocator + Copy> Listing<S, A> {
         ensures rows { self.new.rows ≡ self.old.rows }
     {
         replay_rows(&mut self.source, &self.rows, lookup, uri, moment, out)
+    }
+
+    /// Writes the body that the capture at a position gives.
+    pub(crate) fn give_body<W: Sink>(
+        &mut self,
+        lookup: &Lookup<A>,
+        position: usize,
+        out: &mut W,
+    ) -> Result<Answer, BodyFault>
+        ensures gives { GivesBodyAt self.old.rows lookup.now.index lookup.now.parts position (S.tapped self.old.source)
+            (S.tapped self.new.source) (W.seen out.old) (W.seen out.new) result }
+        ensures rows { self.new.rows ≡ self.old.rows }
+    {
+        give_body(&mut self.source, &self.rows, lookup, position, out)
     }
 
     /// Writes a line for each finding, by the position of its record, then by its number, then by the

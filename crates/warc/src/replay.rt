@@ -1,36 +1,50 @@
 //! What an archive gives for a URI as of a moment.
-ghost use Rattle.std.specs.Prelude.{◌≡◌, ℕ, ◌+◌, ◌-◌, ◌*◌, ◌≤◌, List, length, map, Some};
-ghost use Rattle.warc_value.specs.Dates.{Instant};
+ghost use Rattle.std.specs.Prelude.{◌≡◌, ℕ, ◌+◌, ◌-◌, ◌*◌, ◌≤◌, List, length, map, Some, Result};
 ghost use Rattle.warc_frame.specs.Failing.{HasFailedBy, MayHaveFailedBy, failed_by};
-ghost use Rattle.warc_frame.specs.Record.{max_head};
+ghost use Rattle.warc_frame.specs.Record.{Record, max_head};
 ghost use Rattle.warc_frame.specs.Seen.{AsksOnly};
 ghost use Rattle.warc_record.specs.Readings.{reading_of};
 ghost use Rattle.warc_record.specs.Seen.{said};
 ghost use Rattle.warc_segment.specs.Joined.{joined_places, joined_records};
 ghost use Rattle.warc_segment.specs.Kept.{kept_in};
-ghost use Rattle.warc_answer.specs.Answers.{path_of};
+ghost use Rattle.warc_answer.specs.Answers.{path_from, path_of};
 ghost use Rattle.warc_answer.specs.Payloads.{read_record};
-ghost use Rattle.warc_answer.specs.Replays.{IsReplay, IsSilent, out_result};
+ghost use Rattle.warc_answer.specs.Replays.{IsReplayOn, IsSilent, out_result};
 ghost use Rattle.warc_reading.specs.Archive.{contents};
 ghost use Rattle.warc_reading.specs.Indexed.{AreOf, indexed_record, place_of, placed_record};
 ghost use Rattle.warc_checking.specs.Examining.{HasHead};
-ghost use Rattle.warc.specs.Replaying.{IsJoined, IsOfOrigin, Replays, joined_len};
+ghost use Rattle.warc.specs.Replaying.{IsJoined, IsOfOrigin, Replays, ReplaysOn, joined_len};
 ghost use Rattle.warc_reading.specs.Row.{Placed, row_of};
-ghost use Rattle.warc.specs.Standing.{IsOrigin};
+ghost use Rattle.warc.specs.Standing.{IsOrigin, LeadsTo};
 
 use std::alloc::Allocator;
-use warc_answer::laws::{fails_before_all, places_are_as_long, reasons_are_answers};
+use warc_answer::laws::{
+    fails_before_all, paths_end_inside, places_are_as_long, reasons_are_answers,
+};
 use warc_answer::{Answer, Path, Reason, ReplayFault, replay_joined};
 use warc_checking::{head_buffer, read_again};
 use warc_frame::laws::head_of_spelled;
 use warc_frame::{OutFault, Sink, Source};
 use warc_index::Unfound;
-use warc_index::laws::{chosen_is_latest, origins_stand};
 use warc_reading::{Lookup, Row, Rows};
 use warc_record::Typed;
 use warc_segment::laws::places_are_of_records;
 use warc_segment::{JoinFault, Parts, Place};
 use warc_value::Moment;
+
+/// From a capture to its origin.
+pub(crate) fn path_from<A: Allocator + Copy>(
+    lookup: &Lookup<A>,
+    chosen: usize,
+) -> Result<Path, Unfound>
+    ensures { (records : List Placed) → AreOf records lookup.now.index lookup.now.parts →
+        result ≡ path_from (map indexed_record records) chosen }
+{
+    match lookup.index.origin(chosen) {
+        Ok(given) => Ok(Path { chosen, given }),
+        Err(unfound) => Err(unfound),
+    }
+}
 
 /// From the capture that is chosen for a URI as of a moment to its origin.
 fn path_in<A: Allocator + Copy>(
@@ -41,12 +55,8 @@ fn path_in<A: Allocator + Copy>(
     ensures { (records : List Placed) → AreOf records lookup.now.index lookup.now.parts →
         result ≡ path_of (map indexed_record records) uri.now moment.now }
 {
-    let chosen = match lookup.index.latest(uri, moment) {
-        Ok(chosen) => chosen,
-        Err(unfound) => return Err(unfound),
-    };
-    match lookup.index.origin(chosen) {
-        Ok(given) => Ok(Path { chosen, given }),
+    match lookup.index.latest(uri, moment) {
+        Ok(chosen) => path_from(lookup, chosen),
         Err(unfound) => Err(unfound),
     }
 }
@@ -60,21 +70,21 @@ fn replay_origin<S: Source, W: Sink, A: Allocator + Copy>(
     place: Place,
     out: &mut W,
 ) -> Result<Answer, ReplayFault>
-    ensures told { (bytes : List ℕ) (records : List Placed) (uri : List ℕ) (moment : Instant) (p : Placed) →
-        (S.tapped source.old).holds ≡ Some bytes → IsOrigin bytes records uri moment path p → parts.now ≡ kept_in
-        (map placed_record records) → said origin.now ≡ reading_of p.content.fields → place ≡ place_of p → IsReplay
-        (contents records) uri moment result (W.seen out.old).tells (W.seen out.new).tells }
-    ensures failed { (bytes : List ℕ) (records : List Placed) (uri : List ℕ) (moment : Instant) (p : Placed) →
-        (S.tapped source.old).holds ≡ Some bytes → IsOrigin bytes records uri moment path p → parts.now ≡ kept_in
+    ensures told { (bytes : List ℕ) (records : List Placed) (found : Result Path Unfound) (p : Placed) →
+        (S.tapped source.old).holds ≡ Some bytes → IsOrigin bytes records found path p → parts.now ≡ kept_in
+        (map placed_record records) → said origin.now ≡ reading_of p.content.fields → place ≡ place_of p → IsReplayOn
+        (contents records) found result (W.seen out.old).tells (W.seen out.new).tells }
+    ensures failed { (bytes : List ℕ) (records : List Placed) (found : Result Path Unfound) (p : Placed) →
+        (S.tapped source.old).holds ≡ Some bytes → IsOrigin bytes records found path p → parts.now ≡ kept_in
         (map placed_record records) → said origin.now ≡ reading_of p.content.fields → place ≡ place_of p → HasFailedBy
         (out_result result) (S.tapped source.old).faults (S.tapped source.new).faults }
-    ensures cost { (bytes : List ℕ) (records : List Placed) (uri : List ℕ) (moment : Instant) (p : Placed) →
-        (S.tapped source.old).holds ≡ Some bytes → IsOrigin bytes records uri moment path p → parts.now ≡ kept_in
+    ensures cost { (bytes : List ℕ) (records : List Placed) (found : Result Path Unfound) (p : Placed) →
+        (S.tapped source.old).holds ≡ Some bytes → IsOrigin bytes records found path p → parts.now ≡ kept_in
         (map placed_record records) → said origin.now ≡ reading_of p.content.fields → place ≡ place_of p →
         (S.tapped source.new).reads ≤ (S.tapped source.old).reads + 2 * joined_len (joined_records (map read_record
         (contents records)) (read_record p.content)) }
-    ensures near { (bytes : List ℕ) (records : List Placed) (uri : List ℕ) (moment : Instant) (p : Placed) →
-        (S.tapped source.old).holds ≡ Some bytes → IsOrigin bytes records uri moment path p → parts.now ≡ kept_in
+    ensures near { (bytes : List ℕ) (records : List Placed) (found : Result Path Unfound) (p : Placed) →
+        (S.tapped source.old).holds ≡ Some bytes → IsOrigin bytes records found path p → parts.now ≡ kept_in
         (map placed_record records) → said origin.now ≡ reading_of p.content.fields → place ≡ place_of p → AsksOnly
         (IsJoined (joined_places (map placed_record records) (placed_record p))) (S.tapped source.old)
         (S.tapped source.new) }
@@ -107,21 +117,21 @@ fn replay_row<S: Source, W: Sink, A: Allocator + Copy>(
     out: &mut W,
 ) -> Result<Answer, ReplayFault>
     requires { max_head ≤ length buf.old }
-    ensures told { (bytes : List ℕ) (records : List Placed) (uri : List ℕ) (moment : Instant) (p : Placed) →
-        (S.tapped source.old).holds ≡ Some bytes → IsOrigin bytes records uri moment path p → HasHead bytes p → row.now
-        ≡ row_of p → parts.now ≡ kept_in (map placed_record records) → IsReplay (contents records) uri moment result
+    ensures told { (bytes : List ℕ) (records : List Placed) (found : Result Path Unfound) (p : Placed) →
+        (S.tapped source.old).holds ≡ Some bytes → IsOrigin bytes records found path p → HasHead bytes p → row.now
+        ≡ row_of p → parts.now ≡ kept_in (map placed_record records) → IsReplayOn (contents records) found result
         (W.seen out.old).tells (W.seen out.new).tells }
-    ensures failed { (bytes : List ℕ) (records : List Placed) (uri : List ℕ) (moment : Instant) (p : Placed) →
-        (S.tapped source.old).holds ≡ Some bytes → IsOrigin bytes records uri moment path p → HasHead bytes p → row.now
+    ensures failed { (bytes : List ℕ) (records : List Placed) (found : Result Path Unfound) (p : Placed) →
+        (S.tapped source.old).holds ≡ Some bytes → IsOrigin bytes records found path p → HasHead bytes p → row.now
         ≡ row_of p → parts.now ≡ kept_in (map placed_record records) → HasFailedBy (out_result result)
         (S.tapped source.old).faults (S.tapped source.new).faults }
-    ensures cost { (bytes : List ℕ) (records : List Placed) (uri : List ℕ) (moment : Instant) (p : Placed) →
-        (S.tapped source.old).holds ≡ Some bytes → IsOrigin bytes records uri moment path p → HasHead bytes p → row.now
+    ensures cost { (bytes : List ℕ) (records : List Placed) (found : Result Path Unfound) (p : Placed) →
+        (S.tapped source.old).holds ≡ Some bytes → IsOrigin bytes records found path p → HasHead bytes p → row.now
         ≡ row_of p → parts.now ≡ kept_in (map placed_record records) → (S.tapped source.new).reads ≤
         (S.tapped source.old).reads + (p.block_start - p.offset + 2 * joined_len (joined_records (map read_record
         (contents records)) (read_record p.content))) }
-    ensures near { (bytes : List ℕ) (records : List Placed) (uri : List ℕ) (moment : Instant) (p : Placed) →
-        (S.tapped source.old).holds ≡ Some bytes → IsOrigin bytes records uri moment path p → HasHead bytes p → row.now
+    ensures near { (bytes : List ℕ) (records : List Placed) (found : Result Path Unfound) (p : Placed) →
+        (S.tapped source.old).holds ≡ Some bytes → IsOrigin bytes records found path p → HasHead bytes p → row.now
         ≡ row_of p → parts.now ≡ kept_in (map placed_record records) → AsksOnly (IsOfOrigin records (Some p))
         (S.tapped source.old) (S.tapped source.new) }
     ensures silent { IsSilent result (W.seen out.old).tells (W.seen out.new).tells }
@@ -143,6 +153,30 @@ fn replay_row<S: Source, W: Sink, A: Allocator + Copy>(
     replay_origin(source, parts, path, &origin.typed, place, out)
 }
 
+/// Writes the payload at the end of a path.
+pub(crate) fn replay_on<S: Source, W: Sink, A: Allocator + Copy>(
+    source: &mut S,
+    rows: &Rows<A>,
+    lookup: &Lookup<A>,
+    path: Path,
+    out: &mut W,
+) -> Result<Answer, ReplayFault>
+    ensures { (way : List Record → Result Path Unfound) → LeadsTo way path rows.now lookup.now.index lookup.now.parts →
+        ReplaysOn rows.now lookup.now.index lookup.now.parts way (S.tapped source.old) (S.tapped source.new) (W.seen out.old)
+        (W.seen out.new) result }
+{
+    head_of_spelled();
+    fails_before_all();
+    let alloc = rows.allocator();
+    let Ok(mut buf) = head_buffer(alloc) else {
+        return Err(ReplayFault::Out(OutFault::Memory(0)));
+    };
+    let Some(row) = rows.get(path.given) else {
+        return Err(ReplayFault::Out(OutFault::Read(0)));
+    };
+    replay_row(alloc, source, &lookup.parts, path, &row, &mut buf, out)
+}
+
 /// Writes the payload that the records of a source give for a URI as of a moment.
 pub(crate) fn replay_rows<S: Source, W: Sink, A: Allocator + Copy>(
     source: &mut S,
@@ -155,21 +189,10 @@ pub(crate) fn replay_rows<S: Source, W: Sink, A: Allocator + Copy>(
     ensures { Replays rows.now lookup.now.index lookup.now.parts uri.now moment.now (S.tapped source.old)
         (S.tapped source.new) (W.seen out.old) (W.seen out.new) result }
 {
-    head_of_spelled();
     reasons_are_answers();
-    fails_before_all();
-    chosen_is_latest();
-    origins_stand();
-    let path = match path_in(lookup, uri, moment) {
-        Ok(path) => path,
-        Err(unfound) => return Err(ReplayFault::Reason(Reason::NotFound(unfound))),
-    };
-    let alloc = rows.allocator();
-    let Ok(mut buf) = head_buffer(alloc) else {
-        return Err(ReplayFault::Out(OutFault::Memory(0)));
-    };
-    let Some(row) = rows.get(path.given) else {
-        return Err(ReplayFault::Out(OutFault::Read(0)));
-    };
-    replay_row(alloc, source, &lookup.parts, path, &row, &mut buf, out)
+    paths_end_inside();
+    match path_in(lookup, uri, moment) {
+        Ok(path) => replay_on(source, rows, lookup, path, out),
+        Err(unfound) => Err(ReplayFault::Reason(Reason::NotFound(unfound))),
+    }
 }

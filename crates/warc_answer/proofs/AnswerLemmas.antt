@@ -2,14 +2,15 @@
 use Rattle.std.proofs.Common.{◌≡◌, ℕ, zero, suc, ◌<◌, List, [], ◌∷◌, length, map, Option, Some, None, Result, Ok, Err, slice_get, refl, sym, ◌∙◌, ap, subst, arith}
 use Rattle.std.proofs.lemmas.List.{length-map}
 use Rattle.warc_value.specs.Dates.{Instant}
+use Rattle.warc_frame.specs.Record.{Record}
 use Rattle.warc_index.specs.Captures.{Indexed, ChosenIsLatest, indexed_of, chosen_of}
 use Rattle.warc_index.specs.Referents.{OriginsStand, ok_then, origin_of}
 use Rattle.warc_index.specs.declared.unfound.Unfound.{Unfound}
 use Rattle.warc_payload.specs.Laws.{AtMostOneBody, NoBodyWhereCoded, OneOfThree}
 use Rattle.warc_segment.specs.Joined.{ReadRecord, joined_records}
 use Rattle.warc_segment.specs.declared.gap.Gap.{Gap}
-use Rattle.warc_answer.specs.Answers.{path_of, index_of, Given, is_truncated, given_by, IsGivenBy, IsGivenAt, IsGivenOn, IsOutcome, IsAnswer}
-use Rattle.warc_answer.specs.Laws.{AnswersOnce}
+use Rattle.warc_answer.specs.Answers.{path_at, path_for, path_from, path_of, index_of, Given, is_truncated, given_by, IsGivenBy, IsGivenAt, IsGivenOn, IsAnswerOn}
+use Rattle.warc_answer.specs.Laws.{AnswersOnce, EndsInside, PathsEndInside}
 use Rattle.warc_answer.specs.Payloads.{read_record}
 use Rattle.warc_answer.specs.declared.answer.Path.{Path}
 use Rattle.warc_answer.specs.declared.answer.Reason.{Reason}
@@ -31,24 +32,27 @@ stands_below (y ∷ xs) (suc p) lt = stands_below xs p (omega arith)
 abbrev path_by : ℕ → Result ℕ Unfound → Result Path Unfound
 path_by chosen origin = ok_then (λ given. Ok (record { chosen = chosen; given = given })) origin
 
-path_below : ChosenIsLatest → OriginsStand → (all : List Indexed) (uri : List ℕ) (moment : Instant) (path : Path)
-    → path_of all uri moment ≡ Ok path → path.given < length all
-path_below latest stand all uri moment path e = by_chosen (chosen_of all uri moment) refl e
+from_below : OriginsStand → (all : List Indexed) (p : ℕ) → p < length all → (path : Path) → path_from all p ≡ Ok path
+    → path.given < length all
+from_below stand all p lt path e = by_origin (origin_of all p) refl e
   where
-    by_origin : (p : ℕ) → p < length all → (o : Result ℕ Unfound) → origin_of all p ≡ o → path_by p o ≡ Ok path
-        → path.given < length all
-    by_origin p lt (Err why) is e = absurd (cc)
-    by_origin p lt (Ok q) is e =
+    by_origin : (o : Result ℕ Unfound) → origin_of all p ≡ o → path_by p o ≡ Ok path → path.given < length all
+    by_origin (Err why) is e = absurd (cc)
+    by_origin (Ok q) is e =
         let same : q ≡ path.given =
         (let w : Path = record { chosen = p; given = q } in let f : w ≡ path = (cc) in ap (λ (v : Path). v.given) f) in
         subst (λ (n : ℕ). n < length all) same (stand all p q lt is)
 
-    by_chosen : (c : Result ℕ Unfound) → chosen_of all uri moment ≡ c
-        → ok_then (λ p. path_by p (origin_of all p)) c ≡ Ok path → path.given < length all
+path_below : ChosenIsLatest → OriginsStand → (all : List Indexed) (uri : List ℕ) (moment : Instant) (path : Path)
+    → path_of all uri moment ≡ Ok path → path.given < length all
+path_below latest stand all uri moment path e = by_chosen (chosen_of all uri moment) refl e
+  where
+    by_chosen : (c : Result ℕ Unfound) → chosen_of all uri moment ≡ c → ok_then (path_from all) c ≡ Ok path
+        → path.given < length all
     by_chosen (Err why) is e = absurd (cc)
     by_chosen (Ok p) is e =
         let chosen = ((latest all uri moment).0 p).0 is in
-        by_origin p (below_stands all p chosen.it chosen.stands) (origin_of all p) refl e
+        from_below stand all p (below_stands all p chosen.it chosen.stands) path e
 
 -- ---- one outcome
 
@@ -79,16 +83,34 @@ on_some three all (Ok path) within =
     let here : IsGivenAt all path (Some at.0) outcome = (payload.0, payload.1, refl) in
     (outcome, subst (λ (o : Option ReadRecord). IsGivenAt all path o outcome) (sym at.1) here)
 
-outcome_some : OneOfThree → ChosenIsLatest → OriginsStand → (all : List ReadRecord) (uri : List ℕ) (moment : Instant)
-    → (outcome : Result Given Reason) × IsOutcome all uri moment outcome
-outcome_some three latest stand all uri moment =
-    on_some three all (path_of (index_of all) uri moment)
-    (λ path e. subst (λ (n : ℕ). path.given < n) (length-map all (λ r. indexed_of r.head))
-    (path_below latest stand (index_of all) uri moment path e))
+-- as many are kept in an index as there are records
+as_many : (records : List Record) → length (index_of (map read_record records)) ≡ length records
+as_many records =
+    length-map (map read_record records) (λ r. indexed_of r.head) ∙ length-map records read_record
+
+pub paths_end_inside : ChosenIsLatest → OriginsStand → PathsEndInside
+unfolding path_for path_at
+paths_end_inside latest stand records = (
+  λ uri moment path e. subst (λ (n : ℕ). path.given < n) (as_many records)
+      (path_below latest stand (index_of (map read_record records)) uri moment path e),
+  λ position lt path e. subst (λ (n : ℕ). path.given < n) (as_many records)
+      (from_below stand (index_of (map read_record records)) position (subst (λ (n : ℕ). position < n) (sym (as_many records)) lt) path e),
+)
+
+pub answer_some : OneOfThree → (records : List Record) (found : Result Path Unfound) → EndsInside records found
+    → (outcome : Result Given Reason) × IsAnswerOn records found outcome
+unfolding IsAnswerOn
+answer_some three records found within =
+    on_some three (map read_record records) found
+    (λ path e. subst (λ (n : ℕ). path.given < n) (sym (length-map records read_record)) (within path e))
+
+answer_once : AtMostOneBody → NoBodyWhereCoded → (records : List Record) (found : Result Path Unfound)
+    (one other : Result Given Reason) → IsAnswerOn records found one → IsAnswerOn records found other → one ≡ other
+unfolding IsAnswerOn
+answer_once once coded records found one other is also = on_once once coded (map read_record records) found one other is also
 
 pub answers_once : AtMostOneBody → NoBodyWhereCoded → OneOfThree → ChosenIsLatest → OriginsStand → AnswersOnce
-unfolding IsAnswer
 answers_once once coded three latest stand records uri moment =
-    let all : List ReadRecord = map read_record records in
-    let some = outcome_some three latest stand all uri moment in
-    (some.0, some.1, λ other is. on_once once coded all (path_of (index_of all) uri moment) some.0 other some.1 is)
+    let found = path_for records uri moment in
+    let some = answer_some three records found ((paths_end_inside latest stand records).0 uri moment) in
+    (some.0, some.1, λ other is. answer_once once coded records found some.0 other some.1 is)

@@ -8,7 +8,7 @@ use Rattle.std.proofs.lemmas.Bool.{leb-true}
 use Rattle.std.proofs.lemmas.List.Elements.{All-cons, All-nil}
 use Rattle.std.proofs.lemmas.List.Sums.{sum_by-cons}
 use Rattle.httparse.specs.Grammar.{ResponseHead, print_response}
-use Rattle.warc_value.specs.Dates.{Instant}
+use Rattle.warc_index.specs.declared.unfound.Unfound.{Unfound}
 use Rattle.warc_value.specs.Digests.{is_bad}
 use Rattle.warc_field.specs.Area.{Pair}
 use Rattle.warc_field.specs.Decimal.{decimal_of, number_of}
@@ -23,12 +23,12 @@ use Rattle.warc_payload.specs.Laws.{OneOfThree}
 use Rattle.warc_payload.specs.Payload.{GivesBody, GivesCodedBody}
 use Rattle.warc_segment.specs.declared.place.Place.{Place}
 use Rattle.warc_segment.specs.Joined.{ReadRecord, ArePlacesOf, JoinedHasTotal}
-use Rattle.warc_answer.specs.Answers.{Given, is_truncated, given_by}
+use Rattle.warc_answer.specs.Answers.{Given, IsAnswerOn, is_truncated, given_by}
 use Rattle.warc_answer.specs.Giving.{BeginsAt, BeginsNowhere, IsStart}
-use Rattle.warc_answer.specs.Laws.{AnswersOnce, FailsBeforeAll, IsFound, PlacesAreAsLong}
+use Rattle.warc_answer.specs.Laws.{FailsBeforeAll, IsFound, PlacesAreAsLong}
 use Rattle.warc_answer.specs.Payloads.{Payload, IsBehindHead, IsPayload, has_bad_block, is_http_response, read_record, whole_block}
 use Rattle.warc_answer.specs.Places.{LieIn, len_of, text_at}
-use Rattle.warc_answer.specs.Replays.{IsReplay, body_of, out_result}
+use Rattle.warc_answer.specs.Replays.{IsReplayOn, body_of, given, out_result}
 use Rattle.warc_answer.specs.declared.answer.Path.{Path}
 use Rattle.warc_answer.specs.declared.answer.Reason.{Reason as Why}
 use Rattle.warc_answer.specs.declared.answer.Reason.TheVariants.{NotFound, Segments, BadDigest, BadHead, Coded}
@@ -36,6 +36,7 @@ use Rattle.warc_answer.specs.declared.answer.ReplayFault.{ReplayFault}
 use Rattle.warc_answer.specs.declared.answer.ReplayFault.TheVariants.{Reason, Out}
 use Rattle.warc_answer.specs.declared.body.BodyStart.{BodyStart}
 use Rattle.warc_answer.proofs.PayloadLemmas.{payload_some}
+use Rattle.warc_answer.proofs.AnswerLemmas.{answer_some}
 use Rattle.warc_answer.proofs.ReasonLemmas.{answer_of}
 
 -- ---- where a body begins
@@ -154,11 +155,11 @@ total_short (r ∷ rs) zero n last at e =
     number_short (codes "WARC-Segment-Total-Length") r.fields n (ap (λ (x : ReadRecord). x.head.segment.total) same ∙ e)
 total_short (r ∷ rs) (suc k) n last at e = total_short rs k n last at e
 
-pub joined_short : JoinedHasTotal → (bytes : List ℕ) (records : List Record) (uri : List ℕ) (moment : Instant)
+pub joined_short : JoinedHasTotal → (bytes : List ℕ) (records : List Record) (way : Result Path Unfound)
     (path : Path) (origin : ReadRecord) (joined : List ReadRecord) (ps : List Place) → length bytes ≤ max_archive
-    → IsFound (map read_record records) uri moment path origin (Ok joined) → ArePlacesOf bytes ps joined
+    → IsFound (map read_record records) way path origin (Ok joined) → ArePlacesOf bytes ps joined
     → len_of ps ≤ max_archive
-joined_short total bytes records uri moment path origin joined ps short found are =
+joined_short total bytes records way path origin joined ps short found are =
     elim (total (map read_record records) origin joined found.joined_is) [
       | inl alone ↦ one ps (subst (ArePlacesOf bytes ps) alone are)
       | inr stated ↦
@@ -240,79 +241,56 @@ begun_by : (http : Bool) (text : List ℕ) (origin : ReadRecord) (joined : List 
 begun_by http text origin joined r same whole is =
     subst (λ (b : Bool). IsStart b (whole_block joined) r) same (subst (λ (t : List ℕ). IsStart http t r) whole is)
 
-abbrev Found : List Record → List ℕ → Instant → Path → ReadRecord → List ReadRecord → Type 0
-Found records uri moment path origin joined = IsFound (map read_record records) uri moment path origin (Ok joined)
+abbrev Found : List Record → Result Path Unfound → Path → ReadRecord → List ReadRecord → Type 0
+Found records way path origin joined = IsFound (map read_record records) way path origin (Ok joined)
 
 -- a bad digest is the answer
-pub replay_of_bad : (bytes : List ℕ) (records : List Record) (uri : List ℕ) (moment : Instant) (path : Path)
+pub replay_of_bad : (bytes : List ℕ) (records : List Record) (way : Result Path Unfound) (path : Path)
     (origin : ReadRecord) (joined : List ReadRecord) (ps : List Place) (old : Option (List ℕ))
-    → Found records uri moment path origin joined → ArePlacesOf bytes ps joined
+    → Found records way path origin joined → ArePlacesOf bytes ps joined
     → list_any (λ (p : Place). is_bad p.verdict) ps ≡ true
-    → IsReplay records uri moment (Err (Reason BadDigest)) old old
-replay_of_bad bytes records uri moment path origin joined ps old found are bad =
+    → IsReplayOn records way (Err (Reason BadDigest)) old old
+replay_of_bad bytes records way path origin joined ps old found are bad =
     let payload = bad_payload origin joined (sym (places_bad bytes ps joined are) ∙ bad) in
-    (answer_of records uri moment path origin (Ok joined) (Err BadDigest) found (Err BadDigest, payload, refl), refl)
+    (answer_of records way path origin (Ok joined) (Err BadDigest) found (Err BadDigest, payload, refl), refl)
 
 -- no body begins, or a read failed before it is known where
-pub replay_of_none : OneOfThree → (bytes : List ℕ) (records : List Record) (uri : List ℕ) (moment : Instant)
+pub replay_of_none : OneOfThree → (bytes : List ℕ) (records : List Record) (way : Result Path Unfound)
     (path : Path) (origin : ReadRecord) (joined : List ReadRecord) (ps : List Place) (old : Option (List ℕ))
-    (http : Bool) (fault : ReplayFault) → Found records uri moment path origin joined → ArePlacesOf bytes ps joined
+    (http : Bool) (fault : ReplayFault) → Found records way path origin joined → ArePlacesOf bytes ps joined
     → list_any (λ (p : Place). is_bad p.verdict) ps ≡ false → http ≡ is_http_response origin.head
-    → IsStart http (text_at ps bytes) (Err fault) → IsReplay records uri moment (Err fault) old old
-replay_of_none three bytes records uri moment path origin joined ps old http (Reason why) found are fine same start =
+    → IsStart http (text_at ps bytes) (Err fault) → IsReplayOn records way (Err fault) old old
+replay_of_none three bytes records way path origin joined ps old http (Reason why) found are fine same start =
     let begun = begun_by http (text_at ps bytes) origin joined (Err (Reason why)) same (places_text bytes ps joined are) start in
     let payload = no_payload origin joined why (sym (places_bad bytes ps joined are) ∙ fine) begun in
-    (answer_of records uri moment path origin (Ok joined) (Err why) found (Err why, payload, refl), refl)
-replay_of_none three bytes records uri moment path origin joined ps old http (Out e) found are fine same start =
+    (answer_of records way path origin (Ok joined) (Err why) found (Err why, payload, refl), refl)
+replay_of_none three bytes records way path origin joined ps old http (Out e) found are fine same start =
     let payload = payload_some three origin (Ok joined) in
     let outcome : Result Given Why = given_by path (is_truncated (Ok joined)) payload.0 in
     let sent : sent_of e ≡ 0 = ap sent_of start in (
       outcome,
-      answer_of records uri moment path origin (Ok joined) outcome found (payload.0, payload.1, refl),
+      answer_of records way path origin (Ok joined) outcome found (payload.0, payload.1, refl),
       subst (λ (n : ℕ). WentOut old (body_of outcome) old n) (sym sent) (none_out old (body_of outcome)),
     )
 
--- the body went out
-pub replay_of_body : (bytes : List ℕ) (records : List Record) (uri : List ℕ) (moment : Instant) (path : Path)
-    (origin : ReadRecord) (joined : List ReadRecord) (ps : List Place) (old new : Option (List ℕ)) (http : Bool)
-    (start : BodyStart) (truncated : Bool) (len : ℕ) → Found records uri moment path origin joined
-    → ArePlacesOf bytes ps joined → list_any (λ (p : Place). is_bad p.verdict) ps ≡ false
-    → http ≡ is_http_response origin.head → IsStart http (text_at ps bytes) (Ok start)
-    → truncated ≡ list_any (λ (p : Place). p.truncated) ps → len ≡ length (drop start.skip (text_at ps bytes))
-    → new ≡ append_known old (drop start.skip (text_at ps bytes))
-    → IsReplay records uri moment (Ok (record { chosen = path.chosen; given = path.given; status = start.status; truncated = truncated; length = len })) old new
-replay_of_body bytes records uri moment path origin joined ps old new http start truncated len found are fine same is mark size told =
+-- what is said of the body that begins there
+pub answer_of_body : (bytes : List ℕ) (records : List Record) (way : Result Path Unfound) (path : Path)
+    (origin : ReadRecord) (joined : List ReadRecord) (ps : List Place) (http : Bool) (start : BodyStart)
+    (truncated : Bool) (len : ℕ) → Found records way path origin joined → ArePlacesOf bytes ps joined
+    → list_any (λ (p : Place). is_bad p.verdict) ps ≡ false → http ≡ is_http_response origin.head
+    → IsStart http (text_at ps bytes) (Ok start) → truncated ≡ list_any (λ (p : Place). p.truncated) ps
+    → len ≡ length (drop start.skip (text_at ps bytes))
+    → IsAnswerOn records way (given (record { chosen = path.chosen; given = path.given; status = start.status; truncated = truncated; length = len }) (drop start.skip (text_at ps bytes)))
+answer_of_body bytes records way path origin joined ps http start truncated len found are fine same is mark size =
     let whole : text_at ps bytes ≡ whole_block joined = places_text bytes ps joined are in
     let begun = begun_by http (text_at ps bytes) origin joined (Ok start) same whole is in
     let payload = good_payload origin joined start (sym (places_bad bytes ps joined are) ∙ fine) begun in
-    let body : List ℕ = drop start.skip (whole_block joined) in
     let marked : truncated ≡ is_truncated (Ok joined) = mark ∙ places_marked bytes ps joined are in
-    let long : len ≡ length body = size ∙ ap (λ l. length (drop start.skip l)) whole in (
-      body,
-      answer_of records uri moment path origin (Ok joined) _ found (
-        payload_at start (whole_block joined),
-        payload,
-        λ i. Ok (record { answer = record { chosen = path.chosen; given = path.given; status = start.status; truncated = marked i; length = long i }; body = body }),
-      ),
-      told ∙ ap (λ l. append_known old (drop start.skip l)) whole,
-    )
-
--- a front of it did
-pub replay_of_front : (bytes : List ℕ) (records : List Record) (uri : List ℕ) (moment : Instant) (path : Path)
-    (origin : ReadRecord) (joined : List ReadRecord) (ps : List Place) (old new : Option (List ℕ)) (http : Bool)
-    (start : BodyStart) (e : OutFault) → Found records uri moment path origin joined
-    → ArePlacesOf bytes ps joined → list_any (λ (p : Place). is_bad p.verdict) ps ≡ false
-    → http ≡ is_http_response origin.head → IsStart http (text_at ps bytes) (Ok start)
-    → WentOut old (drop start.skip (text_at ps bytes)) new (sent_of e)
-    → IsReplay records uri moment (Err (Out e)) old new
-replay_of_front bytes records uri moment path origin joined ps old new http start e found are fine same is out =
-    let whole : text_at ps bytes ≡ whole_block joined = places_text bytes ps joined are in
-    let begun = begun_by http (text_at ps bytes) origin joined (Ok start) same whole is in
-    let payload = good_payload origin joined start (sym (places_bad bytes ps joined are) ∙ fine) begun in
-    let outcome : Result Given Why = given_by path (is_truncated (Ok joined)) (payload_at start (whole_block joined)) in (
-      outcome,
-      answer_of records uri moment path origin (Ok joined) outcome found (payload_at start (whole_block joined), payload, refl),
-      subst (λ (l : List ℕ). WentOut old (drop start.skip l) new (sent_of e)) whole out,
+    let long : len ≡ length (drop start.skip (whole_block joined)) = size ∙ ap (λ l. length (drop start.skip l)) whole in
+    answer_of records way path origin (Ok joined) _ found (
+      payload_at start (whole_block joined),
+      payload,
+      λ i. Ok (record { answer = record { chosen = path.chosen; given = path.given; status = start.status; truncated = marked i; length = long i }; body = drop start.skip (whole i) }),
     )
 
 -- ---- failures
@@ -331,7 +309,7 @@ failed_from e old mid new same has = subst (λ (n : ℕ). HasFailedBy {X = Unit 
 pub places_are_as_long : PlacesAreAsLong
 places_are_as_long bytes places joined are = places_len bytes places joined are
 
-pub fails_before_all : AnswersOnce → FailsBeforeAll
-fails_before_all once records uri moment told e none =
-    let it = once records uri moment in
+pub fails_before_all : OneOfThree → FailsBeforeAll
+fails_before_all three records way told e within none =
+    let it = answer_some three records way within in
     (it.0, it.1, subst (λ (n : ℕ). WentOut told (body_of it.0) told n) (sym none) (none_out told (body_of it.0)))

@@ -5,7 +5,7 @@ use Rattle.warc_record.specs.Good.{IsGood}
 use Rattle.warc_segment.specs.Joined.{ReadRecord}
 use Rattle.warc_write.specs.Conversion.{ConvertedSaysTheSame, converted}
 use Rattle.warc_write.specs.Rendering.{AllGood}
-use Rattle.warc_answer.specs.Answers.{IsOutcome, IsAnswer}
+use Rattle.warc_answer.specs.Answers.{IsAnswerOn, IsGivenOn, index_of, path_for, path_of}
 use Rattle.warc_answer.specs.Laws.{ConversionKeepsAnswers}
 use Rattle.warc_answer.specs.Payloads.{read_record}
 
@@ -25,8 +25,8 @@ records_stay says (r ∷ rs) good =
     ∙ ap (λ (xs : List ReadRecord). read_record r ∷ xs) (records_stay says rs good.1)
 
 pub conversion_keeps_answers : ConvertedSaysTheSame → ConversionKeepsAnswers
-unfolding IsAnswer
+unfolding IsAnswerOn path_for
 conversion_keeps_answers says records uri moment outcome good =
     let same = records_stay says records good in
-    let P : List ReadRecord → Type 0 = λ all. IsOutcome all uri moment outcome in
+    let P : List ReadRecord → Type 0 = λ all. IsGivenOn all (path_of (index_of all) uri moment) outcome in
     ((λ is. subst P same is), (λ is. subst P (sym same) is))

@@ -22,14 +22,14 @@ use Rattle.warc_payload.specs.Head.{BeginsWithHead}
 use Rattle.warc_payload.specs.Payload.{GivesBody, GivesCodedBody}
 use Rattle.warc_index.specs.declared.unfound.Unfound.TheVariants.{NotYet, NoReference, Unresolved}
 use Rattle.warc_segment.specs.declared.gap.Gap.TheVariants.{Unfinished, Absent}
-use Rattle.warc_answer.specs.Answers.{Given, IsAnswer}
+use Rattle.warc_answer.specs.Answers.{Given, IsAnswer, IsAnswerOn, path_for}
 use Rattle.warc_answer.specs.ReasonText.{reason_text}
 use Rattle.warc_answer.specs.declared.answer.Reason.{Reason}
 use Rattle.warc_answer.specs.declared.answer.Reason.TheVariants.{NotFound, Segments, BadDigest, Coded}
 
 -- what the values below unfold
 unfoldable on_literals : ⊤
-unfolding jiff_on_literals httparse_on_literals by_index sha1 digest_bytes hash_after compress rounds schedule first_words is_blank trimmed decimal_of forms fits date_in date_of instant_of bytes_of bits_of number_of_bits eights symbol_value bare_text is_bare_id IsAnswer digits
+unfolding jiff_on_literals httparse_on_literals by_index sha1 digest_bytes hash_after compress rounds schedule first_words is_blank trimmed decimal_of forms fits date_in date_of instant_of bytes_of bits_of number_of_bits eights symbol_value bare_text is_bare_id IsAnswerOn path_for digits
 on_literals = tt
 
 -- the id that ends in a digit

@@ -21,11 +21,13 @@ use Rattle.warc_answer.specs.declared.answer.Reason.TheVariants.{NotFound}
 abbrev pub index_of : List ReadRecord → List Indexed
 index_of all = map (λ r. indexed_of r.head) all
 
+-- from a capture to its origin
+abbrev pub path_from : List Indexed → ℕ → Result Path Unfound
+path_from all chosen = ok_then (λ given. Ok (record { chosen = chosen; given = given })) (origin_of all chosen)
+
 -- from the chosen capture of a target to its origin
 abbrev pub path_of : List Indexed → List ℕ → Instant → Result Path Unfound
-path_of all uri moment =
-    ok_then (λ chosen. ok_then (λ given. Ok (record { chosen = chosen; given = given })) (origin_of all chosen))
-    (chosen_of all uri moment)
+path_of all uri moment = ok_then (path_from all) (chosen_of all uri moment)
 
 -- a body, and what is said of it
 pub record Given : Type 0 where
@@ -66,10 +68,18 @@ abbrev pub IsGivenOn : List ReadRecord → Result Path Unfound → Result Given 
 IsGivenOn all (Err unfound) outcome = outcome ≡ Err (NotFound unfound)
 IsGivenOn all (Ok path) outcome = IsGivenAt all path (slice_get all path.given) outcome
 
--- the same for a URI as of a moment
-abbrev pub IsOutcome : List ReadRecord → List ℕ → Instant → Result Given Reason → Type 0
-IsOutcome all uri moment outcome = IsGivenOn all (path_of (index_of all) uri moment) outcome
+-- the path among records for a URI as of a moment
+unfoldable pub path_for : List Record → List ℕ → Instant → Result Path Unfound
+path_for records uri moment = path_of (index_of (map read_record records)) uri moment
 
--- what a replay of records gives
-unfoldable pub IsAnswer : List Record → List ℕ → Instant → Result Given Reason → Type 0
-IsAnswer records uri moment outcome = IsOutcome (map read_record records) uri moment outcome
+-- the path from the record at a position
+unfoldable pub path_at : List Record → ℕ → Result Path Unfound
+path_at records position = path_from (index_of (map read_record records)) position
+
+-- what records give at the end of a path, or why there is no path
+unfoldable pub IsAnswerOn : List Record → Result Path Unfound → Result Given Reason → Type 0
+IsAnswerOn records found outcome = IsGivenOn (map read_record records) found outcome
+
+-- what a replay of records gives for a URI as of a moment
+abbrev pub IsAnswer : List Record → List ℕ → Instant → Result Given Reason → Type 0
+IsAnswer records uri moment outcome = IsAnswerOn records (path_for records uri moment) outcome

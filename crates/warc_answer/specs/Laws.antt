@@ -1,5 +1,5 @@
 -- The laws of the definitions.
-use Rattle.std.specs.Prelude.{◌≡◌, ◌↔◌, ℕ, List, length, map, slice_get, Option, Some, Result, Ok, Err}
+use Rattle.std.specs.Prelude.{◌≡◌, ◌↔◌, ℕ, ◌<◌, List, length, map, slice_get, Option, Some, Result, Ok, Err}
 use Rattle.warc_value.specs.Dates.{Instant}
 use Rattle.warc_frame.specs.Record.{Record}
 use Rattle.warc_frame.specs.Send.{sent_of}
@@ -11,9 +11,9 @@ use Rattle.warc_segment.specs.declared.place.Place.{Place}
 use Rattle.warc_write.specs.Conversion.{converted}
 use Rattle.warc_write.specs.Rendering.{AllGood}
 use Rattle.warc_answer.specs.Payloads.{read_record, whole_block}
-use Rattle.warc_answer.specs.Answers.{path_of, index_of, Given, IsAnswer}
+use Rattle.warc_answer.specs.Answers.{Given, IsAnswer, IsAnswerOn, path_at, path_for}
 use Rattle.warc_answer.specs.Places.{len_of}
-use Rattle.warc_answer.specs.Replays.{IsReplay}
+use Rattle.warc_answer.specs.Replays.{IsReplayOn}
 use Rattle.warc_answer.specs.declared.answer.Path.{Path}
 use Rattle.warc_answer.specs.declared.answer.Reason.{Reason}
 use Rattle.warc_answer.specs.declared.answer.Reason.TheVariants.{NotFound, Segments}
@@ -32,23 +32,32 @@ ConversionKeepsAnswers =
     (records : List Record) (uri : List ℕ) (moment : Instant) (outcome : Result Given Reason) → AllGood records
     → IsAnswer (map converted records) uri moment outcome ↔ IsAnswer records uri moment outcome
 
--- on the way to an answer: the path for a URI as of a moment, the origin at its end, and the records that are joined to
--- it or their gap
-pub record IsFound (all : List ReadRecord) (uri : List ℕ) (moment : Instant) (path : Path) (origin : ReadRecord)
+-- on the way to an answer: the path that was found, the origin at its end, and the records that are joined to it or
+-- their gap
+pub record IsFound (all : List ReadRecord) (found : Result Path Unfound) (path : Path) (origin : ReadRecord)
     (joined : Result (List ReadRecord) Gap) : Type 0 where
-  pub path_is : path_of (index_of all) uri moment ≡ Ok path
+  pub path_is : found ≡ Ok path
   pub stands : slice_get all path.given ≡ Some origin
   pub joined_is : joined_records all origin ≡ joined
 
 -- the reasons before the payload: no path, and a gap
 abbrev pub ReasonsAreAnswers : Type 0
 ReasonsAreAnswers =
-    (records : List Record) (uri : List ℕ) (moment : Instant)
-    → ((unfound : Unfound) → path_of (index_of (map read_record records)) uri moment ≡ Err unfound
-    → IsAnswer records uri moment (Err (NotFound unfound)))
-    × ((path : Path) (origin : ReadRecord) (gap : Gap)
-    → IsFound (map read_record records) uri moment path origin (Err gap)
-    → IsAnswer records uri moment (Err (Segments gap)))
+    (records : List Record) (found : Result Path Unfound)
+    → ((unfound : Unfound) → found ≡ Err unfound → IsAnswerOn records found (Err (NotFound unfound)))
+    × ((path : Path) (origin : ReadRecord) (gap : Gap) → IsFound (map read_record records) found path origin (Err gap)
+    → IsAnswerOn records found (Err (Segments gap)))
+
+-- a path that was found ends at one of the records
+abbrev pub EndsInside : List Record → Result Path Unfound → Type 0
+EndsInside records found = (path : Path) → found ≡ Ok path → path.given < length records
+
+-- so do the path for a URI as of a moment, and that from one of the records
+abbrev pub PathsEndInside : Type 0
+PathsEndInside =
+    (records : List Record)
+    → ((uri : List ℕ) (moment : Instant) → EndsInside records (path_for records uri moment))
+    × ((position : ℕ) → position < length records → EndsInside records (path_at records position))
 
 -- places hold as many bytes as the blocks that they are of
 abbrev pub PlacesAreAsLong : Type 0
@@ -59,5 +68,5 @@ PlacesAreAsLong =
 -- a replay that fails before anything goes out is one, whatever the answer is
 abbrev pub FailsBeforeAll : Type 0
 FailsBeforeAll =
-    (records : List Record) (uri : List ℕ) (moment : Instant) (told : Option (List ℕ)) (e : OutFault) → sent_of e ≡ 0
-    → IsReplay records uri moment (Err (Out e)) told told
+    (records : List Record) (found : Result Path Unfound) (told : Option (List ℕ)) (e : OutFault)
+    → EndsInside records found → sent_of e ≡ 0 → IsReplayOn records found (Err (Out e)) told told

@@ -7,8 +7,10 @@ use Rattle.warc_frame.specs.Record.{Record}
 use Rattle.warc_frame.specs.Send.{WentOut, sent_of}
 use Rattle.warc_frame.specs.declared.fault.OutFault.{OutFault}
 use Rattle.warc_frame.specs.declared.fault.OutFault.TheVariants as outs
-use Rattle.warc_answer.specs.Answers.{Given, IsAnswer}
+use Rattle.warc_index.specs.declared.unfound.Unfound.{Unfound}
+use Rattle.warc_answer.specs.Answers.{Given, IsAnswerOn, path_for}
 use Rattle.warc_answer.specs.declared.answer.Answer.{Answer}
+use Rattle.warc_answer.specs.declared.answer.Path.{Path}
 use Rattle.warc_answer.specs.declared.answer.Reason.{Reason as Why}
 use Rattle.warc_answer.specs.declared.answer.ReplayFault.{ReplayFault}
 use Rattle.warc_answer.specs.declared.answer.ReplayFault.TheVariants.{Reason, Out}
@@ -22,15 +24,20 @@ abbrev pub body_of : Result Given Why → List ℕ
 body_of (Ok it) = it.body
 body_of (Err why) = []
 
--- What a sink tells after a replay: exactly the body of the answer; for a reason, what it told before; after a failed
--- read or write, a front of the body that there is, as long as the fault tells.
+-- What a sink tells after a replay on a path: exactly the body of the answer; for a reason, what it told before; after a
+-- failed read or write, a front of the body that there is, as long as the fault tells.
+abbrev pub IsReplayOn : List Record → Result Path Unfound → Result Answer ReplayFault → Option (List ℕ)
+    → Option (List ℕ) → Type 0
+IsReplayOn records found (Ok answer) old new =
+    (body : List ℕ) × IsAnswerOn records found (given answer body) × (new ≡ append_known old body)
+IsReplayOn records found (Err (Reason why)) old new = IsAnswerOn records found (Err why) × (new ≡ old)
+IsReplayOn records found (Err (Out e)) old new =
+    (outcome : Result Given Why) × IsAnswerOn records found outcome × WentOut old (body_of outcome) new (sent_of e)
+
+-- the same for a URI as of a moment
 abbrev pub IsReplay : List Record → List ℕ → Instant → Result Answer ReplayFault → Option (List ℕ) → Option (List ℕ)
     → Type 0
-IsReplay records uri moment (Ok answer) old new =
-    (body : List ℕ) × IsAnswer records uri moment (given answer body) × (new ≡ append_known old body)
-IsReplay records uri moment (Err (Reason why)) old new = IsAnswer records uri moment (Err why) × (new ≡ old)
-IsReplay records uri moment (Err (Out e)) old new =
-    (outcome : Result Given Why) × IsAnswer records uri moment outcome × WentOut old (body_of outcome) new (sent_of e)
+IsReplay records uri moment answer old new = IsReplayOn records (path_for records uri moment) answer old new
 
 -- nothing goes out before a reason, or before memory is refused, whatever the source holds
 abbrev pub IsSilent : {X : Type 0} → Result X ReplayFault → Option (List ℕ) → Option (List ℕ) → Type 0

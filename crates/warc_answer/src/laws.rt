@@ -1,5 +1,5 @@
 //! Laws over the definitions: functions that do nothing, each with a law as its contract.
-ghost use Rattle.warc_answer.specs.Laws.{AnswersOnce, ConversionKeepsAnswers, FailsBeforeAll, PlacesAreAsLong, ReasonsAreAnswers};
+ghost use Rattle.warc_answer.specs.Laws.{AnswersOnce, ConversionKeepsAnswers, FailsBeforeAll, PathsEndInside, PlacesAreAsLong, ReasonsAreAnswers};
 
 use warc_index::laws::{chosen_is_latest, origins_stand};
 use warc_payload::laws::{at_most_one_body, no_body_where_coded, one_of_three};
@@ -29,14 +29,23 @@ pub fn reasons_are_answers()
     ensures { ReasonsAreAnswers }
 {}
 
+/// The path for a URI as of a moment ends at one of the records, and so does the path from one of them.
+pub fn paths_end_inside()
+    ensures { PathsEndInside }
+{
+    chosen_is_latest();
+    origins_stand();
+}
+
 /// The places of blocks hold as many bytes as the blocks, one behind another.
 pub fn places_are_as_long()
     ensures { PlacesAreAsLong }
 {}
 
-/// Where a read fails or memory is refused before anything is written, that is a replay too, whatever the answer is.
+/// Where a read fails or memory is refused before anything is written, that is a replay too, whatever the answer is, on
+/// a path that ends at one of the records.
 pub fn fails_before_all()
     ensures { FailsBeforeAll }
 {
-    answers_once();
+    one_of_three();
 }

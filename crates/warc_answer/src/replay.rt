@@ -1,17 +1,18 @@
 //! The end of a replay, behind the look-up of the capture and of its origin, and the joining of its segments.
-ghost use Rattle.std.specs.Prelude.{◌≡◌, ℕ, ◌+◌, ◌*◌, ◌≤◌, List, length, map, Some, Ok, IfErr};
+ghost use Rattle.std.specs.Prelude.{◌≡◌, ℕ, ◌+◌, ◌*◌, ◌≤◌, List, length, drop, map, Option, Some, Result, Ok, Err, IfErr, IfOk};
 ghost use Rattle.std.specs.List.{list_any};
-ghost use Rattle.warc_value.specs.Dates.{Instant};
 ghost use Rattle.warc_value.specs.Digests.{is_bad};
 ghost use Rattle.warc_frame.specs.Count.{capped};
 ghost use Rattle.warc_frame.specs.Failing.{HasFailedBy, MayHaveFailedBy, failed_by};
 ghost use Rattle.warc_frame.specs.Record.{Record, max_archive};
 ghost use Rattle.warc_record.specs.Seen.{said};
+ghost use Rattle.warc_index.specs.declared.unfound.Unfound.{Unfound};
 ghost use Rattle.warc_segment.specs.Joined.{ReadRecord, ArePlacesOf};
+ghost use Rattle.warc_answer.specs.Answers.{IsAnswerOn};
 ghost use Rattle.warc_answer.specs.Laws.{IsFound};
 ghost use Rattle.warc_answer.specs.Payloads.{read_record};
-ghost use Rattle.warc_answer.specs.Places.{HasRead, len_of};
-ghost use Rattle.warc_answer.specs.Replays.{IsReplay, IsSilent, WantsNoMemory, out_result};
+ghost use Rattle.warc_answer.specs.Places.{HasRead, len_of, text_at};
+ghost use Rattle.warc_answer.specs.Replays.{IsReplayOn, IsSilent, WantsNoMemory, given, out_result};
 
 use crate::answer::{Answer, Path, Reason, ReplayFault};
 use crate::blocks::send_blocks;
@@ -48,6 +49,60 @@ fn total(places: &[Place]) -> u64
     total
 }
 
+/// What is said of a body, and how many bytes of the joined blocks come before it.
+#[derive(Clone, Copy, Debug, PartialEq, Eq)]
+struct Begun {
+    answer: Answer,
+    skip: u64,
+}
+
+/// What is said of the payload of an origin, and where in the joined blocks it begins.
+fn begin_body<S: Source, A: Allocator>(
+    source: &mut S,
+    path: Path,
+    origin: &Typed<A>,
+    places: &[Place],
+) -> Result<Begun, ReplayFault>
+    ensures begun { (bytes : List ℕ) (records : List Record) (found : Result Path Unfound) (read : ReadRecord)
+        (joined : List ReadRecord) → (S.tapped source.old).holds ≡ Some bytes → length bytes ≤ max_archive → IsFound
+        (map read_record records) found path read (Ok joined) → said origin.now ≡ read.head → ArePlacesOf bytes
+        places.now joined → IfOk result (λ b. IsAnswerOn records found (given b.answer (drop b.skip (text_at places.now
+        bytes)))) }
+    ensures refused { (bytes : List ℕ) (records : List Record) (found : Result Path Unfound) (read : ReadRecord)
+        (joined : List ReadRecord) → (S.tapped source.old).holds ≡ Some bytes → length bytes ≤ max_archive → IsFound
+        (map read_record records) found path read (Ok joined) → said origin.now ≡ read.head → ArePlacesOf bytes
+        places.now joined → IfErr result (λ fault. (told : Option (List ℕ)) → IsReplayOn records found (Err fault) told
+        told) }
+    ensures unwritten { (n : ℕ) → failed_by (out_result result) n ≡ n }
+    ensures device { IfErr result WantsNoMemory }
+    ensures kept { (S.tapped source.new).holds ≡ (S.tapped source.old).holds }
+    ensures may { MayHaveFailedBy (out_result result) (S.tapped source.old).faults (S.tapped source.new).faults }
+    ensures failed { (bytes : List ℕ) (joined : List ReadRecord) → (S.tapped source.old).holds ≡ Some bytes → length
+        bytes ≤ max_archive → ArePlacesOf bytes places.now joined → HasFailedBy (out_result result)
+        (S.tapped source.old).faults (S.tapped source.new).faults }
+    ensures read { HasRead (len_of places.now) places.now (S.tapped source.old) (S.tapped source.new) }
+{
+    one_of_three();
+    joined_has_total();
+    if any_bad(places) {
+        return Err(ReplayFault::Reason(Reason::BadDigest));
+    }
+    let start = match find_body(source, is_http_response(origin), places) {
+        Ok(start) => start,
+        Err(fault) => return Err(fault),
+    };
+    Ok(Begun {
+        answer: Answer {
+            chosen: path.chosen,
+            given: path.given,
+            status: start.status,
+            truncated: any_truncated(places),
+            length: total(places).saturating_sub(start.skip),
+        },
+        skip: start.skip,
+    })
+}
+
 /// Writes the payload of an origin, and answers what it is. `places` are those of the blocks that are joined, as
 /// `Parts::join` gives them; `origin` is what the origin's head says. For a reason, nothing is written. No block is
 /// kept: the joined blocks are read through a buffer of 8,192 bytes, and the first 65,536 bytes of them twice where an
@@ -59,10 +114,10 @@ pub fn replay_joined<S: Source, W: Sink, A: Allocator>(
     places: &[Place],
     out: &mut W,
 ) -> Result<Answer, ReplayFault>
-    ensures replayed { (bytes : List ℕ) (records : List Record) (uri : List ℕ) (moment : Instant) (read : ReadRecord)
-        (joined : List ReadRecord) → (S.tapped source.old).holds ≡ Some bytes → length bytes ≤ max_archive → IsFound
-        (map read_record records) uri moment path read (Ok joined) → said origin.now ≡ read.head → ArePlacesOf bytes
-        places.now joined → IsReplay records uri moment result (W.seen out.old).tells (W.seen out.new).tells }
+    ensures replayed { (bytes : List ℕ) (records : List Record) (found : Result Path Unfound) (read : ReadRecord) (joined :
+        List ReadRecord) → (S.tapped source.old).holds ≡ Some bytes → length bytes ≤ max_archive → IsFound
+        (map read_record records) found path read (Ok joined) → said origin.now ≡ read.head → ArePlacesOf bytes
+        places.now joined → IsReplayOn records found result (W.seen out.old).tells (W.seen out.new).tells }
 
     // Nothing is written before a reason, whatever the source holds; and no memory is wanted.
     ensures silent { IsSilent result (W.seen out.old).tells (W.seen out.new).tells }
@@ -80,23 +135,12 @@ pub fn replay_joined<S: Source, W: Sink, A: Allocator>(
     // It asks for no byte but those of the joined blocks, and reads at most twice for each.
     ensures read { HasRead (2 * len_of places.now) places.now (S.tapped source.old) (S.tapped source.new) }
 {
-    one_of_three();
-    joined_has_total();
-    if any_bad(places) {
-        return Err(ReplayFault::Reason(Reason::BadDigest));
-    }
-    let start = match find_body(source, is_http_response(origin), places) {
-        Ok(start) => start,
+    let begun = match begin_body(source, path, origin, places) {
+        Ok(begun) => begun,
         Err(fault) => return Err(fault),
     };
-    match send_blocks(source, places, start.skip, out) {
-        Ok(()) => Ok(Answer {
-            chosen: path.chosen,
-            given: path.given,
-            status: start.status,
-            truncated: any_truncated(places),
-            length: total(places).saturating_sub(start.skip),
-        }),
+    match send_blocks(source, places, begun.skip, out) {
+        Ok(()) => Ok(begun.answer),
         Err(fault) => Err(ReplayFault::Out(fault)),
     }
 }

@@ -1,0 +1,82 @@
+-- What the record at a position gives, and what it reads of the source. This project's own notion.
+use Rattle.std.specs.Prelude.{◌≡◌, ℕ, ◌+◌, ◌≤◌, List, codes, slice_get, Option, Some, None, Result, Ok, Err, IsTrue, IsFalse}
+use Rattle.warc_frame.specs.Failing.{HasFailedBy, MayHaveFailedBy, failed_by}
+use Rattle.warc_frame.specs.Record.{Record}
+use Rattle.warc_frame.specs.Seen.{AsksOnly, IfHeld, Seen, Tapped}
+use Rattle.warc_frame.specs.declared.fault.OutFault.{OutFault}
+use Rattle.warc_record.specs.Readings.{kind_of}
+use Rattle.warc_index.specs.Captures.{is_capture}
+use Rattle.warc_index.specs.Orders.{Kept as Indexes}
+use Rattle.warc_segment.specs.Kept.{Kept as Parts}
+use Rattle.warc_answer.specs.Answers.{path_at}
+use Rattle.warc_answer.specs.ReasonText.{replay_fault_text}
+use Rattle.warc_answer.specs.Replays.{IsReplayOn, IsSilent, out_result}
+use Rattle.warc_answer.specs.declared.answer.Answer.{Answer}
+use Rattle.warc_reading.specs.Archive.{IsArchiveOf, contents}
+use Rattle.warc_reading.specs.Indexed.{AreOf}
+use Rattle.warc_reading.specs.Row.{Row}
+use Rattle.warc.specs.Replaying.{IsOnPath, path_reads}
+use Rattle.warc.specs.declared.fault.BodyFault.{BodyFault}
+use Rattle.warc.specs.declared.fault.BodyFault.TheVariants.{NoRecord, NoCapture, Replay}
+
+-- the texts of the faults
+abbrev pub body_fault_text : BodyFault → List ℕ
+body_fault_text NoRecord = codes "E1 NoRecord"
+body_fault_text NoCapture = codes "E2 NoCapture"
+body_fault_text (Replay fault) = replay_fault_text fault
+
+-- a capture is at the position
+pub record IsCaptureAt (records : List Record) (position : ℕ) : Type 0 where
+  pub content : Record
+  pub there : slice_get records position ≡ Some content
+  pub capture : IsTrue (is_capture (kind_of content.fields))
+
+-- a record that is no capture is there
+pub record IsOtherAt (records : List Record) (position : ℕ) : Type 0 where
+  pub content : Record
+  pub there : slice_get records position ≡ Some content
+  pub other : IsFalse (is_capture (kind_of content.fields))
+
+-- What a sink tells after the body of the capture at a position was asked for: as after a replay on the path from that
+-- capture; where there is no record, or no capture, what it told before.
+abbrev pub IsBodyAt : List Record → ℕ → Result Answer BodyFault → Option (List ℕ) → Option (List ℕ) → Type 0
+IsBodyAt records position (Ok answer) old new =
+    IsCaptureAt records position × IsReplayOn records (path_at records position) (Ok answer) old new
+IsBodyAt records position (Err NoRecord) old new = (slice_get records position ≡ None) × (new ≡ old)
+IsBodyAt records position (Err NoCapture) old new = IsOtherAt records position × (new ≡ old)
+IsBodyAt records position (Err (Replay fault)) old new =
+    IsCaptureAt records position × IsReplayOn records (path_at records position) (Err fault) old new
+
+-- the same as a replay: there a missing record or capture is no failure
+abbrev pub body_result : Result Answer BodyFault → Result (Unit {0}) OutFault
+body_result (Ok answer) = Ok tt
+body_result (Err NoRecord) = Ok tt
+body_result (Err NoCapture) = Ok tt
+body_result (Err (Replay fault)) = out_result {X = Answer} (Err fault)
+
+-- nothing goes out where there is no record or no capture, before a reason, or before memory is refused, whatever the
+-- source holds
+abbrev pub IsSilentAt : Result Answer BodyFault → Option (List ℕ) → Option (List ℕ) → Type 0
+IsSilentAt (Ok answer) old new = IsSilent {X = Answer} (Ok answer) old new
+IsSilentAt (Err NoRecord) old new = new ≡ old
+IsSilentAt (Err NoCapture) old new = new ≡ old
+IsSilentAt (Err (Replay fault)) old new = IsSilent {X = Answer} (Err fault) old new
+
+-- The body of the capture at a position, by rows, an index and parts. Where the archive's source holds its bytes, what
+-- goes out and what is answered are as the definition says of its records, in no more reads than the length of the
+-- origin's head and twice that of its joined block, of these alone, and the source has failed once more exactly where a
+-- read is told. Any source still holds what it held
+pub record GivesBodyAt (rows : List Row) (index : Indexes) (parts : Parts) (position : ℕ) (old new : Tapped)
+    (before after : Seen) (answer : Result Answer BodyFault) : Type 0 where
+  pub told : IfHeld old.holds (λ bytes. (is : IsArchiveOf bytes rows) → AreOf is.are.records index parts
+      → IsBodyAt (contents is.are.records) position answer before.tells after.tells)
+  pub failed : IfHeld old.holds (λ bytes. (is : IsArchiveOf bytes rows) → AreOf is.are.records index parts
+      → HasFailedBy (body_result answer) old.faults new.faults)
+  pub cost : IfHeld old.holds (λ bytes. (is : IsArchiveOf bytes rows) → AreOf is.are.records index parts
+      → new.reads ≤ old.reads + path_reads is.are.records (path_at (contents is.are.records) position))
+  pub near : IfHeld old.holds (λ bytes. (is : IsArchiveOf bytes rows) → AreOf is.are.records index parts
+      → AsksOnly (IsOnPath is.are.records (path_at (contents is.are.records) position)) old new)
+  pub silent : IsSilentAt answer before.tells after.tells
+  pub kept : new.holds ≡ old.holds
+  pub may : MayHaveFailedBy (body_result answer) old.faults new.faults
+  pub cause : after.faults ≡ failed_by (body_result answer) before.faults
