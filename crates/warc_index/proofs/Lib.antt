@@ -10,3 +10,4 @@ pub mod LinkLemmas
 pub mod PassLemmas
 pub mod LinkedLemmas
 pub mod ChainLemmas
+pub mod CaptureLemmas

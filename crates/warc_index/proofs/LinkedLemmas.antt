@@ -127,16 +127,16 @@ mark_itself a = and_from (a.major == a.major) (a.minor == a.minor) (eq-eqb a.maj
     a.minor refl)
 
 -- the capture that an entry of the target stands for
-record IsCaptureAt (all : List Indexed) (uri : List ℕ) (e : Entry) : Type 0 where
-  it : Indexed
-  stands : slice_get all e.position ≡ Some it
-  kind : is_capture it.kind ≡ true
-  target : is_text uri it.target ≡ true
-  instant : Instant
-  has_instant : it.instant ≡ Some instant
-  mark : e.mark ≡ instant_mark instant
+pub record IsCaptureAt (all : List Indexed) (uri : List ℕ) (e : Entry) : Type 0 where
+  pub it : Indexed
+  pub stands : slice_get all e.position ≡ Some it
+  pub kind : is_capture it.kind ≡ true
+  pub target : is_text uri it.target ≡ true
+  pub instant : Instant
+  pub has_instant : it.instant ≡ Some instant
+  pub mark : e.mark ≡ instant_mark instant
 
-capture_at : (all : List Indexed) (uri : List ℕ) (e : Entry) → Contains (entries_from capture_entry 0 all) e →
+pub capture_at : (all : List Indexed) (uri : List ℕ) (e : Entry) → Contains (entries_from capture_entry 0 all) e →
     e.text ≡ uri → IsCaptureAt all uri e
 capture_at all uri e at text =
     let w : IsEntryOf capture_entry 0 all e = entry_in capture_entry 0 all e at in

@@ -1,7 +1,7 @@
 -- What an index keeps of a head, the captures of a target, and the chosen one: the latest by the moment asked for. The
 -- notions are this project's own; captures are the records of ISO 28500:2017, 6.3, 6.4 and 6.7.
 use Rattle.std.specs.Prelude.{◌≡◌, ◌↔◌, ℕ, Bool, true, false, not, ◌&&◌, ◌||◌, nat_lt, List, find, slice_get, Option, Some, None, ok_or, option_map, Result, Ok, Err, IsTrue, IsFalse, if◌then◌else◌}
-use Rattle.std.specs.List.{list_any, enumerate_from}
+use Rattle.std.specs.List.{AllPairs, Contains, list_any, enumerate_from}
 use Rattle.warc_value.specs.Dates.{Instant, is_before}
 use Rattle.warc_record.specs.declared.types.Kind.{Kind}
 use Rattle.warc_record.specs.declared.types.Kind.TheVariants.{Response, Resource, Revisit}
@@ -115,3 +115,19 @@ ChosenIsLatest =
     × ((chosen_of all uri moment ≡ Err NoCapture) ↔ NonePasses (is_capture_of uri) all)
     × ((chosen_of all uri moment ≡ Err NotYet)
     ↔ (SomePasses (is_capture_of uri) all × NonePasses (λ r. is_capture_of uri r && is_by (Some moment) r) all))
+
+-- at p a capture of the target
+pub record IsCaptureOf (all : List Indexed) (uri : List ℕ) (p : ℕ) : Type 0 where
+  pub it : Indexed
+  pub there : slice_get all p ≡ Some it
+  pub capture : IsTrue (is_capture_of uri it)
+
+-- what is at q is later than what is at p
+abbrev pub IsLaterAt : List Indexed → ℕ → ℕ → Type 0
+IsLaterAt all p q =
+    (a b : Indexed) → slice_get all p ≡ Some a → slice_get all q ≡ Some b → IsTrue (is_later (q, b) (p, a))
+
+-- the positions of the captures of a target, each once: by instant, then by position
+pub record AreCapturesOf (all : List Indexed) (uri : List ℕ) (positions : List ℕ) : Type 0 where
+  pub each : (p : ℕ) → Contains positions p ↔ IsCaptureOf all uri p
+  pub order : AllPairs (IsLaterAt all) positions

@@ -1,12 +1,12 @@
 //! The records of an archive, found by target and instant, and by id.
 
 ghost use Rattle.std.specs.Prelude.{◌≡◌, ◌<◌, [], ◌∷◌, ◌++◌, List, Some, not, length, min, take, ok_or};
-ghost use Rattle.std.specs.Prelude.{OnOk, OnErr, All, IsSome};
+ghost use Rattle.std.specs.Prelude.{OnOk, OnErr, IfOk, All, IsSome};
 ghost use Rattle.std.specs.Option.{option_to_list};
 ghost use Rattle.warc_value.specs.Dates.{Instant};
 ghost use Rattle.warc_record.specs.Seen.{said};
 ghost use Rattle.warc_index.specs.declared.unfound.Unfound.TheVariants.{NoReference, Unresolved};
-ghost use Rattle.warc_index.specs.Captures.{Indexed, indexed_of, chosen_of};
+ghost use Rattle.warc_index.specs.Captures.{AreCapturesOf, Indexed, indexed_of, chosen_of};
 ghost use Rattle.warc_index.specs.Referents.{by_key, by_pair, by_payload, first_with, is_revisit_at};
 ghost use Rattle.warc_index.specs.Referents.{referent_of, origin_of};
 ghost use Rattle.warc_index.specs.Links.{link_seen};
@@ -18,7 +18,7 @@ use crate::entering::{keep_first, put_record};
 use crate::key::OTHERS;
 use crate::link::{FIRST, Link, Links, Role};
 use crate::linked::mark_at;
-use crate::lookup::{capture_with, ends_chain, first_of_pair, latest_of_payload};
+use crate::lookup::{capture_with, captures_of, ends_chain, first_of_pair, latest_of_payload};
 use crate::unfound::Unfound;
 use std::alloc::{AllocError, Allocator, Global};
 use std::marker::Model;
@@ -134,6 +134,14 @@ impl<A: Allocator + Copy> Index<A> {
                 None => Err(Unfound::NoCapture),
             },
         }
+    }
+
+    /// The positions of the captures of a target, each once: by instant, then by position. `Err`: no memory for them.
+    pub fn captures_of(&self, alloc: A, target: &[u8]) -> Result<Vec<usize, A>, AllocError>
+        ensures { (all : List Indexed) → IsKeptOf all self.now →
+            IfOk result (λ positions. AreCapturesOf all target.now positions.items) }
+    {
+        captures_of(alloc, &self.by_target, target)
     }
 
     /// The first capture with an id, by its position.

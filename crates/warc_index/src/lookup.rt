@@ -1,15 +1,15 @@
 //! Look-ups over the two orders and the links.
 
-ghost use Rattle.std.specs.Prelude.{◌≡◌, List, Some};
+ghost use Rattle.std.specs.Prelude.{◌≡◌, All, IfOk, IsSome, List, Some};
 ghost use Rattle.warc_value.specs.Dates.{Instant};
-ghost use Rattle.warc_index.specs.Captures.{Indexed};
+ghost use Rattle.warc_index.specs.Captures.{AreCapturesOf, Indexed};
 ghost use Rattle.warc_index.specs.Referents.{by_key, by_pair, by_payload};
 ghost use Rattle.warc_index.specs.Links.{is_same_mark, link_at, has_payload_as, ends_as, states_digest};
 ghost use Rattle.warc_index.specs.Linked.{instant_mark};
-ghost use Rattle.warc_index.specs.Orders.{id_entry, entries_from, ArePlacedOf};
+ghost use Rattle.warc_index.specs.Orders.{capture_entry, id_entry, entries_from, ArePlacedOf};
 
 use crate::link::{FIRST, Links, Role};
-use std::alloc::Allocator;
+use std::alloc::{AllocError, Allocator};
 use warc_order::{Mark, Order};
 
 /// Whether two marks are the same.
@@ -79,6 +79,24 @@ pub(crate) fn first_of_pair<A: Allocator + Copy>(
         next = by_target.next(found);
     }
     None
+}
+
+/// The positions of the captures of a target, by instant, then by position.
+pub(crate) fn captures_of<A: Allocator + Copy>(
+    alloc: A,
+    by_target: &Order<A>,
+    target: &[u8],
+) -> Result<Vec<usize, A>, AllocError>
+    ensures { (all : List Indexed) → All (λ r. IsSome r.instant) all → by_target.now ≡ entries_from capture_entry 0 all
+        → IfOk result (λ positions. AreCapturesOf all target.now positions.items) }
+{
+    let mut positions = Vec::new(alloc);
+    let mut next = by_target.first_from(target, FIRST);
+    while let Some(found) = next {
+        positions.push(by_target.position(found))?;
+        next = by_target.next(found);
+    }
+    Ok(positions)
 }
 
 /// The latest response or resource of a target that states a payload digest and isn't after an instant.
