@@ -1,24 +1,65 @@
-# make           builds the program to bin/warc; what it stands on is proved first
-# make test      everything that must pass, from nothing; the last line is 'N passed, M failed'
-# make check     the quick check while editing: the whole tree, over what earlier checks kept
-# make bench     times the program beside cat and sha1sum, and the decoder, the order of texts, the joining of
-#                segments, the index and archives that answer alone, on what is made under out/
-# make install   copies the program to PREFIX/bin
-# make clean     drops what was built and kept
+# make try          runs the program in about a minute: compiled with checks, not proved
+# make              proves the program's crates, several at a time, and builds bin/warc
+# make test         everything that must pass, from nothing; the last line is 'N passed, M failed'
+# make check        the quick check while editing: the whole tree, over what earlier checks kept
+# make test-docs    runs the command lines of README.md and docs/PROGRAM.md, and compares what they write
+# make lint-docs    compares README's code with the example crates, and looks for what the pages may not hold
+# make man          makes the manual pages and the completions under out/
+# make install      installs the program, its pages, completions, docs and examples; make uninstall removes them
+# make dist         makes dist/warc-VERSION-x86_64-linux.tar.gz, the source tarball, and their SHA-256
+# make verify-dist FILE=..   builds from this folder, and compares with such a tarball byte for byte
+# make test-package makes a Debian package of that tarball, installs it, runs it and removes it (as root)
+# make bench        measures; docs/SPEED.md has the figures
+# make clean        drops what was built and kept
 
 PREFIX ?= /usr/local
+DESTDIR ?=
+JOBS ?= $(shell nproc)
+VERSION := $(shell sed -n 's/^const VERSION: &str = "\(.*\)";$$/\1/p' crates/warc_commands/src/words.rt)
 
-.PHONY: all test check bench install clean
+.PHONY: all try test check test-docs lint-docs man install uninstall dist verify-dist test-package bench clean
 
 all:
-	@cd crates/warc_tool && rt run -- --version
-	@mkdir -p bin && cp crates/warc_tool/out/warc_tool bin/warc
+	@python3 tools/build.py $(JOBS)
+
+try:
+	@echo "warc list examples/abc.warc, compiled with checks, not proved:"
+	@cd crates/warc_tool && rt try --data abc.warc=../../examples/abc.warc -- list abc.warc
 
 test:
 	@rt ci
 
 check:
 	@rt all check
+
+# The tools take a built program as it is. Build anew with `make`.
+bin/warc:
+	@python3 tools/build.py $(JOBS)
+
+test-docs: bin/warc
+	@python3 tools/test_docs.py bin/warc README.md docs/PROGRAM.md
+
+lint-docs:
+	@python3 tools/lint_docs.py
+
+man: bin/warc
+	@python3 tools/make_man.py out/man
+	@python3 tools/make_completions.py bin/warc out/completions
+
+install: all man
+	@python3 tools/install.py install $(DESTDIR)$(PREFIX)
+
+uninstall:
+	@python3 tools/install.py uninstall $(DESTDIR)$(PREFIX)
+
+dist: all man
+	@python3 tools/dist.py make
+
+verify-dist: all man
+	@python3 tools/dist.py verify $(FILE)
+
+test-package: dist
+	@bash packaging/test.sh dist/warc-$(VERSION)-x86_64-linux.tar.gz
 
 bench: all
 	@python3 bench/bench.py bin/warc out/bench
@@ -28,8 +69,5 @@ bench: all
 	@python3 bench/index.py . out/bench
 	@python3 bench/replay.py . bin/warc out/bench
 
-install: all
-	install -D bin/warc $(DESTDIR)$(PREFIX)/bin/warc
-
 clean:
-	rm -rf out bin crates/*/out
+	rm -rf out bin dist crates/*/out

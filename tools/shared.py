@@ -1,0 +1,33 @@
+"""What the scripts of tools/ share: where the project is, its version, and the crates that the program is built from."""
+import os
+import re
+
+TOP = os.path.dirname(os.path.dirname(os.path.abspath(__file__)))
+WORDS = f"{TOP}/crates/warc_commands/src/words.rt"
+
+
+def read(path):
+    """The text of a file of the project."""
+    with open(f"{TOP}/{path}", encoding="utf-8") as text:
+        return text.read()
+
+
+def version():
+    """The version of the program, which is written in one place alone."""
+    with open(WORDS, encoding="utf-8") as text:
+        return re.search(r'^const VERSION: &str = "(.*)";$', text.read(), re.MULTILINE)[1]
+
+
+def crates():
+    """The libraries that each crate of crates.txt uses, by its name."""
+    rows = [line.partition(":") for line in read("crates.txt").splitlines() if line and not line.startswith("#")]
+    return {name.strip(): uses.split() for name, _, uses in rows}
+
+
+def below(name, uses):
+    """A crate and the crates of the project that it is built from, lowest first."""
+    found = []
+    for it in uses[name]:
+        if it in uses:
+            found += [low for low in below(it, uses) if low not in found]
+    return found + [name]
