@@ -1,0 +1,58 @@
+#!/usr/bin/env python3
+"""Installs the program with its manual pages, completions, documents and examples, or removes what it installed.
+
+Usage: install.py install|uninstall FOLDER
+
+FOLDER is the prefix, as /usr/local. The manual pages and completions are those that `make man` put under out/.
+"""
+import glob
+import os
+import shutil
+import sys
+
+from shared import TOP
+
+DOCS = "share/doc/zogwedu"
+
+
+def files():
+    """Each installed file: where it comes from, and where it goes below the prefix."""
+    yield "bin/warc", "bin/warc"
+    for page in sorted(glob.glob(f"{TOP}/out/man/man?/*")):
+        yield os.path.relpath(page, TOP), os.path.relpath(page, f"{TOP}/out").replace("man/", "share/man/", 1)
+    yield "out/completions/warc.bash", "share/bash-completion/completions/warc"
+    yield "out/completions/_warc", "share/zsh/site-functions/_warc"
+    yield "out/completions/warc.fish", "share/fish/vendor_completions.d/warc.fish"
+    for name in ("README.md", "CHANGELOG.md", "LICENSE-APACHE", "LICENSE-MIT"):
+        yield name, f"{DOCS}/{name}"
+    for path in sorted(glob.glob(f"{TOP}/docs/*") + glob.glob(f"{TOP}/examples/*")):
+        name = os.path.relpath(path, TOP)
+        yield name, f"{DOCS}/{name}"
+
+
+def install(folder):
+    """Copies each file, the program as one that runs."""
+    for source, name in files():
+        to = f"{folder}/{name}"
+        os.makedirs(os.path.dirname(to), exist_ok=True)
+        shutil.copyfile(f"{TOP}/{source}", to)
+        os.chmod(to, 0o755 if name.startswith("bin/") else 0o644)
+
+
+def uninstall(folder):
+    """Removes each file, and the folders of the documents that are empty then."""
+    for _, name in files():
+        if os.path.exists(f"{folder}/{name}"):
+            os.remove(f"{folder}/{name}")
+    for name in (f"{DOCS}/docs", f"{DOCS}/examples", DOCS):
+        if os.path.isdir(f"{folder}/{name}") and not os.listdir(f"{folder}/{name}"):
+            os.rmdir(f"{folder}/{name}")
+
+
+def main():
+    what, folder = sys.argv[1:]
+    {"install": install, "uninstall": uninstall}[what](folder)
+
+
+if __name__ == "__main__":
+    main()
