@@ -194,7 +194,7 @@ struct Entry {
     flags: &'static [Word],
 }
 
-const VERSION: &str = "0.1.0";
+const VERSION: &str = "0.2.0";
 
 const NOTES: &str =
     "An archive is one file of uncompressed records, WARC/1.0 or WARC/1.1. A compressed one is read so:
