@@ -4,8 +4,12 @@
 mod describing;
 mod growing;
 mod pieces;
+mod replaying;
 
 use std::{fs, io};
+use warc::Archive;
+use warc_frame::MemSource;
+use warc_value::{Moment, read_date};
 
 /// Prints how many records an archive has, what is listed and found, or why it isn't described.
 fn tell_described(rt: &HostRuntime, bytes: Vec<u8>) -> io::Result<()> {
@@ -37,6 +41,35 @@ fn tell_grown(rt: &HostRuntime, early: Vec<u8>, late: Vec<u8>) -> io::Result<()>
     }
 }
 
+/// Prints the rows of an archive, and how long the body of a page is as of a moment.
+fn tell_replayed(
+    rt: &HostRuntime,
+    archive: &mut Archive<MemSource>,
+    moment: &Moment,
+) -> io::Result<()> {
+    replaying::print_rows(rt, archive)?;
+    match replaying::body(rt.alloc(), archive, b"http://a.example/x", moment) {
+        Ok(body) => println!(rt; "bytes of the body: {}", body.len()),
+        Err(fault) => println!(rt; "no body: {fault}"),
+    }
+}
+
+/// The same for the bytes of an archive.
+fn tell_page(rt: &HostRuntime, bytes: Vec<u8>, moment: &Moment) -> io::Result<()> {
+    match Archive::open(rt.alloc(), MemSource::new(bytes, usize::MAX)) {
+        Ok(mut archive) => tell_replayed(rt, &mut archive, moment),
+        Err((fault, _)) => println!(rt; "refused: {fault}"),
+    }
+}
+
+/// The same for the first instant of a date.
+fn tell_as_of(rt: &HostRuntime, bytes: Vec<u8>, date: &[u8]) -> io::Result<()> {
+    match read_date(date) {
+        Some(moment) => tell_page(rt, bytes, &moment),
+        None => println!(rt; "no date"),
+    }
+}
+
 fn main(rt: HostRuntime) -> io::Result<()> {
     tell_described(&rt, fs::read(&rt, "described.warc")?)?;
     tell_in_pieces(&rt, &fs::read(&rt, "late.warc")?)?;
@@ -45,5 +78,7 @@ fn main(rt: HostRuntime) -> io::Result<()> {
         &rt,
         fs::read(&rt, "early.warc")?,
         fs::read(&rt, "late.warc")?,
-    )
+    )?;
+    tell_as_of(&rt, fs::read(&rt, "described.warc")?, b"2021")?;
+    tell_as_of(&rt, fs::read(&rt, "described.warc")?, b"2019")
 }
