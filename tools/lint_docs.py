@@ -1,0 +1,76 @@
+#!/usr/bin/env python3
+"""Looks for what the pages may not hold, and prints a line for each place. Needs Python alone.
+
+- A block of Rattle code in README.md or docs/LIBRARY.md is part of a file of crates/example_*, word for word.
+- The table of crates in docs/ARCHITECTURE.md names the libraries that crates.txt names.
+- docs/PROGRAM.md has a section, and README.md a row, for each command of the program and for no other.
+- A link or a path that a page names is there.
+- README.md has at most 9 KB.
+- CHANGELOG.md has a section for the version.
+"""
+import glob
+import os
+import re
+import sys
+
+from shared import TOP, crates, read, version
+
+PAGES = ["README.md", "CONTRIBUTING.md", "CHANGELOG.md", "docs/*.md", "examples/README.md"]
+MOST = 9 * 1024
+
+
+def code_elsewhere(page):
+    """Blocks of Rattle code that no example crate holds."""
+    sources = [open(path, encoding="utf-8").read() for path in glob.glob(f"{TOP}/crates/example_*/src/*.rt")]
+    for block in re.findall(r"^```rust\n(.*?)^```$", read(page), re.MULTILINE | re.DOTALL):
+        if not any(block in text for text in sources):
+            yield f"{page}: no example crate has this code: {block.splitlines()[0]} .."
+
+
+def crates_elsewhere():
+    """Rows of the table of crates that crates.txt doesn't have."""
+    rows = re.findall(r"^\| `(\w+)` \| (.*?) \| .* \|$", read("docs/ARCHITECTURE.md"), re.MULTILINE)
+    uses = crates()
+    told = {name: re.findall(r"`(\w+)`", words) for name, words in reversed(rows) if name in uses}
+    for name in uses:
+        if told.get(name) != uses[name]:
+            yield f"docs/ARCHITECTURE.md: {name} uses {' '.join(uses[name])}"
+
+
+def commands_elsewhere():
+    """Commands that the program has and a page hasn't, or the other way round."""
+    own = set(re.findall(r'^        name: "(\w+)",\n        about:', read("crates/warc_commands/src/words.rt"), re.MULTILINE))
+    sections = set(re.findall(r"^## warc (\w+)$", read("docs/PROGRAM.md"), re.MULTILINE))
+    rows = set(re.findall(r"^\| `warc (\w+)", read("README.md"), re.MULTILINE))
+    for page, named in (("docs/PROGRAM.md", sections), ("README.md", rows)):
+        for name in sorted(own ^ named):
+            yield f"{page}: {'lacks' if name in own else 'has'} the command {name}"
+
+
+def missing_paths(page):
+    """Links and paths of the repository that aren't there."""
+    text = read(page)
+    folder = os.path.dirname(page)
+    for link in re.findall(r"\]\(([^)#:]+)(?:#[^)]*)?\)", text):
+        if not os.path.exists(f"{TOP}/{folder}/{link}"):
+            yield f"{page}: no file {link}"
+    for path in re.findall(r"`((?:crates|tools|docs|examples|packaging|bench)/[\w./-]*\w)`", text):
+        if not os.path.exists(f"{TOP}/{path}") and "NAME" not in path:
+            yield f"{page}: no file {path}"
+
+
+def main():
+    found = [*code_elsewhere("README.md"), *code_elsewhere("docs/LIBRARY.md")]
+    found += [*crates_elsewhere(), *commands_elsewhere()]
+    for pattern in PAGES:
+        for path in sorted(glob.glob(f"{TOP}/{pattern}")):
+            found += missing_paths(os.path.relpath(path, TOP))
+    if len(read("README.md").encode()) > MOST:
+        found.append(f"README.md: more than {MOST} bytes")
+    if f"\n## {version()} (" not in read("CHANGELOG.md"):
+        found.append(f"CHANGELOG.md: no section for {version()}")
+    print("\n".join(found) or "the pages are as they must be")
+    sys.exit(bool(found))
+
+
+main()
