@@ -17,7 +17,7 @@ use Rattle.warc_reading.specs.Fronts.{AreFrontRows, reach_of}
 use Rattle.warc_reading.specs.Growing.{grown}
 use Rattle.warc_reading.specs.Opening.{Opens}
 use Rattle.warc_reading.specs.Row.{Row}
-use Rattle.warc.specs.Front.{CopiesFront, Fronted, IsFrontOf, OpensFront, refused_by}
+use Rattle.warc.specs.Front.{CopiesFront, Fronted, AreRowsOfFront, OpensFront, refused_by}
 
 -- ---- what was opened
 
@@ -29,7 +29,7 @@ pub front_opened : {S : Type 0} (front : Fronted S) (rows : List Row) (old new :
     → Opens IsArchiveOf old new (grown answer rows) → ((bytes : List ℕ) → old.holds ≡ Some bytes → AreFrontRows bytes answer rows) → OpensFront old new front
 front_opened front rows old new answer (Ok u) is same none opens fronts =
     let P : Option Fault → List Row → Type 0 = λ f xs. Opens IsArchiveOf old new (refused_by f xs) in
-    let Q : Option Fault → List Row → Type 0 = λ f xs. (bytes : List ℕ) → old.holds ≡ Some bytes → IsFrontOf bytes f xs in
+    let Q : Option Fault → List Row → Type 0 = λ f xs. (bytes : List ℕ) → old.holds ≡ Some bytes → AreRowsOfFront bytes f xs in
     let O : Result (Unit {0}) Fault → Type 0 = λ r. Opens IsArchiveOf old new (grown r rows) in
     let F : Result (Unit {0}) Fault → Type 0 = λ r. (bytes : List ℕ) → old.holds ≡ Some bytes → AreFrontRows bytes r rows in
     record {
@@ -38,7 +38,7 @@ front_opened front rows old new answer (Ok u) is same none opens fronts =
     }
 front_opened front rows old new answer (Err e) is same some opens fronts =
     let P : Option Fault → List Row → Type 0 = λ f xs. Opens IsArchiveOf old new (refused_by f xs) in
-    let Q : Option Fault → List Row → Type 0 = λ f xs. (bytes : List ℕ) → old.holds ≡ Some bytes → IsFrontOf bytes f xs in
+    let Q : Option Fault → List Row → Type 0 = λ f xs. (bytes : List ℕ) → old.holds ≡ Some bytes → AreRowsOfFront bytes f xs in
     let O : Result (Unit {0}) Fault → Type 0 = λ r. Opens IsArchiveOf old new (grown r rows) in
     let F : Result (Unit {0}) Fault → Type 0 = λ r. (bytes : List ℕ) → old.holds ≡ Some bytes → AreFrontRows bytes r rows in
     record {
@@ -47,7 +47,7 @@ front_opened front rows old new answer (Err e) is same some opens fronts =
     }
 
 -- the bytes begin with those of the records
-pub front_begins : (bytes : List ℕ) (found : Option Fault) (rows : List Row) → IsFrontOf bytes found rows → (text more : List ℕ) × (bytes ≡ text ++ more) × IsArchiveOf text rows
+pub front_begins : (bytes : List ℕ) (found : Option Fault) (rows : List Row) → AreRowsOfFront bytes found rows → (text more : List ℕ) × (bytes ≡ text ++ more) × IsArchiveOf text rows
 front_begins bytes None rows is = (bytes, [], sym (append-nil bytes), is)
 front_begins bytes (Some f) rows is =
     let reach : ℕ = reach_of f in (

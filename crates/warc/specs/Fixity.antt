@@ -1,5 +1,5 @@
--- How the blocks of an archive compare with the digests that their heads tell, and the lines that say so. This project's
--- own notion.
+-- How the blocks of an archive compare with the digests that their heads state, and the lines that say so. This
+-- project's own notion.
 use Rattle.std.specs.Prelude.{◌≡◌, ℕ, Bool, true, false, List, [], ◌∷◌, ◌++◌, length, map, filter, slice_get, unwrap_or, codes, decimal, Result, Ok, Err}
 use Rattle.std.specs.List.{enumerate_from, flat_map, join_with_byte}
 use Rattle.warc_field.specs.Area.{Pair, first_value}
@@ -70,8 +70,8 @@ verdict_text Good = codes "good"
 verdict_text Bad = codes "bad"
 verdict_text Unchecked = codes "unchecked"
 
--- the line of a block that isn't good: the position of its record, the verdict, the bare id and the digest's value, with
--- a tab between two, ended by LF
+-- the line of a block that isn't good: the position of its record, the verdict, the bare id and the digest's value,
+-- separated by tabs, ended by LF
 unfoldable pub verdict_line : ℕ → Row → List ℕ → List ℕ
 verdict_line position row digest =
     join_with_byte 9 (decimal position ∷ verdict_text row.verdict ∷ bare_text row.id ∷ shown digest ∷ [])

@@ -17,9 +17,9 @@ refused_by None rows = Ok rows
 refused_by (Some f) rows = Err f
 
 -- the rows are those of an archive of these bytes, or of the longest front of what was read of them before a fault
-abbrev pub IsFrontOf : List ℕ → Option Fault → List Row → Type 0
-IsFrontOf bytes None rows = IsArchiveOf bytes rows
-IsFrontOf bytes (Some f) rows = IsLongestFront (take (reach_of f) bytes) rows
+abbrev pub AreRowsOfFront : List ℕ → Option Fault → List Row → Type 0
+AreRowsOfFront bytes None rows = IsArchiveOf bytes rows
+AreRowsOfFront bytes (Some f) rows = IsLongestFront (take (reach_of f) bytes) rows
 
 -- a source that may hold more, the rows of the good records at its front, and the fault behind these, if there is one
 pub record Fronted (S : Type 0) : Type 0 where
@@ -30,16 +30,16 @@ pub record Fronted (S : Type 0) : Type 0 where
 -- holds bytes, the rows are those of the longest list of good records that they begin with.
 pub record OpensFront {S : Type 0} (old new : Tapped) (front : Fronted S) : Type 0 where
   pub opens : Opens IsArchiveOf old new (refused_by front.fault front.listing.rows)
-  pub rows_are : IfHeld old.holds (λ bytes. IsFrontOf bytes front.fault front.listing.rows)
+  pub rows_are : IfHeld old.holds (λ bytes. AreRowsOfFront bytes front.fault front.listing.rows)
 
 -- a fact about the bytes of an archive of these rows, with which those begin that a source holds, fewer than 2^64
 abbrev pub IfBegun : Tapped → List Row → (List ℕ → Type 0) → Type 0
 IfBegun source rows P = (text more : List ℕ) → source.holds ≡ Some (text ++ more) → length (text ++ more) < 2 ^ 64
     → IsArchiveOf text rows → P text
 
--- Writing the bytes of the good records at the front of a source. Where it holds them, they go out and are counted, or a
--- front of them does, the source has failed once more exactly where a read is told, and no other byte is asked for. Any
--- source still holds what it held.
+-- Writing the bytes of the good records at the front of a source. Where it holds them, they go out and are counted, or
+-- a front of them does, the source has failed once more exactly where a read is told, and no other byte is asked for.
+-- Any source still holds what it held.
 pub record CopiesFront (rows : List Row) (old new : Tapped) (before after : Seen) (answer : Result ℕ OutFault)
     : Type 0 where
   pub told : IfBegun old rows (λ text.

@@ -54,10 +54,10 @@ abbrev pub IsOnPath : List Placed → Result Path Unfound → ℕ → Type 0
 IsOnPath all (Ok path) at = IsOfOrigin all (slice_get all path.given) at
 IsOnPath all (Err unfound) at = ⊥
 
--- A replay on a way from records to a path, by rows, an index and parts. Where the archive's source holds its bytes, what
--- goes out and what is answered are as the definition of the answer says of its records, in at most `path_reads` reads, of
--- the origin's head and the joined blocks alone, and the source has failed once more exactly where a read is told. Any
--- source still holds what it held; before a reason nothing goes out
+-- A replay on a way from records to a path, by rows, an index and parts. Where the archive's source holds its bytes,
+-- what goes out and what is answered are as the definition of the answer says of its records, in at most `path_reads`
+-- reads, of the origin's head and the joined blocks alone, and the source has failed once more exactly where a read is
+-- told. Any source still holds what it held; before a reason nothing goes out
 pub record ReplaysOn (rows : List Row) (index : Indexes) (parts : Parts) (way : List Record → Result Path Unfound)
     (old new : Tapped) (before after : Seen) (answer : Result Answer ReplayFault) : Type 0 where
   pub told : IfHeld old.holds (λ bytes. (is : IsArchiveOf bytes rows) → AreOf is.are.records index parts

@@ -195,9 +195,9 @@ impl<S: Source, A: Allocator + Copy> Archive<S, A> {
         self.listing.replay(&self.lookup, uri, moment, out)
     }
 
-    /// Writes the body that the capture at a position gives, as `replay` writes that of the capture that it chooses. Where
-    /// there is no record it is `NoRecord`, and where the record there is no capture `NoCapture`; then, and for a reason
-    /// P3 to P10, nothing is written. No block is kept.
+    /// Writes the body that the capture at a position gives, as `replay` writes that of the capture that it chooses.
+    /// Where there is no record it is `NoRecord`, and where the record there is no capture `NoCapture`; then, and for a
+    /// reason P3 to P10, nothing is written. No block is kept.
     ///
     /// A read that fails, or a source that no longer gives what it gave at opening, is `Read`; a write that fails is
     /// `Write`. Each tells how many bytes went out, which are the first of the body. `Memory` comes before any byte.

@@ -278,8 +278,8 @@ impl<S: Source, A: Allocator> Fixity<S, A> {
 }
 
 impl<S: Source, A: Allocator + Copy> Fixity<S, A> {
-    /// Reads the source as a listing is read, and keeps beside the rows the values of the digests by which blocks aren't
-    /// good.
+    /// Reads the source as a listing is read, and keeps beside the rows the values of the digests by which blocks
+    /// aren't good.
     pub fn open(alloc: A, source: S) -> Result<Fixity<S, A>, (Fault, S)>
         ensures { Opens IsDigested (S.tapped source) (S.tapped (source_digested result)) (digested_of result) }
     {

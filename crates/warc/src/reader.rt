@@ -173,8 +173,8 @@ impl<S: Source, A: Allocator + Copy> Listing<S, A> {
         take_record(alloc, &mut self.source, &row)
     }
 
-    /// Writes a part of the record at a position, as the source has it, and answers its length. Where there is no record
-    /// it is `NoRecord`, and nothing is written. The part isn't kept: it goes through a buffer of 8,192 bytes.
+    /// Writes a part of the record at a position, as the source has it, and answers its length. Where there is no
+    /// record it is `NoRecord`, and nothing is written. The part isn't kept: it goes through a buffer of 8,192 bytes.
     ///
     /// A read that fails, or a source that no longer gives what it gave at opening, is `Read`; a write that fails is
     /// `Write`. Each tells how many bytes went out, which are the first of the part.

@@ -162,8 +162,8 @@ pub(crate) fn replay_on<S: Source, W: Sink, A: Allocator + Copy>(
     out: &mut W,
 ) -> Result<Answer, ReplayFault>
     ensures { (way : List Record → Result Path Unfound) → LeadsTo way path rows.now lookup.now.index lookup.now.parts →
-        ReplaysOn rows.now lookup.now.index lookup.now.parts way (S.tapped source.old) (S.tapped source.new) (W.seen out.old)
-        (W.seen out.new) result }
+        ReplaysOn rows.now lookup.now.index lookup.now.parts way (S.tapped source.old) (S.tapped source.new)
+        (W.seen out.old) (W.seen out.new) result }
 {
     head_of_spelled();
     fails_before_all();

@@ -114,8 +114,8 @@ pub fn replay_joined<S: Source, W: Sink, A: Allocator>(
     places: &[Place],
     out: &mut W,
 ) -> Result<Answer, ReplayFault>
-    ensures replayed { (bytes : List ℕ) (records : List Record) (found : Result Path Unfound) (read : ReadRecord) (joined :
-        List ReadRecord) → (S.tapped source.old).holds ≡ Some bytes → length bytes ≤ max_archive → IsFound
+    ensures replayed { (bytes : List ℕ) (records : List Record) (found : Result Path Unfound) (read : ReadRecord)
+        (joined : List ReadRecord) → (S.tapped source.old).holds ≡ Some bytes → length bytes ≤ max_archive → IsFound
         (map read_record records) found path read (Ok joined) → said origin.now ≡ read.head → ArePlacesOf bytes
         places.now joined → IsReplayOn records found result (W.seen out.old).tells (W.seen out.new).tells }
 

@@ -14,7 +14,8 @@ use Rattle.warc_frame.specs.declared.fault.OutFault.TheVariants.{Memory}
 use Rattle.warc_commands.specs.Command.{asked_by, path_of, reads_once}
 use Rattle.warc_commands.specs.CommandLine.{IsToldBy, asked_of, warc_app}
 use Rattle.warc_commands.specs.Devices.{devices}
-use Rattle.warc_commands.specs.Program.{Ends, FaultEnds, IsNotRead, IsStatusOf, Tells, told_line}
+use Rattle.warc_commands.specs.Ends.{Ends, IsStatusOf, writes_front}
+use Rattle.warc_commands.specs.Program.{FaultEnds, IsNotRead, Tells, told_line}
 use Rattle.warc_commands.specs.declared.running.Place.{Place}
 use Rattle.warc_commands.specs.declared.running.Place.TheVariants.{File, Memory as InMemory, Input}
 use Rattle.warc_commands.specs.declared.words.Command.{Command}
@@ -24,10 +25,10 @@ use Rattle.warc_commands.specs.declared.words.Request.{Request}
 
 -- what the system may give a run: for a path a file or an error; standard input as a file, if it is one; standard input
 -- as it comes
-pub data Given : Type 0 where
-  opened : List ℕ → Result Tapped Error → Given
-  redirected : Option Tapped → Given
-  streamed : Tapped → Given
+pub data Offer : Type 0 where
+  opened : List ℕ → Result Tapped Error → Offer
+  redirected : Option Tapped → Offer
+  streamed : Tapped → Offer
 
 -- the two outputs of a run
 pub record Outputs : Type 0 where
@@ -38,8 +39,9 @@ abbrev pub outputs : Seen → Seen → Outputs
 outputs out err = record { out = out; err = err }
 
 -- where the bytes of a command are, by its path
-abbrev pub place_of : Text → Place
-place_of path = if bytes_eq path (codes "-") then Input else (if bytes_eq path (codes "/dev/stdin") then InMemory else File)
+abbrev pub place_at : Text → Place
+place_at path =
+    if bytes_eq path (codes "-") then Input else (if bytes_eq path (codes "/dev/stdin") then InMemory else File)
 
 -- the most bytes of standard input that are kept in memory
 abbrev pub max_input : ℕ
@@ -57,18 +59,19 @@ pub record IsStopped (why : List ℕ) (old new : Outputs) (status : ℕ) : Type 
   pub status_is : status ≡ 3
 
 -- a command was done over a source
-pub record IsDone (command : Command) (source : Tapped) (old new : Outputs) (status : ℕ) : Type 0 where
+pub record IsRunOver (command : Command) (source : Tapped) (old new : Outputs) (status : ℕ) : Type 0 where
   pub last : Tapped
   pub kept : last.holds ≡ source.holds
   pub ends : Ends command (devices source old.out old.err) (devices last new.out new.err) status
-  pub silent : status ≡ 2 → (new.out.tells ≡ old.out.tells) × (new.out.faults ≡ old.out.faults)
+  pub silent : writes_front command ≡ false → status ≡ 2
+      → (new.out.tells ≡ old.out.tells) × (new.out.faults ≡ old.out.faults)
   pub answers : IsStatusOf command status
 
 -- a command reads the file at its path
-pub record ReadsFile (gives : Given → Type 0) (command : Command) (old new : Outputs) (status : ℕ) : Type 0 where
+pub record ReadsFile (gives : Offer → Type 0) (command : Command) (old new : Outputs) (status : ℕ) : Type 0 where
   pub file : Result Tapped Error
   pub given : gives (opened (path_of command) file)
-  pub ends : MatchResult file (λ source. IsDone command source old new status)
+  pub ends : MatchResult file (λ source. IsRunOver command source old new status)
       (λ error. IsStopped (stop_text (codes "open failed") (error_kind error)) old new status)
 
 -- a source of bytes in memory, which nobody has read
@@ -77,7 +80,7 @@ in_memory bytes = record { holds = Some bytes; faults = 0; reads = 0; asked = 0;
 
 -- a command over bytes in memory, if they are few enough
 abbrev pub MemoryEnds : Bool → List ℕ → Command → List ℕ → Outputs → Outputs → ℕ → Type 0
-MemoryEnds true long command bytes old new status = IsDone command (in_memory bytes) old new status
+MemoryEnds true long command bytes old new status = IsRunOver command (in_memory bytes) old new status
 MemoryEnds false long command bytes old new status = IsStopped long old new status
 
 -- a command was done over all bytes of a source, which were read into memory, or stopped since they are too long
@@ -89,7 +92,7 @@ pub record IsDoneInMemory (long : List ℕ) (command : Command) (source last : T
   pub ends : MemoryEnds (nat_le (length bytes) max_input) long command bytes old new status
 
 -- a command reads standard input into memory first; where that fails the run stops
-pub record ReadsMemory (gives : Given → Type 0) (long : List ℕ) (command : Command) (old new : Outputs) (status : ℕ)
+pub record ReadsMemory (gives : Offer → Type 0) (long : List ℕ) (command : Command) (old new : Outputs) (status : ℕ)
     : Type 0 where
   pub source : Tapped
   pub given : gives (streamed source)
@@ -98,28 +101,28 @@ pub record ReadsMemory (gives : Given → Type 0) (long : List ℕ) (command : C
       ⊎ IsNotRead (devices source old.out old.err) (devices last new.out new.err) status
 
 -- a command reads standard input as it comes
-pub record ReadsStream (gives : Given → Type 0) (command : Command) (old new : Outputs) (status : ℕ) : Type 0 where
+pub record ReadsStream (gives : Offer → Type 0) (command : Command) (old new : Outputs) (status : ℕ) : Type 0 where
   pub source : Tapped
   pub given : gives (streamed source)
-  pub ends : IsDone command source old new status
+  pub ends : IsRunOver command source old new status
 
 abbrev pub too_long : List ℕ
 too_long = codes "standard input is too long for this command; write it to a file first"
 
 -- a command reads standard input that is no file: as it comes, if it asks for each offset once, in order
-abbrev pub PipeEnds : Bool → (Given → Type 0) → Command → Outputs → Outputs → ℕ → Type 0
+abbrev pub PipeEnds : Bool → (Offer → Type 0) → Command → Outputs → Outputs → ℕ → Type 0
 PipeEnds true gives command old new status = ReadsStream gives command old new status
 PipeEnds false gives command old new status = ReadsMemory gives too_long command old new status
 
 -- a command reads standard input: at any offset where it is a file
-pub record ReadsInput (gives : Given → Type 0) (command : Command) (old new : Outputs) (status : ℕ) : Type 0 where
+pub record ReadsInput (gives : Offer → Type 0) (command : Command) (old new : Outputs) (status : ℕ) : Type 0 where
   pub file : Option Tapped
   pub given : gives (redirected file)
   pub ends : MatchOption file (PipeEnds (reads_once command) gives command old new status)
-      (λ source. IsDone command source old new status)
+      (λ source. IsRunOver command source old new status)
 
 -- how a command ends, by where its bytes are
-abbrev pub PlaceEnds : Place → (Given → Type 0) → Command → Outputs → Outputs → ℕ → Type 0
+abbrev pub PlaceEnds : Place → (Offer → Type 0) → Command → Outputs → Outputs → ℕ → Type 0
 PlaceEnds File gives command old new status = ReadsFile gives command old new status
 PlaceEnds InMemory gives command old new status = ReadsMemory gives (codes "read failed after 0") command old new status
 PlaceEnds Input gives command old new status = ReadsInput gives command old new status
@@ -132,14 +135,16 @@ pub record IsParsed (words : List Text) (parsed : Result Request CommandFault) :
   pub told : IfErr parsed (IsToldBy (fault_of warc_app words))
 
 -- how a run ends whose words are texts
-pub record WordsEnd (gives : Given → Type 0) (words : List Text) (old new : Outputs) (status : ℕ) : Type 0 where
+pub record WordsEnd (gives : Offer → Type 0) (words : List Text) (old new : Outputs) (status : ℕ) : Type 0 where
   pub parsed : Result Request CommandFault
   pub is : IsParsed words parsed
   pub ends : MatchResult parsed
-      (λ request. PlaceEnds (place_of (path_of request.command)) gives request.command old new status)
+      (λ request. PlaceEnds (place_at (path_of request.command)) gives request.command old new status)
       (λ fault. FaultEnds fault old.out new.out old.err new.err status)
 
 -- how a run ends
-abbrev pub RunEnds : {A B : Type 0} → (Given → Type 0) → Result (Vec (String A) B) Error → Outputs → Outputs → ℕ → Type 0
+abbrev pub RunEnds : {A B : Type 0} → (Offer → Type 0) → Result (Vec (String A) B) Error → Outputs → Outputs → ℕ
+    → Type 0
 RunEnds gives (Ok words) old new status = WordsEnd gives (map string_bytes words.items) old new status
-RunEnds gives (Err error) old new status = IsStopped (stop_text (codes "the arguments aren't text") (error_kind error)) old new status
+RunEnds gives (Err error) old new status =
+    IsStopped (stop_text (codes "the arguments aren't text") (error_kind error)) old new status

@@ -10,7 +10,7 @@ use Rattle.warc_frame.specs.declared.fault.OutFault.{OutFault}
 use Rattle.warc_reading.specs.Archive.{IsArchiveOf}
 use Rattle.warc_reading.specs.Opening.{Opens}
 use Rattle.warc_reading.specs.Row.{Row}
-use Rattle.warc.specs.Front.{IsFrontOf, refused_by}
+use Rattle.warc.specs.Front.{AreRowsOfFront, refused_by}
 use Rattle.warc_commands.specs.Devices.{Devices}
 use Rattle.warc_commands.specs.Program.{Tells, fault_line, status_of_kind, told_line}
 
@@ -32,7 +32,7 @@ salvage_status (Some f) = status_of_kind f.kind
 
 -- the good records that the bytes begin with, before this fault, are these bytes
 pub record IsFrontText (bytes : List ℕ) (found : Option Fault) (rows : List Row) (text : List ℕ) : Type 0 where
-  pub front : IsFrontOf bytes found rows
+  pub front : AreRowsOfFront bytes found rows
   pub is : IsArchiveOf text rows
 
 -- all of them went out
@@ -50,7 +50,8 @@ pub record IsSalvageFront (bytes : List ℕ) (found : Option Fault) (rows : List
   pub front : IsFrontText bytes found rows text
   pub out : WentOut old.tells text new.tells sent
 
--- the records before the first fault were written, of a source of fewer than 2^64 bytes; opening the whole is refused by that fault, if by any
+-- the records before the first fault were written, of a source of fewer than 2^64 bytes; opening the whole is refused
+-- by that fault, if by any
 pub record IsSalvaged (old new : Devices) (status : ℕ) : Type 0 where
   pub rows : List Row
   pub size : ℕ

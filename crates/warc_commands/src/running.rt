@@ -4,8 +4,8 @@ ghost use Rattle.std.specs.Prelude.{◌≡◌, ◌≤◌, length, map, nat_le, s
 ghost use Rattle.std.specs.Result.{result_map_both};
 ghost use Rattle.std.specs.IoError.{error_kind};
 ghost use Rattle.warc_commands.specs.Program.{Tells, told_line};
-ghost use Rattle.warc_commands.specs.Running.{Given, IsDone, MemoryEnds, PipeEnds, PlaceEnds, ReadsFile, ReadsInput, ReadsMemory, ReadsStream, RunEnds, WordsEnd};
-ghost use Rattle.warc_commands.specs.Running.{max_input, opened, outputs, place_of, redirected, stop_text, streamed};
+ghost use Rattle.warc_commands.specs.Running.{Offer, IsRunOver, MemoryEnds, PipeEnds, PlaceEnds, ReadsFile, ReadsInput, ReadsMemory, ReadsStream, RunEnds, WordsEnd};
+ghost use Rattle.warc_commands.specs.Running.{max_input, opened, outputs, place_at, redirected, stop_text, streamed};
 ghost use Rattle.warc_commands.specs.Command.{path_of, reads_once};
 
 use crate::making::read_front;
@@ -32,7 +32,7 @@ pub trait System {
     type Stream: Source + Drop;
 
     /// What the system may give.
-    ghost gives: { Self → Given → Type 0 };
+    ghost gives: { Self → Offer → Type 0 };
 
     /// Opens the file at a path.
     fn open(&self, path: &str) -> io::Result<Self::File>
@@ -107,7 +107,7 @@ where
     Y: System,
     W: Sink,
     E: Sink,
-    ensures { PlaceEnds (place_of (path_of command.now)) (Y.gives system.now) command.now (outputs (W.seen out.old)
+    ensures { PlaceEnds (place_at (path_of command.now)) (Y.gives system.now) command.now (outputs (W.seen out.old)
         (E.seen err.old)) (outputs (W.seen out.new) (E.seen err.new)) result }
 {
     match place_of(command.path()) {
@@ -119,7 +119,7 @@ where
 
 /// Where the bytes at a path are.
 fn place_of(path: &str) -> Place
-    ensures { result ≡ place_of path.now }
+    ensures { result ≡ place_at path.now }
 {
     match path {
         "-" => Place::Input,
@@ -249,7 +249,7 @@ where
     S: Source + Drop,
     W: Sink,
     E: Sink,
-    ensures { IsDone command.now (S.tapped source) (outputs (W.seen out.old) (E.seen err.old)) (outputs
+    ensures { IsRunOver command.now (S.tapped source) (outputs (W.seen out.old) (E.seen err.old)) (outputs
         (W.seen out.new) (E.seen err.new)) result }
 {
     let (status, _) = perform(alloc, command, source, out, err);

@@ -12,8 +12,8 @@ pub record Streamed (R : Type 0) : Type 0 where
   pub faults : ℕ
   pub asked : ℕ
 
--- a read at an offset gave the next bytes of a reader, which is at a position before and after, and has these bytes left
--- before and after, where they are known. Only a read at the position gives any; a read that fails takes none
+-- a read at an offset gave the next bytes of a reader, which is at a position before and after, and has these bytes
+-- left before and after, where they are known. Only a read at the position gives any; a read that fails takes none
 pub record GivesNext {E : Type 0} (at position position' : ℕ) (left left' : Option (List ℕ)) (answer : Result ℕ E)
     (buf : List ℕ) : Type 0 where
   pub here : IfOk answer (λ n. at ≡ position)
