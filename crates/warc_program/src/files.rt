@@ -1,40 +1,90 @@
 //! The files of the system, and standard input.
 ghost use Rattle.std.specs.Prelude.{⊤};
 
+use crate::progress::Progress;
+use std::cell::Cell;
 use std::fs::{self, File};
-use std::io::{self, Stdin};
+use std::io::{self, Read, Seek, SeekFrom, Stdin};
 use warc_commands::System;
 use warc_frame::FileSource;
-use warc_stream::StreamSource;
+use warc_stream::{StreamSource, WatchedSource};
 
 /// The path of standard input.
 const STANDARD_INPUT: &str = "/dev/stdin";
 
-/// The system, as a run of the program asks it.
+/// A reader whose last error is noted by its number.
+#[derive(Drop)]
+pub struct Noted<'a, F> {
+    reader: F,
+    reason: &'a Cell<Option<i32>>,
+}
+
+impl<'a, F: Read> Read for Noted<'a, F> {
+    fn read(&mut self, buf: &mut [u8]) -> io::Result<usize> {
+        let answer = self.reader.read(buf);
+        note(self.reason, &answer);
+        answer
+    }
+}
+
+impl<'a, F: Seek> Seek for Noted<'a, F> {
+    fn seek(&mut self, to: SeekFrom) -> io::Result<u64> {
+        let answer = self.reader.seek(to);
+        note(self.reason, &answer);
+        answer
+    }
+}
+
+fn note<T>(reason: &Cell<Option<i32>>, answer: &io::Result<T>) {
+    if let Err(error) = answer {
+        reason.set(error.raw_os_error());
+    }
+}
+
+/// The system, as a run of the program asks it. It shows how far the reading is, and notes the system's last error.
 #[derive(Drop)]
 pub struct Host<'a> {
     pub rt: &'a HostRuntime,
+    pub progress: &'a Progress<'a>,
+    pub reason: &'a Cell<Option<i32>>,
 }
 
 impl<'a> System for Host<'a> {
-    type File = FileSource<File>;
+    type File = WatchedSource<'a, FileSource<Noted<'a, File>>, Progress<'a>>;
 
-    type Stream = StreamSource<Stdin>;
+    type Stream = WatchedSource<'a, StreamSource<Noted<'a, Stdin>>, Progress<'a>>;
 
     ghost gives = { λ _ _. ⊤ };
 
-    fn open(&self, path: &str) -> io::Result<FileSource<File>> {
-        Ok(FileSource::new(File::open(self.rt, path)?))
+    fn open(
+        &self,
+        path: &str,
+    ) -> io::Result<WatchedSource<'a, FileSource<Noted<'a, File>>, Progress<'a>>> {
+        let opened = File::open(self.rt, path);
+        note(self.reason, &opened);
+        let file = opened?;
+        if let Ok(metadata) = file.metadata() {
+            self.progress.expect(metadata.len());
+        }
+        let reader = Noted {
+            reader: file,
+            reason: self.reason,
+        };
+        Ok(WatchedSource::new(FileSource::new(reader), self.progress))
     }
 
-    fn redirected(&self) -> Option<FileSource<File>> {
+    fn redirected(&self) -> Option<WatchedSource<'a, FileSource<Noted<'a, File>>, Progress<'a>>> {
         match fs::metadata(self.rt, STANDARD_INPUT) {
             Ok(metadata) if metadata.is_file() => self.open(STANDARD_INPUT).ok(),
             _ => None,
         }
     }
 
-    fn stream(&self) -> StreamSource<Stdin> {
-        StreamSource::new(self.rt.stdin())
+    fn stream(&self) -> WatchedSource<'a, StreamSource<Noted<'a, Stdin>>, Progress<'a>> {
+        let reader = Noted {
+            reader: self.rt.stdin(),
+            reason: self.reason,
+        };
+        WatchedSource::new(StreamSource::new(reader), self.progress)
     }
 }

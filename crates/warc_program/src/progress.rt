@@ -1,0 +1,146 @@
+//! The line on standard error that shows how far a long reading is.
+
+use arrayvec::ArrayString;
+use itoa::Buffer;
+use std::cell::Cell;
+use std::io::IsTerminal;
+use std::time::Instant;
+use warc_frame::{OutSink, Sink, WriteFault, send_all};
+use warc_stream::Watcher;
+
+/// How long nothing is shown, and how long a line is shown at least, in milliseconds.
+const FIRST: u64 = 1_000;
+
+const EACH: u64 = 250;
+
+/// How many bytes are shown as one.
+const MEGABYTE: u64 = 1_000_000;
+
+/// The most bytes of a line.
+const LINE: usize = 256;
+
+/// What removes the line on a terminal.
+const ERASE: &[u8] = b"\r\x1b[K";
+
+/// Shows how far a reading is, where standard error is a terminal and standard output isn't.
+#[derive(Drop)]
+pub struct Progress<'a> {
+    rt: &'a HostRuntime,
+    start: Option<Instant>,
+    total: Cell<u64>,
+    read: Cell<u64>,
+    due: Cell<u64>,
+    is_shown: Cell<bool>,
+    is_gzip: Cell<bool>,
+}
+
+impl<'a> Progress<'a> {
+    /// Nothing is read yet, and nothing is shown where it is to be quiet.
+    pub fn new(rt: &'a HostRuntime, is_quiet: bool) -> Progress<'a> {
+        let start = if !is_quiet && rt.stderr().is_terminal() && !rt.stdout().is_terminal() {
+            Instant::now(rt).ok()
+        } else {
+            None
+        };
+        Progress {
+            rt,
+            start,
+            total: Cell::new(0),
+            read: Cell::new(0),
+            due: Cell::new(FIRST),
+            is_shown: Cell::new(false),
+            is_gzip: Cell::new(false),
+        }
+    }
+
+    /// Notes how many bytes there are to read.
+    pub fn expect(&self, total: u64) {
+        self.total.set(total);
+    }
+
+    /// Whether the first two bytes that were read are those of a gzip file.
+    pub fn is_gzip(&self) -> bool {
+        self.is_gzip.get()
+    }
+
+    /// Removes the line, where one is shown.
+    pub fn erase(&self) {
+        if self.is_shown.get() {
+            self.is_shown.set(false);
+            let _ = send_all(&mut OutSink::new(self.rt.stderr()), ERASE);
+        }
+    }
+
+    /// Shows the line, where it is due.
+    fn show(&self, start: Instant, position: u64) {
+        let Ok(elapsed) = start.elapsed(self.rt) else {
+            return;
+        };
+        let now = elapsed
+            .as_secs()
+            .saturating_mul(1_000)
+            .saturating_add(elapsed.subsec_millis() as u64);
+        if now < self.due.get() {
+            return;
+        }
+        self.due.set(now.saturating_add(EACH));
+        self.is_shown.set(true);
+        let line = line_of(position, self.total.get(), self.read.get(), now);
+        let _ = send_all(
+            &mut OutSink::new(self.rt.stderr()),
+            line.as_str().as_bytes(),
+        );
+    }
+}
+
+/// The line: the position in megabytes, of how many, the megabytes a second, and the seconds left.
+fn line_of(position: u64, total: u64, read: u64, millis: u64) -> ArrayString<LINE> {
+    let speed = read / millis.max(1);
+    let mut digits = Buffer::new();
+    let mut line = ArrayString::new();
+    line.push_str("\r\x1b[K");
+    line.push_str(digits.format(position / MEGABYTE));
+    if total > 0 {
+        line.push_str(" of ");
+        line.push_str(digits.format(total / MEGABYTE));
+    }
+    line.push_str(" MB, ");
+    line.push_str(digits.format(speed / 1_000));
+    line.push_str(" MB/s");
+    if total > 0 {
+        line.push_str(", ");
+        line.push_str(digits.format(total.saturating_sub(position) / speed.max(1) / 1_000));
+        line.push_str(" s left");
+    }
+    line
+}
+
+impl<'a> Watcher for Progress<'a> {
+    fn see(&self, at: u64, bytes: &[u8]) {
+        if at == 0 && bytes.starts_with(&[0x1f, 0x8b]) {
+            self.is_gzip.set(true);
+        }
+        let count = bytes.len() as u64;
+        self.read.set(self.read.get().saturating_add(count));
+        if let Some(start) = self.start {
+            self.show(start, at.saturating_add(count));
+        }
+    }
+}
+
+/// A sink before whose writes the line is removed. Contracts see the sink alone.
+#[derive(Drop)]
+pub struct ErasingSink<'a, W> {
+    pub sink: W,
+    pub progress: &'a Progress<'a>,
+}
+
+impl<'a, W: Sink> Sink for ErasingSink<'a, W> {
+    ghost seen = { λ e. W.seen e.sink };
+
+    /// It answers what the sink answers.
+    fn write(&mut self, piece: &[u8]) -> Result<usize, WriteFault> {
+        self.progress.erase();
+        self.sink.write(piece)
+    }
+}
