@@ -4,6 +4,7 @@
 
 mod archives;
 mod endless;
+mod fronts;
 mod lines;
 mod plain;
 mod runs;

@@ -32,3 +32,15 @@ pub fn read_plainly(alloc: Global, bytes: &[u8]) -> Result<usize, Fault> {
     }
     Ok(bytes.len())
 }
+
+/// How many bytes the good records have that the bytes begin with.
+pub(crate) fn good_len(alloc: Global, bytes: &[u8]) -> usize {
+    let mut rest = bytes;
+    for _ in 0..bytes.len() {
+        match read_good(alloc, rest) {
+            Ok(len) => rest = rest.get(len..).unwrap_or(b""),
+            Err(_) => break,
+        }
+    }
+    bytes.len().saturating_sub(rest.len())
+}

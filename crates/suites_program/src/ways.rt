@@ -1,6 +1,7 @@
 //! The ways in which a case runs a command.
 
 use crate::archives::PIECES;
+use crate::fronts::tell_salvaged;
 use crate::lines::{tell, tell_count, tell_end};
 use crate::runs::{Asked, Ended, run_broken, run_changing, run_cut, run_endless, run_in_pieces};
 use crate::turns::{tell_as_alone, tell_reads, tell_requests, tell_writes};
@@ -37,6 +38,10 @@ pub fn answer(
     answer: &mut Vec<u8>,
 ) -> Result<bool, AllocError> {
     if answer_usage(alloc, case, answer)? {
+        return Ok(true);
+    }
+    if case.text(0) == "each-front-salvages" {
+        tell_salvaged(alloc, archive, answer)?;
         return Ok(true);
     }
     let words = words_from(alloc, case, words_before(case.text(0)))?;

@@ -83,6 +83,16 @@ pub(crate) fn command_of<'a>(words: &'a [String], given: &'a [u8]) -> Option<Com
             draft: draft_of(words, content_type_of(words, given)),
             file: PATH,
         },
+        "head" => Command::Head {
+            archive,
+            position: word(words, 1),
+        },
+        "block" => Command::Block {
+            archive,
+            position: word(words, 1),
+        },
+        "fixity" => Command::Fixity { archive },
+        "salvage" => Command::Salvage { archive },
         _ => return None,
     })
 }
