@@ -73,6 +73,10 @@ pub(crate) fn command_of<'a>(words: &'a [String], given: &'a [u8]) -> Option<Com
             uri: word(words, 1),
             date: word(words, 2),
         },
+        "body" => Command::Body {
+            archive,
+            position: word(words, 1),
+        },
         "rewrite" => Command::Rewrite { archive },
         "convert" => Command::Convert { archive },
         "split" => Command::Split {

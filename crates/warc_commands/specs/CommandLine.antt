@@ -40,6 +40,7 @@ layouts =
     ∷ layout (codes "check") (codes "archive" ∷ [])
     ∷ layout (codes "extract") (codes "archive" ∷ codes "id" ∷ [])
     ∷ layout (codes "replay") (codes "archive" ∷ codes "uri" ∷ codes "date" ∷ [])
+    ∷ layout (codes "body") (codes "archive" ∷ codes "position" ∷ [])
     ∷ layout (codes "rewrite") (codes "archive" ∷ [])
     ∷ layout (codes "convert") (codes "archive" ∷ [])
     ∷ layout (codes "split") (codes "archive" ∷ codes "size" ∷ [])

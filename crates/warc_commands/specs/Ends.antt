@@ -4,6 +4,7 @@ use Rattle.warc_value.specs.Dates.{instant_of}
 use Rattle.warc.specs.Forms.{texts_as}
 use Rattle.warc.specs.declared.copying.Form.TheVariants.{Canonical, Converted}
 use Rattle.warc.specs.declared.part.Part.TheVariants.{Head, Block}
+use Rattle.warc_commands.specs.Bodies.{BodyEnds}
 use Rattle.warc_commands.specs.Devices.{Devices}
 use Rattle.warc_commands.specs.Fixity.{FixityEnds}
 use Rattle.warc_commands.specs.Parts.{PartEnds, position_of}
@@ -18,6 +19,7 @@ Ends (command.List archive) old new status = ListEnds old new status
 Ends (command.Check archive) old new status = CheckEnds old new status
 Ends (command.Extract archive id) old new status = ExtractEnds id.now old new status
 Ends (command.Replay archive uri date) old new status = ReplayEnds uri.now (instant_of date.now) old new status
+Ends (command.Body archive position) old new status = BodyEnds (position_of position.now) old new status
 Ends (command.Rewrite archive) old new status = WriteEnds (texts_as Canonical) old new status
 Ends (command.Convert archive) old new status = WriteEnds (texts_as Converted) old new status
 Ends (command.Split archive size) old new status = SplitEnds (size_of size.now) old new status
@@ -33,6 +35,7 @@ IsStatusOf (command.List archive) status = (status ≡ 0) ⊎ ((status ≡ 2) �
 IsStatusOf (command.Check archive) status = (status ≡ 0) ⊎ ((status ≡ 1) ⊎ ((status ≡ 2) ⊎ (status ≡ 3)))
 IsStatusOf (command.Extract archive id) status = (status ≡ 0) ⊎ ((status ≡ 1) ⊎ ((status ≡ 2) ⊎ (status ≡ 3)))
 IsStatusOf (command.Replay archive uri date) status = (status ≡ 0) ⊎ ((status ≡ 1) ⊎ ((status ≡ 2) ⊎ (status ≡ 3)))
+IsStatusOf (command.Body archive position) status = (status ≡ 0) ⊎ ((status ≡ 1) ⊎ ((status ≡ 2) ⊎ (status ≡ 3)))
 IsStatusOf (command.Rewrite archive) status = (status ≡ 0) ⊎ ((status ≡ 2) ⊎ (status ≡ 3))
 IsStatusOf (command.Convert archive) status = (status ≡ 0) ⊎ ((status ≡ 2) ⊎ (status ≡ 3))
 IsStatusOf (command.Split archive size) status = (status ≡ 0) ⊎ ((status ≡ 2) ⊎ (status ≡ 3))

@@ -1,3 +1,4 @@
+pub mod Bodies
 pub mod Command
 pub mod CommandLine
 pub mod Devices

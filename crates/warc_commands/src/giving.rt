@@ -114,7 +114,7 @@ pub(crate) fn tell_extract<E: Sink>(answer: Result<u64, ExtractFault>, err: &mut
 }
 
 /// Tells what is said of a body, or why it isn't written, or not whole, and answers the exit status.
-fn tell_replay<E: Sink>(answer: Result<Answer, ReplayFault>, err: &mut E) -> u8
+pub(crate) fn tell_replay<E: Sink>(answer: Result<Answer, ReplayFault>, err: &mut E) -> u8
     ensures told { Tells (replay_line answer) (E.seen err.old) (E.seen err.new) }
     ensures status { result ≡ replay_status answer }
 {

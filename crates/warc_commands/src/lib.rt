@@ -1,6 +1,7 @@
 //! The commands of the program `warc`: the words that name them, and what each does with a source and two sinks.
 #![tactic(auto)]
 
+mod bodies;
 mod fixity;
 mod giving;
 mod making;

@@ -7,6 +7,7 @@ ghost use Rattle.warc_commands.specs.Program.{CheckEnds, FaultEnds, IsShown, Lis
 ghost use Rattle.warc_commands.specs.Devices.{devices};
 ghost use Rattle.warc.specs.Forms.{texts_as};
 
+use crate::bodies::body;
 use crate::fixity::fixity;
 use crate::giving::{extract, replay};
 use crate::making::write;
@@ -72,6 +73,10 @@ where
             uri,
             date,
         } => replay(alloc, uri, date, source, out, err),
+        Command::Body {
+            archive: _,
+            position,
+        } => body(alloc, position, source, out, err),
         Command::Rewrite { archive: _ } => write_anew(alloc, Form::Canonical, source, out, err),
         Command::Convert { archive: _ } => write_anew(alloc, Form::Converted, source, out, err),
         Command::Split { archive: _, size } => split(alloc, size, source, out, err),

@@ -40,6 +40,11 @@ pub enum Command<'a> {
         uri: &'a str,
         date: &'a str,
     },
+    /// The body that the capture at a position gives.
+    Body {
+        archive: &'a str,
+        position: &'a str,
+    },
     /// The records in canonical form.
     Rewrite {
         archive: &'a str,
@@ -106,6 +111,10 @@ impl<'a> Command<'a> {
                 archive,
                 uri: _,
                 date: _,
+            } => archive,
+            Command::Body {
+                archive,
+                position: _,
             } => archive,
             Command::Rewrite { archive } => archive,
             Command::Convert { archive } => archive,
@@ -244,6 +253,17 @@ Exit status: 0 written; 1 there is no body, for the reason P1 to P10 that is tol
 
 Example: warc replay examples/abc.warc http://a.example/x 2021";
 
+const BODY_NOTES: &str =
+    "The body is the one that 'warc replay' gives where it chooses this capture: of a revisit that of the record
+to which it leads, its segments joined, and of an HTTP response what follows its head. Positions are those of
+'warc list', from 0. The line on standard error is that of 'warc replay'.
+
+Exit status: 0 written; 1 nothing was written: there is no body, for the reason P3 to P10 that is named, no
+record is at the position (E1), or the record there is no capture (E2), as a request or a metadata record;
+2 the archive is refused, and nothing was written; 3 the position isn't a number, or see 'warc --help'.
+
+Example: warc body examples/revisit.warc 1";
+
 const REWRITE_NOTES: &str =
     "Each record is written in canonical form: folded values in one line, one space behind each colon. Names,
 the order of fields, versions and blocks stay.
@@ -339,14 +359,14 @@ const DATE: Word = Word {
     help: "The date as of which the URI is asked for; 9999 is the latest",
 };
 
+const POSITION: Word = Word {
+    name: "position",
+    help: "The position of the record, from 0, as 'warc list' shows it",
+};
+
 const SIZE: Word = Word {
     name: "size",
     help: "The most bytes of a block that a segment has, from 1 on",
-};
-
-const POSITION: Word = Word {
-    name: "position",
-    help: "The position of the record, from 0 on",
 };
 
 /// What `write` wants, in its order.
@@ -384,7 +404,7 @@ const QUIET: Word = Word {
 };
 
 /// The commands, in the order in which help lists them.
-const COMMANDS: [Entry; 12] = [
+const COMMANDS: [Entry; 13] = [
     Entry {
         name: "list",
         about: "Prints a line for each record",
@@ -414,6 +434,14 @@ const COMMANDS: [Entry; 12] = [
         about: "Writes the body that was captured of a URI, as of a date",
         notes: REPLAY_NOTES,
         words: &[ARCHIVE, URI, DATE],
+        optional: &[],
+        flags: &[],
+    },
+    Entry {
+        name: "body",
+        about: "Writes the body that the capture at a position gives",
+        notes: BODY_NOTES,
+        words: &[ARCHIVE, POSITION],
         optional: &[],
         flags: &[],
     },
@@ -623,6 +651,10 @@ fn read_command<'a>(name: &str, texts: &ArgMatches<'a>) -> Command<'a>
             archive,
             uri: text_at(texts, "uri"),
             date: text_at(texts, "date"),
+        },
+        "body" => Command::Body {
+            archive,
+            position: text_at(texts, "position"),
         },
         "rewrite" => Command::Rewrite { archive },
         "convert" => Command::Convert { archive },

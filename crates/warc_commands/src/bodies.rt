@@ -1,0 +1,82 @@
+//! The command that gives the body of a capture by its position.
+ghost use Rattle.std.specs.Prelude.{◌≡◌, Some};
+ghost use Rattle.warc_commands.specs.Bodies.{BodyEnds, body_line, body_status};
+ghost use Rattle.warc_commands.specs.Devices.{devices};
+ghost use Rattle.warc_commands.specs.Parts.{position_of};
+ghost use Rattle.warc_commands.specs.Program.{Tells};
+
+use crate::giving::tell_replay;
+use crate::parts::position_of;
+use crate::program::{FAILED, FOUND, tell, tell_refusal};
+use std::alloc::Allocator;
+use warc::{Archive, BodyFault};
+use warc_answer::Answer;
+use warc_frame::{Sink, Source};
+
+/// Writes the body that the capture at a position gives, which a word says.
+pub(crate) fn body<A, S, W, E>(
+    alloc: A,
+    position: &str,
+    source: S,
+    out: &mut W,
+    err: &mut E,
+) -> (u8, S)
+where
+    A: Allocator + Copy,
+    S: Source + Drop,
+    W: Sink,
+    E: Sink,
+    ensures ends { BodyEnds (position_of position.now) (devices (S.tapped source) (W.seen out.old) (E.seen err.old))
+        (devices (S.tapped result.1) (W.seen out.new) (E.seen err.new)) result.0 }
+
+    // The source still holds what it held.
+    ensures kept { (S.tapped result.1).holds ≡ (S.tapped source).holds }
+{
+    match position_of(position.as_bytes()) {
+        Some(position) => body_at(alloc, position, source, out, err),
+        None => {
+            tell("warc: bad position\n", err);
+            (FAILED, source)
+        }
+    }
+}
+
+/// Writes the body that the capture at a position gives.
+fn body_at<A, S, W, E>(alloc: A, position: usize, source: S, out: &mut W, err: &mut E) -> (u8, S)
+where
+    A: Allocator + Copy,
+    S: Source + Drop,
+    W: Sink,
+    E: Sink,
+    ensures ends { BodyEnds (Some position) (devices (S.tapped source) (W.seen out.old) (E.seen err.old)) (devices
+        (S.tapped result.1) (W.seen out.new) (E.seen err.new)) result.0 }
+
+    // The source still holds what it held.
+    ensures kept { (S.tapped result.1).holds ≡ (S.tapped source).holds }
+{
+    let mut archive = match Archive::open(alloc, source) {
+        Ok(archive) => archive,
+        Err((fault, source)) => return (tell_refusal(fault, err), source),
+    };
+    let answer = archive.replay_at(position, out);
+    (tell_body(answer, err), archive.into_source())
+}
+
+/// Tells what is said of a body, or why it isn't written, or not whole, and answers the exit status.
+fn tell_body<E: Sink>(answer: Result<Answer, BodyFault>, err: &mut E) -> u8
+    ensures told { Tells (body_line answer) (E.seen err.old) (E.seen err.new) }
+    ensures status { result ≡ body_status answer }
+{
+    match answer {
+        Ok(answer) => tell_replay(Ok(answer), err),
+        Err(BodyFault::NoRecord) => {
+            tell("warc: E1 NoRecord\n", err);
+            FOUND
+        }
+        Err(BodyFault::NoCapture) => {
+            tell("warc: E2 NoCapture\n", err);
+            FOUND
+        }
+        Err(BodyFault::Replay(fault)) => tell_replay(Err(fault), err),
+    }
+}
