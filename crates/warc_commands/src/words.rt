@@ -206,12 +206,13 @@ struct Entry {
 const VERSION: &str = "0.2.0";
 
 const NOTES: &str =
-    "An archive is one file of uncompressed records, WARC/1.0 or WARC/1.1. A compressed one is read so:
-  gunzip -c a.warc.gz | warc list /dev/stdin      (at most 1 GiB)
+    "An archive is one file of uncompressed records, WARC/1.0 or WARC/1.1. The path '-' is standard input, so a
+compressed archive is read like this:
+  gunzip -c a.warc.gz | warc list -
 
-Exit status: 0 done; 1 something was found; 2 the archive is refused, with the
-first fault and its offset, and nothing was written; 3 the words are wrong, the file doesn't open, or a read,
-a write or memory failed.
+Exit status: 0 done; 1 'check' found something, or what was asked for isn't there; 2 the archive is refused,
+with the first fault and its offset, and nothing was written (but for 'salvage'); 3 the words are wrong, the
+file doesn't open, or a read, a write or memory failed.
 
 Example: warc list examples/abc.warc";
 
@@ -341,7 +342,7 @@ Example: warc salvage examples/damaged.warc > good.warc";
 
 const ARCHIVE: Word = Word {
     name: "archive",
-    help: "The path of the archive; /dev/stdin is standard input, also a pipe, as from 'gunzip -c a.warc.gz'",
+    help: "The path of the archive; '-' is standard input, also a pipe, as from 'gunzip -c a.warc.gz'",
 };
 
 const ID: Word = Word {
