@@ -3,6 +3,7 @@
 # make test         everything that must pass, from nothing; the last line is 'N passed, M failed'
 # make check        the quick check while editing: the whole tree, over what earlier checks kept
 # make test-docs    runs the command lines of README.md and docs/PROGRAM.md, and compares what they write
+# make lint         checks the text of the tree: words, headers, widths, edits, numbers, and the pages
 # make lint-docs    compares README's code with the example crates, and looks for what the pages may not hold
 # make man          makes the manual pages and the completions under out/
 # make install      installs the program, its pages, completions, docs and examples; make uninstall removes them
@@ -17,7 +18,7 @@ DESTDIR ?=
 JOBS ?= $(shell nproc)
 VERSION := $(shell sed -n 's/^const VERSION: &str = "\(.*\)";$$/\1/p' crates/warc_commands/src/words.rt)
 
-.PHONY: all try test check test-docs lint-docs man install uninstall dist verify-dist test-package bench clean
+.PHONY: all try test check lint test-docs lint-docs man install uninstall dist verify-dist test-package bench clean
 
 all:
 	@python3 tools/build.py $(JOBS)
@@ -38,6 +39,9 @@ bin/warc:
 
 test-docs: bin/warc
 	@python3 tools/test_docs.py bin/warc README.md docs/PROGRAM.md
+
+lint: lint-docs
+	@python3 tools/lint.py
 
 lint-docs:
 	@python3 tools/lint_docs.py
