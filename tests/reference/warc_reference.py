@@ -1,0 +1,694 @@
+#!/usr/bin/env python3
+"""A second reading of the format, to compare the program `warc` with.
+
+It is written from docs/FORMAT.md and docs/PROGRAM.md alone, and favours short code over speed. A whole archive is
+in memory. `run` gives what a command writes to standard output and standard error, and its exit status.
+
+    python3 tests/reference/warc_reference.py COMMAND ARCHIVE ARGUMENT..
+"""
+import base64
+import hashlib
+import re
+import sys
+
+MAX_HEAD = 65536
+MAX_BLOCK = 2 ** 40
+MAX_NUMBER = 2 ** 48
+MAX_HTTP_FIELDS = 256
+VERSIONS = (b"WARC/1.0\r\n", b"WARC/1.1\r\n")
+
+KINDS = ("warcinfo", "response", "resource", "request", "metadata", "revisit", "conversion", "continuation")
+CAPTURES = ("response", "resource", "revisit")
+
+# Each row: the field, the kinds that require it, the kinds that forbid it.
+TARGETED = ("response", "resource", "request", "revisit", "conversion", "continuation")
+NOT_REVISIT = tuple(kind for kind in KINDS if kind != "revisit")
+NOT_WARCINFO = tuple(kind for kind in KINDS if kind != "warcinfo")
+NOT_CONTINUATION = tuple(kind for kind in KINDS if kind != "continuation")
+FIELD_TABLE = (
+    ("WARC-Target-URI", TARGETED, ("warcinfo",)),
+    ("WARC-Concurrent-To", (), ("warcinfo", "conversion", "continuation")),
+    ("WARC-IP-Address", (), ("warcinfo", "conversion", "continuation")),
+    ("WARC-Refers-To", (), ("warcinfo", "response", "resource", "request", "continuation")),
+    ("WARC-Refers-To-Target-URI", (), NOT_REVISIT),
+    ("WARC-Refers-To-Date", (), NOT_REVISIT),
+    ("WARC-Filename", (), NOT_WARCINFO),
+    ("WARC-Profile", ("revisit",), ()),
+    ("WARC-Warcinfo-ID", (), ("warcinfo",)),
+    ("WARC-Segment-Number", ("continuation",), ()),
+    ("WARC-Segment-Origin-ID", ("continuation",), NOT_CONTINUATION),
+    ("WARC-Segment-Total-Length", (), NOT_CONTINUATION),
+    ("WARC-Block-Digest", (), ()),
+    ("WARC-Payload-Digest", (), ()),
+    ("WARC-Truncated", (), ()),
+    ("WARC-Identified-Payload-Type", (), ()),
+    ("Content-Type", (), ()),
+)
+
+PROFILES = tuple(
+    b"http://netpreserve.org/warc/%s/revisit/%s" % (version, name)
+    for version in (b"1.1", b"1.0") for name in (b"identical-payload-digest", b"server-not-modified"))
+
+TOKEN = re.compile(rb'[^\x00-\x20\x7f-\xff()<>@,;:\\"/\[\]?={}]+')
+CONTROL = re.compile(rb"[\x00-\x08\x0a-\x1f\x7f]")
+FOLD = re.compile(rb"\r\n[ \t]+")
+LINE_END = re.compile(rb"\r\n(?![ \t])")
+UUID_ID = re.compile(rb"urn:uuid:[0-9a-f]{8}(-[0-9a-f]{4}){3}-[0-9a-f]{12}", re.IGNORECASE)
+SHA1 = re.compile(rb"sha1:([a-z2-7]{32})", re.IGNORECASE)
+DATE = re.compile(rb"(\d{4})(?:-(\d\d)(?:-(\d\d)(?:T(\d\d):(\d\d)(?::(\d\d)(?:\.(\d{1,9}))?)?Z)?)?)?")
+STATUS_LINE = re.compile(rb"HTTP/1\.[01] (\d{3})(?: [\t\x20-\x7e\x80-\xff]*)?")
+HTTP_FIELD = re.compile(rb"([!#$%&'*+\-.^_`|~0-9A-Za-z]+):([\t\x20-\x7e\x80-\xff]*)")
+
+
+class Fault(Exception):
+    """The archive is refused: the number and name, and the offset."""
+
+    def __init__(self, name, offset):
+        super().__init__(name)
+        self.name = name
+        self.offset = offset
+
+
+class Reason(Exception):
+    """A command gives nothing: the number and name of the reason."""
+
+
+# Values
+
+def number_of(value, greatest):
+    """The number that a value holds, or None. Leading zeros are allowed."""
+    if re.fullmatch(rb"[0-9]+", value) is None:
+        return None
+    digits = value.lstrip(b"0")
+    if len(digits) > 20:
+        return None
+    number = int(digits or b"0")
+    return number if number <= greatest else None
+
+
+def days_in_month(year, month):
+    if month == 2:
+        is_leap = year % 4 == 0 and (year % 100 != 0 or year % 400 == 0)
+        return 29 if is_leap else 28
+    return 30 if month in (4, 6, 9, 11) else 31
+
+
+def instant_of(value):
+    """The instant of a date as a tuple that sorts by time, or None."""
+    match = DATE.fullmatch(value)
+    if match is None:
+        return None
+    year, month, day, hour, minute, second, fraction = match.groups()
+    year = int(year)
+    month = int(month or b"1")
+    day = int(day or b"1")
+    hour, minute, second = int(hour or b"0"), int(minute or b"0"), int(second or b"0")
+    if not 1 <= month <= 12 or not 1 <= day <= days_in_month(year, month):
+        return None
+    if hour > 23 or minute > 59 or second > 59:
+        return None
+    return (year, month, day, hour, minute, second, int((fraction or b"0").ljust(9, b"0")))
+
+
+def bare_text(value):
+    """The value without one pair of brackets around it, and without the spaces inside them."""
+    inside = value[1:-1]
+    if len(value) >= 2 and value.startswith(b"<") and value.endswith(b">") \
+            and b"<" not in inside and b">" not in inside:
+        value = inside
+    return value.strip(b" \t")
+
+
+def id_of(value):
+    """A text that is equal for the same ids, or None where the value holds no id."""
+    bare = bare_text(value)
+    if not bare or re.search(rb"[<> \t]", bare):
+        return None
+    return bare.lower() if UUID_ID.fullmatch(bare) else bare
+
+
+def sha1_text(block):
+    return base64.b32encode(hashlib.sha1(block).digest())
+
+
+def is_utf8(value):
+    try:
+        value.decode("utf-8")
+    except UnicodeDecodeError:
+        return False
+    return True
+
+
+# Records
+
+class Record:
+    """A record that can be read: its place, version, fields and block."""
+
+    def __init__(self, position, offset, version, fields, head, block):
+        self.position = position
+        self.offset = offset
+        self.version = version
+        self.fields = fields
+        self.head = head
+        self.block = block
+        self.kind = self.kind_of()
+        self.id = id_of(self.first("WARC-Record-ID"))
+        self.instant = instant_of(self.first("WARC-Date"))
+        self.target = self.target_of()
+
+    def values(self, name):
+        wanted = name.lower().encode()
+        return [value for field, value in self.fields if field.lower() == wanted]
+
+    def first(self, name):
+        """The value of the first field with a name, or None if it is absent."""
+        values = self.values(name)
+        return values[0] if values and values[0] else None
+
+    def kind_of(self):
+        kind = self.first("WARC-Type").lower().decode("ascii")
+        return kind if kind in KINDS else None
+
+    def target_of(self):
+        value = self.first("WARC-Target-URI")
+        return (bare_text(value) or None) if value is not None else None
+
+    def is_absent(self, name):
+        if name == "WARC-Target-URI":
+            return self.target is None
+        return self.first(name) is None
+
+    def number(self, name):
+        value = self.first(name)
+        return None if value is None else number_of(value, MAX_NUMBER)
+
+    def stated_id(self, name):
+        value = self.first(name)
+        return None if value is None else id_of(value)
+
+    def digest_verdict(self):
+        """`good`, `bad` or `unchecked`."""
+        value = self.first("WARC-Block-Digest")
+        match = SHA1.fullmatch(value) if value is not None else None
+        if match is None:
+            return "unchecked"
+        return "good" if match.group(1).upper() == sha1_text(self.block) else "bad"
+
+    def canonical(self, version=None, change=None):
+        lines = [version or self.version]
+        for name, value in self.fields:
+            lines.append(name + b": " + (change(name, value) if change else value) + b"\r\n")
+        return b"".join(lines) + b"\r\n" + self.block + b"\r\n\r\n"
+
+
+def field_of(line):
+    """The name and value of a line without its CRLF, or None."""
+    name, colon, rest = line.partition(b":")
+    if not colon or TOKEN.fullmatch(name) is None:
+        return None
+    value = FOLD.sub(b" ", rest).strip(b" \t")
+    return None if CONTROL.search(value) else (name, value)
+
+
+def fields_of(area, offset):
+    """The fields of a field area that begins at an offset of the archive."""
+    fields = []
+    start = 0
+    while start < len(area):
+        match = LINE_END.search(area, start)
+        field = field_of(area[start:match.start()]) if match else None
+        if field is None:
+            raise Fault("F3 Field", offset + start)
+        fields.append(field)
+        start = match.end()
+    return fields
+
+
+def head_of(data, start):
+    """The bytes of the head of the record at an offset."""
+    there = data[start:start + 10]
+    if not any(version.startswith(there) for version in VERSIONS):
+        raise Fault("F1 Version", start)
+    end = data.find(b"\r\n\r\n", start, start + MAX_HEAD)
+    if end < 0:
+        if len(data) - start >= MAX_HEAD:
+            raise Fault("F2 HeadTooLong", start)
+        raise Fault("F11 Truncated", len(data))
+    return data[start:end + 4]
+
+
+def single(fields, name, start):
+    """The value of a field that a record has exactly once."""
+    values = [value for field, value in fields if field.lower() == name.lower().encode()]
+    if not values:
+        raise Fault("F4 Missing " + name, start)
+    if len(values) > 1:
+        raise Fault("F5 Repeated " + name, start)
+    return values[0]
+
+
+def judged_length(fields, start):
+    """The length of the block, after the four fields of every record were judged in their order."""
+    length = number_of(single(fields, "Content-Length", start), MAX_BLOCK)
+    if length is None:
+        raise Fault("F6 Length", start)
+    if TOKEN.fullmatch(single(fields, "WARC-Type", start)) is None:
+        raise Fault("F7 BadType", start)
+    if id_of(single(fields, "WARC-Record-ID", start)) is None:
+        raise Fault("F8 Id", start)
+    if instant_of(single(fields, "WARC-Date", start)) is None:
+        raise Fault("F9 Date", start)
+    return length
+
+
+def read_record(data, start, position):
+    head = head_of(data, start)
+    fields = fields_of(head[10:-2], start + 10)
+    if 12 + sum(4 + len(name) + len(value) for name, value in fields) > MAX_HEAD:
+        raise Fault("F2 HeadTooLong", start)
+    length = judged_length(fields, start)
+    end = start + len(head) + length
+    if end <= len(data) and not b"\r\n\r\n".startswith(data[end:end + 4]):
+        raise Fault("F10 End", end)
+    if end + 4 > len(data):
+        raise Fault("F11 Truncated", len(data))
+    return Record(position, start, head[:10], fields, head, data[end - length:end])
+
+
+class Archive:
+    """The records before the first fault, the fault or None, and how many bytes these records take."""
+
+    def __init__(self, data):
+        self.data = data
+        self.records = []
+        self.fault = None
+        self.end = 0
+        try:
+            self.read_all()
+        except Fault as fault:
+            self.fault = fault
+
+    def read_all(self):
+        while self.end < len(self.data):
+            record = read_record(self.data, self.end, len(self.records))
+            self.records.append(record)
+            self.end += len(record.head) + len(record.block) + 4
+
+
+# Findings
+
+def findings_of(record, used):
+    """The findings of a record as texts, in their order. `used` holds the ids of the records before it."""
+    if record.kind is None:
+        return used_id(record, used) + not_utf8(record) + bare_id(record)
+    return (required(record) + forbidden(record) + repeated(record) + wrong_digest(record)
+            + wrong_segment(record) + used_id(record, used) + no_content_type(record) + unknown_profile(record)
+            + not_utf8(record) + bare_id(record) + no_origin(record))
+
+
+def required(record):
+    return ["N1 " + name for name, kinds, _ in FIELD_TABLE if record.kind in kinds and record.is_absent(name)]
+
+
+def forbidden(record):
+    return ["N2 " + name for name, _, kinds in FIELD_TABLE if record.kind in kinds and not record.is_absent(name)]
+
+
+def repeated(record):
+    return ["N3 " + name for name, _, _ in FIELD_TABLE
+            if name != "WARC-Concurrent-To" and len(record.values(name)) > 1]
+
+
+def wrong_digest(record):
+    return ["N4"] if record.digest_verdict() == "bad" else []
+
+
+def wrong_segment(record):
+    is_continuation = record.kind == "continuation"
+    wrong = False
+    if not record.is_absent("WARC-Segment-Number"):
+        number = record.number("WARC-Segment-Number")
+        wrong = number is None or (number < 2 if is_continuation else number != 1)
+    if is_continuation and not record.is_absent("WARC-Segment-Total-Length"):
+        wrong = wrong or record.number("WARC-Segment-Total-Length") is None
+    return ["N5"] if wrong else []
+
+
+def used_id(record, used):
+    return ["N6"] if record.id in used else []
+
+
+def no_content_type(record):
+    is_lacking = record.is_absent("Content-Type") and record.block and record.kind != "continuation"
+    return ["N7"] if is_lacking else []
+
+
+def has_known_profile(record):
+    value = record.first("WARC-Profile")
+    return value is not None and bare_text(value) in PROFILES
+
+
+def unknown_profile(record):
+    is_wrong = record.kind == "revisit" and not record.is_absent("WARC-Profile") and not has_known_profile(record)
+    return ["N8"] if is_wrong else []
+
+
+def not_utf8(record):
+    return ["N9 " + name.decode("ascii") for name, value in record.fields if not is_utf8(value)]
+
+
+def bare_id(record):
+    value = record.first("WARC-Record-ID")
+    return [] if value.startswith(b"<") and value.endswith(b">") else ["N10"]
+
+
+def no_origin(record):
+    is_wrong = (record.kind == "continuation" and not record.is_absent("WARC-Segment-Origin-ID")
+                and record.stated_id("WARC-Segment-Origin-ID") is None)
+    return ["N11"] if is_wrong else []
+
+
+# Segments
+
+def series_of(records, record):
+    """The continuations of a record, each with its number."""
+    return [(other.number("WARC-Segment-Number"), other) for other in records
+            if other.kind == "continuation" and other.stated_id("WARC-Segment-Origin-ID") == record.id
+            and (other.number("WARC-Segment-Number") or 0) >= 2]
+
+
+def first_absent(numbers, last):
+    """The least number from 2 to `last` that isn't there, or None. It doesn't count up to `last`."""
+    expected = 2
+    for number in sorted(numbers):
+        if number != expected:
+            break
+        expected += 1
+    return expected if expected <= last else None
+
+
+def joined(records, record):
+    """The records whose blocks make the joined block, in order. Raises Reason with a gap."""
+    if record.is_absent("WARC-Segment-Number"):
+        return [record]
+    if record.number("WARC-Segment-Number") != 1:
+        raise Reason("P7 Segment G6 Number")
+    series = series_of(records, record)
+    numbers = [number for number, _ in series]
+    twice = [number for number in numbers if numbers.count(number) > 1]
+    if twice:
+        raise Reason("P7 Segment G1 Repeated %d" % min(twice))
+    totals = [(number, other.number("WARC-Segment-Total-Length")) for number, other in series
+              if other.number("WARC-Segment-Total-Length") is not None]
+    if not totals:
+        raise Reason("P7 Segment G2 Unfinished")
+    last, total = min(totals)
+    after = [number for number in numbers if number > last]
+    if after:
+        raise Reason("P7 Segment G3 AfterEnd %d" % min(after))
+    absent = first_absent(numbers, last)
+    if absent is not None:
+        raise Reason("P7 Segment G4 Absent %d" % absent)
+    parts = [record] + [other for _, other in sorted(series, key=lambda pair: pair[0])]
+    if sum(len(part.block) for part in parts) != total:
+        raise Reason("P7 Segment G5 Total")
+    return parts
+
+
+# Captures
+
+def chosen_capture(records, target, moment):
+    captures = [record for record in records if record.kind in CAPTURES and record.target == target]
+    if not captures:
+        raise Reason("P1 NoCapture")
+    early = [record for record in captures if record.instant <= moment]
+    if not early:
+        raise Reason("P2 NotYet")
+    return max(early, key=lambda record: (record.instant, record.position))
+
+
+def pair_of(record):
+    """The target and instant that a revisit names, or None."""
+    target = record.first("WARC-Refers-To-Target-URI")
+    date = record.first("WARC-Refers-To-Date")
+    if target is None or date is None:
+        return None
+    target, instant = bare_text(target), instant_of(date)
+    return (target, instant) if target and instant is not None else None
+
+
+def is_stored(record):
+    return record.kind in ("response", "resource")
+
+
+def named_referent(records, record_id, pair):
+    for record in records:
+        if record_id is not None and record.kind in CAPTURES and record.id == record_id:
+            return record
+    for record in records:
+        if pair is not None and is_stored(record) and (record.target, record.instant) == pair:
+            return record
+    raise Reason("P5 Unresolved")
+
+
+def same_payload(records, revisit):
+    """The referent of a revisit that names nothing."""
+    digest = revisit.first("WARC-Payload-Digest")
+    found = [record for record in records
+             if is_stored(record) and digest is not None and record.first("WARC-Payload-Digest") == digest
+             and revisit.target is not None and record.target == revisit.target
+             and record.instant <= revisit.instant]
+    if not found:
+        raise Reason("P4 NoReference")
+    return max(found, key=lambda record: (record.instant, record.position))
+
+
+def referent_of(records, revisit):
+    if not has_known_profile(revisit):
+        raise Reason("P3 UnknownProfile")
+    record_id = revisit.stated_id("WARC-Refers-To")
+    pair = pair_of(revisit)
+    if record_id is not None or pair is not None:
+        return named_referent(records, record_id, pair)
+    return same_payload(records, revisit)
+
+
+def origin_of(records, capture):
+    seen = set()
+    while capture.kind == "revisit":
+        if capture.position in seen:
+            raise Reason("P6 Loop")
+        seen.add(capture.position)
+        capture = referent_of(records, capture)
+    return capture
+
+
+# Payloads
+
+def http_line(text, start):
+    """A line without its end, and where the next one begins; None if it isn't whole."""
+    end = text.find(b"\n", start)
+    if end < 0:
+        return None, start
+    line = text[start:end]
+    return (line[:-1] if line.endswith(b"\r") else line), end + 1
+
+
+def http_fields(text, start):
+    """The fields of an HTTP head, and where the body begins; None if it is no head."""
+    fields = []
+    while True:
+        line, start = http_line(text, start)
+        if line == b"":
+            return fields, start
+        match = HTTP_FIELD.fullmatch(line) if line is not None else None
+        if match is None or len(fields) == MAX_HTTP_FIELDS:
+            return None, start
+        fields.append((match.group(1).lower(), match.group(2).strip(b" \t")))
+
+
+def http_head(block):
+    """The status, the fields, and where the body begins, or None."""
+    text = block[:MAX_HEAD]
+    line, start = http_line(text, 0)
+    while line == b"":
+        line, start = http_line(text, start)
+    match = STATUS_LINE.fullmatch(line) if line is not None else None
+    if match is None:
+        return None
+    fields, start = http_fields(text, start)
+    return None if fields is None else (int(match.group(1)), fields, start)
+
+
+def is_coded(fields):
+    return any(name in (b"transfer-encoding", b"content-encoding") and value.lower() not in (b"", b"identity")
+               for name, value in fields)
+
+
+def is_http_response(record):
+    return (record.kind == "response" and record.target is not None
+            and re.match(rb"https?:", record.target, re.IGNORECASE) is not None)
+
+
+def payload_of(records, capture):
+    """The body that a capture gives, and the line about it. Raises Reason."""
+    origin = origin_of(records, capture)
+    parts = joined(records, origin)
+    if any(part.digest_verdict() == "bad" for part in parts):
+        raise Reason("P8 BadDigest")
+    body, status = b"".join(part.block for part in parts), "-"
+    if is_http_response(origin):
+        head = http_head(body)
+        if head is None:
+            raise Reason("P9 BadHead")
+        if is_coded(head[1]):
+            raise Reason("P10 Coded")
+        status, body = str(head[0]), body[head[2]:]
+    truncated = "no" if all(part.is_absent("WARC-Truncated") for part in parts) else "yes"
+    line = "chosen %d given %d status %s truncated %s length %d\n" % (
+        capture.position, origin.position, status, truncated, len(body))
+    return body, line.encode()
+
+
+# Commands. Each takes the archive and its arguments, and gives standard output, standard error and the status.
+
+def list_command(archive):
+    lines = []
+    for record in archive.records:
+        columns = (b"%d" % record.position, b"%d" % record.offset, b"%d" % len(record.block),
+                   record.first("WARC-Type"), record.first("WARC-Date"), record.first("WARC-Record-ID"),
+                   b"-" if record.target is None else record.target)
+        lines.append(b"\t".join(columns) + b"\n")
+    return b"".join(lines), b"", 0
+
+
+def check_command(archive):
+    lines = [] if archive.records else ["- N12\n"]
+    used = set()
+    for record in archive.records:
+        lines += ["%d %s\n" % (record.position, finding) for finding in findings_of(record, used)]
+        used.add(record.id)
+    return "".join(lines).encode(), b"", 1 if lines else 0
+
+
+def fixity_command(archive):
+    lines = []
+    counts = {"good": 0, "bad": 0, "unchecked": 0}
+    for record in archive.records:
+        verdict = record.digest_verdict()
+        counts[verdict] += 1
+        if verdict != "good":
+            stated = record.first("WARC-Block-Digest") or b"-"
+            lines.append(b"%d\t%s\t%s\t%s\n" % (
+                record.position, verdict.encode(), bare_text(record.first("WARC-Record-ID")), stated))
+    lines.append(b"records %d good %d bad %d unchecked %d\n" % (
+        len(archive.records), counts["good"], counts["bad"], counts["unchecked"]))
+    status = 1 if counts["bad"] else 4 if counts["unchecked"] else 0
+    return b"".join(lines), b"", status
+
+
+def extract_command(archive, wanted):
+    wanted = id_of(wanted)
+    for record in archive.records:
+        if wanted is not None and record.id == wanted:
+            return record.block, b"", 0
+    raise Reason("E1 NoRecord")
+
+
+def record_at(archive, position):
+    number = number_of(position, MAX_NUMBER)
+    if number >= len(archive.records):
+        raise Reason("E1 NoRecord")
+    return archive.records[number]
+
+
+def head_command(archive, position):
+    return record_at(archive, position).head, b"", 0
+
+
+def block_command(archive, position):
+    return record_at(archive, position).block, b"", 0
+
+
+def replay_command(archive, target, date):
+    capture = chosen_capture(archive.records, target, instant_of(date))
+    body, line = payload_of(archive.records, capture)
+    return body, line, 0
+
+
+def body_command(archive, position):
+    capture = record_at(archive, position)
+    if capture.kind not in CAPTURES:
+        raise Reason("E2 NoCapture")
+    body, line = payload_of(archive.records, capture)
+    return body, line, 0
+
+
+def rewrite_command(archive):
+    return b"".join(record.canonical() for record in archive.records), b"", 0
+
+
+def bare_target(name, value):
+    return bare_text(value) if name.lower() == b"warc-target-uri" else value
+
+
+def convert_command(archive):
+    return b"".join(record.canonical(VERSIONS[1], bare_target) for record in archive.records), b"", 0
+
+
+def salvage_command(archive):
+    saved = archive.data[:archive.end]
+    counts = "%d records, %d bytes\n" % (len(archive.records), archive.end)
+    if archive.fault is None:
+        return saved, ("warc: good " + counts).encode(), 0
+    return saved, fault_line(archive.fault) + ("warc: salvaged " + counts).encode(), 2
+
+
+COMMANDS = {"list": list_command, "check": check_command, "fixity": fixity_command, "extract": extract_command,
+            "head": head_command, "block": block_command, "replay": replay_command, "body": body_command,
+            "rewrite": rewrite_command, "convert": convert_command}
+
+
+def fault_line(fault):
+    return ("warc: %s at %d\n" % (fault.name, fault.offset)).encode()
+
+
+def bad_argument(command, arguments):
+    """The line about an argument that is refused before the archive is read, or None."""
+    if command in ("head", "block", "body") and number_of(arguments[0], MAX_NUMBER) is None:
+        return b"warc: bad position\n"
+    if command == "replay" and instant_of(arguments[1]) is None:
+        return b"warc: bad date\n"
+    return None
+
+
+def run_on(archive, command, arguments):
+    """What a command gives over an archive that was read: output, message, status."""
+    line = bad_argument(command, arguments)
+    if line is not None:
+        return b"", line, 3
+    if command == "salvage":
+        return salvage_command(archive)
+    if archive.fault is not None:
+        return b"", fault_line(archive.fault), 2
+    try:
+        return COMMANDS[command](archive, *arguments)
+    except Reason as reason:
+        return b"", ("warc: %s\n" % reason).encode(), 1
+
+
+def run(command, data, arguments=()):
+    return run_on(Archive(data), command, list(arguments))
+
+
+def main(words):
+    with open(words[1], "rb") as file:
+        data = file.read()
+    out, message, status = run(words[0], data, [word.encode() for word in words[2:]])
+    sys.stdout.buffer.write(out)
+    sys.stderr.buffer.write(message)
+    return status
+
+
+if __name__ == "__main__":
+    sys.exit(main(sys.argv[1:]))
