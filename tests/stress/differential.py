@@ -1,0 +1,144 @@
+#!/usr/bin/env python3
+"""Compares the program with the second reading in tests/reference over generated archives.
+
+    python3 tests/stress/differential.py WARC COUNT SEED
+
+Makes COUNT archives, from the seeds SEED to SEED + COUNT - 1, and runs ten command lines over each. Compares standard
+output, standard error and the exit status. Prints each difference, and last a line with the counts. The exit status
+is 1 if there is a difference.
+"""
+import collections
+import os
+import re
+import shutil
+import signal
+import sys
+import tempfile
+
+HERE = os.path.dirname(os.path.abspath(__file__))
+sys.path.insert(0, os.path.join(os.path.dirname(HERE), "reference"))
+import generate  # noqa: E402
+import warc_reference  # noqa: E402
+
+MOST_SECONDS = 20
+MOST_SHOWN = 40
+
+
+class TooSlow(Exception):
+    """A run didn't end in time."""
+
+
+def ring(_signal, _frame):
+    raise TooSlow()
+
+
+def start(program, words, out_path, error_path):
+    """Starts the program with its outputs in files. It is faster than a pipe and a thread for each run."""
+    flags = os.O_WRONLY | os.O_CREAT | os.O_TRUNC
+    actions = ((os.POSIX_SPAWN_OPEN, 0, "/dev/null", os.O_RDONLY, 0),
+               (os.POSIX_SPAWN_OPEN, 1, out_path, flags, 0o600),
+               (os.POSIX_SPAWN_OPEN, 2, error_path, flags, 0o600))
+    return os.posix_spawn(program, [program] + words, os.environ, file_actions=actions)
+
+
+def status_of(child):
+    """The exit status, below 0 after a signal, or None where the run took too long."""
+    signal.setitimer(signal.ITIMER_REAL, MOST_SECONDS)
+    try:
+        return os.waitstatus_to_exitcode(os.waitpid(child, 0)[1])
+    except TooSlow:
+        os.kill(child, signal.SIGKILL)
+        os.waitpid(child, 0)
+        return None
+    finally:
+        signal.setitimer(signal.ITIMER_REAL, 0)
+
+
+def contents(path):
+    with open(path, "rb") as file:
+        return file.read()
+
+
+def words_of(line, path):
+    """The words of a command line. A word that begins with - needs -- before it."""
+    rest = [path] + list(line[1:])
+    dashes = ["--"] if any(word.startswith("-") for word in rest) else []
+    return [line[0]] + dashes + rest
+
+
+def run_program(program, folder, line):
+    out_path, error_path = os.path.join(folder, "out"), os.path.join(folder, "error")
+    child = start(program, words_of(line, os.path.join(folder, "a.warc")), out_path, error_path)
+    status = status_of(child)
+    return contents(out_path), contents(error_path), status
+
+
+def run_reference(archive, line):
+    return warc_reference.run_on(archive, line[0], [word.encode("utf-8") for word in line[1:]])
+
+
+def shorten(text):
+    return repr(text) if len(text) <= 200 else "%r.. (%d bytes)" % (text[:200], len(text))
+
+
+def show(seed, line, given, expected):
+    print("difference: seed %d, command %s" % (seed, " ".join(map(repr, line))))
+    for name, one, other in zip(("output", "message", "status"), given, expected):
+        if one != other:
+            print("  %s: the program %s, the reference %s" % (
+                name, shorten(one) if name != "status" else one, shorten(other) if name != "status" else other))
+
+
+def count_answers(counts, line, expected):
+    """Counts the faults, reasons and findings, to show what the archives try."""
+    for message in re.findall(rb"warc: ([A-Z]\d+(?: Segment G\d| [A-Z]\w+)|bad \w+)", expected[1]):
+        counts["answer " + message.decode()] += 1
+    if line[0] == "check":
+        for finding in set(re.findall(rb" (N\d+)", expected[0])):
+            counts["answer " + finding.decode()] += 1
+
+
+def compare_seed(program, folder, seed, counts):
+    """Runs all command lines over the archive of a seed."""
+    data = generate.archive(seed)
+    with open(os.path.join(folder, "a.warc"), "wb") as file:
+        file.write(data)
+    archive = warc_reference.Archive(data)
+    counts["archives"] += 1
+    counts["refused"] += archive.fault is not None
+    counts["records"] += len(archive.records)
+    for line in generate.command_lines(seed, data):
+        given, expected = run_program(program, folder, line), run_reference(archive, line)
+        counts["runs"] += 1
+        counts["runs of " + line[0]] += 1
+        counts["status %d" % expected[2]] += 1
+        count_answers(counts, line, expected)
+        if given != expected:
+            counts["differences"] += 1
+            if counts["differences"] <= MOST_SHOWN:
+                show(seed, line, given, expected)
+
+
+def main(program, count, seed):
+    signal.signal(signal.SIGALRM, ring)
+    program = os.path.abspath(program)
+    root = os.path.join(os.path.dirname(os.path.dirname(HERE)), "out", "stress")
+    os.makedirs(root, exist_ok=True)
+    folder = tempfile.mkdtemp(prefix="differential-", dir=root)
+    counts = collections.Counter()
+    try:
+        for each in range(seed, seed + count):
+            compare_seed(program, folder, each, counts)
+    finally:
+        shutil.rmtree(folder)
+    for kind in ("runs of", "status", "answer"):
+        names = sorted(name for name in counts if name.startswith(kind + " "))
+        print("%s: %s" % (kind, ", ".join("%s %d" % (name[len(kind) + 1:], counts[name]) for name in names)))
+    print("differential: seeds %d to %d, %d archives (%d refused), %d records, %d runs, %d differences" % (
+        seed, seed + count - 1, counts["archives"], counts["refused"], counts["records"], counts["runs"],
+        counts["differences"]))
+    return 1 if counts["differences"] else 0
+
+
+if __name__ == "__main__":
+    sys.exit(main(sys.argv[1], int(sys.argv[2]), int(sys.argv[3])))
