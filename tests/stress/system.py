@@ -1,0 +1,616 @@
+#!/usr/bin/env python3
+"""Runs the program where the system fails it: system calls that fail, closed outputs, limits, odd files and names.
+
+    python3 tests/stress/system.py WARC
+
+After a failure the status must be 3, what arrived must be the beginning of the output, and a count in the message must
+be the number of bytes that arrived. Prints a line with counts for each kind of trial, each surprise, and last a line
+with the totals. The exit status is 1 if there was a surprise. Needs strace, bash and Linux.
+"""
+import collections
+import os
+import re
+import resource
+import shutil
+import signal
+import socket
+import subprocess
+import sys
+import tempfile
+import threading
+import time
+
+HERE = os.path.dirname(os.path.abspath(__file__))
+TOP = os.path.dirname(os.path.dirname(HERE))
+sys.path.insert(0, os.path.join(os.path.dirname(HERE), "reference"))
+import generate  # noqa: E402
+import warc_reference  # noqa: E402
+
+MOST_CALLS = 50
+MOST_SECONDS = 120
+TARGET = "http://a.example/x"
+FIRST_ID = "urn:uuid:00000000-0000-4000-8000-000000000001"
+LAST_ID = "urn:uuid:00000000-0000-4000-8000-000000000009"
+WRITE_UUID = FIRST_ID[9:]
+SPARSE_BLOCK = 5_000_000_000
+
+Result = collections.namedtuple("Result", "out message status")
+
+
+# Archives and what the commands give over them
+
+def record_text(kind, record_id, block, more=()):
+    fields = [("WARC-Type", kind), ("WARC-Record-ID", "<%s>" % record_id), ("WARC-Date", "2020-01-01"),
+              ("WARC-Target-URI", TARGET), *more]
+    lines = "".join("%s: %s\r\n" % field for field in fields)
+    return b"WARC/1.0\r\n%sContent-Length: %d\r\n\r\n%s\r\n\r\n" % (lines.encode(), len(block), block)
+
+
+def small_archive():
+    """Some 300,000 bytes, so that several reads and several writes are needed, and many lines in a list."""
+    block = bytes(range(256)) * 600
+    digest = ("WARC-Block-Digest", generate.sha1_text(block))
+    text = record_text("resource", FIRST_ID, block, (digest,))
+    for number in range(700):
+        text += record_text("metadata", "urn:x:%d" % number, b"", (("X-Long", "x" * 9),))
+    revisit = (("WARC-Profile", generate.PROFILES[0]), ("WARC-Refers-To", "<%s>" % FIRST_ID))
+    return text + record_text("revisit", LAST_ID, b"", revisit)
+
+
+def made_record(block):
+    """What the command write gives of a block."""
+    fields = (("WARC-Type", "resource"), ("WARC-Record-ID", "<%s>" % FIRST_ID), ("WARC-Date", "2020-01-01"),
+              ("WARC-Target-URI", TARGET), ("Content-Type", "text/plain"),
+              ("WARC-Block-Digest", generate.sha1_text(block)), ("Content-Length", str(len(block))))
+    lines = "".join("%s: %s\r\n" % field for field in fields)
+    return b"WARC/1.1\r\n%s\r\n%s\r\n\r\n" % (lines.encode(), block)
+
+
+COMMANDS = (("list",), ("check",), ("fixity",), ("salvage",), ("rewrite",), ("convert",), ("extract", FIRST_ID),
+            ("head", "0"), ("block", "0"), ("body", "701"), ("replay", TARGET, "9999"), ("split", "50000"), ("write",))
+
+
+def words_for(command, path):
+    """The words of a command over an archive. `write` takes the file last."""
+    if command[0] == "write":
+        return ["write", "resource", TARGET, "2020-01-01", WRITE_UUID, "text/plain", path]
+    return [command[0], path, *command[1:]]
+
+
+class Stress:
+    """The program, a folder for files, and the counts of what was tried."""
+
+    def __init__(self, program, folder):
+        self.program = os.path.abspath(program)
+        self.folder = folder
+        self.tried = collections.Counter()
+        self.surprises = collections.Counter()
+        self.kind = ""
+        self.data = small_archive()
+        self.archive = self.file("small.warc", self.data)
+        self.expected = {}
+
+    def path(self, name):
+        return os.path.join(self.folder, name)
+
+    def file(self, name, data):
+        path = self.path(name)
+        with open(path, "wb") as file:
+            file.write(data)
+        return path
+
+    def begin(self, kind):
+        self.kind = kind
+        self.tried[kind] = 0
+
+    def judge(self, is_right, words, seen):
+        """Counts a trial, and prints it where it is a surprise."""
+        self.tried[self.kind] += 1
+        if is_right:
+            return
+        self.surprises[self.kind] += 1
+        if self.surprises[self.kind] <= 20:
+            shown = [word if len(word) < 200 else word[:200] + ".." for word in map(str, words)]
+            print("surprise: %s: %s: %s" % (self.kind, " ".join(shown), describe(seen)))
+
+    def end(self):
+        print("%s: %d tried, %d surprises" % (self.kind, self.tried[self.kind], self.surprises[self.kind]), flush=True)
+
+    def run(self, words, before=(), stdin=subprocess.DEVNULL, seconds=MOST_SECONDS):
+        """Runs the program with its standard output in a file. `before` holds the words of a wrapper."""
+        with open(self.path("out"), "wb") as out:
+            return self.run_into(out, words, before, stdin, seconds)
+
+    def run_into(self, out, words, before=(), stdin=subprocess.DEVNULL, seconds=MOST_SECONDS):
+        try:
+            done = subprocess.run([*before, self.program, *words], stdin=stdin, stdout=out, stderr=subprocess.PIPE,
+                                  timeout=seconds, check=False)
+        except subprocess.TimeoutExpired:
+            return Result(b"", b"the run took too long", None)
+        return Result(contents(self.path("out")), done.stderr, done.returncode)
+
+    def run_piped(self, words, data, feed=None):
+        """Runs the program with bytes in a pipe as standard input."""
+        child = subprocess.Popen([self.program, *words], stdin=subprocess.PIPE, stdout=open(self.path("out"), "wb"),
+                                 stderr=subprocess.PIPE)
+        writer = threading.Thread(target=feed or feed_all, args=(child.stdin, data))
+        writer.start()
+        message = child.stderr.read()
+        status = child.wait(MOST_SECONDS)
+        writer.join()
+        child.stderr.close()
+        return Result(contents(self.path("out")), message, status)
+
+
+def contents(path):
+    with open(path, "rb") as file:
+        return file.read()
+
+
+def describe(seen):
+    if not isinstance(seen, Result):
+        return seen
+    return "status %s, %d bytes, message %r" % (seen.status, len(seen.out), seen.message[:300])
+
+
+def feed_all(pipe, data):
+    try:
+        pipe.write(data)
+        pipe.close()
+    except BrokenPipeError:
+        pass
+
+
+def feed_slowly(pipe, data):
+    """Small pieces of odd lengths, so that reads are short."""
+    try:
+        for start in range(0, len(data), 4097):
+            pipe.write(data[start:start + 4097])
+            pipe.flush()
+        pipe.close()
+    except BrokenPipeError:
+        pass
+
+
+def is_failure(seen, whole):
+    """Whether a run failed as the pages say: status 3, a beginning of the output, and its right count."""
+    if seen.status != 3 or not whole.startswith(seen.out):
+        return False
+    after = re.fullmatch(rb"warc: (?:read failed|write failed|out of memory) after (\d+)\n", seen.message)
+    if after:
+        return int(after.group(1)) == len(seen.out)
+    salvaged = re.fullmatch(rb"warc: F1[34] (?:Read|Memory) at \d+\nwarc: salvaged \d+ records, (\d+) bytes\n",
+                            seen.message)
+    if salvaged:
+        return int(salvaged.group(1)) == len(seen.out)
+    opened = rb"warc: (F13 Read at \d+|F14 Memory at \d+|open failed|M4 Memory)\n"
+    return re.fullmatch(opened, seen.message) is not None and seen.out == b""
+
+
+# The kinds of trials
+
+def plain_runs(stress):
+    """What each command gives when nothing fails, against the second reading."""
+    stress.begin("plain runs")
+    for command in COMMANDS:
+        seen = stress.run(words_for(command, stress.archive))
+        if command[0] == "write":
+            wanted = Result(made_record(stress.data), b"", 0)
+        elif command[0] == "split":
+            wanted = Result(seen.out, b"", 0)
+        else:
+            wanted = Result(*warc_reference.run(command[0], stress.data, [word.encode() for word in command[1:]]))
+        stress.judge(seen == wanted, command, seen)
+        stress.expected[command] = wanted
+    stress.end()
+
+
+def failing_calls(stress, calls, error, path):
+    """The k-th call on a path fails, for each k until the run meets none."""
+    stress.begin("%s: %s" % (calls.split(",")[0], error))
+    log = stress.path("log")
+    for command in COMMANDS:
+        for number in range(1, MOST_CALLS + 1):
+            before = ["strace", "-f", "-o", log, "-P", path, "-e", "trace=" + calls,
+                      "-e", "inject=%s:error=%s:when=%d" % (calls, error, number)]
+            seen = stress.run(words_for(command, stress.archive), before)
+            if b"(INJECTED)" not in contents(log):
+                stress.judge(seen == stress.expected[command], command, seen)
+                break
+            stress.judge(is_failure(seen, stress.expected[command].out), (*command, "call", number), seen)
+    stress.end()
+
+
+def failing_system_calls(stress):
+    reads, writes = "read,pread64,readv,preadv,preadv2", "write,pwrite64,writev,pwritev,sendfile,copy_file_range"
+    for error in ("EINTR", "EIO"):
+        failing_calls(stress, reads, error, stress.archive)
+    failing_calls(stress, "lseek", "EIO", stress.archive)
+    for error in ("EINTR", "ENOSPC", "EAGAIN"):
+        failing_calls(stress, writes, error, stress.path("out"))
+
+
+def run_over_fifo(stress, words, before):
+    """Runs the program with a named pipe as standard input, so that strace finds the reads by its name."""
+    path = stress.path("input")
+    if not os.path.exists(path):
+        os.mkfifo(path)
+    reader = os.open(path, os.O_RDONLY | os.O_NONBLOCK)
+    pipe = open(path, "wb")
+    os.set_blocking(reader, True)
+    writer = threading.Thread(target=feed_all, args=(pipe, stress.data))
+    writer.start()
+    seen = stress.run(words, before, stdin=reader)
+    os.close(reader)
+    writer.join()
+    return seen
+
+
+def failing_piped_reads(stress):
+    """The k-th read of standard input fails, for each k until the run meets none."""
+    calls = "read,readv"
+    log = stress.path("log")
+    for error in ("EINTR", "EIO", "EAGAIN"):
+        stress.begin("read of a pipe: " + error)
+        for command in COMMANDS:
+            for number in range(1, MOST_CALLS + 1):
+                before = ["strace", "-f", "-o", log, "-P", stress.path("input"), "-e", "trace=" + calls,
+                          "-e", "inject=%s:error=%s:when=%d" % (calls, error, number)]
+                seen = run_over_fifo(stress, words_for(command, "-"), before)
+                if b"(INJECTED)" not in contents(log):
+                    stress.judge(seen == stress.expected[command], command, seen)
+                    break
+                stress.judge(is_failure(seen, stress.expected[command].out), (*command, "call", number), seen)
+        stress.end()
+
+
+def full_device(stress):
+    stress.begin("/dev/full")
+    for command in COMMANDS:
+        with open("/dev/full", "wb") as out:
+            seen = stress.run_into(out, words_for(command, stress.archive))
+        seen = seen._replace(out=b"")
+        stress.judge(seen.status == 3 and seen.message.startswith(b"warc: write failed after 0\n"), command, seen)
+    stress.end()
+
+
+def closed_outputs(stress):
+    """A closed standard output is a failed write. A closed or full standard error changes neither output nor status."""
+    stress.begin("closed outputs")
+    for command in COMMANDS:
+        words = words_for(command, stress.archive)
+        stress.file("out", b"")
+        before = ["bash", "-c", 'exec "$@" >&-', "bash"]
+        seen = stress.run(words, before)
+        stress.judge(seen.status == 3 and seen.message == b"warc: write failed after 0\n", (*command, ">&-"), seen)
+        for redirection in ("2>&-", "2>/dev/full", "2<&- <&-"):
+            seen = stress.run(words, ["bash", "-c", 'exec "$@" ' + redirection, "bash"])
+            wanted = stress.expected[command]
+            stress.judge((seen.out, seen.status) == (wanted.out, wanted.status), (*command, redirection), seen)
+    stress.end()
+
+
+def reader_goes_away(stress):
+    """The reader of a pipe takes a little and leaves: the message counts what the pipe took."""
+    stress.begin("| head -1")
+    for command in COMMANDS:
+        for wanted in (0, 1, 5000):
+            stress.judge(*leave_after(stress, command, wanted))
+    stress.end()
+
+
+def leave_after(stress, command, wanted):
+    """Reads so many bytes of the output, then closes the pipe. Returns what `judge` takes."""
+    whole = stress.expected[command].out
+    child = subprocess.Popen([stress.program, *words_for(command, stress.archive)], stdin=subprocess.DEVNULL,
+                             stdout=subprocess.PIPE, stderr=subprocess.PIPE, bufsize=0)
+    got = child.stdout.read(wanted) if wanted else b""
+    if wanted:
+        time.sleep(0.02)
+    child.stdout.close()
+    message = child.stderr.read()
+    status = child.wait(MOST_SECONDS)
+    child.stderr.close()
+    match = re.fullmatch(rb"warc: write failed after (\d+)\n", message)
+    is_cut = status == 3 and match is not None and len(got) <= int(match.group(1)) < len(whole)
+    is_whole = (message, status) == stress.expected[command][1:] and len(whole) <= len(got) + 65536
+    return (is_cut or is_whole) and whole.startswith(got), (*command, "reader takes", wanted), \
+        Result(got, message, status)
+
+
+def file_size_limit(stress):
+    """With the signal ignored it is a failed write; otherwise the signal ends the program."""
+    stress.begin("ulimit -f")
+    for command in COMMANDS:
+        whole = stress.expected[command].out
+        for limit in (0, 1, 3, 64, 65, 100, 149):
+            for is_ignored in (True, False):
+                script = "ulimit -f %d; %s exec \"$@\"" % (limit, "trap '' XFSZ;" if is_ignored else "")
+                seen = stress.run(words_for(command, stress.archive), ["bash", "-c", script, "bash"])
+                if len(whole) <= limit * 1024:
+                    is_right = seen == stress.expected[command]
+                elif is_ignored:
+                    is_right = is_failure(seen, whole) and len(seen.out) == limit * 1024
+                else:
+                    is_right = seen.status == -signal.SIGXFSZ and seen.out == whole[:limit * 1024]
+                stress.judge(is_right, (*command, "limit", limit, "ignored" if is_ignored else ""), seen)
+    stress.end()
+
+
+def with_memory(limit):
+    return ["bash", "-c", 'ulimit -v %d; exec "$@"' % limit, "bash"]
+
+
+def least_memory(stress):
+    """The least limit, in KiB, under which `warc --version` runs."""
+    low, high = 0, 1 << 20
+    while high - low > 4:
+        middle = (low + high) // 2
+        if stress.run(["--version"], with_memory(middle)).status == 0:
+            high = middle
+        else:
+            low = middle
+    return high
+
+
+def memory_limit(stress):
+    """Swept down to what `warc --version` takes. Below that the system's loader fails, and not the program."""
+    stress.begin("ulimit -v")
+    least = least_memory(stress)
+    for command in COMMANDS:
+        whole = stress.expected[command]
+        for limit in [least + step for step in (*range(0, 400, 12), *range(400, 2000, 100), 8000, 100000)]:
+            seen = stress.run(words_for(command, stress.archive), with_memory(limit))
+            stress.judge(seen == whole or is_failure(seen, whole.out), (*command, "limit", limit), seen)
+    stress.end()
+
+
+def odd_files(stress):
+    """A folder, a FIFO, devices, a missing file."""
+    stress.begin("odd files")
+    fifo = stress.path("fifo")
+    os.mkfifo(fifo)
+    keeper = os.open(fifo, os.O_RDWR)
+    for command in COMMANDS:
+        for path in (stress.folder, fifo, "/dev/zero"):
+            seen = stress.run(words_for(command, path), with_memory(2_000_000), seconds=20)
+            is_right = is_failure(seen, b"")
+            if path == "/dev/zero":
+                endless = Result(b"", b"warc: M3 TooLong\n", 3)
+                refused = seen.status == 2 and seen.message.startswith(b"warc: F1 Version at 0\n")
+                is_right = is_right or (seen == endless if command[0] == "write" else refused)
+            stress.judge(is_right, (*command, path), seen)
+        for path in (stress.path("missing"), "", stress.archive + "/", "x" * 5000):
+            seen = stress.run(words_for(command, path))
+            stress.judge(seen == Result(b"", b"warc: open failed\n", 3), (*command, path), seen)
+        if command[0] != "write":
+            seen = stress.run(words_for(command, "/dev/null"))
+            wanted = Result(*warc_reference.run(command[0], b"", [word.encode() for word in command[1:]])) \
+                if command[0] != "split" else Result(b"", b"", 0)
+            stress.judge(seen == wanted, (*command, "/dev/null"), seen)
+    os.close(keeper)
+    stress.end()
+
+
+def odd_names(stress):
+    """Names with dashes, spaces, a line end, and bytes that aren't UTF-8."""
+    stress.begin("odd names")
+    here = os.getcwd()
+    os.chdir(stress.folder)
+    names = ("-", "-a", "--help", "--", "a b", "a\nb", " ", "\u00fc", "'\"$x`", "*", "~")
+    for name in names:
+        shutil.copy(stress.archive, "./" + name)
+    raw = b"\xff.warc"
+    shutil.copy(stress.archive.encode(), os.path.join(stress.folder.encode(), raw))
+    for command in COMMANDS:
+        for name in names:
+            seen = stress.run(words_for(command, "./" + name))
+            stress.judge(seen == stress.expected[command], (*command, "./" + name), seen)
+            if name == "-":
+                continue
+            words = words_for(command, name)
+            seen = stress.run([words[0], "--", *words[1:]])
+            stress.judge(seen == stress.expected[command], (words[0], "--", *words[1:]), seen)
+        seen = stress.run([word if word != "RAW" else raw for word in words_for(command, "RAW")])
+        stress.judge(seen == Result(b"", b"warc: the arguments aren't text\n", 3), (*command, raw), seen)
+        with open(raw, "rb") as file:
+            seen = stress.run(words_for(command, "-"), stdin=file)
+        stress.judge(seen == stress.expected[command], (*command, "- <", raw), seen)
+    os.chdir(here)
+    stress.end()
+
+
+def standard_input(stress):
+    """- through a pipe, a slow pipe, a socket and a redirected file, also where it isn't at its beginning."""
+    stress.begin("standard input")
+    for command in COMMANDS:
+        words, wanted = words_for(command, "-"), stress.expected[command]
+        for feed in (feed_all, feed_slowly):
+            seen = stress.run_piped(words, stress.data, feed)
+            stress.judge(seen == wanted, (*words, feed.__name__), seen)
+        with open(stress.archive, "rb") as file:
+            seen = stress.run(words, stdin=file)
+            stress.judge(seen == wanted, (*words, "<"), seen)
+            file.seek(1000)
+            seen = stress.run(words, stdin=file)
+            stress.judge(seen == wanted, (*words, "< from the middle"), seen)
+        seen = run_over_socket(stress, words)
+        stress.judge(seen == wanted, (*words, "a socket"), seen)
+        seen = stress.run(words, ["bash", "-c", 'exec "$@" <&-', "bash"])
+        stress.judge(is_failure(seen, wanted.out), (*words, "<&-"), seen)
+    stress.end()
+
+
+def run_over_socket(stress, words):
+    ours, theirs = socket.socketpair()
+    writer = threading.Thread(target=feed_all, args=(ours.makefile("wb"), stress.data))
+    writer.start()
+    with theirs:
+        closer = threading.Thread(target=lambda: (writer.join(), ours.close()))
+        closer.start()
+        seen = stress.run(words, stdin=theirs)
+    closer.join()
+    return seen
+
+
+def changing_files(stress):
+    """The file is cut, or grows, while the reader of the output waits."""
+    stress.begin("files that change")
+    block = b"0123456789abcdef" * 500_000
+    data = record_text("resource", FIRST_ID, block)
+    data += record_text("resource", LAST_ID, b"abc", (("WARC-Payload-Digest", "x"),))
+    for command in COMMANDS:
+        if command[0] in ("list", "check", "fixity", "head", "body"):
+            continue
+        for way in ("cut", "grow"):
+            stress.judge(*change_while_read(stress, command, data, way))
+    for command in (("list",), ("check",), ("fixity",), ("head", "0"), ("body", "0")):
+        for way in ("cut", "grow"):
+            stress.judge(*change_while_opened(stress, command, data, way))
+    stress.end()
+
+
+def change(path, data, way):
+    """Cuts the file in the middle, or appends a record to it."""
+    with open(path, "r+b") as file:
+        if way == "cut":
+            file.truncate(len(data) // 2)
+        else:
+            file.seek(0, os.SEEK_END)
+            file.write(record_text("resource", "urn:x:new", b"new"))
+
+
+def change_while_read(stress, command, data, way):
+    """Changes the file when the first bytes of the output have arrived."""
+    path = stress.file("changing.warc", data)
+    whole = stress.run(words_for(command, path)).out
+    child = subprocess.Popen([stress.program, *words_for(command, path)], stdin=subprocess.DEVNULL,
+                             stdout=subprocess.PIPE, stderr=subprocess.PIPE)
+    got = child.stdout.read(1000)
+    change(path, data, way)
+    got += child.stdout.read()
+    message, status = child.stderr.read(), child.wait(MOST_SECONDS)
+    child.stdout.close()
+    child.stderr.close()
+    seen = Result(got, message, status)
+    is_right = is_failure(seen, whole) or (status == 0 and got.startswith(whole))
+    if way == "cut" and command[0] == "salvage":
+        is_right = is_right or (status in (2, 3) and whole.startswith(got))
+    return is_right, (*command, way), seen
+
+
+def change_while_opened(stress, command, data, way):
+    """Changes the file while its reads are made slow."""
+    path = stress.file("changing.warc", data)
+    before_change = stress.run(words_for(command, path))
+    slow = ["strace", "-f", "-o", "/dev/null", "-P", path, "-e", "inject=read,pread64:delay_enter=10000"]
+    timer = threading.Timer(0.3, change, (path, data, way))
+    timer.start()
+    seen = stress.run(words_for(command, path), slow)
+    timer.join()
+    after_change = stress.run(words_for(command, path))
+    is_right = seen in (before_change, after_change) or is_failure(seen, before_change.out)
+    return is_right, (*command, way), seen
+
+
+def two_at_once(stress):
+    stress.begin("two runs at once")
+    for command in COMMANDS:
+        children = [subprocess.Popen([stress.program, *words_for(command, stress.archive)], stdin=subprocess.DEVNULL,
+                                     stdout=subprocess.PIPE, stderr=subprocess.PIPE) for _ in range(2)]
+        for child in children:
+            out, message = child.communicate(timeout=MOST_SECONDS)
+            seen = Result(out, message, child.returncode)
+            stress.judge(seen == stress.expected[command], command, seen)
+    stress.end()
+
+
+# A record of five billion bytes
+
+def sparse_archive(stress):
+    """A record whose block is a hole in the file, and a small record after it. Returns the path and the parts."""
+    head = record_text("resource", FIRST_ID, b"").replace(b"Content-Length: 0\r\n\r\n\r\n\r\n",
+                                                          b"Content-Length: %d\r\n\r\n" % SPARSE_BLOCK)
+    last = record_text("metadata", LAST_ID, b"abc")
+    path = stress.path("sparse.warc")
+    with open(path, "wb") as file:
+        file.write(head)
+        file.truncate(len(head) + SPARSE_BLOCK)
+        file.seek(0, os.SEEK_END)
+        file.write(b"\r\n\r\n" + last)
+    return path, head, last
+
+
+def count_output(stress, words):
+    """Runs the program, and gives the first and last bytes of its output, its length, the message and the status."""
+    child = subprocess.Popen([stress.program, *words], stdin=subprocess.DEVNULL, stdout=subprocess.PIPE,
+                             stderr=subprocess.PIPE, bufsize=0)
+    first, last, length = b"", b"", 0
+    while True:
+        piece = child.stdout.read(1 << 20)
+        if not piece:
+            break
+        first = (first + piece)[:1000]
+        last = (last + piece)[-1000:]
+        length += len(piece)
+    message = child.stderr.read()
+    child.stdout.close()
+    child.stderr.close()
+    return first, last, length, message, child.wait()
+
+
+def large_record(stress):
+    stress.begin("a record of 5,000,000,000 bytes")
+    path, head, last = sparse_archive(stress)
+    place = len(head) + SPARSE_BLOCK + 4
+    date = b"2020-01-01"
+    row = b"0\t0\t%d\tresource\t%s\t<%s>\t%s\n" % (SPARSE_BLOCK, date, FIRST_ID.encode(), TARGET.encode())
+    row += b"1\t%d\t3\tmetadata\t%s\t<%s>\t%s\n" % (place, date, LAST_ID.encode(), TARGET.encode())
+    unchecked = b"".join(b"%d\tunchecked\t%s\t-\n" % (number, name.encode())
+                         for number, name in enumerate((FIRST_ID, LAST_ID)))
+    last_head = last[:-7]
+    short = ((("list",), row, 0, b""), (("check",), b"0 N7\n1 N7\n", 1, b""),
+             (("fixity",), unchecked + b"records 2 good 0 bad 0 unchecked 2\n", 4, b""),
+             (("head", "0"), head, 0, b""), (("head", "1"), last_head, 0, b""), (("block", "1"), b"abc", 0, b""),
+             (("extract", LAST_ID), b"abc", 0, b""), (("body", "1"), b"", 1, b"warc: E2 NoCapture\n"))
+    for command, out, status, message in short:
+        seen = stress.run(words_for(command, path), seconds=600)
+        stress.judge(seen == Result(out, message, status), command, seen)
+    body = b"chosen 0 given 0 status - truncated no length %d\n" % SPARSE_BLOCK
+    good = b"warc: good 2 records, %d bytes\n" % (place + len(last))
+    converted = head.replace(b"WARC/1.0", b"WARC/1.1"), last.replace(b"WARC/1.0", b"WARC/1.1")
+    long = ((("block", "0"), b"", b"", b""), (("extract", FIRST_ID), b"", b"", b""), (("body", "0"), b"", b"", body),
+            (("replay", TARGET, "9999"), b"", b"", body), (("rewrite",), head, b"\r\n\r\n" + last, b""),
+            (("convert",), converted[0], b"\r\n\r\n" + converted[1], b""),
+            (("salvage",), head, b"\r\n\r\n" + last, good))
+    for command, begins, ends, message in long:
+        seen = count_output(stress, words_for(command, path))
+        length = len(begins) + SPARSE_BLOCK + len(ends)
+        wanted = (begins.ljust(1000, b"\0"), ends.rjust(1000, b"\0"), length, message, 0)
+        stress.judge(seen == wanted, command, "%d bytes, message %r, status %d" % seen[2:])
+    os.remove(path)
+    stress.end()
+
+
+KINDS = (plain_runs, failing_system_calls, failing_piped_reads, full_device, closed_outputs, reader_goes_away,
+         file_size_limit, memory_limit, odd_files, odd_names, standard_input, changing_files, two_at_once, large_record)
+
+
+def main(program):
+    root = os.path.join(TOP, "out", "stress")
+    os.makedirs(root, exist_ok=True)
+    folder = tempfile.mkdtemp(prefix="system-", dir=root)
+    resource.setrlimit(resource.RLIMIT_CORE, (0, 0))
+    stress = Stress(program, folder)
+    try:
+        for kind in KINDS:
+            kind(stress)
+    finally:
+        shutil.rmtree(folder)
+    print("system: %d kinds, %d tried, %d surprises" % (
+        len(stress.tried), sum(stress.tried.values()), sum(stress.surprises.values())))
+    return 1 if stress.surprises else 0
+
+
+if __name__ == "__main__":
+    sys.exit(main(sys.argv[1]))
