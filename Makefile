@@ -9,6 +9,7 @@
 # make install      installs the program, its pages, completions, docs and examples; make uninstall removes them
 # make dist         makes dist/warc-VERSION-x86_64-linux.tar.gz, the source tarball, and their SHA-256
 # make verify-dist FILE=..   builds from this folder, and compares with such a tarball byte for byte
+# make stress       runs bin/warc over generated archives, and where the system fails it; minutes; before a release
 # make test-package makes a Debian package of that tarball, installs it, runs it and removes it (as root)
 # make bench        measures; docs/SPEED.md has the figures
 # make clean        drops what was built and kept
@@ -18,7 +19,7 @@ DESTDIR ?=
 JOBS ?= $(shell nproc)
 VERSION := $(shell sed -n 's/^const VERSION: &str = "\(.*\)";$$/\1/p' crates/warc_commands/src/words.rt)
 
-.PHONY: all try test check lint test-docs lint-docs man install uninstall dist verify-dist test-package bench clean
+.PHONY: all try test check lint test-docs lint-docs man install uninstall dist verify-dist test-package stress bench clean
 
 all:
 	@python3 tools/build.py $(JOBS)
@@ -64,6 +65,9 @@ verify-dist: all man
 
 test-package: dist
 	@bash packaging/test.sh dist/warc-$(VERSION)-x86_64-linux.tar.gz
+
+stress: bin/warc
+	@bash tests/stress/run.sh
 
 bench: all
 	@python3 bench/bench.py bin/warc out/bench
