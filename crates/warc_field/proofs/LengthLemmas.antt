@@ -1,5 +1,5 @@
 -- Unfolding and trimming make no text longer.
-use Rattle.std.proofs.Common.{◌≡◌, ℕ, ◌+◌, ◌-◌, ◌≤◌, ⊎_elim, Bool, true, false, List, [], ◌∷◌, ◌++◌, length, drop, if◌then◌else◌, length-append, length-drop, length-take, ap, arith}
+use Rattle.std.proofs.Common.{ℕ, ◌+◌, ◌-◌, ◌≤◌, ⊎_elim, Bool, true, false, List, [], ◌∷◌, ◌++◌, length, drop, if◌then◌else◌, length-append, length-drop, length-take, ap, arith}
 use Rattle.std.specs.List.{flat_map, prefix_len, suffix_len}
 use Rattle.warc_field.specs.Lines.{begins_blank, continued, crlf, in_front, is_crlf, joined_parts, parts, unfolded}
 use Rattle.warc_field.specs.Text.{is_blank, trimmed}

@@ -4,7 +4,7 @@ use Rattle.std.proofs.lemmas.List.{get_or_past}
 use Rattle.std.proofs.lemmas.Bool.{cases_lt, cases_eq, false≢true, eqb-true}
 use Rattle.std.specs.List.{prefix_len, flat_map}
 use Rattle.std.proofs.lemmas.Grind.{common_steps}
-use Rattle.memchr.specs.Find.{OccursAt, NoneBefore, Nowhere, Passes, is_byte}
+use Rattle.memchr.specs.Find.{NoneBefore, Nowhere, Passes, is_byte}
 use Rattle.warc_field.specs.Text.{is_blank}
 use Rattle.warc_field.specs.Lines.{crlf_at, ends_at, parts, lines, is_crlf, in_front, begins_blank, unfolded, joined_parts, continued}
 
@@ -52,40 +52,9 @@ parts-none (b ∷ c ∷ bs) h = parts-more b c bs (h 0) ∙ ap (in_front b) (par
 pub crlf_bytes : (a b : ℕ) → is_crlf a b ≡ true → (a ≡ 13) × (b ≡ 10)
 crlf_bytes a b h = (eqb-true a 13 (and_left _ _ h), eqb-true b 10 (and_right _ _ h))
 
-below_two : (P : ℕ → Type 0) → P 0 → P 1 → (j : ℕ) → j < 2 → P j
-below_two P a b zero l = a
-below_two P a b (suc zero) l = b
-below_two P a b (suc (suc j)) l = absurd (omega arith)
-
-pub crlf-occurs : (t : List ℕ) (k : ℕ) → crlf_at t k ≡ true → OccursAt t (13 ∷ 10 ∷ []) k
-crlf-occurs t k h =
-    let is = crlf_bytes (get_or t k 0) (get_or t (suc k) 0) h in
-    record {
-      fits = ⊎_elim (λ l. omega arith) (λ past. let out = get_or_past t (suc k) 0 past in absurd (omega (arith, out, is.1))) (cases_lt (suc k) (length t));
-      reads = below_two (λ j. get_or t (k + j) 0 ≡ get_or (13 ∷ 10 ∷ []) j 0)
-          (ap (λ n. get_or t n 0) (let e : k + 0 ≡ k = omega arith in e) ∙ is.0)
-          (ap (λ n. get_or t n 0) (let e : k + 1 ≡ suc k = omega arith in e) ∙ is.1);
-    }
-
-pub occurs-crlf : (t : List ℕ) (k : ℕ) → OccursAt t (13 ∷ 10 ∷ []) k → crlf_at t k ≡ true
-occurs-crlf t k h =
-    let zeroth : k ≡ k + 0 = omega arith in
-    let first : suc k ≡ k + 1 = omega arith in
-    let a : get_or t k 0 ≡ 13 = ap (λ n. get_or t n 0) zeroth ∙ h.reads 0 (omega arith) in
-    let b : get_or t (suc k) 0 ≡ 10 = ap (λ n. get_or t n 0) first ∙ h.reads 1 (omega arith) in
-    rw (a, b)
-
 pub not_true : (b : Bool) → (b ≡ true → ⊥) → b ≡ false
 not_true true h = absurd (h refl)
 not_true false h = refl
-
-pub parts-found : (t : List ℕ) (n : ℕ) → NoneBefore (OccursAt t (13 ∷ 10 ∷ [])) 0 (length t + 1) n → OccursAt t (13 ∷ 10 ∷ []) n → parts t ≡ take n t ∷ parts (drop (n + 2) t)
-parts-found t n first here =
-    let e : n + 2 ≡ suc (suc n) = omega arith in
-    rw e (parts-first t n (occurs-crlf t n here) (λ k h. not_true _ (λ is. first.before k (omega arith) h (crlf-occurs t k is))))
-
-pub parts-absent : (t : List ℕ) → ((k : ℕ) → 0 ≤ k → k < length t + 1 → OccursAt t (13 ∷ 10 ∷ []) k → ⊥) → parts t ≡ t ∷ []
-parts-absent t h = parts-none t (λ k. not_true _ (λ is. let here = crlf-occurs t k is in h k (omega arith) (omega (arith, here.fits)) here))
 
 pub true_or_false : (v : Bool) → (v ≡ true) ⊎ (v ≡ false)
 true_or_false true = inl refl

@@ -11,6 +11,7 @@ mod text;
 mod write;
 
 pub use area::{AreaFault, read_area, read_area_in};
+pub use lines::find_crlf;
 pub use list::Fields;
 pub use number::decimal;
 pub use text::{Name, TextFault, Value, is_name, is_value, trim};

@@ -2,8 +2,27 @@ ghost use Rattle.std.specs.Prelude.{◌≡◌, ℕ, true, false, ◌+◌, ◌<�
 ghost use Rattle.warc_field.specs.Lines.{crlf_at, lines, parts, unfolded};
 
 use crate::text::{is_blank_byte, leading_blanks};
-use memchr::{memchr, memmem};
+use memchr::memchr;
 use std::alloc::{AllocError, Allocator};
+
+/// The place of the first CRLF, from a place on.
+pub fn find_crlf(text: &[u8], from: usize) -> Option<usize>
+    requires { from ≤ length text.now }
+    ensures found { IfSome result (λ at. crlf_at text.now at ≡ true) }
+    ensures within { IfSome result (λ at. (from ≤ at) × (at + 2 ≤ length text.now)) }
+    ensures first { IfSome result (λ at. (k : ℕ) → from ≤ k → k < at → crlf_at text.now k ≡ false) }
+    ensures none { IfNone result ((k : ℕ) → from ≤ k → crlf_at text.now k ≡ false) }
+{
+    let mut at = from;
+    while let Some(step) = memchr(b'\r', &text[at..]) {
+        let next = at + step + 1;
+        if next < text.len() && text[next] == b'\n' {
+            return Some(next - 1);
+        }
+        at = next;
+    }
+    None
+}
 
 /// The bytes before the first CRLF, and those after it.
 fn split_part(text: &[u8]) -> Option<(&[u8], &[u8])>
@@ -11,7 +30,7 @@ fn split_part(text: &[u8]) -> Option<(&[u8], &[u8])>
     ensures whole { IfSome result (λ r. length text.now ≡ length r.0.now + 2 + length r.1.now) }
     ensures none { IfNone result (parts text.now ≡ text.now ∷ []) }
 {
-    let at = memmem::find(text, b"\r\n")?;
+    let at = find_crlf(text, 0)?;
     Some((&text[..at], &text[at + 2..]))
 }
 
@@ -33,25 +52,6 @@ pub(crate) fn unfold<A: Allocator>(alloc: A, text: &[u8]) -> Result<Vec<u8, A>, 
     }
     out.extend_from_slice(rest)?;
     Ok(out)
-}
-
-/// Where the first CRLF stands from a place on.
-fn find_crlf(text: &[u8], from: usize) -> Option<usize>
-    requires { from ≤ length text.now }
-    ensures found { IfSome result (λ at. crlf_at text.now at ≡ true) }
-    ensures within { IfSome result (λ at. (from ≤ at) × (at + 2 ≤ length text.now)) }
-    ensures first { IfSome result (λ at. (k : ℕ) → from ≤ k → k < at → crlf_at text.now k ≡ false) }
-    ensures none { IfNone result ((k : ℕ) → from ≤ k → crlf_at text.now k ≡ false) }
-{
-    let mut at = from;
-    while let Some(step) = memchr(b'\r', &text[at..]) {
-        let next = at + step + 1;
-        if next < text.len() && text[next] == b'\n' {
-            return Some(next - 1);
-        }
-        at = next;
-    }
-    None
 }
 
 /// The first line, without its CRLF, and what follows it. A line ends at a CRLF that no space or tab follows.

@@ -1,10 +1,9 @@
 -- Where the first CRLF CRLF of a text stands.
-use Rattle.std.proofs.Common.{◌≡◌, ℕ, zero, suc, ◌+◌, ◌-◌, ◌<◌, ◌≤◌, Bool, true, false, not, cond, ◌&&◌, ◌==◌, List, [], ◌∷◌, ◌++◌, Option, Some, None, length, drop, get_or, refl, sym, ap, subst, ◌∙◌, arith, inl, inr, ◌⊎◌, ⊎_elim}
+use Rattle.std.proofs.Common.{◌≡◌, ℕ, zero, suc, ◌+◌, ◌<◌, ◌≤◌, Bool, true, false, not, cond, ◌&&◌, ◌==◌, List, [], ◌∷◌, ◌++◌, Option, Some, None, length, drop, get_or, refl, sym, ap, subst, ◌∙◌, arith, inl, inr, ◌⊎◌, ⊎_elim}
 use Rattle.std.specs.Prelude.{option_map}
 use Rattle.std.specs.List.{list_all}
-use Rattle.std.proofs.lemmas.List.{get_or_past, get_or-drop, length-drop}
-use Rattle.std.proofs.lemmas.Bool.{cases_lt, and_parts, eqb-true, false_from_ne_true}
-use Rattle.memchr.specs.Find.{Nowhere, OccursAt}
+use Rattle.std.proofs.lemmas.List.{get_or_past, get_or-drop}
+use Rattle.std.proofs.lemmas.Bool.{cases_lt, and_parts, eqb-true}
 use Rattle.warc_field.specs.Lines.{crlf_at, empty_at, is_crlf}
 use Rattle.warc_frame.specs.Reading.{empty_line}
 
@@ -15,6 +14,13 @@ true_or_false false = inr refl
 pub and_false_left : (v w : Bool) → v ≡ false → (v && w) ≡ false
 and_false_left true w h = cc
 and_false_left false w h = refl
+
+and_with_false : (v : Bool) → (v && false) ≡ false
+and_with_false true = refl
+and_with_false false = refl
+
+and_false_right : (v w : Bool) → w ≡ false → (v && w) ≡ false
+and_false_right v w h = ap (λ x. v && x) h ∙ and_with_false v
 
 pub crlf_bytes : (a b : ℕ) → is_crlf a b ≡ true → (a ≡ 13) × (b ≡ 10)
 crlf_bytes a b h = let both = and_parts (a == 13) (b == 10) h in (eqb-true a 13 both.0, eqb-true b 10 both.1)
@@ -31,83 +37,49 @@ unfolding empty_line
 empty_line-none [] none = refl
 empty_line-none (b ∷ bs) none = rw (none 0, empty_line-none bs (λ k. none (suc k)))
 
-below_four : (P : ℕ → Type 0) → P 0 → P 1 → P 2 → P 3 → (j : ℕ) → j < 4 → P j
-below_four P a b c d zero l = a
-below_four P a b c d (suc zero) l = b
-below_four P a b c d (suc (suc zero)) l = c
-below_four P a b c d (suc (suc (suc zero))) l = d
-below_four P a b c d (suc (suc (suc (suc j)))) l = absurd (omega arith)
+-- a CRLF behind the first i bytes
+crlf_at-drop : (t : List ℕ) (i : ℕ) → crlf_at (drop i t) 0 ≡ crlf_at t i
+crlf_at-drop t i =
+    let zeroth : i + 0 ≡ i = omega arith in
+    let first : i + 1 ≡ suc i = omega arith in
+    rw (get_or-drop i t 0 0, get_or-drop i t 1 0, zeroth, first)
 
-empty-occurs : (t : List ℕ) (k : ℕ) → empty_at t k ≡ true → OccursAt t (13 ∷ 10 ∷ 13 ∷ 10 ∷ []) k
-empty-occurs t k h =
-    let both = and_parts _ _ h in
-    let one = crlf_bytes (get_or t k 0) (get_or t (suc k) 0) both.0 in
-    let two = crlf_bytes (get_or t (suc (suc k)) 0) (get_or t (suc (suc (suc k))) 0) both.1 in
-    record {
-      fits = ⊎_elim (λ l. omega arith) (λ past. let out = get_or_past t (suc (suc (suc k))) 0 past in absurd (omega (arith, out, two.1))) (cases_lt (suc (suc (suc k))) (length t));
-      reads = below_four (λ j. get_or t (k + j) 0 ≡ get_or (13 ∷ 10 ∷ 13 ∷ 10 ∷ []) j 0)
-          (ap (λ n. get_or t n 0) (let e : k + 0 ≡ k = omega arith in e) ∙ one.0)
-          (ap (λ n. get_or t n 0) (let e : k + 1 ≡ suc k = omega arith in e) ∙ one.1)
-          (ap (λ n. get_or t n 0) (let e : k + 2 ≡ suc (suc k) = omega arith in e) ∙ two.0)
-          (ap (λ n. get_or t n 0) (let e : k + 3 ≡ suc (suc (suc k)) = omega arith in e) ∙ two.1);
-    }
+no_cr : (b c : ℕ) → b ≡ 10 → is_crlf b c ≡ false
+no_cr b c is = rw is
 
-occurs-empty : (t : List ℕ) (k : ℕ) → OccursAt t (13 ∷ 10 ∷ 13 ∷ 10 ∷ []) k → empty_at t k ≡ true
-occurs-empty t k h =
-    let a : get_or t k 0 ≡ 13 = ap (λ n. get_or t n 0) (let e : k ≡ k + 0 = omega arith in e) ∙ h.reads 0 (omega arith) in
-    let b : get_or t (suc k) 0 ≡ 10 = ap (λ n. get_or t n 0) (let e : suc k ≡ k + 1 = omega arith in e) ∙ h.reads 1 (omega arith) in
-    let c : get_or t (suc (suc k)) 0 ≡ 13 = ap (λ n. get_or t n 0) (let e : suc (suc k) ≡ k + 2 = omega arith in e) ∙ h.reads 2 (omega arith) in
-    let d : get_or t (suc (suc (suc k))) 0 ≡ 10 = ap (λ n. get_or t n 0) (let e : suc (suc (suc k)) ≡ k + 3 = omega arith in e) ∙ h.reads 3 (omega arith) in
-    rw (a, b, c, d)
+-- one turn of a search that found no empty line before `from`, and no CRLF from there up to `at`
+module _ (t : List ℕ) (from : ℕ) (before : (k : ℕ) → k < from → empty_at t k ≡ false) where
+  pub none-up_to : (at : ℕ) → ((k : ℕ) → from ≤ k → k < at → crlf_at t k ≡ false) → (k : ℕ) → k < at → empty_at t k ≡ false
+  none-up_to at none k below = ⊎_elim (before k) (λ above. and_false_left _ _ (none k above below)) (cases_lt k from)
 
--- behind its CR an empty line reads on as LF CR LF
-pub empty-behind : (t : List ℕ) (from m k : ℕ) → from + m ≡ k + 1 → empty_at t k ≡ true → OccursAt (drop from t) (10 ∷ 13 ∷ 10 ∷ []) m
-empty-behind t from m k e h =
-    let whole = empty-occurs t k h in
-    record {
-      fits = omega (arith, e, whole.fits, length-drop from t);
-      reads = λ j l. get_or-drop from t (m + j) 0
-          ∙ ap (λ n. get_or t n 0) (let i : from + (m + j) ≡ k + suc j = omega (arith, e) in i)
-          ∙ whole.reads (suc j) (omega (arith, l));
-    }
+  -- a CRLF that no other follows
+  module _ (at : ℕ) (none : (k : ℕ) → from ≤ k → k < at → crlf_at t k ≡ false) (here : crlf_at t at ≡ true) (other : crlf_at (drop (at + 2) t) 0 ≡ false) where
+    single : empty_at t at ≡ false
+    single =
+        let two : at + 2 ≡ suc (suc at) = omega arith in
+        let there : crlf_at t (suc (suc at)) ≡ false = ap (crlf_at t) (sym two) ∙ sym (crlf_at-drop t (at + 2)) ∙ other in
+        and_false_right _ _ there
 
-pub behind-empty : (t : List ℕ) (from m k : ℕ) → from + m ≡ k + 1 → OccursAt (drop from t) (10 ∷ 13 ∷ 10 ∷ []) m → get_or t k 0 ≡ 13 → empty_at t k ≡ true
-behind-empty t from m k e h cr =
-    let byte : (j : ℕ) → j < 3 → get_or t (k + suc j) 0 ≡ get_or (10 ∷ 13 ∷ 10 ∷ []) j 0 = λ j l.
-    ap (λ n. get_or t n 0) (let i : k + suc j ≡ from + (m + j) = omega (arith, e) in i) ∙ sym (get_or-drop from t (m + j) 0) ∙ h.reads j l in
-    occurs-empty t k (record {
-      fits = omega (arith, e, h.fits, length-drop from t);
-      reads = below_four (λ j. get_or t (k + j) 0 ≡ get_or (13 ∷ 10 ∷ 13 ∷ 10 ∷ []) j 0)
-          (ap (λ n. get_or t n 0) (let i : k + 0 ≡ k = omega arith in i) ∙ cr)
-          (byte 0 (omega arith)) (byte 1 (omega arith)) (byte 2 (omega arith));
-    })
+    inside : empty_at t (suc at) ≡ false
+    inside = and_false_left _ _ (no_cr _ _ (crlf_bytes (get_or t at 0) (get_or t (suc at) 0) here).1)
 
--- no empty line begins before a place, where none begins before another and no LF CR LF stands behind a CR up to it
-pub none-up_to : (t : List ℕ) (from step k : ℕ) → ((j : ℕ) → j + 1 < from → empty_at t j ≡ false)
-    → ((j : ℕ) → j < step → ¬ OccursAt (drop from t) (10 ∷ 13 ∷ 10 ∷ []) j) → k + 1 < from + step → empty_at t k ≡ false
-none-up_to t from step k before none below = ⊎_elim (before k)
-    (λ past. false_from_ne_true _ (λ is. none (k + 1 - from) (omega (arith, past, below)) (empty-behind t from (k + 1 - from) k (omega (arith, past)) is)))
-    (cases_lt (k + 1) from)
+    pub none-past : (k : ℕ) → k < at + 2 → empty_at t k ≡ false
+    none-past k below = ⊎_elim (none-up_to at none k)
+        (λ past. ⊎_elim
+        (λ same. let e : k ≡ at = omega (arith, past, same) in ap (empty_at t) e ∙ single)
+        (λ next. let e : k ≡ suc at = omega (arith, next, below) in ap (empty_at t) e ∙ inside)
+        (cases_lt k (at + 1)))
+        (cases_lt k at)
 
-pub none-past : (t : List ℕ) (from step k : ℕ) → ((j : ℕ) → j + 1 < from → empty_at t j ≡ false)
-    → ((j : ℕ) → j < step → ¬ OccursAt (drop from t) (10 ∷ 13 ∷ 10 ∷ []) j) → (0 < from + step → get_or t (from + step - 1) 0 ≡ 13 → ⊥)
-    → k + 1 < from + step + 1 → empty_at t k ≡ false
-none-past t from step k before none other below = ⊎_elim (none-up_to t from step k before none)
-    (λ past. false_from_ne_true _ (λ is.
-    let at : k ≡ from + step - 1 = omega (arith, past, below) in
-    let both = and_parts _ _ is in
-    let cr = crlf_bytes (get_or t k 0) (get_or t (suc k) 0) both.0 in
-    other (omega (arith, past)) (ap (λ n. get_or t n 0) (sym at) ∙ cr.0)))
-    (cases_lt (k + 1) (from + step))
+  pub nowhere : ((k : ℕ) → from ≤ k → crlf_at t k ≡ false) → (k : ℕ) → empty_at t k ≡ false
+  nowhere none k = ⊎_elim (before k) (λ above. and_false_left _ _ (none k above)) (cases_lt k from)
 
--- none begins anywhere, where no LF CR LF stands from the place on
-pub nowhere : (t : List ℕ) (from : ℕ) → ((j : ℕ) → j + 1 < from → empty_at t j ≡ false)
-    → Nowhere (OccursAt (drop from t) (10 ∷ 13 ∷ 10 ∷ [])) 0 (length (drop from t) + 1) → (k : ℕ) → empty_at t k ≡ false
-nowhere t from before none k = ⊎_elim (before k)
-    (λ past. false_from_ne_true _ (λ is.
-    let here = empty-behind t from (k + 1 - from) k (omega (arith, past)) is in
-    none (k + 1 - from) (omega arith) (omega (arith, here.fits)) here))
-    (cases_lt (k + 1) from)
+-- two CRLFs in a row
+pub empty-here : (t : List ℕ) (at : ℕ) → crlf_at t at ≡ true → crlf_at (drop (at + 2) t) 0 ≡ true → empty_at t at ≡ true
+empty-here t at here next =
+    let two : at + 2 ≡ suc (suc at) = omega arith in
+    let there : crlf_at t (suc (suc at)) ≡ true = ap (crlf_at t) (sym two) ∙ sym (crlf_at-drop t (at + 2)) ∙ next in
+    rw (here, there)
 
 pub suc_some : (o : Option ℕ) (p : ℕ) → option_map suc o ≡ Some p → (q : ℕ) × (o ≡ Some q) × (suc q ≡ p)
 suc_some None p h = absurd cc

@@ -1,9 +1,10 @@
 ghost use Rattle.std.specs.Prelude.{◌≡◌, ℕ, ◌+◌, ◌-◌, ◌<◌, ◌≤◌, ◌++◌, ◌&&◌, length, take, drop, slice_index, IfSome, IsTrue, ◌↔◌, MatchOption, None, Some};
+ghost use Rattle.warc_field.specs.Lines.{crlf_at};
 ghost use Rattle.warc_frame.specs.Reading.{empty_line, version_of, begins};
 ghost use Rattle.warc_frame.specs.Decoding.{ends_behind, closing};
 
 use crate::version::Version;
-use memchr::memmem;
+use warc_field::find_crlf;
 
 const CLOSING: [u8; 4] = *b"\r\n\r\n";
 
@@ -41,19 +42,24 @@ fn ends_at(kept: &[u8], piece: &[u8], place: usize) -> bool
     byte_at(kept, piece, end - 3) == b'\r'
 }
 
-/// Where the first CRLF CRLF stands. It is looked for by its LF CR LF: in lines of fields no CR stands behind an LF, so
-/// that the place is looked at alone.
+/// Whether a text begins with a CRLF.
+fn begins_with_crlf(text: &[u8]) -> bool
+    ensures { result ≡ crlf_at text.now 0 }
+{
+    text.len() >= 2 && text[0] == b'\r' && text[1] == b'\n'
+}
+
+/// The place of the first CRLF CRLF.
 pub(crate) fn find_empty_line(text: &[u8]) -> Option<usize>
     ensures value { result ≡ empty_line text.now }
     ensures within { IfSome result (λ at. at + 4 ≤ length text.now) }
 {
     let mut from = 0;
-    while let Some(step) = memmem::find(&text[from..], b"\n\r\n") {
-        let at = from + step;
-        if at > 0 && text[at - 1] == b'\r' {
-            return Some(at - 1);
+    while let Some(at) = find_crlf(text, from) {
+        if begins_with_crlf(&text[at + 2..]) {
+            return Some(at);
         }
-        from = at + 1;
+        from = at + 2;
     }
     None
 }
