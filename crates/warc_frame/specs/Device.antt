@@ -28,6 +28,12 @@ pub record Stored : Type 0 where
   pub reads : ℕ
   pub asked : ℕ
 
+-- a source of lent bytes: those, how often it was read, and the offset asked for last
+pub record Lent : Type 0 where
+  pub bytes : List ℕ
+  pub reads : ℕ
+  pub asked : ℕ
+
 -- a file, how often it was read, how often that failed, and the offset asked for last
 pub record Opened (F : Type 0) : Type 0 where
   pub file : F

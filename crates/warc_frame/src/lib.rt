@@ -25,7 +25,7 @@ pub use ranges::{put_range, read_range};
 pub use reading::{Head, MAX_BLOCK, MAX_HEAD, read_head, read_one};
 pub use send::{SendFault, send_all};
 pub use sink::{MemSink, OutSink, Sink, WriteFault, is_failed};
-pub use source::{FileSource, MemSource, ReadFault, Source};
+pub use source::{FileSource, MemSource, ReadFault, SliceSource, Source};
 pub use staging::{OutBuffer, put_all, put_columns};
 pub use stream::{Decoder, Event, MAX_ARCHIVE};
 pub use version::Version;

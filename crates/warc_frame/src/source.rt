@@ -47,6 +47,22 @@ pub trait Source {
         ensures asks { AsksOnly (IsInRange at (length buf.old)) (tapped self.old) (tapped self.new) };
 }
 
+/// Copies the bytes from an offset on into the front of the buffer, at most `most` and as many as it has room for, and
+/// returns how many.
+fn copy_from(bytes: &[u8], at: u64, buf: &mut [u8], most: usize) -> usize
+    ensures count { result ≡ min (length bytes.now - at) (min most (length buf.old)) }
+    ensures gives { (0 < length buf.old → 0 < most) → Gives bytes.now at buf.new result }
+{
+    let len = bytes.len();
+    if at >= len as u64 {
+        return 0;
+    }
+    let from = at as usize;
+    let n = (len - from).min(most.min(buf.len()));
+    buf[..n].copy_from_slice(&bytes[from..from + n]);
+    n
+}
+
 /// Bytes in memory, of which each read gives at most `most`.
 #[derive(Drop)]
 pub struct MemSource<A: Allocator = Global> {
@@ -115,14 +131,72 @@ impl<A: Allocator> Source for MemSource<A> {
     {
         self.reads = raise(self.reads);
         self.asked = at;
-        let len = self.bytes.len();
-        if at >= len as u64 {
-            return Ok(0);
+        Ok(copy_from(&self.bytes, at, buf, self.most))
+    }
+}
+
+/// Bytes that are lent, such as those of a mapped file. A read gives as many of them as the buffer has room for.
+#[derive(Drop)]
+pub struct SliceSource<'a> {
+    bytes: &'a [u8],
+    reads: u64,
+    asked: u64,
+}
+
+impl<'a> Model for SliceSource<'a> {
+    ghost use Rattle.warc_frame.specs.Device.{Lent};
+
+    ghost Value = { Lent };
+
+    ghost view = { λ s. record { bytes = s.bytes.now; reads = s.reads; asked = s.asked } };
+}
+
+impl<'a> SliceSource<'a> {
+    /// A source of these bytes, which nobody has read.
+    pub fn new(bytes: &'a [u8]) -> SliceSource<'a>
+        ensures bytes { result.bytes ≡ bytes.now }
+        ensures unread { result.reads ≡ 0 }
+        ensures unasked { result.asked ≡ 0 }
+    {
+        SliceSource {
+            bytes,
+            reads: 0,
+            asked: 0,
         }
-        let from = at as usize;
-        let n = (len - from).min(self.most.min(buf.len()));
-        buf[..n].copy_from_slice(&self.bytes[from..from + n]);
-        Ok(n)
+    }
+
+    /// The bytes.
+    pub fn bytes(&self) -> &'a [u8]
+        ensures { result.now ≡ self.now.bytes }
+    {
+        self.bytes
+    }
+}
+
+impl<'a> Source for SliceSource<'a> {
+    ghost tapped = { λ s. record {
+      holds = Some s.bytes;
+      faults = 0;
+      reads = s.reads;
+      asked = s.asked;
+      watches = λ _. false;
+      strays = 0;
+    } };
+
+    /// It never fails, and gives as many bytes as there are, up to the buffer's length.
+    fn read_at(&mut self, at: u64, buf: &mut [u8]) -> Result<usize, ReadFault>
+        ensures bound { IfOk result (λ n. n ≤ length buf.new) }
+        ensures bytes { (bytes : List ℕ) → Some self.old.bytes ≡ Some bytes → IfOk result (Gives bytes at buf.new) }
+        ensures kept { Some self.new.bytes ≡ Some self.old.bytes }
+        ensures cause { 0 ≡ (if is_err result then raised 0 else 0) }
+        ensures counted { self.new.reads ≡ raised self.old.reads }
+        ensures asked { self.new.asked ≡ at }
+        ensures given { result ≡ Ok (min (length self.old.bytes - at) (length buf.old)) }
+    {
+        self.reads = raise(self.reads);
+        self.asked = at;
+        let room = buf.len();
+        Ok(copy_from(self.bytes, at, buf, room))
     }
 }
 
