@@ -30,6 +30,8 @@ impl Source for EndlessSource {
       asked = s.asked;
       watches = λ _. false;
       strays = 0;
+      next = None;
+      jumps = 0;
     } };
 
     /// It never fails.

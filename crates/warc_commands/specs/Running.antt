@@ -1,5 +1,5 @@
 -- How a run of the program ends, by its words and by what the system gives it.
-use Rattle.std.specs.Prelude.{◌≡◌, ℕ, ◌+◌, Bool, true, false, List, [], map, length, nat_le, take, Option, Some, Result, Ok, Err, IfOk, IfErr, MatchOption, MatchResult, Vec, String, codes, string_bytes, ◌⊎◌, if◌then◌else◌}
+use Rattle.std.specs.Prelude.{◌≡◌, ℕ, ◌+◌, Bool, true, false, List, [], map, length, nat_le, take, Option, Some, None, Result, Ok, Err, IfOk, IfErr, MatchOption, MatchResult, Vec, String, codes, string_bytes, ◌⊎◌, if◌then◌else◌}
 use Rattle.std.specs.Str.{bytes_eq}
 use Rattle.std.specs.IoError.{error_kind}
 use Rattle.std.specs.declared.io.Error.{Error}
@@ -76,7 +76,16 @@ pub record ReadsFile (gives : Offer → Type 0) (command : Command) (old new : O
 
 -- a source of bytes in memory, which nobody has read
 abbrev pub in_memory : List ℕ → Tapped
-in_memory bytes = record { holds = Some bytes; faults = 0; reads = 0; asked = 0; watches = λ _. false; strays = 0 }
+in_memory bytes = record {
+  holds = Some bytes;
+  faults = 0;
+  reads = 0;
+  asked = 0;
+  watches = λ _. false;
+  strays = 0;
+  next = None;
+  jumps = 0;
+}
 
 -- a command over bytes in memory, if they are few enough
 abbrev pub MemoryEnds : Bool → List ℕ → Command → List ℕ → Outputs → Outputs → ℕ → Type 0

@@ -1,8 +1,10 @@
 -- What contracts see of a source and of a sink, before a call and after it.
-use Rattle.std.specs.Prelude.{◌≡◌, ℕ, ◌+◌, ◌<◌, ◌≤◌, Bool, false, List, Option, Some}
+use Rattle.std.specs.Prelude.{◌≡◌, ℕ, ◌+◌, ◌<◌, ◌≤◌, Bool, false, List, Option, Some, Result, IfSome, IfOk}
+use Rattle.warc_frame.specs.Count.{capped}
 
 -- a source: the bytes that it holds, where they are known, how often it has failed and was read, the offset of the last
--- read, the offsets that it watches, and how many reads asked for a byte at one of those
+-- read, the offsets that it watches, how many reads asked for a byte at one of those, the offset at which its next byte
+-- is, where it gives its bytes in order, and how many reads asked elsewhere
 pub record Tapped : Type 0 where
   pub holds : Option (List ℕ)
   pub faults : ℕ
@@ -10,6 +12,8 @@ pub record Tapped : Type 0 where
   pub asked : ℕ
   pub watches : ℕ → Bool
   pub strays : ℕ
+  pub next : Option ℕ
+  pub jumps : ℕ
 
 -- a fact about the bytes that a source holds, where they are known
 abbrev pub IfHeld : Option (List ℕ) → (List ℕ → Type 0) → Type 0
@@ -23,6 +27,15 @@ IsInRange at len q = (at ≤ q) × (q < at + len)
 -- it watches
 abbrev pub AsksOnly : (ℕ → Type 0) → Tapped → Tapped → Type 0
 AsksOnly These old new = ((at : ℕ) → These at → old.watches at ≡ false) → new.strays ≡ old.strays
+
+-- a read at the offset of the next byte is no jump, and the next byte is where it ends
+abbrev pub GoesOn : {E : Type 0} → ℕ → Result ℕ E → Tapped → Tapped → Type 0
+GoesOn at answer old new = IfSome old.next (λ next. at ≡ next
+    → (new.jumps ≡ old.jumps) × IfOk answer (λ n. new.next ≡ Some (capped (at + n))))
+
+-- reads that begin at an offset, each where the one before ended
+abbrev pub InOrder : ℕ → Tapped → Tapped → Type 0
+InOrder from old new = IfSome old.next (λ next. from ≡ next → new.jumps ≡ old.jumps)
 
 -- a sink: the bytes that it tells, where they are known, and how often it has failed
 pub record Seen : Type 0 where

@@ -2,7 +2,7 @@
 ghost use Rattle.std.specs.Prelude.{◌≡◌, ℕ, ◌-◌, ◌<◌, ◌≤◌, List, length, take, min, Bool, false, Option, Some, None, Ok, IfOk, is_err, if◌then◌else◌};
 ghost use Rattle.warc_frame.specs.Count.{raised};
 ghost use Rattle.warc_frame.specs.Device.{Gives};
-ghost use Rattle.warc_frame.specs.Seen.{AsksOnly, IsInRange, Tapped};
+ghost use Rattle.warc_frame.specs.Seen.{AsksOnly, GoesOn, IsInRange, Tapped};
 
 use crate::count::raise;
 use std::alloc::{Allocator, Global};
@@ -30,8 +30,9 @@ pub trait Source {
     /// What contracts see of it: the bytes that it holds, where they are known, how often it has failed and was read,
     /// the offset of the last read, the offsets that it watches, whatever they are, and how many reads asked for a byte
     /// at one of those. A count stays at 2^64 - 1. A read asks for as many bytes as its buffer has. So a call that
-    /// leaves the last count as it was, whatever a source watches outside some offsets, asks for the bytes at those
-    /// alone.
+    /// leaves the count of these reads as it was, whatever a source watches outside some offsets, asks for the bytes at
+    /// those alone. A source that gives its bytes in order also has the offset of its next byte, and a count of the
+    /// reads that asked elsewhere: a call that leaves this count as it was reads in order.
     ghost tapped: { Self → Tapped };
 
     /// Reads bytes at the offset into the front of the buffer, and answers how many.
@@ -44,7 +45,8 @@ pub trait Source {
         ensures counted { (tapped self.new).reads ≡ raised (tapped self.old).reads }
         ensures asked { (tapped self.new).asked ≡ at }
         ensures watched { (tapped self.new).watches ≡ (tapped self.old).watches }
-        ensures asks { AsksOnly (IsInRange at (length buf.old)) (tapped self.old) (tapped self.new) };
+        ensures asks { AsksOnly (IsInRange at (length buf.old)) (tapped self.old) (tapped self.new) }
+        ensures order { GoesOn at result (tapped self.old) (tapped self.new) };
 }
 
 /// Copies the bytes from an offset on into the front of the buffer, at most `most` and as many as it has room for, and
@@ -116,6 +118,8 @@ impl<A: Allocator> Source for MemSource<A> {
       asked = s.asked;
       watches = λ _. false;
       strays = 0;
+      next = None;
+      jumps = 0;
     } };
 
     /// It never fails, and gives as many bytes as there are, up to `most` and the buffer's length.
@@ -181,6 +185,8 @@ impl<'a> Source for SliceSource<'a> {
       asked = s.asked;
       watches = λ _. false;
       strays = 0;
+      next = None;
+      jumps = 0;
     } };
 
     /// It never fails, and gives as many bytes as there are, up to the buffer's length.
@@ -263,6 +269,8 @@ impl<F: Read + Seek> Source for FileSource<F> {
       asked = s.asked;
       watches = λ _. false;
       strays = 0;
+      next = None;
+      jumps = 0;
     } };
 
     /// Any error of the seek or the read is a failure, and nothing is tried again.

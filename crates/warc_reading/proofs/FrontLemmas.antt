@@ -1,5 +1,5 @@
 -- The longest list of good records that bytes begin with, by what was read of them.
-use Rattle.std.proofs.Common.{◌≡◌, ◌≢◌, ℕ, ◌+◌, ◌-◌, ◌<◌, ◌≤◌, Bool, true, false, true≢false, List, [], ◌++◌, length, take, drop, nat_lt, Option, Some, None, Result, Ok, Err, refl, sym, ap, subst, ◌∙◌, arith, length-append}
+use Rattle.std.proofs.Common.{◌≡◌, ◌≢◌, ℕ, ◌+◌, ◌-◌, ◌<◌, ◌≤◌, Bool, true, false, true≢false, List, [], ◌++◌, length, take, drop, Option, Some, None, Result, Ok, Err, refl, sym, ap, subst, ◌∙◌, arith, length-append}
 use Rattle.std.proofs.Math.Seq.{take-append_seam, take-append-add}
 use Rattle.std.proofs.lemmas.Bool.{ltb-true, ltb-false}
 use Rattle.std.proofs.lemmas.List.{append_assoc, append-nil, take-append-drop, take-append-le, take_all}
@@ -7,7 +7,7 @@ use Rattle.warc_field.specs.Lines.{crlf}
 use Rattle.warc_frame.specs.Faults.{AllAccepted, HasFault, goes_on, limited, within_limit}
 use Rattle.warc_frame.specs.Reading.{Head, any_fields, fault, head_of, record_of}
 use Rattle.warc_frame.specs.Record.{Record, head_text, max_archive}
-use Rattle.warc_frame.specs.Spelling.{Spells, SpellsAll}
+use Rattle.warc_frame.specs.Spelling.{Spells}
 use Rattle.warc_frame.specs.Told.{IsExact, Lies, Refuses, RefusesAs, Refutes, Told, Unclosed}
 use Rattle.warc_frame.specs.declared.fault.Fault.{Fault}
 use Rattle.warc_frame.specs.declared.fault.FaultKind.{FaultKind}

@@ -1,14 +1,15 @@
 -- Reading on in a source behind records that are kept.
-use Rattle.std.proofs.Common.{◌≡◌, ◌≢◌, ℕ, ◌+◌, ◌<◌, ◌≤◌, inl, inr, Bool, true, false, List, [], ◌∷◌, ◌++◌, length, take, drop, if◌then◌else◌, Option, None, Some, Result, Ok, Err, MatchResult, IfErr, OnErr, refl, sym, ap, subst, ◌∙◌, arith, length-append}
+use Rattle.std.proofs.Common.{◌≡◌, ◌≢◌, ℕ, ◌+◌, ◌-◌, ◌^◌, ◌<◌, ◌≤◌, inl, inr, Bool, true, false, List, [], ◌∷◌, ◌++◌, length, take, drop, if◌then◌else◌, Option, None, Some, Result, Ok, Err, MatchResult, IfErr, IfOk, IfSome, OnErr, refl, sym, ap, subst, ◌∙◌, arith, length-append}
+use Rattle.std.proofs.Math.Nat.{min-eq_left}
 use Rattle.std.proofs.Math.Seq.{drop-append_seam, take-add, take-append_seam, take-append-add}
 use Rattle.std.proofs.lemmas.List.{append_assoc, append-nil, drop-drop, length-drop, length-map, length-take, take-append-drop, take_all}
-use Rattle.warc_frame.specs.Count.{raised}
+use Rattle.warc_frame.specs.Count.{capped, raised}
 use Rattle.warc_frame.specs.Decoding.{Finishes, IsAt, PhaseIs, State}
 use Rattle.warc_frame.specs.Device.{Gives}
 use Rattle.warc_frame.specs.Ranges.{IsReadAt}
 use Rattle.warc_frame.specs.Reading.{fault}
 use Rattle.warc_frame.specs.Record.{max_archive}
-use Rattle.warc_frame.specs.Seen.{Tapped}
+use Rattle.warc_frame.specs.Seen.{GoesOn, InOrder, Tapped}
 use Rattle.warc_frame.specs.Told.{Lies, Told, nothing}
 use Rattle.warc_frame.specs.declared.fault.Fault.{Fault}
 use Rattle.warc_frame.specs.declared.fault.FaultKind.TheVariants.{Memory, Read, Truncated}
@@ -16,11 +17,11 @@ use Rattle.warc_frame.proofs.JudgedLemmas.{judged_cut}
 use Rattle.warc_frame.proofs.LawLemmas.{no_fault_where_spelled}
 use Rattle.warc_record.specs.Heads.{head_fault}
 use Rattle.warc_reading.specs.Archive.{Contents, IsArchiveOf, IsFaultOf, SpellsFrom, contents}
-use Rattle.warc_reading.specs.Fronts.{AreFrontRows, IsLongestFront, reach_by, reach_of}
+use Rattle.warc_reading.specs.Fronts.{AreFrontRows, IsLongestFront, reach_of}
 use Rattle.warc_reading.specs.Growing.{Grows, IsDeviceFault, grown}
 use Rattle.warc_reading.specs.Opening.{Opens, faults_after}
 use Rattle.warc_reading.specs.Row.{Placed, Row, row_of}
-use Rattle.warc_reading.specs.Stream.{Extends, HasGiven, HasGivenFrom, HasRead, IsKeptOf, IsLeft, Matches, Since, Stands, StaysRefused, Stops, WantsSince}
+use Rattle.warc_reading.specs.Stream.{Extends, Follows, HasGiven, HasGivenFrom, HasRead, IsKeptOf, IsLeft, Matches, Since, Stands, StaysRefused, Stops, WantsSince}
 use Rattle.warc_reading.specs.declared.reading.Current.{Current}
 use Rattle.warc_reading.specs.declared.reading.Reading.{Reading}
 use Rattle.warc_reading.proofs.FrontLemmas.{longest_cut, none_read}
@@ -128,6 +129,43 @@ given_on start old mid new taken buf n at len has read fits some size here gives
   watched = read.watched ∙ has.watched;
   near = near_more old mid new (start + length taken) len false fits has.watched read has.near;
 }
+
+-- ---- in which order it was read
+
+if_some : {X : Type 0} (o : Option X) (P : X → Type 0) → ((x : X) → o ≡ Some x → P x) → IfSome o P
+if_some None P h = tt
+if_some (Some x) P h = h x refl
+
+goes_on : {E : Type 0} (at : ℕ) (answer : Result ℕ E) (old new : Tapped) → GoesOn at answer old new → old.next ≡ Some at
+    → (new.jumps ≡ old.jumps) × IfOk answer (λ n. new.next ≡ Some (capped (at + n)))
+goes_on {E} at answer old new goes is =
+    let P : Option ℕ → Type 0 = λ o. IfSome o (λ next. at ≡ next → (new.jumps ≡ old.jumps) × IfOk answer (λ n. new.next ≡ Some (capped (at + n)))) in
+    subst P is goes refl
+
+pub in_order : (from : ℕ) (old new : Tapped) → (old.next ≡ Some from → new.jumps ≡ old.jumps) → InOrder from old new
+in_order from old new h = if_some old.next _ (λ next is same. h (is ∙ ap Some (sym same)))
+
+pub order_from : (a b : ℕ) (old new : Tapped) → a ≡ b → InOrder a old new → InOrder b old new
+order_from a b old new same order = let P : ℕ → Type 0 = λ from. InOrder from old new in subst P same order
+
+pub follows_none : (start : ℕ) (old : Tapped) → Follows start [] old old
+follows_none start old = λ is. (refl, is ∙ ap Some (let e : start ≡ start + 0 = omega arith in e))
+
+-- one more read, which failed or not
+module _ {E : Type 0} (start at : ℕ) (answer : Result ℕ E) (old mid new : Tapped) (taken : List ℕ) (here : at ≡ start + length taken) (follows : Follows start taken old mid) (goes : GoesOn at answer mid new) where
+  pub still_in_order : InOrder start old new
+  still_in_order = in_order start old new (λ is.
+      let was = follows is in
+      (goes_on at answer mid new goes (was.1 ∙ ap Some (sym here))).0 ∙ was.0)
+
+pub follows_on : (E : Type 0) (start at n : ℕ) (old mid new : Tapped) (taken buf : List ℕ) → at ≡ start + length taken → length (taken ++ take n buf) ≡ length taken + n → at + n ≤ 2 ^ 48 + 1
+    → Follows start taken old mid → GoesOn {E = E} at (Ok n) mid new → Follows start (taken ++ take n buf) old new
+follows_on E start at n old mid new taken buf here size low follows goes = λ is.
+    let was = follows is in
+    let on = goes_on {E = E} at (Ok n) mid new goes (was.1 ∙ ap Some (sym here)) in
+    let small : at + n ≤ 2 ^ 64 - 1 = omega (arith, low) in
+    let e : capped (at + n) ≡ start + length (taken ++ take n buf) = omega (arith, here, size, low, min-eq_left small) in
+    (on.0 ∙ was.0, on.1 ∙ ap Some e)
 
 -- a piece was taken
 pub part_grows : {A L : Type 0} (K : L → List Placed → Type 0) (was : List Placed) (bytes taken part : List ℕ) (d : State) (r : Reading A L) → Stands (Since K was) ((bytes ++ taken) ++ part) d r → Stands (Since K was) (bytes ++ (taken ++ part)) d r
@@ -431,14 +469,14 @@ opens_new was answer is grows = record {
   cost = λ bytes held. (grows.whole [] bytes is held).cost bytes held;
 }
 
-pub none_kept : {L : Type 0} (K : L → List Placed → Type 0) (l : L) → K l [] → IsKeptOf K [] ([], l)
-none_kept K l is = record {
-  listed = record {
-    short = omega arith;
-    are = record { records = []; spelled = refl; good = tt; rows_are = refl };
-  };
-  beside = is;
+abbrev pub none_listed : IsArchiveOf [] []
+none_listed = record {
+  short = omega arith;
+  are = record { records = []; spelled = refl; good = tt; rows_are = refl };
 }
+
+pub none_kept : {L : Type 0} (K : L → List Placed → Type 0) (l : L) → K l [] → IsKeptOf K [] ([], l)
+none_kept K l is = record { listed = none_listed; beside = is }
 
 -- the rows that reading from nothing gives
 pub front_rows : {L : Type 0} {K : L → List Placed → Type 0} (old new : Tapped) (l : L) (none rows : List Row) (answer : Result (Unit {0}) Fault) → none ≡ [] → K l [] → Opens IsArchiveOf old new (grown answer rows)

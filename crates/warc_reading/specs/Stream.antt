@@ -151,6 +151,11 @@ pub record HasGivenFrom (start : ℕ) (old new : Tapped) (taken : List ℕ) : Ty
   pub watched : new.watches ≡ old.watches
   pub near : AsksOnly (λ at. at ≤ max_archive) old new
 
+-- these bytes were read of a source, from an offset on, each read where the one before ended
+abbrev pub Follows : ℕ → List ℕ → Tapped → Tapped → Type 0
+Follows start taken old new = old.next ≡ Some start
+    → (new.jumps ≡ old.jumps) × (new.next ≡ Some (start + length taken))
+
 -- this text was read of a source, from its front on
 abbrev pub HasGiven : Tapped → Tapped → List ℕ → Type 0
 HasGiven old new text = HasGivenFrom 0 old new text

@@ -12,7 +12,7 @@ ghost use Rattle.warc_frame.specs.Decoding.{IsAt};
 ghost use Rattle.warc_frame.specs.Device.{Gives};
 ghost use Rattle.warc_frame.specs.Ranges.{IsReadAt};
 ghost use Rattle.warc_frame.specs.Record.{max_archive};
-ghost use Rattle.warc_frame.specs.Seen.{IfHeld};
+ghost use Rattle.warc_frame.specs.Seen.{GoesOn, IfHeld, InOrder};
 ghost use Rattle.warc_frame.specs.Told.{Told};
 ghost use Rattle.warc_reading.specs.Stream.{BeginsSince, Extends, HasSeen, WantsSince, IsHead, IsKeptOf, IsLeft, Since, Stands, StaysRefused, Stops, place_by, row_by};
 ghost use Rattle.warc_reading.specs.declared.reading.Current.{Current as Kept};
@@ -297,6 +297,8 @@ fn read_near<S: Source>(source: &mut S, at: u64, buf: &mut [u8]) -> Result<usize
         → IfOk result (Gives bytes at buf.new) }
     ensures read { IsReadAt at (min (max_archive + 1 - at) (length buf.old)) (is_err result) (S.tapped source.old)
         (S.tapped source.new) }
+    ensures near { IfOk result (λ n. at + n ≤ 2 ^ 48 + 1) }
+    ensures order { GoesOn at result (S.tapped source.old) (S.tapped source.new) }
 {
     let room = (MAX_ARCHIVE + 1 - at).min(buf.len() as u64) as usize;
     source.read_at(at, &mut buf[..room])
@@ -321,6 +323,7 @@ fn read_through<S: Source, A: Allocator + Copy, L: Keep<A> + Drop>(
     ensures stops { (bytes more : List ℕ) → IsKeptOf L.keeps bytes (reading.old.rows, reading.old.beside) →
         (S.tapped source.old).holds ≡ Some (bytes ++ more) → IfErr result (λ f. IsLongestFront (take (reach_of f)
         (bytes ++ more)) reading.new.rows) }
+    ensures order { InOrder reading.old.begin (S.tapped source.old) (S.tapped source.new) }
 {
     let mut decoder = Decoder::new(alloc, reading.begin);
     'reading: loop {
@@ -350,6 +353,8 @@ pub fn read_on<S: Source, A: Allocator + Copy, L: Keep<A> + Drop>(
     ensures rows { OnErr result.0 (result.1 ≡ rows) }
     ensures beside { (bytes : List ℕ) → IsKeptOf L.keeps bytes (rows, beside)
         → OnErr result.0 (IsKeptOf L.keeps bytes (result.1, result.2)) }
+    ensures order { (bytes : List ℕ) → IsArchiveOf bytes rows
+        → InOrder (length bytes) (S.tapped source.old) (S.tapped source.new) }
 {
     let Ok(mut buf) = vec![in alloc; 0u8; PIECE] else {
         return (Err(FaultKind::Memory.at(0)), rows, beside);
@@ -373,6 +378,7 @@ pub fn read_front<S: Source, A: Allocator + Copy>(
 ) -> (Result<(), Fault>, Rows<A>)
     ensures opens { Opens IsArchiveOf (S.tapped source.old) (S.tapped source.new) (grown result.0 result.1) }
     ensures front { IfHeld (S.tapped source.old).holds (λ bytes. AreFrontRows bytes result.0 result.1) }
+    ensures order { InOrder 0 (S.tapped source.old) (S.tapped source.new) }
 {
     let Ok(mut buf) = vec![in alloc; 0u8; PIECE] else {
         return (Err(FaultKind::Memory.at(0)), Rows::new(alloc));

@@ -4,13 +4,15 @@ use Rattle.std.specs.Prelude.{Result}
 use Rattle.std.specs.Io.KnownBytes.{ReadConsumes}
 use Rattle.warc_frame.specs.Count.{capped}
 
--- a reader, the offset of its next byte, how often it was read, how often that failed, and the offset asked for last
+-- a reader, the offset of its next byte, how often it was read, how often that failed, the offset asked for last, and
+-- how many reads asked elsewhere than at the next byte
 pub record Streamed (R : Type 0) : Type 0 where
   pub reader : R
   pub position : ℕ
   pub reads : ℕ
   pub faults : ℕ
   pub asked : ℕ
+  pub jumps : ℕ
 
 -- a read at an offset gave the next bytes of a reader, which is at a position before and after, and has these bytes
 -- left before and after, where they are known. Only a read at the position gives any; a read that fails takes none

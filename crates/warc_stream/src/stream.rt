@@ -1,5 +1,5 @@
 //! Bytes that come once, in order.
-ghost use Rattle.std.specs.Prelude.{◌≡◌, ℕ, ◌≤◌, length, false, None, IfOk, is_err, if◌then◌else◌};
+ghost use Rattle.std.specs.Prelude.{◌≡◌, ◌==◌, ℕ, ◌≤◌, length, false, None, Some, IfOk, is_err, if◌then◌else◌};
 ghost use Rattle.warc_frame.specs.Count.{raised};
 ghost use Rattle.warc_stream.specs.Stream.{GivesNext};
 
@@ -16,6 +16,7 @@ pub struct StreamSource<R> {
     reads: u64,
     asked: u64,
     faults: u64,
+    jumps: u64,
 }
 
 impl<R> Model for StreamSource<R> {
@@ -29,6 +30,7 @@ impl<R> Model for StreamSource<R> {
       reads = s.reads;
       faults = s.faults;
       asked = s.asked;
+      jumps = s.jumps;
     } };
 }
 
@@ -40,6 +42,7 @@ impl<R: Read> StreamSource<R> {
         ensures unread { result.reads ≡ 0 }
         ensures unasked { result.asked ≡ 0 }
         ensures sound { result.faults ≡ 0 }
+        ensures straight { result.jumps ≡ 0 }
     {
         StreamSource {
             reader,
@@ -47,6 +50,7 @@ impl<R: Read> StreamSource<R> {
             reads: 0,
             asked: 0,
             faults: 0,
+            jumps: 0,
         }
     }
 
@@ -65,8 +69,10 @@ impl<R: Read> StreamSource<R> {
         ensures reads { self.new.reads ≡ self.old.reads }
         ensures asked { self.new.asked ≡ self.old.asked }
         ensures faults { self.new.faults ≡ self.old.faults }
+        ensures jumps { self.new.jumps ≡ (if at == self.old.position then self.old.jumps else raised self.old.jumps) }
     {
         if at != self.position {
+            self.jumps = raise(self.jumps);
             return Err(ReadFault);
         }
         match self.reader.read(buf) {
@@ -87,6 +93,8 @@ impl<R: Read> Source for StreamSource<R> {
       asked = s.asked;
       watches = λ _. false;
       strays = 0;
+      next = Some s.position;
+      jumps = s.jumps;
     } };
 
     /// It gives what one read of the reader gives, at its position alone. Any error of the reader is a failure, also an
@@ -98,6 +106,7 @@ impl<R: Read> Source for StreamSource<R> {
         ensures cause { self.new.faults ≡ (if is_err result then raised self.old.faults else self.old.faults) }
         ensures counted { self.new.reads ≡ raised self.old.reads }
         ensures asked { self.new.asked ≡ at }
+        ensures jumps { self.new.jumps ≡ (if at == self.old.position then self.old.jumps else raised self.old.jumps) }
     {
         self.reads = raise(self.reads);
         self.asked = at;

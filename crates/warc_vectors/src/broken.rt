@@ -55,6 +55,8 @@ impl<A: Allocator> Source for BrokenSource<A> {
       asked = s.asked;
       watches = λ _. false;
       strays = 0;
+      next = None;
+      jumps = 0;
     } };
 
     /// It fails at the read of its number, and at no other.
@@ -149,6 +151,8 @@ impl<A: Allocator> Source for ChangingSource<A> {
       asked = s.asked;
       watches = λ _. false;
       strays = 0;
+      next = None;
+      jumps = 0;
     } };
 
     /// It never fails.

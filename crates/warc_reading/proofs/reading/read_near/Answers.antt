@@ -1,4 +1,4 @@
-use Rattle.std.proofs.Common.{◌+◌, ◌++◌, length, drop, ◌∙◌, arith, length-append}
+use Rattle.std.proofs.Common.{length, drop, ◌∙◌, arith, length-append}
 use Rattle.std.proofs.lemmas.List.{length-drop, length-take}
 use Rattle.warc_reading.proofs.SourceLemmas.{gives_front, room_left}
 use Rattle.warc_reading.proofs.reading.read_near.Goals as goal

@@ -1,8 +1,8 @@
-use Rattle.std.proofs.Common.{List, subst, ◌∙◌}
+use Rattle.std.proofs.Common.{List, length, refl, subst, ◌∙◌}
 use Rattle.warc_reading.specs.Archive.{IsArchiveOf}
 use Rattle.warc_reading.specs.Row.{Row}
 use Rattle.warc_reading.specs.Stream.{Extends, IsKeptOf}
-use Rattle.warc_reading.proofs.GrowLemmas.{extends_front, grows_from, grows_untried, kept_again}
+use Rattle.warc_reading.proofs.GrowLemmas.{extends_front, grows_from, grows_untried, in_order, kept_again, order_from}
 use Rattle.warc_reading.proofs.reading.read_on.Goals as goal
 
 pub read_through-requires-clause-begin : goal.read_through-requires-clause-begin
@@ -43,3 +43,12 @@ returns-clause-beside g c = λ bytes is.
       beside = rw c.behind-reading.ensures.beside is.beside;
     } in
     kept_again g.L.Keep.keeps bytes c.args.rows _ c.args.beside c.read_through.new.reading.beside _ c.len-count.result is same c.len-count.ensures (c.in-Err.ensures.left bytes begun) c.forget_after.ensures.beside
+
+pub returns-in_default-clause-order : goal.returns-in_default-clause-order
+returns-in_default-clause-order g c = λ bytes is. in_order (length bytes) (g.S.Source.tapped c.args.source.now) (g.S.Source.tapped c.args.source.now) (λ _. refl)
+
+pub returns-in-Ok-read_through-clause-order : goal.returns-in-Ok-read_through-clause-order
+returns-in-Ok-read_through-clause-order g c = λ bytes is. order_from _ _ (g.S.Source.tapped c.args.source.now) (g.S.Source.tapped c.read_through.new.source) (c.behind-reading.ensures.begin bytes is) c.in-Ok-read_through.ensures.order
+
+pub returns-clause-order : goal.returns-clause-order
+returns-clause-order g c = λ bytes is. order_from _ _ (g.S.Source.tapped c.args.source.now) (g.S.Source.tapped c.read_through.new.source) (c.behind-reading.ensures.begin bytes is) c.in-Err.ensures.order

@@ -1,7 +1,8 @@
-use Rattle.std.proofs.Common.{rules, ℕ, ◌<◌, true, false, List, ◌++◌, [], length, take, refl, ◌∙◌, arith, length-append}
+use Rattle.std.proofs.Common.{rules, Ok, Err, ℕ, ◌<◌, true, false, List, ◌++◌, [], length, take, refl, ◌∙◌, arith, length-append}
 use Rattle.std.proofs.lemmas.Result.{err_from_is_err_and}
 use Rattle.warc_frame.specs.Told.{nothing}
-use Rattle.warc_reading.proofs.GrowLemmas.{begun, extends_more, extends_none, given_none, given_on, grows_ended, grows_refused, grows_unread, on_err, part_grows, since_left, stops_ended, stops_refused, stops_unread}
+use Rattle.warc_frame.specs.declared.source.ReadFault.{ReadFault}
+use Rattle.warc_reading.proofs.GrowLemmas.{begun, extends_more, extends_none, follows_none, follows_on, given_none, given_on, grows_ended, grows_refused, grows_unread, on_err, part_grows, since_left, still_in_order, stops_ended, stops_refused, stops_unread}
 use Rattle.warc_reading.proofs.OpeningLemmas.{fits_near, near, read_there}
 use Rattle.warc_reading.proofs.SourceLemmas.{length_grows}
 use Rattle.warc_reading.proofs.reading.read_through.Goals as goal
@@ -14,6 +15,7 @@ reading-init g c = record {
   stands = λ bytes is. begun g.L.Keep.keeps bytes _ c.args.reading.now is (c.requires.begin bytes is.listed) c.requires.current c.new-decoder.ensures;
   rows = extends_none c.args.reading.now.rows;
   given = given_none c.args.reading.now.begin _;
+  follows = follows_none c.args.reading.now.begin (g.S.Source.tapped c.args.source.now);
   room = refl;
 }
 
@@ -89,6 +91,7 @@ reading-preserved g c =
       stands = λ bytes is. part_grows g.L.Keep.keeps is.listed.are.records bytes i.taken (take n buf) _ _ (c.in_ok-take_piece.ensures.history is.listed.are.records (bytes ++ i.taken) (i.stands bytes is));
       rows = extends_more _ _ _ i.rows c.take_piece.ensures.rows;
       given = given_on start _ _ _ i.taken buf n c.position-at.result (near c.position-at.result (length c.reading.buf)) i.given (read_there end c.in-Ok.ensures.read) (fits_near (length c.reading.buf) end c.position-at.ensures.limit) some size end (λ bytes held. c.in-Ok.ensures.bytes bytes (i.given.kept ∙ held));
+      follows = follows_on ReadFault start c.position-at.result n (g.S.Source.tapped c.args.source.now) (g.S.Source.tapped c.reading.source) (g.S.Source.tapped c.read_near.new.source) i.taken buf end size c.in-Ok.ensures.near i.follows c.in-Ok.ensures.order;
       room = search rules;
     }
 
@@ -131,3 +134,21 @@ pub returns-clause-left : goal.returns-clause-left
 returns-clause-left g c = λ bytes is.
     let s = c.reading.invariant.stands bytes is in
     on_err c.finish.result (since_left g.L.Keep.keeps is.listed.are.records c.reading.reading.beside s.has.records s.has.beside)
+
+pub returns-in-Err-clause-order : goal.returns-in-Err-clause-order
+returns-in-Err-clause-order g c =
+    let i = c.reading.invariant in
+    let (end, lies) = c.position-at.ensures.history c.args.reading.now.begin i.taken i.told i.is_at in
+    still_in_order {E = ReadFault} c.args.reading.now.begin c.position-at.result (Err c.in-Err.field-0) (g.S.Source.tapped c.args.source.now) (g.S.Source.tapped c.reading.source) (g.S.Source.tapped c.read_near.new.source) i.taken end i.follows c.in-Err.ensures.order
+
+pub returns-in_err-take_piece-clause-order : goal.returns-in_err-take_piece-clause-order
+returns-in_err-take_piece-clause-order g c =
+    let i = c.reading.invariant in
+    let (end, lies) = c.position-at.ensures.history c.args.reading.now.begin i.taken i.told i.is_at in
+    still_in_order {E = ReadFault} c.args.reading.now.begin c.position-at.result (Ok c.in-Ok.n) (g.S.Source.tapped c.args.source.now) (g.S.Source.tapped c.reading.source) (g.S.Source.tapped c.read_near.new.source) i.taken end i.follows c.in-Ok.ensures.order
+
+pub returns-clause-order : goal.returns-clause-order
+returns-clause-order g c =
+    let i = c.reading.invariant in
+    let (end, lies) = c.position-at.ensures.history c.args.reading.now.begin i.taken i.told i.is_at in
+    still_in_order {E = ReadFault} c.args.reading.now.begin c.position-at.result (Ok c.in-Ok.n) (g.S.Source.tapped c.args.source.now) (g.S.Source.tapped c.reading.source) (g.S.Source.tapped c.read_near.new.source) i.taken end i.follows c.in-Ok.ensures.order

@@ -1,7 +1,7 @@
 use Rattle.std.proofs.Common.{◌≡◌, ℕ, ◌+◌, ◌-◌, ◌^◌, List, ◌++◌, length}
 use Rattle.warc_frame.specs.Decoding.{IsAt}
 use Rattle.warc_frame.specs.Told.{Told}
-use Rattle.warc_reading.specs.Stream.{Extends, HasGivenFrom, IsKeptOf, Since, Stands}
+use Rattle.warc_reading.specs.Stream.{Extends, Follows, HasGivenFrom, IsKeptOf, Since, Stands}
 use Rattle.warc_reading.proofs.reading.read_through.Given as goal
 
 -- some bytes were read behind those of the records that were kept
@@ -16,6 +16,7 @@ invariant-reading g l = record {
       (g.S.Source.tapped l.fn.source)
       (g.S.Source.tapped l.source)
       taken;
+  follows : Follows l.fn.reading.begin taken (g.S.Source.tapped l.fn.source) (g.S.Source.tapped l.source);
   room : length l.buf ≡ length l.fn.buf;
 }
 
