@@ -1,31 +1,15 @@
 -- The lines of blocks that aren't good, and how many blocks have a verdict.
-use Rattle.std.proofs.Common.{◌≡◌, ℕ, ◌+◌, ◌≤◌, Bool, true, false, List, [], ◌∷◌, ◌++◌, length, map, take, drop, if◌then◌else◌, append_assoc, codes, decimal, filter, refl, sym, ap, ◌∙◌, arith, length-append, Some}
+use Rattle.std.proofs.Common.{◌≡◌, ℕ, ◌+◌, ◌≤◌, List, [], ◌∷◌, ◌++◌, length, map, take, drop, append_assoc, codes, decimal, refl, sym, ap, ◌∙◌, arith, length-append, Some}
 use Rattle.std.proofs.lemmas.List.{append-nil, take_all}
-use Rattle.std.proofs.lemmas.List.Elements.{filter-append}
 use Rattle.std.specs.List.{concat, enumerate_from, flat_map, join_with_byte, slice_get}
 use Rattle.warc_record.specs.Ids.{bare_text}
 use Rattle.warc_reading.specs.Row.{Row}
 use Rattle.warc_value.specs.declared.hash.Verdict.{Verdict}
 use Rattle.warc_value.specs.declared.hash.Verdict.TheVariants.{Good, Bad, Unchecked}
-use Rattle.warc_checking.proofs.RecordsLemmas.{take_one}
-use Rattle.warc.specs.Fixity.{Digested, counts_line, counts_of, fixity_line, fixity_lines, fixity_text, is_verdict, verdict_count, verdict_line, verdict_text}
+use Rattle.warc.specs.Fixity.{Digested, counts_line, counts_of, fixity_line, fixity_lines, fixity_text, verdict_line, verdict_text}
 use Rattle.warc.specs.Listing.{shown}
 use Rattle.warc.proofs.LineLemmas.{lines_front}
 use Rattle.warc.specs.declared.fixity.Counts.{Counts}
-
-abbrev pub one_if : Bool → ℕ
-one_if test = if test then 1 else 0
-
-single : (test : Row → Bool) (row : Row) → length (filter test (row ∷ [])) ≡ one_if (test row)
-single test row = elim (test row) as (λ b. length (if b then row ∷ [] else []) ≡ one_if b) [ true ↦ refl | false ↦ refl ]
-
--- one more row
-pub verdict_more : (verdict : Verdict) (rows : List Row) (i : ℕ) (row : Row) → slice_get rows i ≡ Some row
-    → verdict_count verdict (take (i + 1) rows) ≡ verdict_count verdict (take i rows) + one_if (is_verdict verdict row.verdict)
-verdict_more verdict rows i row is =
-    let test : Row → Bool = λ r. is_verdict verdict r.verdict in
-    ap (λ l. length (filter test l)) (take_one rows i row is) ∙ ap length (filter-append test (take i rows) (row ∷ []))
-    ∙ length-append (filter test (take i rows)) (filter test (row ∷ [])) ∙ ap (λ n. length (filter test (take i rows)) + n) (single test row)
 
 four : (a b c d : List ℕ) → concat ((a ++ 9 ∷ []) ∷ (b ++ 9 ∷ []) ∷ (c ++ 9 ∷ []) ∷ (d ++ 10 ∷ []) ∷ []) ≡ join_with_byte 9 (a ∷ b ∷ c ∷ d ∷ []) ++ 10 ∷ []
 four a b c d = simp append_assoc

@@ -1,6 +1,7 @@
 pub mod OutputLemmas
 pub mod EmitLemmas
 pub mod ExtractLemmas
+pub mod CountLemmas
 pub mod FixityLemmas
 pub mod FrontLemmas
 pub mod LawLemmas
@@ -8,6 +9,7 @@ pub mod LineLemmas
 pub mod ReplayLemmas
 pub mod BodyLemmas
 pub mod SplitLemmas
+pub mod SummaryLemmas
 pub mod StandLemmas
 pub mod WholeLemmas
 pub mod TakeLemmas

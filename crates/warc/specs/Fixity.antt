@@ -1,6 +1,6 @@
 -- How the blocks of an archive compare with the digests that their heads state, and the lines that say so. This
 -- project's own notion.
-use Rattle.std.specs.Prelude.{◌≡◌, ℕ, Bool, true, false, List, [], ◌∷◌, ◌++◌, length, map, filter, slice_get, unwrap_or, codes, decimal, Result, Ok, Err}
+use Rattle.std.specs.Prelude.{◌≡◌, ℕ, List, [], ◌∷◌, ◌++◌, length, map, slice_get, unwrap_or, codes, decimal, Result, Ok, Err}
 use Rattle.std.specs.List.{enumerate_from, flat_map, join_with_byte}
 use Rattle.warc_field.specs.Area.{Pair, first_value}
 use Rattle.warc_value.specs.declared.hash.Verdict.{Verdict}
@@ -9,7 +9,9 @@ use Rattle.warc_frame.specs.declared.fault.Fault.{Fault}
 use Rattle.warc_record.specs.Ids.{bare_text}
 use Rattle.warc_reading.specs.Archive.{Contents, IsArchiveOf}
 use Rattle.warc_reading.specs.Row.{Placed, Row, row_of}
+use Rattle.warc.specs.Counting.{tally_of}
 use Rattle.warc.specs.Listing.{shown}
+use Rattle.warc.specs.declared.counting.Counted.TheVariants as counted
 use Rattle.warc.specs.declared.fixity.Counts.{Counts}
 
 -- the value that tells the digest of a block, empty where no field does
@@ -47,22 +49,13 @@ abbrev pub source_digested : {S : Type 0} → Result (Digested S) (Fault × S) �
 source_digested (Ok digested) = digested.listing.source
 source_digested (Err refused) = refused.1
 
--- how many of the rows have a verdict
-abbrev pub is_verdict : Verdict → Verdict → Bool
-is_verdict Good Good = true
-is_verdict Bad Bad = true
-is_verdict Unchecked Unchecked = true
-is_verdict _ _ = false
-
-abbrev pub verdict_count : Verdict → List Row → ℕ
-verdict_count verdict rows = length (filter (λ r. is_verdict verdict r.verdict) rows)
-
+-- how many records there are, and how many of each verdict
 abbrev pub counts_of : List Row → Counts
 counts_of rows = record {
   records = length rows;
-  good = verdict_count Good rows;
-  bad = verdict_count Bad rows;
-  unchecked = verdict_count Unchecked rows;
+  good = tally_of (counted.Verdict Good) rows;
+  bad = tally_of (counted.Verdict Bad) rows;
+  unchecked = tally_of (counted.Verdict Unchecked) rows;
 }
 
 abbrev pub verdict_text : Verdict → List ℕ

@@ -4,6 +4,7 @@ pub mod Emitting
 pub mod Fixity
 pub mod Forms
 pub mod Copied
+pub mod Counting
 pub mod Extracting
 pub mod Finding
 pub mod Front
@@ -13,5 +14,6 @@ pub mod Parts
 pub mod Replaying
 pub mod Segments
 pub mod Standing
+pub mod Summary
 pub mod TakeText
 pub mod Taking

@@ -16,7 +16,7 @@ use warc_reading::{Lookup, Rows};
 use warc_record::Kind;
 
 /// Whether the record of a type is a capture.
-fn is_capture(kind: &[u8]) -> bool
+pub(crate) fn is_capture(kind: &[u8]) -> bool
     ensures { result ≡ is_capture (kind_named kind.now) }
 {
     matches!(

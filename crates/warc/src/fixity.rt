@@ -1,13 +1,14 @@
 //! How the blocks of an archive compare with the digests that their heads tell.
-ghost use Rattle.std.specs.Prelude.{◌≡◌, ◌≤◌, [], codes, IfErr, OnErr, OnOk, is_err, map, slice_get, unwrap_or, if◌then◌else◌};
+ghost use Rattle.std.specs.Prelude.{◌≡◌, [], codes, IfErr, OnErr, OnOk, is_err, map, slice_get, unwrap_or, if◌then◌else◌};
 ghost use Rattle.std.specs.Io.KnownBytes.{append_known};
 ghost use Rattle.warc_frame.specs.Count.{raised};
 ghost use Rattle.warc_frame.specs.Putting.{Puts};
 ghost use Rattle.warc_frame.specs.Send.{WentOut, sent_of};
 ghost use Rattle.warc_reading.specs.Opening.{Opens};
-ghost use Rattle.warc.specs.Fixity.{IsDigested, verdict_count, counts_line, counts_of, digest_kept, digest_value, fixity_text, is_verdict, digested_of, source_digested};
+ghost use Rattle.warc.specs.Fixity.{IsDigested, counts_line, counts_of, digest_kept, digest_value, fixity_text, digested_of, source_digested};
 ghost use Rattle.warc.specs.Fixity.{unless_good, verdict_line, verdict_text};
 
+use crate::counting::{Counted, count};
 use crate::row::shown_as;
 use itoa::Buffer;
 use std::alloc::{AllocError, Allocator, Global};
@@ -105,39 +106,6 @@ impl<A: Allocator + Copy> Keep<A> for Digests<A> {
     fn forget_after(&mut self, count: usize) {
         self.values.truncate(count);
     }
-}
-
-/// Whether a verdict is another.
-fn is_verdict(one: Verdict, other: Verdict) -> bool
-    ensures { result ≡ is_verdict one other }
-{
-    match one {
-        Verdict::Good => matches!(other, Verdict::Good),
-        Verdict::Bad => matches!(other, Verdict::Bad),
-        Verdict::Unchecked => matches!(other, Verdict::Unchecked),
-    }
-}
-
-/// One where a test holds, and else nothing.
-fn one_if(test: bool) -> usize
-    ensures value { result ≡ (if test then 1 else 0) }
-    ensures most { result ≤ 1 }
-{
-    if test { 1 } else { 0 }
-}
-
-/// How many of the rows have a verdict.
-fn verdict_count<A: Allocator>(verdict: Verdict, rows: &Rows<A>) -> usize
-    ensures { result ≡ verdict_count verdict rows.now }
-{
-    let mut count = 0usize;
-    'counting: for position in 0..rows.len() {
-        let Some(row) = rows.get(position) else {
-            unreachable!()
-        };
-        count += one_if(is_verdict(verdict, row.verdict));
-    }
-    count
 }
 
 /// What a verdict is called.
@@ -239,9 +207,9 @@ impl<S: Source, A: Allocator> Fixity<S, A> {
     {
         Counts {
             records: self.rows.len(),
-            good: verdict_count(Verdict::Good, &self.rows),
-            bad: verdict_count(Verdict::Bad, &self.rows),
-            unchecked: verdict_count(Verdict::Unchecked, &self.rows),
+            good: count(Counted::Verdict(Verdict::Good), &self.rows),
+            bad: count(Counted::Verdict(Verdict::Bad), &self.rows),
+            unchecked: count(Counted::Verdict(Verdict::Unchecked), &self.rows),
         }
     }
 

@@ -1,10 +1,10 @@
 use Rattle.std.proofs.Common.{◌≡◌, ◌≤◌, take}
-use Rattle.warc.specs.Fixity.{verdict_count}
-use Rattle.warc.proofs.fixity.verdict_count.Given as goal
+use Rattle.warc.specs.Counting.{tally_of}
+use Rattle.warc.proofs.counting.count.Given as goal
 
 -- the rows so far were counted
 abbrev pub invariant-counting : goal.invariant-counting
 invariant-counting g l = record {
-  counted : l.count ≡ verdict_count l.verdict (take l.position l.rows);
+  counted : l.count ≡ tally_of l.what (take l.position l.rows);
   within : l.count ≤ l.position;
 }

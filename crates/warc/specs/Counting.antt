@@ -1,0 +1,40 @@
+-- How many records are of a kind, have a verdict, or are marked as truncated. This project's own notion.
+use Rattle.std.specs.Prelude.{ℕ, Bool, true, false, List, length, filter}
+use Rattle.warc_value.specs.declared.hash.Verdict.{Verdict}
+use Rattle.warc_value.specs.declared.hash.Verdict.TheVariants.{Good, Bad, Unchecked}
+use Rattle.warc_record.specs.Kinds.{kind_named}
+use Rattle.warc_record.specs.declared.types.Kind.{Kind}
+use Rattle.warc_record.specs.declared.types.Kind.TheVariants.{Warcinfo, Response, Resource, Request, Metadata, Revisit, Conversion, Continuation, Other}
+use Rattle.warc_index.specs.Captures.{is_capture}
+use Rattle.warc_reading.specs.Row.{Row}
+use Rattle.warc.specs.declared.counting.Counted.{Counted}
+use Rattle.warc.specs.declared.counting.Counted.TheVariants as counted
+
+-- whether two kinds are the same, and two verdicts
+abbrev pub is_kind : Kind → Kind → Bool
+is_kind Warcinfo Warcinfo = true
+is_kind Response Response = true
+is_kind Resource Resource = true
+is_kind Request Request = true
+is_kind Metadata Metadata = true
+is_kind Revisit Revisit = true
+is_kind Conversion Conversion = true
+is_kind Continuation Continuation = true
+is_kind Other Other = true
+is_kind _ _ = false
+
+abbrev pub is_verdict : Verdict → Verdict → Bool
+is_verdict Good Good = true
+is_verdict Bad Bad = true
+is_verdict Unchecked Unchecked = true
+is_verdict _ _ = false
+
+-- whether a row is one of those that are counted
+abbrev pub is_counted : Counted → Row → Bool
+is_counted (counted.Kind kind) row = is_kind kind (kind_named row.kind)
+is_counted counted.Capture row = is_capture (kind_named row.kind)
+is_counted (counted.Verdict verdict) row = is_verdict verdict row.verdict
+is_counted counted.Truncated row = row.is_truncated
+
+abbrev pub tally_of : Counted → List Row → ℕ
+tally_of what rows = length (filter (is_counted what) rows)

@@ -1,0 +1,148 @@
+-- What an archive holds, in numbers and dates, and the lines that say so. This project's own notion.
+use Rattle.std.specs.Prelude.{◌≡◌, ◌≢◌, ℕ, ◌<◌, Bool, true, false, not, List, [], ◌∷◌, ◌++◌, length, map, filter, slice_get, codes, decimal, Option, None, Some, is_some, option_map, unwrap_or, MatchOption, Result, Ok, Err}
+use Rattle.std.specs.List.{flat_map}
+use Rattle.warc_field.specs.Area.{Pair}
+use Rattle.warc_value.specs.Dates.{Instant, instant_of}
+use Rattle.warc_value.specs.declared.hash.Verdict.TheVariants.{Good, Bad, Unchecked}
+use Rattle.warc_frame.specs.declared.fault.Fault.{Fault}
+use Rattle.warc_record.specs.Readings.{present_value}
+use Rattle.warc_record.specs.declared.types.Kind.TheVariants.{Warcinfo, Response, Resource, Request, Metadata, Revisit, Conversion, Continuation, Other}
+use Rattle.warc_index.specs.Captures.{is_earlier}
+use Rattle.warc_reading.specs.Archive.{Contents, IsArchiveOf}
+use Rattle.warc_reading.specs.Row.{Placed, Row}
+use Rattle.warc.specs.Counting.{tally_of}
+use Rattle.warc.specs.declared.counting.Counted.TheVariants as counted
+use Rattle.warc.specs.declared.summary.End.{End}
+use Rattle.warc.specs.declared.summary.End.TheVariants.{First, Last}
+use Rattle.warc.specs.declared.summary.Summary.{Summary}
+
+-- whether a record has a segment number, whatever its kind
+abbrev pub has_segment_number : List Pair → Bool
+has_segment_number fields = is_some (present_value (codes "WARC-Segment-Number") fields)
+
+abbrev pub is_numbered : Placed → Bool
+is_numbered p = has_segment_number p.content.fields
+
+abbrev pub segmented_count : List Bool → ℕ
+segmented_count flags = length (filter (λ flag. flag) flags)
+
+-- a listing, and for each record whether it has a segment number
+pub record Flagged (S : Type 0) : Type 0 where
+  pub listing : Contents S
+  pub segmented : List Bool
+
+-- these are the rows of the good records that the bytes spell, and those flags of theirs
+pub record AreFlagged (bytes : List ℕ) (rows : List Row) (segmented : List Bool) : Type 0 where
+  pub listed : IsArchiveOf bytes rows
+  pub segmented_are : segmented ≡ map is_numbered listed.are.records
+
+abbrev pub IsSummarized : {S : Type 0} → List ℕ → Flagged S → Type 0
+IsSummarized bytes flagged = AreFlagged bytes flagged.listing.rows flagged.segmented
+
+-- what opening gives, or why it gives none; and the source that it leaves
+abbrev pub summarized_of : {S : Type 0} → Result (Flagged S) (Fault × S) → Result (Flagged S) Fault
+summarized_of (Ok flagged) = Ok flagged
+summarized_of (Err refused) = Err refused.0
+
+abbrev pub source_summarized : {S : Type 0} → Result (Flagged S) (Fault × S) → S
+source_summarized (Ok flagged) = flagged.listing.source
+source_summarized (Err refused) = refused.1
+
+abbrev pub instant_at : Row → Option Instant
+instant_at row = instant_of row.date
+
+-- the row at a position is the first by its instant: no row is earlier, and each one before it is later
+pub record IsFirstRow (rows : List Row) (position : ℕ) (row : Row) : Type 0 where
+  pub at : slice_get rows position ≡ Some row
+  pub none : (q : ℕ) (r : Row) → slice_get rows q ≡ Some r → is_earlier (instant_at r) (instant_at row) ≡ false
+  pub before : (q : ℕ) (r : Row) → slice_get rows q ≡ Some r → q < position
+      → is_earlier (instant_at row) (instant_at r) ≡ true
+
+-- the row at a position is the last by its instant: no row is later, and each one after it is earlier
+pub record IsLastRow (rows : List Row) (position : ℕ) (row : Row) : Type 0 where
+  pub at : slice_get rows position ≡ Some row
+  pub none : (q : ℕ) (r : Row) → slice_get rows q ≡ Some r → is_earlier (instant_at row) (instant_at r) ≡ false
+  pub behind : (q : ℕ) (r : Row) → slice_get rows q ≡ Some r → position < q
+      → is_earlier (instant_at r) (instant_at row) ≡ true
+
+abbrev pub IsEndRow : End → List Row → ℕ → Row → Type 0
+IsEndRow First rows position row = IsFirstRow rows position row
+IsEndRow Last rows position row = IsLastRow rows position row
+
+-- the position is that of the row at an end, unless there are no rows
+abbrev pub IsEndOf : End → List Row → ℕ → Type 0
+IsEndOf end rows position = (rows ≢ []) → (row : Row) × IsEndRow end rows position row
+
+-- the date of the row at an end, as it is written; there is none exactly where there are no rows
+abbrev pub IsDateOf : End → List Row → Option (List ℕ) → Type 0
+IsDateOf end rows date =
+    MatchOption date (rows ≡ []) (λ text. (position : ℕ) × (row : Row) × IsEndRow end rows position row
+    × (text ≡ row.date))
+
+-- what is said of these rows and flags: their number, that of the bytes, and of each kind, verdict and mark; and the
+-- dates of the first and of the last row
+pub record IsSummaryOf (rows : List Row) (segmented : List Bool) (s : Summary) : Type 0 where
+  pub records : s.records ≡ length rows
+  pub bytes : (bytes : List ℕ) → IsArchiveOf bytes rows → s.bytes ≡ length bytes
+  pub warcinfo : s.warcinfo ≡ tally_of (counted.Kind Warcinfo) rows
+  pub response : s.response ≡ tally_of (counted.Kind Response) rows
+  pub resource : s.resource ≡ tally_of (counted.Kind Resource) rows
+  pub request : s.request ≡ tally_of (counted.Kind Request) rows
+  pub metadata : s.metadata ≡ tally_of (counted.Kind Metadata) rows
+  pub revisit : s.revisit ≡ tally_of (counted.Kind Revisit) rows
+  pub conversion : s.conversion ≡ tally_of (counted.Kind Conversion) rows
+  pub continuation : s.continuation ≡ tally_of (counted.Kind Continuation) rows
+  pub other : s.other ≡ tally_of (counted.Kind Other) rows
+  pub captures : s.captures ≡ tally_of counted.Capture rows
+  pub good : s.good ≡ tally_of (counted.Verdict Good) rows
+  pub bad : s.bad ≡ tally_of (counted.Verdict Bad) rows
+  pub unchecked : s.unchecked ≡ tally_of (counted.Verdict Unchecked) rows
+  pub truncated : s.truncated ≡ tally_of counted.Truncated rows
+  pub segmented_is : s.segmented ≡ segmented_count segmented
+  pub first : IsDateOf First rows (option_map (λ d. d.now) s.first_date)
+  pub last : IsDateOf Last rows (option_map (λ d. d.now) s.last_date)
+
+-- whether a row of an instant is nearer to an end than one before it
+abbrev pub is_nearer : End → Option Instant → Option Instant → Bool
+is_nearer First instant best = is_earlier instant best
+is_nearer Last instant best = not (is_earlier instant best)
+
+-- a line: a name, a tab, a value, LF
+unfoldable pub text_line : List ℕ → List ℕ → List ℕ
+text_line name value = name ++ codes "\t" ++ value ++ codes "\n"
+
+unfoldable pub number_line : List ℕ × ℕ → List ℕ
+number_line named = text_line named.0 (decimal named.1)
+
+-- the numbers with their names, in the order of the lines
+unfoldable pub summary_numbers : Summary → List (List ℕ × ℕ)
+summary_numbers s =
+    (codes "records", s.records)
+    ∷ (codes "bytes", s.bytes)
+    ∷ (codes "warcinfo", s.warcinfo)
+    ∷ (codes "response", s.response)
+    ∷ (codes "resource", s.resource)
+    ∷ (codes "request", s.request)
+    ∷ (codes "metadata", s.metadata)
+    ∷ (codes "revisit", s.revisit)
+    ∷ (codes "conversion", s.conversion)
+    ∷ (codes "continuation", s.continuation)
+    ∷ (codes "other", s.other)
+    ∷ (codes "captures", s.captures)
+    ∷ (codes "good", s.good)
+    ∷ (codes "bad", s.bad)
+    ∷ (codes "unchecked", s.unchecked)
+    ∷ (codes "truncated", s.truncated)
+    ∷ (codes "segmented", s.segmented)
+    ∷ []
+
+-- a date, or `-` where there is none
+abbrev pub shown_date : Option (List ℕ) → List ℕ
+shown_date date = unwrap_or date (codes "-")
+
+-- all lines
+unfoldable pub summary_text : Summary → List ℕ
+summary_text s =
+    flat_map number_line (summary_numbers s)
+    ++ text_line (codes "first date") (shown_date (option_map (λ d. d.now) s.first_date))
+    ++ text_line (codes "last date") (shown_date (option_map (λ d. d.now) s.last_date))

@@ -1,0 +1,365 @@
+//! What an archive holds: how many records of which kind, how many bytes, and from when to when.
+ghost use Rattle.std.specs.Prelude.{◌≡◌, [], IfErr, OnErr, OnOk, is_err, map, option_map, if◌then◌else◌};
+ghost use Rattle.std.specs.Io.KnownBytes.{append_known};
+ghost use Rattle.std.specs.List.{concat};
+ghost use Rattle.warc_frame.specs.Count.{raised};
+ghost use Rattle.warc_frame.specs.Putting.{Puts};
+ghost use Rattle.warc_frame.specs.Send.{WentOut, sent_of};
+ghost use Rattle.warc_index.specs.Captures.{is_earlier};
+ghost use Rattle.warc_reading.specs.Opening.{Opens};
+ghost use Rattle.warc.specs.Summary.{IsDateOf, IsEndOf, IsSummarized, IsSummaryOf, has_segment_number, is_nearer, is_numbered, number_line, summary_numbers};
+ghost use Rattle.warc.specs.Summary.{segmented_count, shown_date, source_summarized, summarized_of, summary_text, text_line};
+
+use crate::counting::{Counted, count, one_if};
+use itoa::Buffer;
+use std::alloc::{AllocError, Allocator, Global};
+use std::marker::Model;
+use warc_field::Fields;
+use warc_frame::{Fault, OutBuffer, OutFault, SendFault, Sink, Source, put_columns};
+use warc_reading::{Keep, Rows, read_on};
+use warc_record::Kind;
+use warc_segment::Place;
+use warc_value::{Moment, Verdict, read_date};
+
+/// The field that makes a record a segment (ISO 28500:2017, 5.20).
+const SEGMENT_NUMBER: &[u8] = b"WARC-Segment-Number";
+
+/// How many records and bytes an archive has, how many records of each kind, how many captures, how many blocks of each
+/// verdict, how many records that are marked as truncated and that are segments, and the dates of its first and its
+/// last record, as they are written.
+#[derive(Clone, Copy, Debug)]
+pub struct Summary<'a> {
+    pub records: usize,
+    pub bytes: u64,
+    pub warcinfo: usize,
+    pub response: usize,
+    pub resource: usize,
+    pub request: usize,
+    pub metadata: usize,
+    pub revisit: usize,
+    pub conversion: usize,
+    pub continuation: usize,
+    pub other: usize,
+    pub captures: usize,
+    pub good: usize,
+    pub bad: usize,
+    pub unchecked: usize,
+    pub truncated: usize,
+    pub segmented: usize,
+    pub first_date: Option<&'a [u8]>,
+    pub last_date: Option<&'a [u8]>,
+}
+
+/// Whether each record is a segment.
+#[derive(Drop)]
+struct Segmented<A: Allocator> {
+    flags: Vec<bool, A>,
+}
+
+impl<A: Allocator> Model for Segmented<A> {
+    ghost use Rattle.std.specs.Prelude.{Bool, List};
+
+    ghost Value = { List Bool };
+
+    ghost view = { λ s. s.flags.items };
+}
+
+impl<A: Allocator> Segmented<A> {
+    /// Of no records.
+    fn new(alloc: A) -> Segmented<A>
+        ensures { result ≡ [] }
+    {
+        Segmented {
+            flags: Vec::new(alloc),
+        }
+    }
+
+    /// How many records are segments.
+    fn count(&self) -> usize
+        ensures { result ≡ segmented_count self.now }
+    {
+        let mut count = 0usize;
+        'counting: for position in 0..self.flags.len() {
+            count += one_if(self.flags[position]);
+        }
+        count
+    }
+}
+
+/// Whether a head has a segment number, whatever its value, if it isn't empty.
+fn has_segment_number<A: Allocator>(fields: &Fields<A>) -> bool
+    ensures { result ≡ has_segment_number fields.now }
+{
+    match fields.first(SEGMENT_NUMBER) {
+        Some(value) => !value.bytes().is_empty(),
+        None => false,
+    }
+}
+
+impl<A: Allocator + Copy> Keep<A> for Segmented<A> {
+    ghost keeps = { λ s records. s ≡ map is_numbered records };
+
+    fn keep(
+        &mut self,
+        _alloc: A,
+        _position: usize,
+        fields: &Fields<A>,
+        _place: Place,
+    ) -> Result<(), AllocError> {
+        self.flags.push(has_segment_number(fields))?;
+        Ok(())
+    }
+
+    fn forget_after(&mut self, count: usize) {
+        self.flags.truncate(count);
+    }
+}
+
+/// Whether an instant comes before another; an absent one comes before any other.
+fn is_earlier(one: Option<Moment>, other: Option<Moment>) -> bool
+    ensures { result ≡ is_earlier one other }
+{
+    match (one, other) {
+        (_, None) => false,
+        (None, Some(_)) => true,
+        (Some(one), Some(other)) => one.is_before(&other),
+    }
+}
+
+/// One end of the records in the order of their instants, and of their positions where the instants are the same.
+#[derive(Clone, Copy)]
+enum End {
+    First,
+    Last,
+}
+
+/// Whether a record of an instant is nearer to an end than one of another instant at a lower position.
+fn is_nearer(end: End, instant: Option<Moment>, best: Option<Moment>) -> bool
+    ensures { result ≡ is_nearer end instant best }
+{
+    match end {
+        End::First => is_earlier(instant, best),
+        End::Last => !is_earlier(instant, best),
+    }
+}
+
+/// A record, by its position and the instant of its date.
+#[derive(Clone, Copy)]
+struct Dated {
+    position: usize,
+    instant: Option<Moment>,
+}
+
+/// The nearer one to an end, of the nearest so far and the next record.
+fn nearer(end: End, best: Dated, next: Dated) -> Dated
+    ensures { result ≡ (if is_nearer end next.instant best.instant then next else best) }
+{
+    if is_nearer(end, next.instant, best.instant) {
+        next
+    } else {
+        best
+    }
+}
+
+/// The position of the record at an end; of no records it is 0.
+fn position_at<A: Allocator>(end: End, rows: &Rows<A>) -> usize
+    ensures { IsEndOf end rows.now result }
+{
+    let Some(first) = rows.get(0) else {
+        return 0;
+    };
+    let mut best = Dated {
+        position: 0,
+        instant: read_date(first.date),
+    };
+    'finding: for position in 1..rows.len() {
+        let Some(row) = rows.get(position) else {
+            unreachable!()
+        };
+        let next = Dated {
+            position,
+            instant: read_date(row.date),
+        };
+        best = nearer(end, best, next);
+    }
+    best.position
+}
+
+/// The date of the record at an end, as it is written.
+fn date_at<A: Allocator>(end: End, rows: &Rows<A>) -> Option<&[u8]>
+    ensures { IsDateOf end rows.now (option_map (λ d. d.now) result) }
+{
+    let row = rows.get(position_at(end, rows))?;
+    Some(row.date)
+}
+
+/// The line of a number.
+#[tactic(auto, unfolding(crate::specs::Summary::number_line))]
+fn put_number<W: Sink>(
+    name: &str,
+    number: u64,
+    buffer: &mut OutBuffer,
+    out: &mut W,
+) -> Result<(), SendFault>
+    ensures { Puts (W.seen out.old) (W.seen out.new) buffer.old buffer.new result (number_line (name.now, number)) }
+{
+    let mut digits = Buffer::new();
+    put_text(name, digits.format(number).as_bytes(), buffer, out)
+}
+
+/// The line of a text.
+#[tactic(auto, unfolding(crate::specs::Summary::text_line))]
+fn put_text<W: Sink>(
+    name: &str,
+    text: &[u8],
+    buffer: &mut OutBuffer,
+    out: &mut W,
+) -> Result<(), SendFault>
+    ensures { Puts (W.seen out.old) (W.seen out.new) buffer.old buffer.new result (text_line name.now text.now) }
+{
+    put_columns(&[(name.as_bytes(), b'\t'), (text, b'\n')], buffer, out)
+}
+
+/// A line for each number.
+fn put_numbers<W: Sink>(
+    numbers: &[(&'static str, u64)],
+    buffer: &mut OutBuffer,
+    out: &mut W,
+) -> Result<(), SendFault>
+    ensures { Puts (W.seen out.old) (W.seen out.new) buffer.old buffer.new result
+        (concat (map (λ n. number_line (n.0.now, n.1)) numbers.now)) }
+{
+    'putting: for number in numbers {
+        put_number(number.0, number.1, buffer, out)?;
+    }
+    Ok(())
+}
+
+impl<'a> Summary<'a> {
+    /// The numbers, each with its name, in the order in which they are written.
+    #[tactic(auto, unfolding(crate::specs::Summary::summary_numbers))]
+    fn numbers(&self) -> [(&'static str, u64); 17]
+        ensures { map (λ n. (n.0.now, n.1)) result ≡ summary_numbers self.now }
+    {
+        [
+            ("records", self.records as u64),
+            ("bytes", self.bytes),
+            ("warcinfo", self.warcinfo as u64),
+            ("response", self.response as u64),
+            ("resource", self.resource as u64),
+            ("request", self.request as u64),
+            ("metadata", self.metadata as u64),
+            ("revisit", self.revisit as u64),
+            ("conversion", self.conversion as u64),
+            ("continuation", self.continuation as u64),
+            ("other", self.other as u64),
+            ("captures", self.captures as u64),
+            ("good", self.good as u64),
+            ("bad", self.bad as u64),
+            ("unchecked", self.unchecked as u64),
+            ("truncated", self.truncated as u64),
+            ("segmented", self.segmented as u64),
+        ]
+    }
+
+    /// Writes a line for each number, and one for each date: its name, a tab and its value. An absent date is `-`. It
+    /// takes no memory.
+    pub fn write<W: Sink>(&self, out: &mut W) -> Result<(), OutFault>
+        ensures told { OnOk result ((W.seen out.new).tells ≡ append_known (W.seen out.old).tells
+            (summary_text self.now)) }
+        ensures cut { IfErr result (λ e. WentOut (W.seen out.old).tells (summary_text self.now) (W.seen out.new).tells
+            (sent_of e)) }
+        ensures write { IfErr result (λ e. e ≡ OutFault.Write (sent_of e)) }
+        ensures cause { (W.seen out.new).faults ≡ (if is_err result then raised (W.seen out.old).faults else
+            (W.seen out.old).faults) }
+    {
+        let mut buffer = OutBuffer::new();
+        put_numbers(&self.numbers(), &mut buffer, out)?;
+        put_text("first date", shown_date(self.first_date), &mut buffer, out)?;
+        put_text("last date", shown_date(self.last_date), &mut buffer, out)?;
+        buffer.flush(out)?;
+        Ok(())
+    }
+}
+
+/// A date as it is written, or `-` where there is none.
+fn shown_date(date: Option<&[u8]>) -> &[u8]
+    ensures { result.now ≡ shown_date (option_map (λ d. d.now) date.entry) }
+{
+    match date {
+        Some(date) => date,
+        None => b"-",
+    }
+}
+
+/// An archive whose records are counted.
+#[derive(Drop)]
+pub struct Summarized<S: Source, A: Allocator = Global> {
+    source: S,
+    rows: Rows<A>,
+    segmented: Segmented<A>,
+}
+
+impl<S: Source, A: Allocator> Model for Summarized<S, A> {
+    ghost use Rattle.warc.specs.Summary.{Flagged};
+
+    ghost Value = { Flagged S };
+
+    ghost view = { λ a. record { listing = record { source = a.source; rows = a.rows }; segmented = a.segmented } };
+}
+
+impl<S: Source, A: Allocator> Summarized<S, A> {
+    /// What the archive holds. It takes no memory.
+    pub fn summary(&self) -> Summary<'_>
+        ensures { IsSummaryOf self.now.listing.rows self.now.segmented result }
+    {
+        let rows = &self.rows;
+        Summary {
+            records: rows.len(),
+            bytes: rows.end(),
+            warcinfo: count(Counted::Kind(Kind::Warcinfo), rows),
+            response: count(Counted::Kind(Kind::Response), rows),
+            resource: count(Counted::Kind(Kind::Resource), rows),
+            request: count(Counted::Kind(Kind::Request), rows),
+            metadata: count(Counted::Kind(Kind::Metadata), rows),
+            revisit: count(Counted::Kind(Kind::Revisit), rows),
+            conversion: count(Counted::Kind(Kind::Conversion), rows),
+            continuation: count(Counted::Kind(Kind::Continuation), rows),
+            other: count(Counted::Kind(Kind::Other), rows),
+            captures: count(Counted::Capture, rows),
+            good: count(Counted::Verdict(Verdict::Good), rows),
+            bad: count(Counted::Verdict(Verdict::Bad), rows),
+            unchecked: count(Counted::Verdict(Verdict::Unchecked), rows),
+            truncated: count(Counted::Truncated, rows),
+            segmented: self.segmented.count(),
+            first_date: date_at(End::First, rows),
+            last_date: date_at(End::Last, rows),
+        }
+    }
+
+    /// Returns the source.
+    pub fn into_source(self) -> S
+        ensures { result ≡ self.listing.source }
+    {
+        self.source
+    }
+}
+
+impl<S: Source, A: Allocator + Copy> Summarized<S, A> {
+    /// Reads the source as a listing is read, and keeps beside the rows which records are segments.
+    pub fn open(alloc: A, source: S) -> Result<Summarized<S, A>, (Fault, S)>
+        ensures { Opens IsSummarized (S.tapped source) (S.tapped (source_summarized result)) (summarized_of result) }
+    {
+        let mut source = source;
+        let kept = Segmented::new(alloc);
+        let (answer, rows, segmented) = read_on(alloc, &mut source, Rows::new(alloc), kept);
+        match answer {
+            Ok(()) => Ok(Summarized {
+                source,
+                rows,
+                segmented,
+            }),
+            Err(fault) => Err((fault, source)),
+        }
+    }
+}
