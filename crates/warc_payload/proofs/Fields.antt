@@ -8,6 +8,7 @@ use Rattle.httparse.specs.declared.spans.ResponseSpans.{ResponseSpans}
 use Rattle.warc_payload.specs.declared.HeadInfo.{HeadInfo}
 use Rattle.warc_payload.specs.Coding.{names_coding, is_coded}
 use Rattle.warc_payload.specs.Head.{IsInfoOf}
+use Rattle.warc_payload.specs.Texts.{AreHeadTexts, codings_in, media_type_in}
 
 -- a test of some item, through a map
 pub any_of_map : {X Y : Type 0} (f : X → Y) (p : Y → Bool) (xs : List X) → list_any p (map f xs) ≡ list_any (λ x. p (f x)) xs
@@ -48,3 +49,18 @@ info_of text headers r coded room short within found is_coded = (
     coded = is_coded ∙ coded_by_spans text headers r.headers found.0.fields found.1.fields;
   },
 )
+
+-- the head that the spans cover, with what its fields say
+pub stored_of : (text : List ℕ) (headers : List HeaderSpan) (r : ResponseSpans) (coded : Bool) (media codings : List ℕ)
+    → length headers ≡ 256 → length text ≤ 65536 → r.len ≤ length text → IsResponseOf text headers r
+    → coded ≡ list_any (λ s. names_coding (header_bytes text s)) (take r.headers headers)
+    → media ≡ media_type_in (map (header_bytes text) (take r.headers headers))
+    → codings ≡ codings_in (map (header_bytes text) (take r.headers headers))
+    → (head : ResponseHead) × (let info : HeadInfo = record { status = r.code; head_len = r.len; coded = coded } in IsInfoOf text info head) × AreHeadTexts head media codings
+unfolding info_of
+stored_of text headers r coded media codings room short within found is_coded is_media are_codings =
+    let info = info_of text headers r coded room short within found is_coded in (
+      info.0,
+      info.1,
+      record { media_is = is_media ∙ ap media_type_in found.1.fields; codings_are = are_codings ∙ ap codings_in found.1.fields },
+    )

@@ -1,7 +1,8 @@
 -- Values of the definitions, each by computation.
 use Rattle.std.proofs.Common.{◌≡◌, List, [], ◌∷◌, ℕ, true, false, Some, codes, refl}
-use Rattle.httparse.specs.Grammar.{ResponseHead, Field, crlf, print_response, status_code, trim_ows}
+use Rattle.httparse.specs.Grammar.{ResponseHead, Field, crlf, is_token_byte, print_response, status_code, trim_ows}
 use Rattle.warc_payload.specs.Coding.{names_coding, is_coded}
+use Rattle.warc_payload.specs.Texts.{codings_in, media_type, media_type_in}
 
 chunked : names_coding (codes "transfer-encoding", codes "chunked") ≡ true
 chunked = refl
@@ -44,3 +45,40 @@ example_coded = refl
 example_identity : is_coded (example (codes "Transfer-Encoding") (codes " identity\t")) ≡ false
 unfolding trim_ows
 example_identity = refl
+
+-- media types: what follows doesn't matter
+html_type : media_type (codes "text/html; charset=utf-8") ≡ codes "text/html"
+unfolding is_token_byte
+html_type = refl
+
+capital_type : media_type (codes "Text/HTML,x") ≡ codes "Text/HTML"
+unfolding is_token_byte
+capital_type = refl
+
+no_subtype : media_type (codes "text/") ≡ []
+unfolding is_token_byte
+no_subtype = refl
+
+no_slash : media_type (codes "text") ≡ []
+unfolding is_token_byte
+no_slash = refl
+
+no_type : media_type (codes "/html") ≡ []
+unfolding is_token_byte
+no_type = refl
+
+double_slash : media_type (codes "text//html") ≡ []
+unfolding is_token_byte
+double_slash = refl
+
+-- the first field counts, whatever it states
+first_type : media_type_in ((codes "Content-type", codes "x") ∷ (codes "Content-Type", codes "a/b") ∷ []) ≡ []
+unfolding is_token_byte
+first_type = refl
+
+-- the codings of a head
+two_codings : codings_in ((codes "Transfer-Encoding", codes "chunked") ∷ (codes "Server", codes "a") ∷ (codes "content-encoding", codes "gzip") ∷ []) ≡ codes " transfer-encoding=chunked content-encoding=gzip"
+two_codings = refl
+
+no_codings : codings_in ((codes "Content-Encoding", codes "identity") ∷ []) ≡ []
+no_codings = refl

@@ -1,4 +1,5 @@
 pub mod Coding
 pub mod Head
 pub mod Payload
+pub mod Texts
 pub mod Laws

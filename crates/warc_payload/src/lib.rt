@@ -1,19 +1,25 @@
 //! Where the body of a stored HTTP response begins.
 #![tactic(auto)]
 
-ghost use Rattle.std.specs.Prelude.{◌≡◌, ◌≤◌, ℕ, List, length, All, IfOk, OnErr};
+ghost use Rattle.std.specs.Prelude.{◌≡◌, ◌≤◌, ℕ, List, length, All, IfErr, IfOk, OnErr};
 ghost use Rattle.std.specs.List.{list_any};
 ghost use Rattle.httparse.specs.Grammar.{ResponseHead};
 ghost use Rattle.httparse.specs.Spans.{IsHeaderWithin, header_bytes};
 ghost use Rattle.warc_payload.specs.Coding.{names_coding};
 ghost use Rattle.warc_payload.specs.Head.{HasNoHead, IsInfoOf, front_of};
+ghost use Rattle.warc_payload.specs.Texts.{AreHeadTexts};
 
 use httparse::Status;
 use httparse::spans::{EMPTY_HEADER_SPAN, HeaderSpan, parse_response};
+use std::alloc::{Allocator, Global};
 use std::fmt;
 use thiserror::Error;
 
 pub mod laws;
+mod texts;
+
+pub use texts::media_type;
+use texts::{codings_in, media_type_in};
 
 /// The most bytes of a block in which its HTTP head is looked for.
 pub const MOST_HEAD_BYTES: usize = 65_536;
@@ -90,5 +96,68 @@ pub fn body_start(text: &[u8]) -> Result<HeadInfo, BadHead>
             coded: any_names_coding(text, &fields[..head.headers]),
         }),
         _ => Err(BadHead),
+    }
+}
+
+/// What the head of an HTTP response says, with texts of its own.
+#[derive(Debug, Drop)]
+pub struct StoredHead<A: Allocator = Global> {
+    pub info: HeadInfo,
+    /// The media type that the first `Content-Type` begins with, empty where there is none.
+    pub media_type: Vec<u8, A>,
+    /// For each field that names a coding a space, its name in lower case, `=` and its value.
+    pub codings: Vec<u8, A>,
+}
+
+/// Why no head is read.
+#[derive(Clone, Copy, Debug, PartialEq, Eq, Error)]
+pub enum HeadFault {
+    /// No whole head of at most 256 field lines is at the front.
+    Bad,
+    /// A growth of the memory was refused.
+    Memory,
+}
+
+impl fmt::Display for HeadFault {
+    ghost use Rattle.warc_payload.specs.Texts.{head_fault_text};
+    ghost use Rattle.std.specs.Prelude.{Some};
+
+    ghost output = { λ fault. Some (head_fault_text fault) };
+
+    fn fmt<W: fmt::Write>(&self, f: &mut fmt::Formatter<W>) -> fmt::Result {
+        match self {
+            HeadFault::Bad => write!(f, "no whole HTTP head"),
+            HeadFault::Memory => write!(f, "out of memory"),
+        }
+    }
+}
+
+/// The head of a response at the front of `text`, as `body_start` finds it, and the texts that it gives.
+pub fn read_head<A: Allocator + Copy>(alloc: A, text: &[u8]) -> Result<StoredHead<A>, HeadFault>
+    requires { length text.now ≤ 65_536 }
+    ensures found { IfOk result (λ h. (head : ResponseHead) × IsInfoOf text.now h.info head
+        × AreHeadTexts head h.media_type.items h.codings.items) }
+    ensures none { IfErr result (λ fault. fault ≡ HeadFault.Bad → HasNoHead text.now) }
+{
+    let mut spans = [EMPTY_HEADER_SPAN; MOST_FIELD_LINES];
+    let Ok(Status::Complete(found)) = parse_response(text, &mut spans) else {
+        return Err(HeadFault::Bad);
+    };
+    let fields = &spans[..found.headers];
+    let info = HeadInfo {
+        status: found.code,
+        head_len: found.len,
+        coded: any_names_coding(text, fields),
+    };
+    let Ok(codings) = codings_in(alloc, text, fields) else {
+        return Err(HeadFault::Memory);
+    };
+    match Vec::from_slice(alloc, media_type_in(text, fields)) {
+        Ok(media_type) => Ok(StoredHead {
+            info,
+            media_type,
+            codings,
+        }),
+        Err(_) => Err(HeadFault::Memory),
     }
 }
