@@ -5,3 +5,4 @@ pub mod ReasonLemmas
 pub mod PlaceLemmas
 pub mod GiveLemmas
 mod WorkedValues
+pub mod StoredLemmas

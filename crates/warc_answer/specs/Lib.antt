@@ -5,3 +5,6 @@ pub mod Places
 pub mod Replays
 pub mod Laws
 pub mod Giving
+pub mod Stored
+pub mod Seen
+pub mod Judging

@@ -90,7 +90,7 @@ fn put_blocks<S: Source, W: Sink>(
 }
 
 /// Writes the joined blocks, without so many bytes at their front.
-pub(crate) fn send_blocks<S: Source, W: Sink>(
+pub fn send_blocks<S: Source, W: Sink>(
     source: &mut S,
     places: &[Place],
     skip: u64,

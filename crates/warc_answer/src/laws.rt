@@ -1,5 +1,6 @@
 //! Laws over the definitions: functions that do nothing, each with a law as its contract.
 ghost use Rattle.warc_answer.specs.Laws.{AnswersOnce, ConversionKeepsAnswers, FailsBeforeAll, PathsEndInside, PlacesAreAsLong, ReasonsAreAnswers};
+ghost use Rattle.warc_answer.specs.Stored.{StoredIsAnswered};
 
 use warc_index::laws::{chosen_is_latest, origins_stand};
 use warc_payload::laws::{at_most_one_body, no_body_where_coded, one_of_three};
@@ -49,3 +50,9 @@ pub fn fails_before_all()
 {
     one_of_three();
 }
+
+/// A replay answers what is stored of an origin: the same reason, `Coded` for a coded body, or the body with what is
+/// said of it.
+pub fn stored_is_answered()
+    ensures { StoredIsAnswered }
+{}

@@ -6,6 +6,9 @@ mod blocks;
 mod body;
 pub mod laws;
 mod replay;
+mod stored;
 
 pub use answer::{Answer, Path, Reason, ReplayFault};
+pub use blocks::send_blocks;
 pub use replay::replay_joined;
+pub use stored::{Stored, judge_joined};

@@ -25,21 +25,21 @@ use warc_segment::Place;
 use warc_segment::laws::joined_has_total;
 
 /// Whether some block isn't what its digest says.
-fn any_bad(places: &[Place]) -> bool
+pub(crate) fn any_bad(places: &[Place]) -> bool
     ensures { result ≡ list_any (λ p. is_bad p.verdict) places.now }
 {
     places.iter().any(|place| place.verdict.is_bad())
 }
 
 /// Whether some record is marked as truncated.
-fn any_truncated(places: &[Place]) -> bool
+pub(crate) fn any_truncated(places: &[Place]) -> bool
     ensures { result ≡ list_any (λ p. p.truncated) places.now }
 {
     places.iter().any(|place| place.truncated)
 }
 
 /// The sum of the lengths of the blocks, up to 2^64 - 1.
-fn total(places: &[Place]) -> u64
+pub(crate) fn total(places: &[Place]) -> u64
     ensures { result ≡ capped (len_of places.now) }
 {
     let mut total = 0u64;

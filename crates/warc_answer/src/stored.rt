@@ -1,0 +1,191 @@
+//! What is stored of an origin, coded or not.
+ghost use Rattle.std.specs.Prelude.{◌≡◌, ℕ, ◌≤◌, List, length, map, Some, Result, Ok, IfErr, false, true};
+ghost use Rattle.warc_field.specs.Area.{Pair};
+ghost use Rattle.warc_frame.specs.Failing.{HasFailedBy, MayHaveFailedBy};
+ghost use Rattle.warc_frame.specs.Record.{Record, max_archive};
+ghost use Rattle.warc_index.specs.declared.unfound.Unfound.{Unfound};
+ghost use Rattle.warc_record.specs.Readings.{reading_of};
+ghost use Rattle.warc_record.specs.Seen.{said};
+ghost use Rattle.warc_segment.specs.Joined.{ReadRecord, ArePlacesOf};
+ghost use Rattle.warc_answer.specs.Judging.{IsHeadIn, IsSeenIn};
+ghost use Rattle.warc_answer.specs.Laws.{IsFound};
+ghost use Rattle.warc_answer.specs.Payloads.{read_record};
+ghost use Rattle.warc_answer.specs.Places.{HasRead, LieIn, len_of, text_at};
+ghost use Rattle.warc_answer.specs.Replays.{out_result};
+ghost use Rattle.warc_answer.specs.Seen.{IsEarly, IsJudged};
+ghost use Rattle.warc_answer.specs.Stored.{own_type};
+
+use crate::answer::{Path, Reason, ReplayFault};
+use crate::blocks::read_front;
+use crate::body::is_http_response;
+use crate::replay::{any_bad, any_truncated, total};
+use std::alloc::{Allocator, Global};
+use warc_frame::{OutFault, Source};
+use warc_payload::laws::{front_tells_head, front_tells_no_head};
+use warc_payload::{HeadFault, MOST_HEAD_BYTES, StoredHead, media_type, read_head};
+use warc_record::Typed;
+use warc_segment::Place;
+use warc_segment::laws::joined_has_total;
+
+/// What is stored of an origin, coded or not, and what is said of it.
+#[derive(Debug, Drop)]
+pub struct Stored<A: Allocator = Global> {
+    /// The status of the HTTP response, where the origin is one.
+    pub status: Option<u16>,
+
+    /// The media type that its `Content-Type` begins with, empty where there is none.
+    pub media_type: Vec<u8, A>,
+
+    /// For each field that says that the body is coded a space, its name in lower case, `=` and its value.
+    pub codings: Vec<u8, A>,
+
+    /// Whether a field says that the body is coded.
+    pub coded: bool,
+
+    /// Whether a record that is joined is marked as truncated.
+    pub truncated: bool,
+
+    /// How many of the joined bytes come before it: the length of the HTTP head.
+    pub head_len: u64,
+
+    /// Its length in bytes.
+    pub length: u64,
+}
+
+/// The HTTP head at the front of the joined blocks, which is read through the buffer.
+fn head_through<S: Source, A: Allocator + Copy>(
+    alloc: A,
+    source: &mut S,
+    places: &[Place],
+    front: &mut [u8],
+) -> Result<StoredHead<A>, ReplayFault>
+    requires { length front.old ≡ 65536 }
+    ensures begins { (bytes : List ℕ) → (S.tapped source.old).holds ≡ Some bytes → LieIn places.now bytes →
+        IsHeadIn (text_at places.now bytes) result }
+    ensures early { IfErr result IsEarly }
+    ensures kept { (S.tapped source.new).holds ≡ (S.tapped source.old).holds }
+    ensures may { MayHaveFailedBy (out_result result) (S.tapped source.old).faults (S.tapped source.new).faults }
+    ensures failed { (bytes : List ℕ) → (S.tapped source.old).holds ≡ Some bytes → LieIn places.now bytes → HasFailedBy
+        (out_result result) (S.tapped source.old).faults (S.tapped source.new).faults }
+    ensures read { HasRead (len_of places.now) places.now (S.tapped source.old) (S.tapped source.new) }
+{
+    front_tells_head();
+    front_tells_no_head();
+    let Ok(n) = read_front(source, places, front) else {
+        return Err(ReplayFault::Out(OutFault::Read(0)));
+    };
+    match read_head(alloc, &front[..n]) {
+        Ok(head) => Ok(head),
+        Err(HeadFault::Bad) => Err(ReplayFault::Reason(Reason::BadHead)),
+        Err(HeadFault::Memory) => Err(ReplayFault::Out(OutFault::Memory(0))),
+    }
+}
+
+/// The same, through a buffer of its own.
+fn find_head<S: Source, A: Allocator + Copy>(
+    alloc: A,
+    source: &mut S,
+    places: &[Place],
+) -> Result<StoredHead<A>, ReplayFault>
+    ensures begins { (bytes : List ℕ) → (S.tapped source.old).holds ≡ Some bytes → LieIn places.now bytes →
+        IsHeadIn (text_at places.now bytes) result }
+    ensures early { IfErr result IsEarly }
+    ensures kept { (S.tapped source.new).holds ≡ (S.tapped source.old).holds }
+    ensures may { MayHaveFailedBy (out_result result) (S.tapped source.old).faults (S.tapped source.new).faults }
+    ensures failed { (bytes : List ℕ) → (S.tapped source.old).holds ≡ Some bytes → LieIn places.now bytes → HasFailedBy
+        (out_result result) (S.tapped source.old).faults (S.tapped source.new).faults }
+    ensures read { HasRead (len_of places.now) places.now (S.tapped source.old) (S.tapped source.new) }
+{
+    let mut front = [0; MOST_HEAD_BYTES];
+    head_through(alloc, source, places, &mut front)
+}
+
+/// What is stored in the joined blocks of an HTTP response.
+fn judge_http<S: Source, A: Allocator + Copy>(
+    alloc: A,
+    source: &mut S,
+    places: &[Place],
+) -> Result<Stored<A>, ReplayFault>
+    ensures seen { (bytes : List ℕ) (fields : List Pair) → (S.tapped source.old).holds ≡ Some bytes → LieIn places.now
+        bytes → IsSeenIn true fields (text_at places.now bytes) places.now result }
+    ensures early { IfErr result IsEarly }
+    ensures kept { (S.tapped source.new).holds ≡ (S.tapped source.old).holds }
+    ensures may { MayHaveFailedBy (out_result result) (S.tapped source.old).faults (S.tapped source.new).faults }
+    ensures failed { (bytes : List ℕ) → (S.tapped source.old).holds ≡ Some bytes → LieIn places.now bytes → HasFailedBy
+        (out_result result) (S.tapped source.old).faults (S.tapped source.new).faults }
+    ensures read { HasRead (len_of places.now) places.now (S.tapped source.old) (S.tapped source.new) }
+{
+    let head = match find_head(alloc, source, places) {
+        Ok(head) => head,
+        Err(fault) => return Err(fault),
+    };
+    let head_len = head.info.head_len as u64;
+    Ok(Stored {
+        status: Some(head.info.status),
+        media_type: head.media_type,
+        codings: head.codings,
+        coded: head.info.coded,
+        truncated: any_truncated(places),
+        head_len,
+        length: total(places).saturating_sub(head_len),
+    })
+}
+
+/// What is stored in the joined blocks of another origin, whose own `Content-Type` has this value.
+fn judge_other<A: Allocator + Copy>(
+    alloc: A,
+    own: &[u8],
+    places: &[Place],
+) -> Result<Stored<A>, ReplayFault>
+    ensures seen { (bytes : List ℕ) (fields : List Pair) → own.now ≡ own_type fields →
+        IsSeenIn false fields (text_at places.now bytes) places.now result }
+    ensures memory { IfErr result (λ fault. fault ≡ ReplayFault.Out (OutFault.Memory 0)) }
+{
+    match Vec::from_slice(alloc, media_type(own)) {
+        Ok(media_type) => Ok(Stored {
+            status: None,
+            media_type,
+            codings: Vec::new(alloc),
+            coded: false,
+            truncated: any_truncated(places),
+            head_len: 0,
+            length: total(places),
+        }),
+        Err(_) => Err(ReplayFault::Out(OutFault::Memory(0))),
+    }
+}
+
+/// What is stored of an origin, coded or not, or the reason why nothing is: a bad digest, or a response whose block
+/// doesn't begin with an HTTP head. `places` are those of the blocks that are joined, as `Parts::join` gives them;
+/// `origin` is what the origin's head says, and `own` the value of its own `Content-Type`, empty where it has none. Of
+/// the joined blocks at most the first 65,536 bytes are read, once.
+pub fn judge_joined<S: Source, A: Allocator + Copy>(
+    alloc: A,
+    source: &mut S,
+    origin: &Typed<A>,
+    own: &[u8],
+    places: &[Place],
+) -> Result<Stored<A>, ReplayFault>
+    ensures judged { (bytes : List ℕ) (records : List Record) (found : Result Path Unfound) (path : Path)
+        (content : Record) (joined : List ReadRecord) → (S.tapped source.old).holds ≡ Some bytes → length bytes ≤
+        max_archive → IsFound (map read_record records) found path (read_record content) (Ok joined) → said origin.now
+        ≡ reading_of content.fields → own.now ≡ own_type content.fields → ArePlacesOf bytes places.now joined →
+        IsJudged content joined result }
+    ensures early { IfErr result IsEarly }
+    ensures kept { (S.tapped source.new).holds ≡ (S.tapped source.old).holds }
+    ensures may { MayHaveFailedBy (out_result result) (S.tapped source.old).faults (S.tapped source.new).faults }
+    ensures failed { (bytes : List ℕ) (joined : List ReadRecord) → (S.tapped source.old).holds ≡ Some bytes → length
+        bytes ≤ max_archive → ArePlacesOf bytes places.now joined → HasFailedBy (out_result result)
+        (S.tapped source.old).faults (S.tapped source.new).faults }
+    ensures read { HasRead (len_of places.now) places.now (S.tapped source.old) (S.tapped source.new) }
+{
+    joined_has_total();
+    if any_bad(places) {
+        return Err(ReplayFault::Reason(Reason::BadDigest));
+    }
+    if is_http_response(origin) {
+        judge_http(alloc, source, places)
+    } else {
+        judge_other(alloc, own, places)
+    }
+}
