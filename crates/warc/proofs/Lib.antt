@@ -16,3 +16,5 @@ pub mod TakeLemmas
 pub mod MigrationLemmas
 mod LengthLemmas
 pub mod KeptLemmas
+pub mod LookLemmas
+pub mod CaptureLemmas

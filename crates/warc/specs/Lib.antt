@@ -1,5 +1,7 @@
 pub mod Bodies
 pub mod Bounds
+pub mod Capturing
+pub mod Captures
 pub mod Emitting
 pub mod Fixity
 pub mod Forms
@@ -10,6 +12,8 @@ pub mod Finding
 pub mod Front
 pub mod Laws
 pub mod Listing
+pub mod Looking
+pub mod Outcomes
 pub mod Parts
 pub mod Replaying
 pub mod Segments

@@ -1,5 +1,5 @@
 //! An archive: a listing, and beside it what finds its records and joins those in segments.
-ghost use Rattle.std.specs.Prelude.{◌≡◌, ℕ, List, length, IfErr, IfOk, OnErr, OnOk, is_err, min, slice_get, if◌then◌else◌};
+ghost use Rattle.std.specs.Prelude.{◌≡◌, ℕ, List, length, IfErr, IfOk, OnErr, OnOk, is_err, map, min, slice_get, if◌then◌else◌};
 ghost use Rattle.std.specs.Io.KnownBytes.{append_known};
 ghost use Rattle.warc_frame.specs.Count.{raised};
 ghost use Rattle.warc_frame.specs.Send.{WentOut, sent_of};
@@ -8,15 +8,22 @@ ghost use Rattle.warc.specs.Bounds.{IsKeptCount};
 ghost use Rattle.warc_checking.specs.Checks.{Checks};
 ghost use Rattle.warc.specs.Extracting.{Extracts, position_with};
 ghost use Rattle.warc_reading.specs.Keeping.{kept_bytes};
-ghost use Rattle.warc_reading.specs.Indexed.{AreOf, IsIndexed, archive_of, source_left};
+ghost use Rattle.warc_index.specs.Captures.{AreCapturesOf};
+ghost use Rattle.warc_reading.specs.Indexed.{AreOf, IsIndexed, archive_of, indexed_record, source_left};
+ghost use Rattle.warc.specs.Capturing.{JudgesAll};
+ghost use Rattle.warc.specs.Captures.{capture_positions, captures_text};
 ghost use Rattle.warc.specs.Listing.{listing};
+ghost use Rattle.warc.specs.Outcomes.{GivesStoredAt, JudgesAt, answer_seen, outcome_seen};
 ghost use Rattle.warc_reading.specs.Growing.{Grows, grown, source_grown, without_source};
 ghost use Rattle.warc_reading.specs.Opening.{Opens};
 ghost use Rattle.warc.specs.Replaying.{Replays};
 ghost use Rattle.warc_reading.specs.Row.{Placed};
 ghost use Rattle.warc.specs.Taking.{Takes};
 
+use crate::capture_line::list_outcomes;
+use crate::capturing::capture_positions;
 use crate::fault::{BodyFault, ExtractFault, TakeFault};
+use crate::outcome::{Outcome, StoredAt};
 use crate::reader::Listing;
 use std::alloc::{AllocError, Allocator, Global};
 use std::marker::Model;
@@ -210,6 +217,85 @@ impl<S: Source, A: Allocator + Copy> Archive<S, A> {
         ensures parts { self.new.parts ≡ self.old.parts }
     {
         self.listing.give_body(&self.lookup, position, out)
+    }
+
+    /// What the capture at a position gives, as `replay_at` judges it, without the body: the position of its origin,
+    /// and what is said of what is stored there, coded or not, or the reason P3 to P9. Of the origin its head is read
+    /// again, and at most 65,536 bytes of the joined blocks. `Memory` and `Read` come without a byte written.
+    pub fn outcome_at(&mut self, position: usize) -> Result<Outcome<A>, BodyFault>
+        ensures judges { JudgesAt self.old.listing.rows self.old.index self.old.parts position
+            (S.tapped self.old.listing.source) (S.tapped self.new.listing.source) result }
+        ensures rows { self.new.listing.rows ≡ self.old.listing.rows }
+        ensures index { self.new.index ≡ self.old.index }
+        ensures parts { self.new.parts ≡ self.old.parts }
+    {
+        self.listing.judge_at(&self.lookup, position)
+    }
+
+    /// Writes what is stored of the origin of the capture at a position, as `replay_at` writes a body, but a coded one
+    /// too, as it is after the HTTP head.
+    pub fn stored_to<W: Sink>(
+        &mut self,
+        position: usize,
+        out: &mut W,
+    ) -> Result<StoredAt<A>, BodyFault>
+        ensures gives { GivesStoredAt self.old.listing.rows self.old.index self.old.parts position
+            (S.tapped self.old.listing.source) (S.tapped self.new.listing.source) (W.seen out.old) (W.seen out.new)
+            (answer_seen result) }
+        ensures rows { self.new.listing.rows ≡ self.old.listing.rows }
+        ensures index { self.new.index ≡ self.old.index }
+        ensures parts { self.new.parts ≡ self.old.parts }
+    {
+        self.listing.send_at(&self.lookup, position, out)
+    }
+
+    /// The positions of all captures, in their order. `Err`: no memory for them.
+    pub fn captures(&self) -> Result<Vec<usize, A>, AllocError>
+        ensures { IfOk result (λ positions. positions.items ≡ capture_positions self.now.listing.rows) }
+    {
+        capture_positions(&self.listing.rows)
+    }
+
+    /// The outcomes of the captures at positions, in their order, as `outcome_at` gives them. Each origin is read and
+    /// judged once, however many of them lead to it. `Memory` and `Read` come without an outcome.
+    pub fn outcomes(&mut self, positions: &[usize]) -> Result<Vec<Outcome<A>, A>, OutFault>
+        ensures judges { JudgesAll self.old.listing.rows self.old.index self.old.parts positions.now
+            (S.tapped self.old.listing.source) (S.tapped self.new.listing.source) result }
+        ensures rows { self.new.listing.rows ≡ self.old.listing.rows }
+        ensures index { self.new.index ≡ self.old.index }
+        ensures parts { self.new.parts ≡ self.old.parts }
+    {
+        self.listing.judge_all(&self.lookup, positions)
+    }
+
+    /// Writes a line for each outcome, with ten columns: the capture's position, its date as written, its instant and
+    /// its type, the position of its origin, the status, the media type and the length of the body, the reason why
+    /// there is none, and the target. It takes no memory.
+    pub fn list_outcomes<W: Sink>(
+        &self,
+        outcomes: &[Outcome<A>],
+        out: &mut W,
+    ) -> Result<(), OutFault>
+        ensures told { OnOk result ((W.seen out.new).tells ≡ append_known (W.seen out.old).tells
+            (captures_text self.now.listing.rows (map outcome_seen outcomes.now))) }
+        ensures cut { IfErr result (λ e. WentOut (W.seen out.old).tells (captures_text self.now.listing.rows
+            (map outcome_seen outcomes.now)) (W.seen out.new).tells (sent_of e)) }
+        ensures write { IfErr result (λ e. e ≡ OutFault.Write (sent_of e)) }
+        ensures cause { (W.seen out.new).faults ≡ (if is_err result then raised (W.seen out.old).faults else
+            (W.seen out.old).faults) }
+    {
+        list_outcomes(&self.listing.rows, outcomes, out)
+    }
+
+    /// The positions of the captures of a URI, each once: by instant, then by position. `Err`: no memory for them.
+    pub fn captures_of(&self, uri: &[u8]) -> Result<Vec<usize, A>, AllocError>
+        ensures { (bytes : List ℕ) → (is : IsIndexed bytes self.now) →
+            IfOk result (λ positions. AreCapturesOf (map indexed_record is.listed.are.records) uri.now
+            positions.items) }
+    {
+        self.lookup
+            .index
+            .captures_of(self.listing.rows.allocator(), uri)
     }
 
     /// Writes a line for each finding, as a listing does, and answers how many there are.

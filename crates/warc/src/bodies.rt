@@ -27,7 +27,7 @@ pub(crate) fn is_capture(kind: &[u8]) -> bool
 
 /// What is found at a position before the source is read.
 #[derive(Clone, Copy, Debug, PartialEq, Eq)]
-enum Found {
+pub(crate) enum Found {
     NoRecord,
     NoCapture,
 
@@ -36,7 +36,7 @@ enum Found {
 }
 
 /// What is found at a position.
-fn find<A: Allocator + Copy>(rows: &Rows<A>, lookup: &Lookup<A>, position: usize) -> Found
+pub(crate) fn find<A: Allocator + Copy>(rows: &Rows<A>, lookup: &Lookup<A>, position: usize) -> Found
     ensures { IsFoundAt rows.now lookup.now.index lookup.now.parts position result }
 {
     let Some(row) = rows.get(position) else {

@@ -8,7 +8,9 @@ ghost use Rattle.warc_checking.specs.Checks.{Checks};
 ghost use Rattle.warc.specs.Bodies.{GivesBodyAt};
 ghost use Rattle.warc.specs.Forms.{Writes, WritesEach, WritesSplit};
 ghost use Rattle.warc.specs.Copied.{len_by, text_by};
+ghost use Rattle.warc.specs.Capturing.{JudgesAll};
 ghost use Rattle.warc.specs.Listing.{listing};
+ghost use Rattle.warc.specs.Outcomes.{GivesStoredAt, JudgesAt, answer_seen};
 ghost use Rattle.warc.specs.Parts.{GivesPart};
 ghost use Rattle.warc_reading.specs.Growing.{Grows, grown, source_grown, without_source};
 ghost use Rattle.warc_reading.specs.Opening.{Opens};
@@ -19,8 +21,10 @@ ghost use Rattle.warc.specs.Taking.{Takes};
 use crate::anew::{Manner, write_rows};
 use crate::blocks::send_range;
 use crate::bodies::give_body;
+use crate::capturing::judge_all;
 use crate::copying::Form;
 use crate::fault::{BodyFault, ExtractFault, TakeFault};
+use crate::outcome::{Outcome, StoredAt, judge_at, send_at};
 use crate::part::Part;
 use crate::replay::replay_rows;
 use crate::row::put_line;
@@ -250,6 +254,47 @@ impl<S: Source, A: Allocator + Copy> Listing<S, A> {
         ensures rows { self.new.rows ≡ self.old.rows }
     {
         give_body(&mut self.source, &self.rows, lookup, position, out)
+    }
+
+    /// What the capture at a position gives, without the body.
+    pub(crate) fn judge_at(
+        &mut self,
+        lookup: &Lookup<A>,
+        position: usize,
+    ) -> Result<Outcome<A>, BodyFault>
+        ensures judges { JudgesAt self.old.rows lookup.now.index lookup.now.parts position (S.tapped self.old.source)
+            (S.tapped self.new.source) result }
+        ensures rows { self.new.rows ≡ self.old.rows }
+    {
+        judge_at(&mut self.source, &self.rows, lookup, position)
+    }
+
+    /// The outcomes of the captures at positions.
+    pub(crate) fn judge_all(
+        &mut self,
+        lookup: &Lookup<A>,
+        positions: &[usize],
+    ) -> Result<Vec<Outcome<A>, A>, OutFault>
+        ensures judges { JudgesAll self.old.rows lookup.now.index lookup.now.parts positions.now
+            (S.tapped self.old.source) (S.tapped self.new.source) result }
+        ensures rows { self.new.rows ≡ self.old.rows }
+    {
+        judge_all(&mut self.source, &self.rows, lookup, positions)
+    }
+
+    /// Writes what is stored of the origin of the capture at a position.
+    pub(crate) fn send_at<W: Sink>(
+        &mut self,
+        lookup: &Lookup<A>,
+        position: usize,
+        out: &mut W,
+    ) -> Result<StoredAt<A>, BodyFault>
+        ensures gives { GivesStoredAt self.old.rows lookup.now.index lookup.now.parts position
+            (S.tapped self.old.source) (S.tapped self.new.source) (W.seen out.old) (W.seen out.new)
+            (answer_seen result) }
+        ensures rows { self.new.rows ≡ self.old.rows }
+    {
+        send_at(&mut self.source, &self.rows, lookup, position, out)
     }
 
     /// Writes a line for each finding, by the position of its record, then by its number, then by the

@@ -1,0 +1,157 @@
+-- The outcomes of captures, each origin judged once, and their lines.
+use Rattle.std.proofs.Common.{◌≡◌, ◌⊎◌, append_assoc, codes, decimal, inl, inr, ℕ, zero, suc, ◌+◌, ◌<◌, ◌≤◌, List, [], ◌∷◌, ◌++◌, length, map, take, drop, get_or, replicate, Option, Some, None, Result, Ok, Err, refl, sym, ap, subst, ◌∙◌, arith, length-append}
+use Rattle.std.specs.Prelude.{IfErr}
+use Rattle.std.proofs.lemmas.Grind.{flat_map-append}
+use Rattle.std.proofs.lemmas.List.{append-nil, take_more, take-append-drop}
+use Rattle.std.proofs.lemmas.Option.{slice_get_within}
+use Rattle.std.specs.List.{AllByRecursion, concat, flat_map, join_with_byte, slice_get}
+use Rattle.std.proofs.Math.ListN.{set}
+use Rattle.warc_frame.specs.Failing.{MayHaveFailedBy}
+use Rattle.warc_frame.specs.Record.{Record}
+use Rattle.warc_frame.specs.declared.fault.OutFault.{OutFault}
+use Rattle.warc_frame.specs.declared.fault.OutFault.TheVariants as outs
+use Rattle.warc_index.specs.declared.unfound.Unfound.{Unfound}
+use Rattle.warc_answer.specs.Answers.{path_at}
+use Rattle.warc_answer.specs.Seen.{IsEarly}
+use Rattle.warc_answer.specs.Stored.{IsStoredAt, IsStoredOn}
+use Rattle.warc_answer.specs.declared.answer.Path.{Path}
+use Rattle.warc_answer.specs.declared.answer.ReplayFault.TheVariants.{Out}
+use Rattle.warc_reading.specs.Row.{Row}
+use Rattle.warc_answer.specs.declared.answer.Reason.{Reason as Why}
+use Rattle.warc.specs.Captures.{capture_line, captures_text, columns_line, columns_of, date_front, full_date, number_shown, reason_shown}
+use Rattle.warc.specs.Listing.{shown}
+use Rattle.warc.specs.Capturing.{AreSlots, AreSoFar, Remembers}
+use Rattle.warc.specs.Outcomes.{CaptureSeen, IsOutcome, judged_seen, origin_on, outcome_seen}
+use Rattle.warc.specs.declared.outcome.Outcome.{Outcome}
+
+-- what is found in a list with one more element
+appended : {X : Type 0} (xs : List X) (x : X) (k : ℕ) (o : X) → slice_get (xs ++ x ∷ []) k ≡ Some o → (slice_get xs k ≡ Some o) ⊎ ((k ≡ length xs) × (o ≡ x))
+appended [] x zero o is = inr (refl, (let f : x ≡ o = cc is in sym f))
+appended [] x (suc k) o is = absurd (cc is)
+appended (y ∷ ys) x zero o is = inl is
+appended (y ∷ ys) x (suc k) o is = elim (appended ys x k o is) [
+  | inl there ↦ inl there
+  | inr last ↦ inr ((let e : k ≡ length ys = last.0 in omega (arith, e)), last.1)
+]
+
+pub zeros : (n i k : ℕ) → slice_get (replicate n 0) i ≡ Some k → k ≡ 0
+zeros zero i k is = absurd (cc is)
+zeros (suc n) zero k is = let f : 0 ≡ k = cc is in sym f
+zeros (suc n) (suc i) k is = zeros n i k is
+
+-- what is stored of the origin of an outcome
+stored_on : (records : List Record) (o : CaptureSeen) (origin : ℕ) (path : Result Path Unfound) → o.given ≡ Some origin → o.given ≡ origin_on path → IsStoredOn records path o.stored
+    → IsStoredAt records origin o.stored
+stored_on records o origin (Err unfound) given by is = absurd (let f : Some origin ≡ None = sym given ∙ by in cc f)
+stored_on records o origin (Ok path) given by is =
+    let same : path.given ≡ origin = (let f : Some path.given ≡ Some origin = sym by ∙ given in cc f) in
+    subst (λ (n : ℕ). IsStoredAt records n o.stored) same is
+
+stored_of : (records : List Record) (o : CaptureSeen) (origin : ℕ) → o.given ≡ Some origin → IsOutcome records o → IsStoredAt records origin o.stored
+stored_of records o origin given is = stored_on records o origin (path_at records o.chosen) given is.given is.stored
+
+each_more : {X Y : Type 0} (P : Y → Type 0) (f : X → Y) (xs : List X) (x : X) → AllByRecursion P (map f xs) → P (f x) → AllByRecursion P (map f (xs ++ x ∷ []))
+each_more P f [] x all is = (is, tt)
+each_more P f (y ∷ ys) x all is = (all.0, each_more P f ys x all.1 is)
+
+pub set_kept : (xs : List ℕ) (n v i k : ℕ) → slice_get (set xs n v) i ≡ Some k → (slice_get xs i ≡ Some k) ⊎ ((n ≡ i) × (k ≡ v))
+set_kept [] n v i k is = absurd (cc is)
+set_kept (x ∷ xs) zero v zero k is = inr (refl, (let f : v ≡ k = cc is in sym f))
+set_kept (x ∷ xs) zero v (suc i) k is = inl is
+set_kept (x ∷ xs) (suc n) v zero k is = inl is
+set_kept (x ∷ xs) (suc n) v (suc i) k is = elim (set_kept xs n v i k is) [
+  | inl old ↦ inl old
+  | inr now ↦ inr (ap suc now.0, now.1)
+]
+
+pub more_so_far : {A : Type 0} (records : List Record) (old new : List ℕ) (os : List (Outcome A)) (x : Outcome A) (count : ℕ) → AreSoFar records old os → AreSlots (length os) old
+    → IsOutcome records (outcome_seen x) → count ≡ length os + 1 → Remembers old new x.given count → AreSoFar records new (os ++ x ∷ [])
+more_so_far {A} records old new os x count so_far within is size remembers = record {
+  each = each_more (IsOutcome records) outcome_seen os x so_far.each is;
+  recalls = λ origin o r. elim (remembers origin (r.index + 1) r.slot) [
+    | inl slot ↦ elim (appended os x r.index o r.there) [
+      | inl there ↦ so_far.recalls origin o (record { index = r.index; slot = slot; there = there })
+      | inr last ↦ absurd (omega (arith, within origin (r.index + 1) slot, last.0))
+    ]
+    | inr now ↦ elim (appended os x r.index o r.there) [
+      | inl there ↦ absurd (omega (arith, slice_get_within os r.index o there, now.1, size))
+      | inr last ↦ subst (λ (y : Outcome A). IsStoredAt records origin (judged_seen y.stored)) (sym last.1) (stored_of records (outcome_seen x) origin now.0 is)
+    ]
+  ];
+}
+
+pub more_slots : {A : Type 0} (old new : List ℕ) (os : List (Outcome A)) (x : Outcome A) (count : ℕ) → AreSlots (length os) old → count ≡ length os + 1 → Remembers old new x.given count
+    → AreSlots (length (os ++ x ∷ [])) new
+more_slots old new os x count within size remembers = λ i k is. elim (remembers i k is) [
+  | inl slot ↦ omega (arith, within i k slot, length-append os (x ∷ []))
+  | inr now ↦ omega (arith, now.1, size, length-append os (x ∷ []))
+]
+
+pub chosen_seen : {A : Type 0} (os : List (Outcome A)) → map (λ (c : CaptureSeen). c.chosen) (map outcome_seen os) ≡ map (λ (o : Outcome A). o.chosen) os
+chosen_seen [] = refl
+chosen_seen (o ∷ os) = ap (λ l. o.chosen ∷ l) (chosen_seen os)
+
+pub chosen_more : {A : Type 0} (os : List (Outcome A)) (x : Outcome A) → map (λ (o : Outcome A). o.chosen) (os ++ x ∷ []) ≡ map (λ (o : Outcome A). o.chosen) os ++ x.chosen ∷ []
+chosen_more [] x = refl
+chosen_more (o ∷ os) x = ap (λ l. o.chosen ∷ l) (chosen_more os x)
+
+pub take_next : (xs : List ℕ) (i x : ℕ) → i < length xs → x ≡ get_or xs i 0 → take i xs ++ x ∷ [] ≡ take (i + 1) xs
+take_next xs i x within is = ap (λ y. take i xs ++ y ∷ []) is ∙ sym (take_more xs i 0 within)
+
+-- a refusal for want of memory
+pub memory_early : {X : Type 0} (r : Result X OutFault) → IfErr r (λ fault. fault ≡ outs.Memory 0) → IfErr r (λ e. IsEarly (Out e))
+memory_early (Ok x) is = tt
+memory_early (Err e) is = subst (λ (f : OutFault). IsEarly (Out f)) (sym is) refl
+
+pub memory_may : {X : Type 0} (r : Result X OutFault) (n : ℕ) → IfErr r (λ fault. fault ≡ outs.Memory 0) → MayHaveFailedBy r n n
+memory_may (Ok x) n is = refl
+memory_may {X} (Err e) n is = subst (λ (f : OutFault). MayHaveFailedBy {X = X} (Err f) n n) (sym is) refl
+
+-- ---- lines
+
+text_more : (rows : List Row) (cs ds : List CaptureSeen) → captures_text rows (cs ++ ds) ≡ captures_text rows cs ++ captures_text rows ds
+unfolding captures_text
+text_more rows cs ds = flat_map-append (capture_line rows) cs ds
+
+map-appended : {X Y : Type 0} (f : X → Y) (xs ys : List X) → map f (xs ++ ys) ≡ map f xs ++ map f ys
+map-appended f [] ys = refl
+map-appended f (x ∷ xs) ys = ap (λ l. f x ∷ l) (map-appended f xs ys)
+
+-- the line of the next outcome
+pub text_next : {A : Type 0} (rows : List Row) (os : List (Outcome A)) (i : ℕ) (x : Outcome A) → i < length os → x ≡ get_or os i x
+    → captures_text rows (map outcome_seen (take i os)) ++ capture_line rows (outcome_seen x) ≡ captures_text rows (map outcome_seen (take (i + 1) os))
+unfolding captures_text
+text_next {A} rows os i x within is =
+    sym (ap (λ l. captures_text rows (map outcome_seen l)) (take_more os i x within)
+    ∙ ap (captures_text rows) (map-appended outcome_seen (take i os) (get_or os i x ∷ []))
+    ∙ text_more rows (map outcome_seen (take i os)) (outcome_seen (get_or os i x) ∷ [])
+    ∙ ap (λ l. captures_text rows (map outcome_seen (take i os)) ++ l) (append-nil (capture_line rows (outcome_seen (get_or os i x))))
+    ∙ ap (λ (o : Outcome A). captures_text rows (map outcome_seen (take i os)) ++ capture_line rows (outcome_seen o)) (sym is))
+
+-- the first lines, and the others
+pub text_front : {A : Type 0} (rows : List Row) (os : List (Outcome A)) (i : ℕ)
+    → captures_text rows (map outcome_seen os) ≡ captures_text rows (map outcome_seen (take i os)) ++ captures_text rows (map outcome_seen (drop i os))
+text_front rows os i =
+    ap (λ l. captures_text rows (map outcome_seen l)) (sym (take-append-drop i os)) ∙ ap (captures_text rows) (map-appended outcome_seen (take i os) (drop i os))
+    ∙ text_more rows (map outcome_seen (take i os)) (map outcome_seen (drop i os))
+
+-- ---- a line, from the pieces that it is put together from
+
+abbrev tab : List ℕ
+tab = 9 ∷ []
+
+pub pieces_are : (a b c d e f g h i j k l m : List ℕ)
+    → concat (a ∷ tab ∷ b ∷ tab ∷ c ∷ d ∷ tab ∷ e ∷ tab ∷ f ∷ tab ∷ g ∷ tab ∷ h ∷ tab ∷ i ∷ tab ∷ j ∷ k ∷ l ∷ tab ∷ m ∷ (10 ∷ []) ∷ [])
+    ≡ columns_of a b (c ++ d) e f g h i (j ++ k ++ l) m
+unfolding columns_of
+pieces_are a b c d e f g h i j k l m = simp append_assoc
+
+pub columns_from : (row : Row) (chosen : ℕ) (given status size : Option ℕ) (media : List ℕ) (why : Option Why) (a b c d e f g h i j k l m : List ℕ) → a ≡ decimal chosen → b ≡ row.date
+    → c ≡ date_front row.date → d ≡ drop (length c) (codes "0000-01-01T00:00:00.000000000Z") → e ≡ row.kind → f ≡ number_shown given → g ≡ number_shown status → h ≡ shown media
+    → i ≡ number_shown size → j ++ k ++ l ≡ reason_shown why → m ≡ shown row.target
+    → columns_of a b (c ++ d) e f g h i (j ++ k ++ l) m ≡ columns_line row chosen given status media size why
+unfolding full_date
+columns_from row chosen given status size media why a b c d e f g h i j k l m is_a is_b is_c is_d is_e is_f is_g is_h is_i is_jkl is_m =
+    let full : c ++ d ≡ date_front row.date ++ drop (length (date_front row.date)) (codes "0000-01-01T00:00:00.000000000Z") =
+    ap (λ t. c ++ t) is_d ∙ ap (λ t. t ++ drop (length t) (codes "0000-01-01T00:00:00.000000000Z")) is_c in
+    λ n. columns_of (is_a n) (is_b n) (full n) (is_e n) (is_f n) (is_g n) (is_h n) (is_i n) (is_jkl n) (is_m n)

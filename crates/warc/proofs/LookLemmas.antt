@@ -1,0 +1,300 @@
+-- What is stored of an origin, over the bytes of an archive.
+use Rattle.std.proofs.Common.{◌≡◌, inl, inr, ℕ, zero, suc, ◌<◌, ◌≤◌, List, [], ◌∷◌, length, map, drop, Option, Some, None, Result, Ok, Err, refl, sym, ap, subst, ◌∙◌, arith}
+use Rattle.std.specs.Prelude.{IfErr, option_map}
+use Rattle.std.specs.Io.KnownBytes.{append_known}
+use Rattle.std.specs.List.{slice_get}
+use Rattle.std.specs.Option.{option_map_or}
+use Rattle.warc_frame.specs.Failing.{HasFailedBy, MayHaveFailedBy, failed_by}
+use Rattle.warc_frame.specs.Record.{Record, max_archive}
+use Rattle.warc_frame.specs.Seen.{Seen, Tapped}
+use Rattle.warc_frame.specs.Send.{WentOut, sent_of}
+use Rattle.warc_frame.specs.declared.fault.OutFault.{OutFault}
+use Rattle.warc_frame.specs.declared.fault.OutFault.TheVariants as outs
+use Rattle.warc_index.specs.Orders.{Kept as Indexes}
+use Rattle.warc_index.specs.declared.unfound.Unfound.{Unfound}
+use Rattle.warc_segment.specs.Joined.{ArePlacesOf, ReadRecord, joined_records}
+use Rattle.warc_segment.specs.Kept.{Kept as Parts, kept_in}
+use Rattle.warc_segment.specs.declared.gap.Gap.{Gap}
+use Rattle.warc_segment.specs.declared.place.Place.{Place}
+use Rattle.std.specs.declared.vec.Vec.{Vec}
+use Rattle.warc_answer.specs.Answers.{path_at}
+use Rattle.warc_answer.specs.Laws.{PathsEndInside}
+use Rattle.warc_answer.specs.Payloads.{read_record, whole_block}
+use Rattle.warc_answer.specs.Places.{text_at}
+use Rattle.warc_answer.specs.Replays.{out_result}
+use Rattle.warc_answer.specs.Seen.{IsEarly, IsJudged, stored_seen}
+use Rattle.warc_answer.specs.Stored.{IsStoredAt, IsStoredBy, IsStoredOn, StoredBody, joined_text, joined_text_at, joined_to}
+use Rattle.warc_answer.specs.declared.answer.Path.{Path}
+use Rattle.warc_answer.specs.declared.answer.Reason.{Reason as Why}
+use Rattle.warc_answer.specs.declared.answer.Reason.TheVariants.{NotFound, Segments}
+use Rattle.warc_answer.specs.declared.answer.ReplayFault.{ReplayFault}
+use Rattle.warc_answer.specs.declared.answer.ReplayFault.TheVariants.{Reason, Out}
+use Rattle.warc_answer.specs.declared.stored.Stored.{Stored}
+use Rattle.warc_answer.proofs.GiveLemmas.{places_lie, places_text}
+use Rattle.warc_checking.specs.Examining.{halted}
+use Rattle.warc_checking.specs.declared.heads.Halt.{Halt}
+use Rattle.warc_checking.specs.declared.heads.Halt.TheVariants.{Read, Memory}
+use Rattle.warc_reading.specs.Archive.{IsArchiveOf, contents}
+use Rattle.warc_reading.specs.Indexed.{AreOf, placed_record}
+use Rattle.warc_reading.specs.Row.{Placed, Row}
+use Rattle.warc.specs.Bodies.{IsCaptureAt}
+use Rattle.warc.specs.Finding.{IsCaptureRow, IsFoundAt, IsOtherRow}
+use Rattle.warc.specs.Looking.{IsLook, IsReason, IsSent, Judges, Looks, Sends}
+use Rattle.warc.specs.Outcomes.{GivesStoredAt, CaptureSeen, IsOutcome, JudgesAt, StoredAnswer, judged_seen, origin_on}
+use Rattle.warc.specs.declared.bodies.Found.TheVariants.{Capture}
+use Rattle.warc.specs.declared.fault.BodyFault.TheVariants.{NoRecord, NoCapture, Replay}
+use Rattle.warc.specs.declared.looking.Look.{Look}
+use Rattle.warc.specs.declared.outcome.Outcome.{Outcome}
+use Rattle.warc.proofs.BodyLemmas.{below_there, capture_there, none_there, other_there}
+use Rattle.warc.proofs.ReplayLemmas.{path_by_links, read_all}
+
+-- the record at a position of a list
+content_there : (records : List Placed) (i : ℕ) (p : Placed) → slice_get records i ≡ Some p → slice_get (contents records) i ≡ Some p.content
+content_there [] i p is = absurd (cc is)
+content_there (x ∷ xs) zero p is = let same : x ≡ p = cc is in ap (λ (q : Placed). Some q.content) same
+content_there (x ∷ xs) (suc i) p is = content_there xs i p is
+
+stored_by : (records : List Placed) (i : ℕ) (p : Placed) (joined : Result (List ReadRecord) Gap) (stored : Result StoredBody Why) → slice_get records i ≡ Some p
+    → joined_records (read_all records) (read_record p.content) ≡ joined → IsStoredBy p.content joined stored → IsStoredAt (contents records) i stored
+stored_by records i p joined stored there same is = record {
+  content = p.content;
+  there = content_there records i p there;
+  is = subst (λ (j : Result (List ReadRecord) Gap). IsStoredBy p.content j stored) (sym same) is;
+}
+
+pub stored_gap : (records : List Placed) (i : ℕ) (p : Placed) (gap : Gap) → slice_get records i ≡ Some p
+    → joined_records (read_all records) (read_record p.content) ≡ Err gap → IsStoredAt (contents records) i (Err (Segments gap))
+stored_gap records i p gap there same = stored_by records i p (Err gap) (Err (Segments gap)) there same refl
+
+text_here : (records : List Placed) (i : ℕ) (p : Placed) (joined : List ReadRecord) → slice_get records i ≡ Some p
+    → joined_records (read_all records) (read_record p.content) ≡ Ok joined → whole_block joined ≡ joined_text_at (contents records) i
+text_here records i p joined there same =
+    ap joined_text (sym same) ∙ ap (λ (o : Option Record). option_map_or (λ r. joined_text (joined_to (contents records) r)) o []) (sym (content_there records i p there))
+
+pub look_made : {A : Type 0} (bytes : List ℕ) (records : List Placed) (i : ℕ) (p : Placed) (joined : List ReadRecord) (stored : Stored A) (places : Vec Place A) → length bytes ≤ max_archive
+    → slice_get records i ≡ Some p → joined_records (read_all records) (read_record p.content) ≡ Ok joined → ArePlacesOf bytes places.items joined
+    → IsJudged p.content joined (Ok stored) → let r : Result (Look A) ReplayFault = Ok (record { stored = stored; places = places }) in IsLook bytes (contents records) i r
+look_made bytes records i p joined stored places short there same are is = (
+  stored_by records i p (Ok joined) (Ok (stored_seen stored)) there same is,
+  places_text bytes places.items joined are ∙ text_here records i p joined there same,
+  places_lie bytes places.items joined short are,
+)
+
+pub look_failed : (A B : Type 0) (bytes : List ℕ) (records : List Placed) (i : ℕ) (p : Placed) (joined : List ReadRecord) (fault : ReplayFault) → slice_get records i ≡ Some p
+    → joined_records (read_all records) (read_record p.content) ≡ Ok joined → IsJudged {A = A} p.content joined (Err fault) → IsLook {A = B} bytes (contents records) i (Err fault)
+look_failed A B bytes records i p joined (Reason why) there same is = stored_by records i p (Ok joined) (Err why) there same is
+look_failed A B bytes records i p joined (Out e) there same is = tt
+
+-- a fault of the same kind, of another answer
+pub fault_failed : (X Y : Type 0) (fault : ReplayFault) (old new : ℕ) → HasFailedBy (out_result {X = X} (Err fault)) old new → HasFailedBy (out_result {X = Y} (Err fault)) old new
+fault_failed X Y (Reason why) old new is = is
+fault_failed X Y (Out e) old new is = is
+
+pub fault_may : (X Y : Type 0) (fault : ReplayFault) (old new : ℕ) → MayHaveFailedBy (out_result {X = X} (Err fault)) old new → MayHaveFailedBy (out_result {X = Y} (Err fault)) old new
+fault_may X Y (Reason why) old new is = is
+fault_may X Y (Out e) old new is = is
+
+pub out_failed : (X Y : Type 0) (e : OutFault) (old new : ℕ) → HasFailedBy {X = X} (Err e) old new → HasFailedBy {X = Y} (Err e) old new
+out_failed X Y (outs.Read n) old new is = is
+out_failed X Y (outs.Write n) old new is = is
+out_failed X Y (outs.Memory n) old new is = is
+
+pub out_may : (X Y : Type 0) (e : OutFault) (old new : ℕ) → MayHaveFailedBy {X = X} (Err e) old new → MayHaveFailedBy {X = Y} (Err e) old new
+out_may X Y (outs.Read n) old new is = is
+out_may X Y (outs.Write n) old new is = is
+out_may X Y (outs.Memory n) old new is = is
+
+-- before anything went out
+pub early_sent : (e : OutFault) → IsEarly (Out e) → sent_of e ≡ 0
+early_sent (outs.Read n) is = is
+early_sent (outs.Write n) is = absurd is
+early_sent (outs.Memory n) is = is
+
+pub early_sound : (fault : ReplayFault) (n : ℕ) → IsEarly fault → failed_by (out_result {X = Unit {0}} (Err fault)) n ≡ n
+early_sound (Reason why) n is = refl
+early_sound (Out (outs.Read sent)) n is = refl
+early_sound (Out (outs.Write sent)) n is = absurd is
+early_sound (Out (outs.Memory sent)) n is = refl
+
+pub halted_early : (halt : Halt) → IsEarly (Out (halted halt 0))
+halted_early Read = refl
+halted_early Memory = refl
+
+-- ---- by a position
+
+module _ (rows : List Row) (index : Indexes) (parts : Parts) (position : ℕ) where
+  pub judges_no_record : {A : Type 0} → (s : Tapped) → slice_get rows position ≡ None → JudgesAt {A = A} rows index parts position s s (Err NoRecord)
+  judges_no_record s none = record {
+    told = λ bytes held is are. none_there bytes rows position is none;
+    failed = λ bytes held is are. refl;
+    kept = refl;
+    may = refl;
+  }
+
+  pub judges_no_capture : {A : Type 0} → (s : Tapped) → IsOtherRow rows position → JudgesAt {A = A} rows index parts position s s (Err NoCapture)
+  judges_no_capture s has = record {
+    told = λ bytes held is are. other_there bytes rows position is has;
+    failed = λ bytes held is are. refl;
+    kept = refl;
+    may = refl;
+  }
+
+  path_found : (path : Result Path Unfound) (bytes : List ℕ) (is : IsArchiveOf bytes rows) → AreOf is.are.records index parts
+      → IsFoundAt rows index parts position (Capture path) → path_at (contents is.are.records) position ≡ path
+  path_found path bytes is are found = sym (path_by_links is.are.records position) ∙ sym (found.1 is.are.records are)
+
+  pub outcome_made : (given : Option ℕ) (stored : Result StoredBody Why) (path : Result Path Unfound) (records : List Record) → path_at records position ≡ path → given ≡ origin_on path
+      → IsStoredOn records path stored → let o : CaptureSeen = record { chosen = position; given = given; stored = stored } in IsOutcome records o
+  outcome_made given stored path records same origin is = record {
+    given = origin ∙ ap origin_on (sym same);
+    stored = subst (λ (p : Result Path Unfound). IsStoredOn records p stored) (sym same) is;
+  }
+
+  pub judges_no_path : {A : Type 0} → (s : Tapped) (unfound : Unfound) → IsFoundAt rows index parts position (Capture (Err unfound))
+      → let r : Outcome A = record { chosen = position; given = None; stored = Err (NotFound unfound) } in JudgesAt {A = A} rows index parts position s s (Ok r)
+  judges_no_path s unfound found = record {
+    told = λ bytes held is are. (
+      capture_there bytes rows position is found.0,
+      refl,
+      outcome_made None (Err (NotFound unfound)) (Err unfound) (contents is.are.records) (path_found (Err unfound) bytes is are found) refl refl,
+    );
+    failed = λ bytes held is are. refl;
+    kept = refl;
+    may = refl;
+  }
+
+  inside_there : PathsEndInside → (path : Path) (bytes : List ℕ) (is : IsArchiveOf bytes rows) → AreOf is.are.records index parts
+      → IsFoundAt rows index parts position (Capture (Ok path)) → path.given < length (contents is.are.records)
+  inside_there inside path bytes is are found =
+      (inside (contents is.are.records)).1 position (below_there bytes rows position is found.0) path (path_found (Ok path) bytes is are found)
+
+  pub judges_made : {A : Type 0} → PathsEndInside → (path : Path) (stored : Result (Stored A) Why) (old new : Tapped) → IsFoundAt rows index parts position (Capture (Ok path))
+      → Judges rows parts path.given old new (Ok stored)
+      → let r : Outcome A = record { chosen = position; given = Some path.given; stored = stored } in JudgesAt {A = A} rows index parts position old new (Ok r)
+  judges_made inside path stored old new found by = record {
+    told = λ bytes held is are. (
+      capture_there bytes rows position is found.0,
+      refl,
+      outcome_made (Some path.given) (judged_seen stored) (Ok path) (contents is.are.records) (path_found (Ok path) bytes is are found) refl (by.told bytes held is are.parts_are),
+    );
+    failed = λ bytes held is are. by.failed bytes held is are.parts_are (inside_there inside path bytes is are found);
+    kept = by.kept;
+    may = by.may;
+  }
+
+  pub judges_failed : {A : Type 0} → PathsEndInside → (path : Path) (e : OutFault) (old new : Tapped) → IsFoundAt rows index parts position (Capture (Ok path))
+      → Judges {A = A} rows parts path.given old new (Err e) → JudgesAt {A = A} rows index parts position old new (Err (Replay (Out e)))
+  judges_failed inside path e old new found by = record {
+    told = λ bytes held is are. (capture_there bytes rows position is found.0, early_sent e by.early);
+    failed = λ bytes held is are. out_failed (Unit {0}) (Unit {0}) e _ _ (by.failed bytes held is are.parts_are (inside_there inside path bytes is are found));
+    kept = by.kept;
+    may = out_may (Unit {0}) (Unit {0}) e _ _ by.may;
+  }
+
+  -- ---- what is stored is written
+
+  pub gives_none : (s : Tapped) (o : Seen) → slice_get rows position ≡ None → GivesStoredAt rows index parts position s s o o (Err NoRecord)
+  gives_none s o none = record {
+    told = λ bytes held is are. (none_there bytes rows position is none, refl);
+    failed = λ bytes held is are. refl;
+    silent = refl;
+    kept = refl;
+    may = refl;
+    cause = refl;
+  }
+
+  pub gives_other : (s : Tapped) (o : Seen) → IsOtherRow rows position → GivesStoredAt rows index parts position s s o o (Err NoCapture)
+  gives_other s o has = record {
+    told = λ bytes held is are. (other_there bytes rows position is has, refl);
+    failed = λ bytes held is are. refl;
+    silent = refl;
+    kept = refl;
+    may = refl;
+    cause = refl;
+  }
+
+  reason_there : (path : Result Path Unfound) (why : Why) (records : List Record) → path_at records position ≡ path
+      → IsStoredOn records path (Err why) → IsStoredOn records (path_at records position) (Err why)
+  reason_there path why records same is = subst (λ (p : Result Path Unfound). IsStoredOn records p (Err why)) (sym same) is
+
+  pub gives_unfound : (s : Tapped) (o : Seen) (unfound : Unfound) → IsFoundAt rows index parts position (Capture (Err unfound))
+      → GivesStoredAt rows index parts position s s o o (Err (Replay (Reason (NotFound unfound))))
+  gives_unfound s o unfound found = record {
+    told = λ bytes held is are. (
+      capture_there bytes rows position is found.0,
+      reason_there (Err unfound) (NotFound unfound) (contents is.are.records) (path_found (Err unfound) bytes is are found) refl,
+      refl,
+    );
+    failed = λ bytes held is are. refl;
+    silent = refl;
+    kept = refl;
+    may = refl;
+    cause = refl;
+  }
+
+  pub gives_stored : {A : Type 0} → PathsEndInside → (path : Path) (stored : Stored A) (old new : Tapped) (before after : Seen) → IsFoundAt rows index parts position (Capture (Ok path))
+      → Sends rows parts path.given old new before after (Ok stored)
+      → let r : StoredAnswer = record { path = path; stored = stored_seen stored } in GivesStoredAt rows index parts position old new before after (Ok r)
+  gives_stored inside path stored old new before after found by = record {
+    told = λ bytes held is are.
+        let sent = by.told bytes held is are.parts_are in
+        (capture_there bytes rows position is found.0, path_found (Ok path) bytes is are found, sent.0, sent.1);
+    failed = λ bytes held is are. by.failed bytes held is are.parts_are (inside_there inside path bytes is are found);
+    silent = tt;
+    kept = by.kept;
+    may = by.may;
+    cause = by.cause;
+  }
+
+  pub gives_failed : {A : Type 0} → PathsEndInside → (path : Path) (fault : ReplayFault) (old new : Tapped) (before after : Seen) → IsFoundAt rows index parts position (Capture (Ok path))
+      → Sends {A = A} rows parts path.given old new before after (Err fault) → GivesStoredAt rows index parts position old new before after (Err (Replay fault))
+  gives_failed inside path (Reason why) old new before after found by = record {
+    told = λ bytes held is are.
+        let sent = by.told bytes held is are.parts_are in (
+          capture_there bytes rows position is found.0,
+          reason_there (Ok path) why (contents is.are.records) (path_found (Ok path) bytes is are found) sent.0,
+          sent.1,
+        );
+    failed = λ bytes held is are. by.failed bytes held is are.parts_are (inside_there inside path bytes is are found);
+    silent = by.silent tt;
+    kept = by.kept;
+    may = by.may;
+    cause = by.cause;
+  }
+  gives_failed inside path (Out e) old new before after found by = record {
+    told = λ bytes held is are. (
+      capture_there bytes rows position is found.0,
+      path,
+      path_found (Ok path) bytes is are found,
+      by.told bytes held is are.parts_are,
+    );
+    failed = λ bytes held is are. by.failed bytes held is are.parts_are (inside_there inside path bytes is are found);
+    silent = tt;
+    kept = by.kept;
+    may = by.may;
+    cause = by.cause;
+  }
+
+-- nothing went out
+pub nothing_sent : (A : Type 0) (records : List Record) (i : ℕ) (fault : ReplayFault) (told : Option (List ℕ)) (bytes : List ℕ) → IsEarly fault
+    → IsLook {A = A} bytes records i (Err fault) → IsSent {A = A} records i (Err fault) told told
+nothing_sent A records i (Reason why) told bytes early is = (is, refl)
+nothing_sent A records i (Out e) told bytes early is = inl (early_sent e early, refl)
+
+-- a front of what is stored went out
+pub front_sent : (A : Type 0) (records : List Record) (i : ℕ) (s : StoredBody) (e : OutFault) (text : List ℕ) (old new : Option (List ℕ)) → IsStoredAt records i (Ok s)
+    → text ≡ joined_text_at records i → WentOut old (drop s.head_len text) new (sent_of e) → IsSent {A = A} records i (Err (Out e)) old new
+front_sent A records i s e text old new is same went =
+    inr (record { stored = s; is = is; front = subst (λ (t : List ℕ). WentOut old (drop s.head_len t) new (sent_of e)) same went })
+
+pub may_from : (e : OutFault) (old mid new : ℕ) → mid ≡ old → MayHaveFailedBy {X = Unit {0}} (Err e) mid new → MayHaveFailedBy {X = Unit {0}} (Err e) old new
+may_from e old mid new same may = subst (λ (n : ℕ). MayHaveFailedBy {X = Unit {0}} (Err e) n new) same may
+
+pub all_sent : {A : Type 0} (records : List Record) (i : ℕ) (s : Stored A) (text : List ℕ) (old new : Option (List ℕ)) → IsStoredAt records i (Ok (stored_seen s))
+    → text ≡ joined_text_at records i → new ≡ append_known old (drop s.head_len text) → IsSent records i (Ok s) old new
+all_sent records i s text old new is same went = (is, went ∙ ap (λ (t : List ℕ). append_known old (drop s.head_len t)) same)
+
+pub absent_after : {X : Type 0} (xs : List X) (i : ℕ) → i < length xs → slice_get xs i ≡ None → ⊥
+absent_after [] i low is = omega (arith, low)
+absent_after (x ∷ xs) zero low is = cc is
+absent_after (x ∷ xs) (suc i) low is = absent_after xs i (omega (arith, low)) is

@@ -1,0 +1,37 @@
+use Rattle.std.proofs.Common.{rules, ◌≡◌, ◌+◌, map, refl, sym, ap, take_all, ◌∙◌}
+use Rattle.warc_frame.proofs.LawLemmas.{longer, same_out, same_staged}
+use Rattle.warc.specs.Captures.{captures_text}
+use Rattle.warc.specs.Outcomes.{outcome_seen}
+use Rattle.warc.proofs.CaptureLemmas.{text_front, text_next}
+use Rattle.warc.proofs.capture_line.list_outcomes.Goals as goal
+
+pub listing-init : goal.listing-init
+unfolding captures_text
+listing-init g c = record {
+  staged = c.new-buffer.ensures.begins ((g.W.Sink.seen c.args.out.now).tells);
+  sound = refl;
+}
+
+pub listing-preserved : goal.listing-preserved
+listing-preserved g c =
+    let next = text_next c.args.rows.now c.args.outcomes.now c.listing.outcome-index c.outcome-item.result c.listing-test.true c.outcome-item.is in
+    record {
+      staged = same_staged next (c.in-Ok.ensures.out _ _ c.listing.invariant.staged);
+      sound = c.in-Ok.ensures.cause ∙ c.listing.invariant.sound;
+    }
+
+pub returns-in-Err-clause-cut : goal.returns-in-Err-clause-cut
+returns-in-Err-clause-cut g c =
+    let next = text_next c.args.rows.now c.args.outcomes.now c.listing.outcome-index c.outcome-item.result c.listing-test.true c.outcome-item.is in
+    same_out (sym (text_front c.args.rows.now c.args.outcomes.now (c.listing.outcome-index + 1)))
+    (longer _ (same_out next (c.in-Err.ensures.cut _ _ c.listing.invariant.staged)))
+
+pub returns-in-Err-flush-clause-cut : goal.returns-in-Err-flush-clause-cut
+returns-in-Err-flush-clause-cut g c =
+    let text = ap (λ l. captures_text c.args.rows.now (map outcome_seen l)) (take_all _ _ c.listing-test.false) in
+    c.in-Err-flush.ensures.cut _ _ (same_staged text c.listing.invariant.staged)
+
+pub returns-in-Ok-flush-clause-told : goal.returns-in-Ok-flush-clause-told
+returns-in-Ok-flush-clause-told g c =
+    let text = ap (λ l. captures_text c.args.rows.now (map outcome_seen l)) (take_all _ _ c.listing-test.false) in
+    c.in-Ok-flush.ensures.told _ _ (same_staged text c.listing.invariant.staged)

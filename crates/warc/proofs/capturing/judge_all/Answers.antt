@@ -1,0 +1,38 @@
+use Rattle.std.proofs.Common.{◌≡◌, ◌++◌, ◌∷◌, [], length, map, refl, sym, ap, subst, take_all, ◌∙◌, arith}
+use Rattle.warc_reading.specs.Archive.{contents}
+use Rattle.warc.specs.Capturing.{AreSlots, AreSoFar, Recalls}
+use Rattle.warc.proofs.CaptureLemmas.{chosen_more, chosen_seen, more_slots, more_so_far, take_next}
+use Rattle.warc.proofs.capturing.judge_all.Goals as goal
+
+pub judging-preserved : goal.judging-preserved
+judging-preserved g c =
+    let old = c.judging.invariant in
+    let next = c.in-Ok-outcome_once.ensures in
+    let added = c.in-Ok-push_outcome.ensures in
+    record {
+      told = λ bytes held is are.
+          let before = old.told bytes held is are in
+          let recalls = subst (λ l. Recalls (contents is.are.records) l c.deref-in-judging.result.now) (sym c.deref.ensures.value)
+          (subst (λ l. Recalls (contents is.are.records) c.judging.slots.items l) (sym c.deref-in-judging.ensures.value) before.recalls) in
+          subst (λ l. AreSoFar (contents is.are.records) c.remember.new.slots.items l) (sym added.items)
+          (more_so_far (contents is.are.records) c.judging.slots.items c.remember.new.slots.items c.judging.outcomes.items c.in-Ok-outcome_once.outcome _ before old.slots
+          (next.told bytes (old.kept ∙ held) is are recalls) added.count c.remember.ensures);
+      slots = subst (λ l. AreSlots (length l) c.remember.new.slots.items) (sym added.items)
+          (more_slots c.judging.slots.items c.remember.new.slots.items c.judging.outcomes.items c.in-Ok-outcome_once.outcome _ old.slots added.count c.remember.ensures);
+      chosen = ap (λ l. map (λ o. o.chosen) l) added.items ∙ chosen_more c.judging.outcomes.items c.in-Ok-outcome_once.outcome
+          ∙ ap (λ l. l ++ c.in-Ok-outcome_once.outcome.chosen ∷ []) old.chosen
+          ∙ take_next c.args.positions.now c.judging.position-index c.in-Ok-outcome_once.outcome.chosen c.judging-test.true next.chosen;
+      kept = next.kept ∙ old.kept;
+      sound = next.may ∙ old.sound;
+    }
+
+pub returns : goal.returns
+returns g c = record {
+  told = λ bytes held is are. record {
+    chosen = chosen_seen c.judging.outcomes.items ∙ c.judging.invariant.chosen ∙ take_all _ _ c.judging-test.false;
+    each = (c.judging.invariant.told bytes held is are).each;
+  };
+  early = tt;
+  kept = c.judging.invariant.kept;
+  may = c.judging.invariant.sound;
+}

@@ -1,0 +1,24 @@
+use Rattle.std.proofs.Common.{refl, sym, subst}
+use Rattle.std.proofs.lemmas.Result.{IfOk-weaker}
+use Rattle.warc_answer.specs.Stored.{IsStoredAt}
+use Rattle.warc_reading.specs.Archive.{contents}
+use Rattle.warc.proofs.CaptureLemmas.{memory_early, memory_may}
+use Rattle.warc.proofs.capturing.judge_once.Goals as goal
+
+pub returns-in-Some : goal.returns-in-Some
+returns-in-Some g c = record {
+  told = λ bytes held is parts recalls.
+      IfOk-weaker c.judged_again.result _ _
+      (λ r same. subst (λ j. IsStoredAt (contents is.are.records) c.args.origin j) (sym same) (recalls c.args.origin _ c.in-Some.ensures)) c.judged_again.ensures.same;
+  early = memory_early _ c.judged_again.ensures.memory;
+  kept = refl;
+  may = memory_may _ _ c.judged_again.ensures.memory;
+}
+
+pub returns-in-None : goal.returns-in-None
+returns-in-None g c = record {
+  told = λ bytes held is parts recalls. c.judge_origin.ensures.told bytes held is parts;
+  early = c.judge_origin.ensures.early;
+  kept = c.judge_origin.ensures.kept;
+  may = c.judge_origin.ensures.may;
+}

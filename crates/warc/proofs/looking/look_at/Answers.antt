@@ -1,0 +1,49 @@
+use Rattle.std.proofs.Common.{◌≡◌, inl, Ok, refl, sym, ap, ◌∙◌, arith}
+use Rattle.std.specs.List.{slice_get}
+use Rattle.std.specs.Prelude.{Result}
+use Rattle.warc_answer.specs.declared.answer.Path.{Path}
+use Rattle.warc_reading.specs.Archive.{contents}
+use Rattle.warc.specs.Standing.{IsOrigin}
+use Rattle.warc_checking.proofs.PlaceLemmas.{checkable_archive}
+use Rattle.warc_checking.proofs.RecordsLemmas.{placed}
+use Rattle.warc.proofs.BodyLemmas.{none_there}
+use Rattle.warc.proofs.LookLemmas.{absent_after}
+use Rattle.warc.proofs.looking.look_at.Goals as goal
+
+pub returns-in_default : goal.returns-in_default
+returns-in_default g c = record {
+  told = λ bytes held is parts. tt;
+  failed = λ bytes held is parts within. refl;
+  early = refl;
+  kept = refl;
+  may = refl;
+}
+
+pub returns-in_default-get : goal.returns-in_default-get
+returns-in_default-get g c = record {
+  told = λ bytes held is parts. tt;
+  failed = λ bytes held is parts within.
+      absurd (absent_after (contents is.are.records) c.args.position within (none_there bytes c.args.rows.now c.args.position is (sym c.get.ensures ∙ c.in_default-get.is)));
+  early = refl;
+  kept = refl;
+  may = inl refl;
+}
+
+pub returns : goal.returns
+returns g c =
+    let path : Path = record { chosen = c.args.position; given = c.args.position } in
+    record {
+      told = λ bytes held is parts.
+          let (p, there, same) = placed is.are.records c.args.position c.in-Some.row (ap (λ l. slice_get l c.args.position) (sym is.are.rows_are) ∙ sym c.get.ensures ∙ c.in-Some.is) in
+          let can = checkable_archive c.head_of_spelled.ensures bytes c.args.rows.now is c.args.rows.now refl in
+          let origin : IsOrigin bytes is.are.records (Ok path) path p = record { short = is.short; spelled = is.are.spelled; path_is = refl; stands = there } in
+          c.look_row.ensures.told bytes is.are.records path p held origin (can.heads c.args.position p there) same parts;
+      failed = λ bytes held is parts within.
+          let (p, there, same) = placed is.are.records c.args.position c.in-Some.row (ap (λ l. slice_get l c.args.position) (sym is.are.rows_are) ∙ sym c.get.ensures ∙ c.in-Some.is) in
+          let can = checkable_archive c.head_of_spelled.ensures bytes c.args.rows.now is c.args.rows.now refl in
+          let origin : IsOrigin bytes is.are.records (Ok path) path p = record { short = is.short; spelled = is.are.spelled; path_is = refl; stands = there } in
+          c.look_row.ensures.failed bytes is.are.records path p held origin (can.heads c.args.position p there) same parts;
+      early = c.look_row.ensures.early;
+      kept = c.look_row.ensures.kept;
+      may = c.look_row.ensures.may;
+    }

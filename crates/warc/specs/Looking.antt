@@ -1,0 +1,83 @@
+-- What is stored of an origin, and where. States of the code: no public clause cites them.
+use Rattle.std.specs.Prelude.{◌≡◌, ℕ, ◌<◌, List, length, map, Option, Result, Ok, Err, IfErr, IfOk, ⊤}
+use Rattle.std.specs.Io.KnownBytes.{append_known}
+use Rattle.warc_frame.specs.Failing.{HasFailedBy, MayHaveFailedBy, failed_by}
+use Rattle.warc_frame.specs.Record.{Record}
+use Rattle.warc_frame.specs.Seen.{IfHeld, Seen, Tapped}
+use Rattle.warc_frame.specs.Send.{sent_of}
+use Rattle.warc_frame.specs.declared.fault.OutFault.{OutFault}
+use Rattle.warc_segment.specs.Kept.{Kept as Parts, kept_in}
+use Rattle.warc_answer.specs.Places.{LieIn, text_at}
+use Rattle.warc_answer.specs.Replays.{out_result}
+use Rattle.warc_answer.specs.Seen.{IsEarly, stored_seen}
+use Rattle.warc_answer.specs.Stored.{IsStoredAt, joined_text_at}
+use Rattle.warc_answer.specs.declared.answer.Reason.{Reason as Why}
+use Rattle.warc_answer.specs.declared.answer.ReplayFault.{ReplayFault}
+use Rattle.warc_answer.specs.declared.answer.ReplayFault.TheVariants.{Reason, Out}
+use Rattle.warc_answer.specs.declared.stored.Stored.{Stored}
+use Rattle.warc_reading.specs.Archive.{IsArchiveOf, contents}
+use Rattle.warc_reading.specs.Indexed.{placed_record}
+use Rattle.warc_reading.specs.Row.{Placed, Row}
+use Rattle.warc.specs.Outcomes.{IsFrontAt, judged_seen, stored_text}
+use Rattle.warc.specs.declared.looking.Look.{Look}
+
+-- what is stored of the origin at a position, and the places of what is joined; a reason, or nothing where a read or a
+-- growth of the memory failed
+abbrev pub IsLook : {A : Type 0} → List ℕ → List Record → ℕ → Result (Look A) ReplayFault → Type 0
+IsLook bytes records position (Ok l) =
+    IsStoredAt records position (Ok (stored_seen l.stored))
+    × (text_at l.places.items bytes ≡ joined_text_at records position) × LieIn l.places.items bytes
+IsLook bytes records position (Err (Reason why)) = IsStoredAt records position (Err why)
+IsLook bytes records position (Err (Out e)) = ⊤
+
+-- the parts are those of these records
+abbrev pub ArePartsOf : List Placed → Parts → Type 0
+ArePartsOf records parts = parts ≡ kept_in (map placed_record records)
+
+-- the same by rows and parts: where the source holds the archive's bytes, and the position is that of a record
+pub record Looks {A : Type 0} (rows : List Row) (parts : Parts) (position : ℕ) (old new : Tapped)
+    (answer : Result (Look A) ReplayFault) : Type 0 where
+  pub told : IfHeld old.holds (λ bytes. (is : IsArchiveOf bytes rows) → ArePartsOf is.are.records parts
+      → IsLook bytes (contents is.are.records) position answer)
+  pub failed : IfHeld old.holds (λ bytes. (is : IsArchiveOf bytes rows) → ArePartsOf is.are.records parts
+      → position < length (contents is.are.records) → HasFailedBy (out_result answer) old.faults new.faults)
+  pub early : IfErr answer IsEarly
+  pub kept : new.holds ≡ old.holds
+  pub may : MayHaveFailedBy (out_result answer) old.faults new.faults
+
+-- a fault that is a reason
+abbrev pub IsReason : ReplayFault → Type 0
+IsReason (Reason why) = ⊤
+IsReason (Out e) = ⊥
+
+-- the same without the places
+pub record Judges {A : Type 0} (rows : List Row) (parts : Parts) (position : ℕ) (old new : Tapped)
+    (answer : Result (Result (Stored A) Why) OutFault) : Type 0 where
+  pub told : IfHeld old.holds (λ bytes. (is : IsArchiveOf bytes rows) → ArePartsOf is.are.records parts
+      → IfOk answer (λ judged. IsStoredAt (contents is.are.records) position (judged_seen judged)))
+  pub failed : IfHeld old.holds (λ bytes. (is : IsArchiveOf bytes rows) → ArePartsOf is.are.records parts
+      → position < length (contents is.are.records) → HasFailedBy answer old.faults new.faults)
+  pub early : IfErr answer (λ e. IsEarly (Out e))
+  pub kept : new.holds ≡ old.holds
+  pub may : MayHaveFailedBy answer old.faults new.faults
+
+-- what went out of what is stored of the origin at a position
+abbrev pub IsSent : {A : Type 0} → List Record → ℕ → Result (Stored A) ReplayFault → Option (List ℕ) → Option (List ℕ)
+    → Type 0
+IsSent records position (Ok s) old new =
+    IsStoredAt records position (Ok (stored_seen s))
+    × (new ≡ append_known old (stored_text records position (stored_seen s)))
+IsSent records position (Err (Reason why)) old new = IsStoredAt records position (Err why) × (new ≡ old)
+IsSent records position (Err (Out e)) old new = IsFrontAt records position (sent_of e) old new
+
+-- the same by rows and parts
+pub record Sends {A : Type 0} (rows : List Row) (parts : Parts) (position : ℕ) (old new : Tapped) (before after : Seen)
+    (answer : Result (Stored A) ReplayFault) : Type 0 where
+  pub told : IfHeld old.holds (λ bytes. (is : IsArchiveOf bytes rows) → ArePartsOf is.are.records parts
+      → IsSent (contents is.are.records) position answer before.tells after.tells)
+  pub failed : IfHeld old.holds (λ bytes. (is : IsArchiveOf bytes rows) → ArePartsOf is.are.records parts
+      → position < length (contents is.are.records) → HasFailedBy (out_result answer) old.faults new.faults)
+  pub silent : IfErr answer (λ fault. IsReason fault → after.tells ≡ before.tells)
+  pub kept : new.holds ≡ old.holds
+  pub may : MayHaveFailedBy (out_result answer) old.faults new.faults
+  pub cause : after.faults ≡ failed_by (out_result answer) before.faults
