@@ -8,6 +8,7 @@ pub mod LawLemmas
 pub mod LineLemmas
 pub mod ReplayLemmas
 pub mod BodyLemmas
+pub mod LocatingLemmas
 pub mod SplitLemmas
 pub mod SummaryLemmas
 pub mod StandLemmas

@@ -14,6 +14,7 @@ pub mod Laws
 pub mod Listing
 pub mod Looking
 pub mod Outcomes
+pub mod Locating
 pub mod Parts
 pub mod Replaying
 pub mod Segments

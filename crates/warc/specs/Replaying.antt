@@ -26,12 +26,14 @@ abbrev pub joined_len : Result (List ReadRecord) Gap → ℕ
 joined_len (Ok joined) = length (whole_block joined)
 joined_len (Err gap) = 0
 
+-- how many bytes the blocks have that are joined to an origin
+abbrev pub origin_joined : List Placed → Placed → ℕ
+origin_joined all p = joined_len (joined_records (map read_record (contents all)) (read_record p.content))
+
 -- the most reads for an origin: the length of its head, and twice that of its joined block
 abbrev pub origin_reads : List Placed → Option Placed → ℕ
 origin_reads all None = 0
-origin_reads all (Some p) =
-    p.block_start - p.offset
-    + 2 * joined_len (joined_records (map read_record (contents all)) (read_record p.content))
+origin_reads all (Some p) = p.block_start - p.offset + 2 * origin_joined all p
 
 -- none where there is no origin
 abbrev pub path_reads : List Placed → Result Path Unfound → ℕ

@@ -14,6 +14,8 @@ ghost use Rattle.warc.specs.Capturing.{JudgesAll};
 ghost use Rattle.warc.specs.Captures.{capture_positions, captures_text};
 ghost use Rattle.warc.specs.Listing.{listing};
 ghost use Rattle.warc.specs.Outcomes.{GivesStoredAt, JudgesAt, answer_seen, outcome_seen};
+ghost use Rattle.warc_answer.specs.Answers.{path_from, path_of};
+ghost use Rattle.warc.specs.Locating.{LocatesAt, LocatesFor};
 ghost use Rattle.warc_reading.specs.Growing.{Grows, grown, source_grown, without_source};
 ghost use Rattle.warc_reading.specs.Opening.{Opens};
 ghost use Rattle.warc.specs.Replaying.{Replays};
@@ -25,11 +27,13 @@ use crate::capturing::capture_positions;
 use crate::fault::{BodyFault, ExtractFault, TakeFault};
 use crate::outcome::{Outcome, StoredAt};
 use crate::reader::Listing;
+use crate::replay::{path_from, path_in};
 use std::alloc::{AllocError, Allocator, Global};
 use std::marker::Model;
 use std::mem;
-use warc_answer::{Answer, ReplayFault};
+use warc_answer::{Answer, Located, Path, ReplayFault};
 use warc_frame::{Fault, Framed, OutFault, Sink, Source};
+use warc_index::Unfound;
 use warc_reading::{Gathering, Lookup, Row, Rows, read_on};
 use warc_record::id_key;
 use warc_value::Moment;
@@ -177,6 +181,48 @@ impl<S: Source, A: Allocator + Copy> Archive<S, A> {
             return Err(ExtractFault::NoRecord);
         };
         self.listing.block_to(position, out)
+    }
+
+    /// The position of the capture that is chosen for a URI as of a moment, and that of its origin; or the reason P1 to
+    /// P6.
+    pub fn path_for(&self, uri: &[u8], moment: &Moment) -> Result<Path, Unfound>
+        ensures { (records : List Placed) → AreOf records self.now.index self.now.parts → result ≡ path_of
+            (map indexed_record records) uri.now moment.now }
+    {
+        path_in(&self.lookup, uri, moment)
+    }
+
+    /// The position of a capture, and that of its origin; or the reason P3 to P6.
+    pub fn path_at(&self, position: usize) -> Result<Path, Unfound>
+        ensures { (records : List Placed) → AreOf records self.now.index self.now.parts → result ≡ path_from
+            (map indexed_record records) position }
+    {
+        path_from(&self.lookup, position)
+    }
+
+    /// Where the body lies that `replay` writes: its answer, and the spans of the source whose bytes, one after
+    /// another, are the body. The source is read for the origin's head, and for the first 65,536 bytes of the joined
+    /// blocks where an HTTP head is looked for. A refusal is that of `replay` before anything is written.
+    pub fn locate(&mut self, uri: &[u8], moment: &Moment) -> Result<Located<A>, ReplayFault>
+        ensures locates { LocatesFor self.old.listing.rows self.old.index self.old.parts uri.now moment.now
+            (S.tapped self.old.listing.source) (S.tapped self.new.listing.source) result }
+        ensures rows { self.new.listing.rows ≡ self.old.listing.rows }
+        ensures index { self.new.index ≡ self.old.index }
+        ensures parts { self.new.parts ≡ self.old.parts }
+    {
+        self.listing.locate(&self.lookup, uri, moment)
+    }
+
+    /// Where the body lies that `replay_at` writes, as `locate` says it. Where there is no record it is `NoRecord`, and
+    /// where the record there is no capture `NoCapture`.
+    pub fn locate_at(&mut self, position: usize) -> Result<Located<A>, BodyFault>
+        ensures locates { LocatesAt self.old.listing.rows self.old.index self.old.parts position
+            (S.tapped self.old.listing.source) (S.tapped self.new.listing.source) result }
+        ensures rows { self.new.listing.rows ≡ self.old.listing.rows }
+        ensures index { self.new.index ≡ self.old.index }
+        ensures parts { self.new.parts ≡ self.old.parts }
+    {
+        self.listing.locate_body(&self.lookup, position)
     }
 
     /// Writes the body that was captured of a URI, as of a moment: the payload of the origin of the latest capture

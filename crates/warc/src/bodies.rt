@@ -36,7 +36,11 @@ pub(crate) enum Found {
 }
 
 /// What is found at a position.
-pub(crate) fn find<A: Allocator + Copy>(rows: &Rows<A>, lookup: &Lookup<A>, position: usize) -> Found
+pub(crate) fn find<A: Allocator + Copy>(
+    rows: &Rows<A>,
+    lookup: &Lookup<A>,
+    position: usize,
+) -> Found
     ensures { IsFoundAt rows.now lookup.now.index lookup.now.parts position result }
 {
     let Some(row) = rows.get(position) else {

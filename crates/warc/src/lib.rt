@@ -13,6 +13,7 @@ mod fault;
 mod fixity;
 mod front;
 pub mod laws;
+mod locating;
 mod looking;
 mod outcome;
 mod part;

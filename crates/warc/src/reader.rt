@@ -11,6 +11,7 @@ ghost use Rattle.warc.specs.Copied.{len_by, text_by};
 ghost use Rattle.warc.specs.Capturing.{JudgesAll};
 ghost use Rattle.warc.specs.Listing.{listing};
 ghost use Rattle.warc.specs.Outcomes.{GivesStoredAt, JudgesAt, answer_seen};
+ghost use Rattle.warc.specs.Locating.{LocatesAt, LocatesFor};
 ghost use Rattle.warc.specs.Parts.{GivesPart};
 ghost use Rattle.warc_reading.specs.Growing.{Grows, grown, source_grown, without_source};
 ghost use Rattle.warc_reading.specs.Opening.{Opens};
@@ -24,6 +25,7 @@ use crate::bodies::give_body;
 use crate::capturing::judge_all;
 use crate::copying::Form;
 use crate::fault::{BodyFault, ExtractFault, TakeFault};
+use crate::locating::{locate_at, locate_for};
 use crate::outcome::{Outcome, StoredAt, judge_at, send_at};
 use crate::part::Part;
 use crate::replay::replay_rows;
@@ -32,7 +34,7 @@ use crate::taking::take_record;
 use std::alloc::{Allocator, Global};
 use std::marker::Model;
 use std::mem;
-use warc_answer::{Answer, ReplayFault};
+use warc_answer::{Answer, Located, ReplayFault};
 use warc_checking::check_rows;
 use warc_frame::laws::head_of_spelled;
 use warc_frame::{Fault, Framed, OutBuffer, OutFault, Sink, Source};
@@ -295,6 +297,33 @@ impl<S: Source, A: Allocator + Copy> Listing<S, A> {
         ensures rows { self.new.rows ≡ self.old.rows }
     {
         send_at(&mut self.source, &self.rows, lookup, position, out)
+    }
+
+    /// Where the payload lies that the records give for a URI as of a moment.
+    pub(crate) fn locate(
+        &mut self,
+        lookup: &Lookup<A>,
+        uri: &[u8],
+        moment: &Moment,
+    ) -> Result<Located<A>, ReplayFault>
+        ensures locates { LocatesFor self.old.rows lookup.now.index lookup.now.parts uri.now moment.now
+            (S.tapped self.old.source) (S.tapped self.new.source) result }
+        ensures rows { self.new.rows ≡ self.old.rows }
+    {
+        locate_for(&mut self.source, &self.rows, lookup, uri, moment)
+    }
+
+    /// Where the body lies that the capture at a position gives.
+    pub(crate) fn locate_body(
+        &mut self,
+        lookup: &Lookup<A>,
+        position: usize,
+    ) -> Result<Located<A>, BodyFault>
+        ensures locates { LocatesAt self.old.rows lookup.now.index lookup.now.parts position (S.tapped self.old.source)
+            (S.tapped self.new.source) result }
+        ensures rows { self.new.rows ≡ self.old.rows }
+    {
+        locate_at(&mut self.source, &self.rows, lookup, position)
     }
 
     /// Writes a line for each finding, by the position of its record, then by its number, then by the

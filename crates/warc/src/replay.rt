@@ -47,7 +47,7 @@ pub(crate) fn path_from<A: Allocator + Copy>(
 }
 
 /// From the capture that is chosen for a URI as of a moment to its origin.
-fn path_in<A: Allocator + Copy>(
+pub(crate) fn path_in<A: Allocator + Copy>(
     lookup: &Lookup<A>,
     uri: &[u8],
     moment: &Moment,

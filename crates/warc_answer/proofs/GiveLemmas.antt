@@ -228,7 +228,7 @@ same_known : (o : Option (List ℕ)) → o ≡ append_known o []
 same_known None = refl
 same_known (Some l) = ap Some (sym (append-nil l))
 
-none_out : (start : Option (List ℕ)) (output : List ℕ) → WentOut start output start 0
+pub none_out : (start : Option (List ℕ)) (output : List ℕ) → WentOut start output start 0
 none_out start output =
     record { count = 0; within = omega arith; told = same_known start; number = omega arith }
 

@@ -4,5 +4,6 @@ pub mod MigrationLemmas
 pub mod ReasonLemmas
 pub mod PlaceLemmas
 pub mod GiveLemmas
+pub mod LocatedLemmas
 mod WorkedValues
 pub mod StoredLemmas

@@ -8,3 +8,4 @@ pub mod Giving
 pub mod Stored
 pub mod Seen
 pub mod Judging
+pub mod Located

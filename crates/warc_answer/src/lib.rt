@@ -5,10 +5,12 @@ mod answer;
 mod blocks;
 mod body;
 pub mod laws;
+mod located;
 mod replay;
 mod stored;
 
 pub use answer::{Answer, Path, Reason, ReplayFault};
 pub use blocks::send_blocks;
+pub use located::{Located, Span, locate_joined};
 pub use replay::replay_joined;
 pub use stored::{Stored, judge_joined};

@@ -51,13 +51,13 @@ pub(crate) fn total(places: &[Place]) -> u64
 
 /// What is said of a body, and how many bytes of the joined blocks come before it.
 #[derive(Clone, Copy, Debug, PartialEq, Eq)]
-struct Begun {
-    answer: Answer,
-    skip: u64,
+pub(crate) struct Begun {
+    pub(crate) answer: Answer,
+    pub(crate) skip: u64,
 }
 
 /// What is said of the payload of an origin, and where in the joined blocks it begins.
-fn begin_body<S: Source, A: Allocator>(
+pub(crate) fn begin_body<S: Source, A: Allocator>(
     source: &mut S,
     path: Path,
     origin: &Typed<A>,

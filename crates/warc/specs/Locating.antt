@@ -1,0 +1,79 @@
+-- Where the body of a replay lies in the source, and what finding it reads. This project's own notion.
+use Rattle.std.specs.Prelude.{◌≡◌, ℕ, ◌+◌, ◌≤◌, List, slice_get, None, Result, Ok, Err}
+use Rattle.warc_value.specs.Dates.{Instant}
+use Rattle.warc_frame.specs.Failing.{HasFailedBy, MayHaveFailedBy}
+use Rattle.warc_frame.specs.Record.{Record}
+use Rattle.warc_frame.specs.Seen.{AsksOnly, IfHeld, Tapped}
+use Rattle.warc_frame.specs.declared.fault.OutFault.{OutFault}
+use Rattle.warc_index.specs.Orders.{Kept as Indexes}
+use Rattle.warc_index.specs.declared.unfound.Unfound.{Unfound}
+use Rattle.warc_segment.specs.Kept.{Kept as Parts}
+use Rattle.warc_answer.specs.Answers.{path_at, path_for}
+use Rattle.warc_answer.specs.Located.{IsLocatedOn, Location}
+use Rattle.warc_answer.specs.Replays.{out_result}
+use Rattle.warc_answer.specs.declared.answer.Path.{Path}
+use Rattle.warc_answer.specs.declared.answer.ReplayFault.{ReplayFault}
+use Rattle.warc_reading.specs.Archive.{IsArchiveOf, contents}
+use Rattle.warc_reading.specs.Indexed.{AreOf}
+use Rattle.warc_reading.specs.Row.{Placed, Row}
+use Rattle.warc.specs.Bodies.{IsCaptureAt, IsOtherAt}
+use Rattle.warc.specs.Replaying.{IsOnPath, path_reads}
+use Rattle.warc.specs.declared.fault.BodyFault.{BodyFault}
+use Rattle.warc.specs.declared.fault.BodyFault.TheVariants.{NoRecord, NoCapture, Replay}
+
+-- In at most `most` reads, of these bytes alone. The source has failed once more exactly where a read is reported.
+pub record ReadsAtMost (most : ℕ) (These : ℕ → Type 0) (result : Result (Unit {0}) OutFault) (old new : Tapped)
+    : Type 0 where
+  pub failed : HasFailedBy result old.faults new.faults
+  pub cost : new.reads ≤ old.reads + most
+  pub near : AsksOnly These old new
+
+-- any source still holds what it held, and has failed at most once more
+pub record KeepsSource (result : Result (Unit {0}) OutFault) (old new : Tapped) : Type 0 where
+  pub kept : new.holds ≡ old.holds
+  pub may : MayHaveFailedBy result old.faults new.faults
+
+-- what is located of records on a path, over bytes that the source holds
+pub record Locates (bytes : List ℕ) (records : List Placed) (found : Result Path Unfound) (old new : Tapped)
+    (answer : Result Location ReplayFault) : Type 0 where
+  pub located : IsLocatedOn bytes (contents records) found answer
+  pub reads : ReadsAtMost (path_reads records found) (IsOnPath records found) (out_result answer) old new
+
+-- A body located on a way from records to a path, by rows, an index and parts: where the archive's source holds its
+-- bytes, the body that a replay on that way gives.
+pub record LocatesOn (rows : List Row) (index : Indexes) (parts : Parts) (way : List Record → Result Path Unfound)
+    (old new : Tapped) (answer : Result Location ReplayFault) : Type 0 where
+  pub held : IfHeld old.holds (λ bytes. (is : IsArchiveOf bytes rows) → AreOf is.are.records index parts
+      → Locates bytes is.are.records (way (contents is.are.records)) old new answer)
+  pub keeps : KeepsSource (out_result answer) old new
+
+-- the body that a replay gives for a URI as of a moment
+abbrev pub LocatesFor : List Row → Indexes → Parts → List ℕ → Instant → Tapped → Tapped
+    → Result Location ReplayFault → Type 0
+LocatesFor rows index parts uri moment = LocatesOn rows index parts (λ records. path_for records uri moment)
+
+-- the body that the capture at a position gives; or there is no record, or no capture
+abbrev pub IsLocatedAt : List ℕ → List Record → ℕ → Result Location BodyFault → Type 0
+IsLocatedAt bytes records position (Ok body) =
+    IsCaptureAt records position × IsLocatedOn bytes records (path_at records position) (Ok body)
+IsLocatedAt bytes records position (Err NoRecord) = slice_get records position ≡ None
+IsLocatedAt bytes records position (Err NoCapture) = IsOtherAt records position
+IsLocatedAt bytes records position (Err (Replay fault)) =
+    IsCaptureAt records position × IsLocatedOn bytes records (path_at records position) (Err fault)
+
+-- there a missing record or capture is no failure
+abbrev pub location_result : Result Location BodyFault → Result (Unit {0}) OutFault
+location_result (Ok body) = Ok tt
+location_result (Err NoRecord) = Ok tt
+location_result (Err NoCapture) = Ok tt
+location_result (Err (Replay fault)) = out_result {X = Location} (Err fault)
+
+-- The body of the capture at a position, located by rows, an index and parts.
+pub record LocatesAt (rows : List Row) (index : Indexes) (parts : Parts) (position : ℕ) (old new : Tapped)
+    (answer : Result Location BodyFault) : Type 0 where
+  pub located : IfHeld old.holds (λ bytes. (is : IsArchiveOf bytes rows) → AreOf is.are.records index parts
+      → IsLocatedAt bytes (contents is.are.records) position answer)
+  pub reads : IfHeld old.holds (λ bytes. (is : IsArchiveOf bytes rows) → AreOf is.are.records index parts
+      → ReadsAtMost (path_reads is.are.records (path_at (contents is.are.records) position))
+      (IsOnPath is.are.records (path_at (contents is.are.records) position)) (location_result answer) old new)
+  pub keeps : KeepsSource (location_result answer) old new

@@ -1,0 +1,167 @@
+//! Where a body lies in the source, for callers that hold its bytes.
+ghost use Rattle.std.specs.Prelude.{◌≡◌, ℕ, ◌*◌, ◌≤◌, List, length, map, Some, Result};
+ghost use Rattle.warc_frame.specs.Record.{Record, max_head};
+ghost use Rattle.warc_record.specs.Readings.{reading_of};
+ghost use Rattle.warc_record.specs.Seen.{said};
+ghost use Rattle.warc_segment.specs.Joined.{joined_places};
+ghost use Rattle.warc_segment.specs.Kept.{kept_in};
+ghost use Rattle.warc_answer.specs.Located.{IsLocatedOn};
+ghost use Rattle.warc_answer.specs.Replays.{out_result};
+ghost use Rattle.warc_reading.specs.Archive.{contents};
+ghost use Rattle.warc_reading.specs.Indexed.{place_of, placed_record};
+ghost use Rattle.warc_checking.specs.Examining.{HasHead};
+ghost use Rattle.warc.specs.Locating.{KeepsSource, Locates, LocatesAt, LocatesFor, LocatesOn, ReadsAtMost};
+ghost use Rattle.warc.specs.Replaying.{IsJoined, origin_joined};
+ghost use Rattle.warc_reading.specs.Row.{Placed, row_of};
+ghost use Rattle.warc.specs.Standing.{IsOrigin, LeadsTo};
+
+use crate::bodies::{Found, find};
+use crate::fault::BodyFault;
+use crate::replay::path_in;
+use std::alloc::Allocator;
+use warc_answer::laws::{
+    fails_before_all, paths_end_inside, places_are_as_long, reasons_are_answers,
+};
+use warc_answer::{Located, Path, Reason, ReplayFault, locate_joined};
+use warc_checking::{head_buffer, read_again};
+use warc_frame::laws::head_of_spelled;
+use warc_frame::{OutFault, Source};
+use warc_index::Unfound;
+use warc_reading::{Lookup, Row, Rows};
+use warc_record::Typed;
+use warc_segment::laws::places_are_of_records;
+use warc_segment::{JoinFault, Parts, Place};
+use warc_value::Moment;
+
+/// Where the payload of the origin at the end of a path lies. The origin's head says this, and its block is there.
+fn locate_origin<S: Source, A: Allocator + Copy>(
+    alloc: A,
+    source: &mut S,
+    parts: &Parts<A>,
+    path: Path,
+    origin: &Typed<A>,
+    place: Place,
+) -> Result<Located<A>, ReplayFault>
+    ensures located { (bytes : List ℕ) (records : List Placed) (found : Result Path Unfound) (p : Placed) →
+        (S.tapped source.old).holds ≡ Some bytes → IsOrigin bytes records found path p → parts.now ≡ kept_in
+        (map placed_record records) → said origin.now ≡ reading_of p.content.fields → place ≡ place_of p →
+        IsLocatedOn bytes (contents records) found result }
+    ensures reads { (bytes : List ℕ) (records : List Placed) (found : Result Path Unfound) (p : Placed) →
+        (S.tapped source.old).holds ≡ Some bytes → IsOrigin bytes records found path p → parts.now ≡ kept_in
+        (map placed_record records) → said origin.now ≡ reading_of p.content.fields → place ≡ place_of p →
+        ReadsAtMost (2 * origin_joined records p) (IsJoined (joined_places (map placed_record records)
+        (placed_record p))) (out_result result) (S.tapped source.old) (S.tapped source.new) }
+    ensures keeps { KeepsSource (out_result result) (S.tapped source.old) (S.tapped source.new) }
+{
+    reasons_are_answers();
+    fails_before_all();
+    places_are_of_records();
+    places_are_as_long();
+    let places = match parts.join(origin, place) {
+        Ok(places) => places,
+        Err(JoinFault::Gap(gap)) => return Err(ReplayFault::Reason(Reason::Segments(gap))),
+        Err(JoinFault::Memory) => return Err(ReplayFault::Out(OutFault::Memory(0))),
+    };
+    locate_joined(alloc, source, path, origin, &places)
+}
+
+/// Where the payload of the origin at the end of a path lies, by its row. Its head is read again, through a buffer that
+/// any head fits.
+fn locate_row<S: Source, A: Allocator + Copy>(
+    alloc: A,
+    source: &mut S,
+    parts: &Parts<A>,
+    path: Path,
+    row: &Row<'_>,
+    buf: &mut [u8],
+) -> Result<Located<A>, ReplayFault>
+    requires { max_head ≤ length buf.old }
+    ensures located { (bytes : List ℕ) (records : List Placed) (found : Result Path Unfound) (p : Placed) →
+        (S.tapped source.old).holds ≡ Some bytes → IsOrigin bytes records found path p → HasHead bytes p → row.now
+        ≡ row_of p → parts.now ≡ kept_in (map placed_record records) → Locates bytes records found
+        (S.tapped source.old) (S.tapped source.new) result }
+    ensures keeps { KeepsSource (out_result result) (S.tapped source.old) (S.tapped source.new) }
+{
+    fails_before_all();
+    let origin = match read_again(alloc, source, row, buf) {
+        Ok(origin) => origin,
+        Err(halt) => return Err(ReplayFault::Out(halt.after(0))),
+    };
+    let place = Place {
+        start: row.block_start,
+        len: row.block_len,
+        verdict: row.verdict,
+        truncated: row.is_truncated,
+    };
+    locate_origin(alloc, source, parts, path, &origin.typed, place)
+}
+
+/// Where the payload at the end of a path lies.
+fn locate_on<S: Source, A: Allocator + Copy>(
+    source: &mut S,
+    rows: &Rows<A>,
+    lookup: &Lookup<A>,
+    path: Path,
+) -> Result<Located<A>, ReplayFault>
+    ensures { (way : List Record → Result Path Unfound) → LeadsTo way path rows.now lookup.now.index lookup.now.parts →
+        LocatesOn rows.now lookup.now.index lookup.now.parts way (S.tapped source.old) (S.tapped source.new) result }
+{
+    head_of_spelled();
+    fails_before_all();
+    let alloc = rows.allocator();
+    let Ok(mut buf) = head_buffer(alloc) else {
+        return Err(ReplayFault::Out(OutFault::Memory(0)));
+    };
+    let Some(row) = rows.get(path.given) else {
+        return Err(ReplayFault::Out(OutFault::Read(0)));
+    };
+    locate_row(alloc, source, &lookup.parts, path, &row, &mut buf)
+}
+
+/// Where the payload lies that the records of a source give for a URI as of a moment.
+pub(crate) fn locate_for<S: Source, A: Allocator + Copy>(
+    source: &mut S,
+    rows: &Rows<A>,
+    lookup: &Lookup<A>,
+    uri: &[u8],
+    moment: &Moment,
+) -> Result<Located<A>, ReplayFault>
+    ensures { LocatesFor rows.now lookup.now.index lookup.now.parts uri.now moment.now (S.tapped source.old)
+        (S.tapped source.new) result }
+{
+    reasons_are_answers();
+    paths_end_inside();
+    match path_in(lookup, uri, moment) {
+        Ok(path) => locate_on(source, rows, lookup, path),
+        Err(unfound) => Err(ReplayFault::Reason(Reason::NotFound(unfound))),
+    }
+}
+
+/// Where the body lies that the capture at a position gives.
+pub(crate) fn locate_at<S: Source, A: Allocator + Copy>(
+    source: &mut S,
+    rows: &Rows<A>,
+    lookup: &Lookup<A>,
+    position: usize,
+) -> Result<Located<A>, BodyFault>
+    ensures { LocatesAt rows.now lookup.now.index lookup.now.parts position (S.tapped source.old) (S.tapped source.new)
+        result }
+{
+    reasons_are_answers();
+    paths_end_inside();
+    let path = match find(rows, lookup, position) {
+        Found::NoRecord => return Err(BodyFault::NoRecord),
+        Found::NoCapture => return Err(BodyFault::NoCapture),
+        Found::Capture(path) => path,
+    };
+    match path {
+        Ok(path) => match locate_on(source, rows, lookup, path) {
+            Ok(body) => Ok(body),
+            Err(fault) => Err(BodyFault::Replay(fault)),
+        },
+        Err(unfound) => {
+            let reason = Reason::NotFound(unfound);
+            Err(BodyFault::Replay(ReplayFault::Reason(reason)))
+        }
+    }
+}
