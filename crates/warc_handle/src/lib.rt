@@ -1,0 +1,7 @@
+//! An open archive that C keeps between calls.
+#![tactic(auto)]
+
+mod detached;
+mod handle;
+
+pub use handle::{Open, WarcArchive};
