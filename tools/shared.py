@@ -18,10 +18,15 @@ def version():
         return re.search(r'^const VERSION: &str = "(.*)";$', text.read(), re.MULTILINE)[1]
 
 
+def rows():
+    """What a line of crates.txt says before its colon, by the crate's name, and which libraries the crate uses."""
+    lines = [line.partition(":") for line in read("crates.txt").splitlines() if line and not line.startswith("#")]
+    return {front.split()[0]: (front, uses.split()) for front, _, uses in lines}
+
+
 def crates():
     """The libraries that each crate of crates.txt uses, by its name."""
-    rows = [line.partition(":") for line in read("crates.txt").splitlines() if line and not line.startswith("#")]
-    return {name.strip(): uses.split() for name, _, uses in rows}
+    return {name: uses for name, (_, uses) in rows().items()}
 
 
 def below(name, uses):
