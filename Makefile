@@ -1,12 +1,16 @@
 # make try          runs the program in about a minute: compiled with checks, not proved
 # make              proves the program's crates, several at a time, and builds bin/warc
 # make test         everything that must pass, from nothing; the last line is 'N passed, M failed'
+# make lib          proves the crates that C calls, and puts libwarc.a, libwarc.so and warc.h under out/lib
+# make python       puts the Python package with the library under out/python, and tests it
+# make rust         builds and tests the Rust crate over the library
+# make test-callers compares what the program, C, Python and Rust give of many archives; 10,000 damaged ones by valgrind
 # make check        the quick check while editing: the whole tree, over what earlier checks kept
 # make test-docs    runs the command lines of README.md and docs/PROGRAM.md, and compares what they write
 # make lint         checks the text of the tree: words, headers, widths, edits, numbers, and the pages
 # make lint-docs    compares README's code with the example crates, and looks for what the pages may not hold
 # make man          makes the manual pages and the completions under out/
-# make install      installs the program, its pages, completions, docs and examples; make uninstall removes them
+# make install      installs the program, the library, pages, completions, docs and examples; make uninstall removes them
 # make dist         makes dist/warc-VERSION-x86_64-linux.tar.gz, the source tarball, and their SHA-256
 # make verify-dist FILE=..   builds from this folder, and compares with such a tarball byte for byte
 # make stress       runs bin/warc over generated archives, and where the system fails it; minutes; before a release
@@ -20,6 +24,7 @@ JOBS ?= $(shell nproc)
 VERSION := $(shell sed -n 's/^const VERSION: &str = "\(.*\)";$$/\1/p' crates/warc_commands/src/words.rt)
 
 .PHONY: all try test check lint test-docs lint-docs man install uninstall dist verify-dist test-package stress bench clean
+.PHONY: lib python rust test-callers
 
 all:
 	@python3 tools/build.py $(JOBS)
@@ -33,6 +38,22 @@ test:
 
 check:
 	@rt all check
+
+lib:
+	@python3 tools/build_lib.py $(JOBS)
+
+# The package and the crate take a built library as it is. Build anew with `make lib`.
+out/lib/libwarc.so out/lib/libwarc.a:
+	@python3 tools/build_lib.py $(JOBS)
+
+python: out/lib/libwarc.so
+	@bash tests/callers/python.sh
+
+rust: out/lib/libwarc.a
+	@CARGO_TARGET_DIR=out/rust cargo test --quiet --offline --manifest-path rust/Cargo.toml
+
+test-callers: bin/warc out/lib/libwarc.so python
+	@bash tests/callers/run.sh
 
 # The tools take a built program as it is. Build anew with `make`.
 bin/warc:
@@ -51,16 +72,16 @@ man: bin/warc
 	@python3 tools/make_man.py out/man
 	@python3 tools/make_completions.py bin/warc out/completions
 
-install: all man
+install: all lib man
 	@python3 tools/install.py install $(DESTDIR)$(PREFIX)
 
 uninstall:
 	@python3 tools/install.py uninstall $(DESTDIR)$(PREFIX)
 
-dist: all man
+dist: all lib man
 	@python3 tools/dist.py make
 
-verify-dist: all man
+verify-dist: all lib man
 	@python3 tools/dist.py verify $(FILE)
 
 test-package: dist

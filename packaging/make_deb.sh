@@ -16,6 +16,9 @@ date=$(date -R -u -d "@$(stat -c %Y "$root/usr/BUILD.txt")")
 doc=$root/usr/share/doc/zogwedu
 mv "$root/usr/BUILD.txt" "$doc/"
 
+# The package has the program alone. The library for C belongs in packages of its own.
+rm -rf "$root/usr/lib" "$root/usr/include"
+
 # What Debian has in another place, or compressed.
 mkdir -p "$root/usr/share/zsh/vendor-completions"
 mv "$root/usr/share/zsh/site-functions/_warc" "$root/usr/share/zsh/vendor-completions/"

@@ -15,7 +15,7 @@ import sys
 import threading
 import time
 
-from shared import TOP, below, crates
+from shared import TOP, below, crates, rows
 
 PROGRAM = "warc_tool"
 
@@ -32,10 +32,11 @@ def copy_crate(name, tree):
 
 def copy_tree(names, uses, tree):
     """Copies the crates of these names, and makes their crates.txt."""
+    fronts = rows()
     for name in names:
         copy_crate(name, tree)
     with open(f"{tree}/crates.txt", "w", encoding="utf-8") as out:
-        out.writelines(f"{name}: {' '.join(uses[name])}\n" for name in names)
+        out.writelines(f"{fronts[name][0]}: {' '.join(uses[name])}\n" for name in names)
     shutil.copy(f"{TOP}/HANDLES", f"{tree}/HANDLES")
 
 
@@ -95,6 +96,13 @@ def prove(tree, jobs):
     return run.wait() == 0 and done
 
 
+def failure(tree):
+    """What is said where not all crates are proved."""
+    with open(f"{tree}/log", encoding="utf-8") as log:
+        summary = log.read().partition("== summary\n")[2]
+    return f"{summary}not all crates are proved: see {tree}/log"
+
+
 def main():
     jobs, tree = sys.argv[1], (sys.argv[2:] or [f"{TOP}/out/build"])[0]
     begin = time.monotonic()
@@ -102,9 +110,7 @@ def main():
     names = below(PROGRAM, uses)
     copy_tree(names, uses, tree)
     if not prove(tree, jobs):
-        with open(f"{tree}/log", encoding="utf-8") as log:
-            summary = log.read().partition("== summary\n")[2]
-        sys.exit(f"{summary}not all crates are proved: see {tree}/log")
+        sys.exit(failure(tree))
     folder = f"{tree}/crates/{PROGRAM}"
     linked = subprocess.run(["rt", "run", "--", "--version"], cwd=folder, capture_output=True, text=True)
     if linked.returncode != 0:
@@ -114,4 +120,5 @@ def main():
     print(f"bin/warc is built, {time.monotonic() - begin:.0f} s in all")
 
 
-main()
+if __name__ == "__main__":
+    main()

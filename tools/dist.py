@@ -1,5 +1,6 @@
 #!/usr/bin/env python3
-"""Makes the tarballs of a release, the same bytes each time: the program with all that is installed, and the source.
+"""Makes the tarballs of a release, the same bytes each time: the program with all that is installed, the library for C
+among it, and the source.
 
 Usage: dist.py make           writes dist/warc-VERSION-x86_64-linux.tar.gz, dist/zogwedu-VERSION.tar.gz and dist/SHA256SUMS
        dist.py verify FILE    makes the first anew and compares it with FILE
@@ -35,7 +36,7 @@ def needs(program):
     return (
         f"warc {version()}\n\nProcessor: x86-64-v2 (any x86-64 processor since about 2009)\n"
         f"System: Linux with glibc {major}.{minor} or later, and libgcc_s\nToolchain: {kit}\n\n"
-        "To install, copy bin/ and share/ to a prefix: cp -r bin share /usr/local\n"
+        "To install, copy all folders to a prefix: cp -r bin include lib share /usr/local\n"
     )
 
 
@@ -68,7 +69,8 @@ def program_files():
         for at, _, names in os.walk(folder):
             for name in names:
                 path = os.path.relpath(f"{at}/{name}", folder)
-                yield path, bytes_of(f"{at}/{name}"), 0o755 if path.startswith("bin/") else 0o644
+                is_run = path.startswith("bin/") or path.endswith(".so")
+                yield path, bytes_of(f"{at}/{name}"), 0o755 if is_run else 0o644
     yield "BUILD.txt", needs(f"{TOP}/bin/warc").encode(), 0o644
 
 

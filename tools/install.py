@@ -1,5 +1,6 @@
 #!/usr/bin/env python3
 """Installs the program with its manual pages, completions, documents and examples, or removes what it installed.
+The library for C and its header are installed too, where `make lib` built them.
 
 Usage: install.py install|uninstall FOLDER
 
@@ -18,6 +19,11 @@ DOCS = "share/doc/zogwedu"
 def files():
     """Each installed file: where it comes from, and where it goes below the prefix."""
     yield "bin/warc", "bin/warc"
+    for library in ("libwarc.a", "libwarc.so"):
+        if os.path.exists(f"{TOP}/out/lib/{library}"):
+            yield f"out/lib/{library}", f"lib/{library}"
+    if os.path.exists(f"{TOP}/out/lib/warc.h"):
+        yield "out/lib/warc.h", "include/warc.h"
     for page in sorted(glob.glob(f"{TOP}/out/man/man?/*")):
         yield os.path.relpath(page, TOP), os.path.relpath(page, f"{TOP}/out").replace("man/", "share/man/", 1)
     yield "out/completions/warc.bash", "share/bash-completion/completions/warc"
@@ -36,12 +42,13 @@ def install(folder):
         to = f"{folder}/{name}"
         os.makedirs(os.path.dirname(to), exist_ok=True)
         shutil.copyfile(f"{TOP}/{source}", to)
-        os.chmod(to, 0o755 if name.startswith("bin/") else 0o644)
+        os.chmod(to, 0o755 if name.startswith("bin/") or name.endswith(".so") else 0o644)
 
 
 def uninstall(folder):
     """Removes each file, and the folders of the documents that are empty then."""
-    for _, name in files():
+    own = ("lib/libwarc.a", "lib/libwarc.so", "include/warc.h")
+    for name in [*(name for _, name in files()), *own]:
         if os.path.exists(f"{folder}/{name}"):
             os.remove(f"{folder}/{name}")
     for name in (f"{DOCS}/docs", f"{DOCS}/examples", DOCS):
