@@ -1,0 +1,57 @@
+//! report ARCHIVE: what the crate gives of an archive, in the form that tests/callers/compare.py compares.
+use std::io::{self, Write};
+use zogwedu::{Archive, Body, Error};
+
+fn put_text(out: &mut impl Write, title: &str, text: Result<Vec<u8>, Error>) -> io::Result<()> {
+    writeln!(out, "== {title}")?;
+    match text {
+        Ok(text) => out.write_all(&text),
+        Err(error) => writeln!(out, "{error}"),
+    }
+}
+
+fn put_body(out: &mut impl Write, body: Result<Body<'_>, Error>) -> io::Result<()> {
+    let body = match body {
+        Ok(body) => body,
+        Err(error) => return writeln!(out, "{error}"),
+    };
+    let status = body.status.map_or("-".to_string(), |status| status.to_string());
+    let truncated = if body.is_truncated { "yes" } else { "no" };
+    let (chosen, given, length) = (body.chosen, body.given, body.len());
+    writeln!(out, "chosen {chosen} given {given} status {status} truncated {truncated} length {length}")?;
+    out.write_all(&body.to_vec())?;
+    writeln!(out)
+}
+
+fn report(out: &mut impl Write, archive: &Archive<'_>) -> io::Result<()> {
+    put_text(out, "list", archive.list())?;
+    writeln!(out, "== rows")?;
+    for record in archive {
+        write!(out, "{}\t{}\t{}\t", record.position, record.offset, record.block().len())?;
+        let target: &[u8] = if record.target.is_empty() { b"-" } else { &record.target };
+        out.write_all(&[&record.kind, &record.date, &record.id, target].map(|text| text.to_vec()).join(&b'\t'))?;
+        writeln!(out)?;
+    }
+    put_text(out, "check", archive.check())?;
+    put_text(out, "fixity", archive.fixity())?;
+    for record in archive {
+        writeln!(out, "== body {}", record.position)?;
+        put_body(out, archive.body(record.position))?;
+        if !record.target.is_empty() {
+            writeln!(out, "== replay {}", record.position)?;
+            put_body(out, archive.replay(&record.target, &record.date))?;
+        }
+    }
+    Ok(())
+}
+
+fn main() -> io::Result<()> {
+    let path = std::env::args_os().nth(1).expect("report ARCHIVE");
+    let bytes = std::fs::read(path)?;
+    let mut out = io::BufWriter::new(io::stdout().lock());
+    match Archive::open(&bytes) {
+        Ok(archive) => report(&mut out, &archive)?,
+        Err(error) => writeln!(out, "== refused\n{error}")?,
+    }
+    out.flush()
+}
