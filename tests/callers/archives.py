@@ -1,0 +1,84 @@
+#!/usr/bin/env python3
+"""The archives of the suites' scripts, as files.
+
+Usage: archives.py FOLDER
+
+Every text that a case of a script gives and that begins as an archive becomes a file, and so do its changed and shortened
+forms. Most are damaged in some way. The first lines of each script say how it is written.
+"""
+import os
+import re
+import sys
+
+TOP = os.path.dirname(os.path.dirname(os.path.dirname(os.path.abspath(__file__))))
+ESCAPE = re.compile(rb"\\(?:x(..)|(.))", re.DOTALL)
+NAMED = {b"n": b"\n", b"r": b"\r", b"t": b"\t"}
+
+
+def unescaped(text):
+    """A text whose escapes are the bytes that they are written for."""
+    return ESCAPE.sub(lambda it: bytes([int(it[1], 16)]) if it[1] else NAMED.get(it[2], it[2]), text)
+
+
+def given_by(mark, text):
+    """What a line of a case adds to the given text."""
+    if mark == b"|":
+        return unescaped(text) + b"\r\n"
+    if mark == b"*":
+        count, _, text = text.partition(b" ")
+        return unescaped(text) * int(count)
+    return unescaped(text) if mark == b"+" else b""
+
+
+def cases(script):
+    """The words of each case, and the text that is given with them."""
+    words, given = b"", b""
+    for line in script.split(b"\n"):
+        if not line or line.startswith(b"#"):
+            continue
+        if line[:1] in (b"|", b"+", b"*", b">", b".") and line[1:2] in (b"", b" "):
+            given += given_by(line[:1], line[2:])
+            continue
+        yield words, given
+        words, given = b"" if line.startswith(b"== ") else line, b""
+    yield words, given
+
+
+def texts(script):
+    """The archives that a script speaks of."""
+    last, old = b"", b""
+    for words, given in cases(script):
+        word, _, rest = words.partition(b" ")
+        if word == b"replace":
+            old = given
+        elif word == b"by" and old:
+            yield last.replace(old, given, 1)
+        elif word == b"first" and rest.isdigit():
+            yield last[: int(rest)]
+        else:
+            last = given if word == b"archive" else last
+            yield given
+
+
+def archives():
+    """All archives of all scripts, each once."""
+    found = {b"": None}
+    for suite in ("suites_archives", "suites_lookups", "suites_texts"):
+        with open(f"{TOP}/crates/{suite}/stdin", "rb") as script:
+            found.update((text, None) for text in texts(script.read()) if text.startswith(b"WARC/"))
+    return list(found)
+
+
+def write(folder):
+    """Writes them, and answers their paths."""
+    os.makedirs(folder, exist_ok=True)
+    paths = []
+    for number, text in enumerate(archives()):
+        paths.append(f"{folder}/{number:04}.warc")
+        with open(paths[-1], "wb") as file:
+            file.write(text)
+    return paths
+
+
+if __name__ == "__main__":
+    print(len(write(sys.argv[1])), "archives")

@@ -1,0 +1,116 @@
+#!/usr/bin/env python3
+"""Compares what the program, C, Python and Rust give of archives: list, check, fixity, and each body by position and by
+URI and date.
+
+Usage: compare.py WARC C_REPORT RUST_REPORT ARCHIVE..
+
+WARC is the program; C_REPORT and RUST_REPORT are built of report.c and of rust/examples/report.rs, and RUST_REPORT may be
+`-`. The last line says how many archives were compared; the status is 1 where something differs.
+"""
+import subprocess
+import sys
+import threading
+
+import zogwedu
+from report import body_text, report, to_bytes
+
+THREADS = 4
+
+
+def run(*words):
+    """What a program writes, its messages and its exit status."""
+    it = subprocess.run(words, stdin=subprocess.DEVNULL, capture_output=True, check=False)
+    return it.stdout, it.stderr, it.returncode
+
+
+def unnamed(message):
+    """A message without the program's name before it."""
+    return message[len(b"warc: ") :] if message.startswith(b"warc: ") else message
+
+
+def program_body(warc, command, path, *words):
+    """The facts and the bytes of a body, or why there is none, as the program gives them."""
+    body, message, status = run(warc, command, "--", path, *words)
+    if status:
+        return unnamed(message)
+    return message + body + b"\n"
+
+
+def program_replay(warc, path, target, date):
+    """The same for a URI as of a date. The program can't be asked for a URI that isn't UTF-8, so Python is."""
+    body = program_body(warc, "replay", path, to_bytes(target), date)
+    if body.startswith(b"the arguments aren't text"):
+        with zogwedu.Archive.open(path, mmap=False) as archive:
+            return body_text(lambda: archive.replay(target, date))
+    return body
+
+
+def program_report(warc, path):
+    """The report of an archive, made by the program."""
+    listed, message, status = run(warc, "list", "--", path)
+    if status:
+        return b"== refused\n" + unnamed(message)
+    parts = [b"== list\n", listed, b"== rows\n", listed]
+    parts += [b"== check\n", run(warc, "check", "--", path)[0], b"== fixity\n", run(warc, "fixity", "--", path)[0]]
+    with zogwedu.Archive.open(path, mmap=False) as archive:
+        targets = [(record.target, record.date) for record in archive]
+    for position, (target, date) in enumerate(targets):
+        parts += [f"== body {position}\n".encode(), program_body(warc, "body", path, str(position))]
+        if target:
+            body = program_replay(warc, path, target, date)
+            parts += [f"== replay {position}\n".encode(), body]
+    return b"".join(parts)
+
+
+def show_difference(path, name, wanted, given):
+    """Prints the first lines that differ."""
+    for one, other in zip(wanted.split(b"\n"), given.split(b"\n")):
+        if one != other:
+            print(f"{path}: {name}\n  warc: {one[:200]!r}\n  {name}: {other[:200]!r}")
+            return
+    print(f"{path}: {name} has another length")
+
+
+def differences(warc, c_report, rust_report, path):
+    """How many callers give something else than the program."""
+    wanted = program_report(warc, path)
+    reports = {"C": run(c_report, path)[0], "Python": report(path), "Python without mmap": report(path, mmap=False)}
+    if rust_report != "-":
+        reports["Rust"] = run(rust_report, path)[0]
+    count = 0
+    for name, given in reports.items():
+        if given != wanted:
+            show_difference(path, name, wanted, given)
+            count += 1
+    return count
+
+
+def threads_differ(paths):
+    """Whether threads, each over archives of its own, give something else than one thread alone."""
+    alone = [report(path) for path in paths]
+    beside = [None] * len(paths)
+
+    def work(first):
+        for number in range(first, len(paths), THREADS):
+            beside[number] = report(paths[number])
+
+    threads = [threading.Thread(target=work, args=(first,)) for first in range(THREADS)]
+    for thread in threads:
+        thread.start()
+    for thread in threads:
+        thread.join()
+    return alone != beside
+
+
+def main(warc, c_report, rust_report, *paths):
+    """Compares all archives, and then threads."""
+    count = sum(differences(warc, c_report, rust_report, path) for path in paths)
+    if threads_differ(paths):
+        print("threads give something else")
+        count += 1
+    print(f"{len(paths)} archives, {count} differences")
+    return 1 if count else 0
+
+
+if __name__ == "__main__":
+    sys.exit(main(*sys.argv[1:]))

@@ -1,0 +1,131 @@
+/* report ARCHIVE: what warc.h gives of an archive, in the form that tests/callers/compare.py compares. */
+#include <fcntl.h>
+#include <stdio.h>
+#include <stdlib.h>
+#include <string.h>
+#include <sys/mman.h>
+#include <sys/stat.h>
+#include <unistd.h>
+
+#include "warc.h"
+
+static const uint8_t *bytes;
+static size_t length;
+
+/* Maps a file. An empty one can't be mapped, and is the null pointer. */
+static int map_file(const char *path) {
+    struct stat facts;
+    int file = open(path, O_RDONLY);
+    if (file < 0 || fstat(file, &facts)) return -1;
+    length = (size_t)facts.st_size;
+    bytes = length ? mmap(NULL, length, PROT_READ, MAP_PRIVATE, file, 0) : NULL;
+    close(file);
+    return bytes == MAP_FAILED ? -1 : 0;
+}
+
+static void print_problem(const warc_problem *problem) {
+    char text[64];
+    size_t size = warc_problem_text(problem, text, sizeof text);
+    printf("%.*s\n", (int)size, text);
+}
+
+/* A text that a call gives whole: its length first, then the text. */
+static void print_text(const char *title, size_t (*ask)(warc_archive *, uint8_t *, size_t, warc_problem *),
+                       warc_archive *archive) {
+    warc_problem problem;
+    size_t size = ask(archive, NULL, 0, &problem);
+    uint8_t *text = malloc(size + 1);
+    printf("== %s\n", title);
+    if (text == NULL || ask(archive, text, size, &problem) != size) exit(9);
+    if (problem.code) print_problem(&problem);
+    fwrite(text, 1, size, stdout);
+    free(text);
+}
+
+static size_t ask_fixity(warc_archive *archive, uint8_t *text, size_t size, warc_problem *problem) {
+    (void)archive;
+    return warc_fixity(bytes, length, text, size, problem);
+}
+
+/* The lines of `warc list`, made of rows. */
+static void print_rows(warc_archive *archive) {
+    static uint8_t texts[65536];
+    printf("== rows\n");
+    for (size_t position = 0; position < warc_count(archive); position++) {
+        warc_problem problem;
+        warc_row row;
+        const char *text = (const char *)texts;
+        warc_row_at(archive, position, &row, texts, sizeof texts, &problem);
+        if (problem.code) exit(8);
+        printf("%zu\t%llu\t%llu\t%.*s\t", position, (unsigned long long)row.offset,
+               (unsigned long long)row.block_length, (int)row.type_length, text);
+        text += row.type_length;
+        printf("%.*s\t", (int)row.date_length, text);
+        text += row.date_length;
+        fwrite(text, 1, row.id_length, stdout);
+        text += row.id_length;
+        putchar('\t');
+        if (row.target_length) fwrite(text, 1, row.target_length, stdout);
+        else putchar('-');
+        putchar('\n');
+    }
+}
+
+/* The facts and the bytes of a body, or why there is none. */
+static void print_body(size_t count, const warc_answer *answer, const warc_span *spans, const warc_problem *problem) {
+    if (problem->code) {
+        print_problem(problem);
+        return;
+    }
+    printf("chosen %llu given %llu status ", (unsigned long long)answer->chosen, (unsigned long long)answer->given);
+    if (answer->status) printf("%u", answer->status);
+    else printf("-");
+    printf(" truncated %s length %llu\n", answer->is_truncated ? "yes" : "no", (unsigned long long)answer->length);
+    for (size_t i = 0; i < count; i++) fwrite(bytes + spans[i].offset, 1, spans[i].length, stdout);
+    putchar('\n');
+}
+
+static void print_bodies(warc_archive *archive) {
+    static uint8_t texts[65536];
+    for (size_t position = 0; position < warc_count(archive); position++) {
+        warc_problem problem;
+        warc_answer answer;
+        warc_row row;
+        size_t room = warc_body_at(archive, position, NULL, NULL, 0, &problem);
+        warc_span *spans = malloc((room + 1) * sizeof *spans);
+        if (spans == NULL) exit(7);
+        printf("== body %zu\n", position);
+        size_t count = warc_body_at(archive, position, &answer, spans, room, &problem);
+        print_body(count, &answer, spans, &problem);
+        free(spans);
+        warc_row_at(archive, position, &row, texts, sizeof texts, &problem);
+        if (row.target_length == 0) continue;
+        const uint8_t *date = texts + row.type_length, *uri = date + row.date_length + row.id_length;
+        warc_span some[64];
+        printf("== replay %zu\n", position);
+        count = warc_replay(archive, uri, row.target_length, date, row.date_length, &answer, some, 64, &problem);
+        if (count > 64) exit(6);
+        print_body(count, &answer, some, &problem);
+    }
+}
+
+int main(int argc, char **argv) {
+    warc_archive archive = {0};
+    warc_problem problem;
+    if (argc != 2 || map_file(argv[1])) return 9;
+    if (warc_abi_version() != WARC_ABI_VERSION) return 9;
+    if (!warc_open(&archive, bytes, length, &problem)) {
+        printf("== refused\n");
+        print_problem(&problem);
+        return 0;
+    }
+    print_text("list", warc_list, &archive);
+    print_rows(&archive);
+    print_text("check", warc_check, &archive);
+    print_text("fixity", ask_fixity, &archive);
+    print_bodies(&archive);
+    warc_close(&archive);
+    if (warc_count(&archive) != 0) return 5;
+    warc_close(&archive);
+    return 0;
+}

@@ -1,0 +1,62 @@
+#!/usr/bin/env python3
+"""report.py ARCHIVE: what the Python package gives of an archive, in the form that compare.py compares."""
+import sys
+
+import zogwedu
+
+
+def body_text(ask):
+    """The facts and the bytes of a body, or why there is none."""
+    try:
+        body = ask()
+    except zogwedu.WarcError as error:
+        return f"{error}\n".encode()
+    truncated = "yes" if body.truncated else "no"
+    facts = f"chosen {body.chosen} given {body.given} status {body.status or '-'} truncated {truncated} length {len(body)}\n"
+    return facts.encode() + bytes(body) + b"\n"
+
+
+def to_bytes(text):
+    """The bytes of a record's text."""
+    return text.encode("utf-8", "surrogateescape")
+
+
+def row_text(record):
+    """The line of `warc list`, made of a record."""
+    columns = (record.type, record.date, record.id, record.target or "-")
+    front = f"{record.position}\t{record.offset}\t{len(record.block)}\t".encode()
+    return front + b"\t".join(to_bytes(column) for column in columns) + b"\n"
+
+
+def finding_text(finding):
+    """The line of `warc check`, made of a finding."""
+    words = ("-" if finding.position is None else str(finding.position), finding.number, finding.field)
+    return " ".join(word for word in words if word).encode() + b"\n"
+
+
+def fixity_text(fixity):
+    """The lines of `warc fixity`, made of what was found."""
+    lines = [f"{it.position}\t{it.verdict}\t{it.id}\t{it.digest or '-'}\n" for it in fixity.blocks]
+    counts = f"records {fixity.records} good {fixity.good} bad {fixity.bad} unchecked {fixity.unchecked}\n"
+    return to_bytes("".join(lines) + counts)
+
+
+def report(path, **how):
+    """The whole report of an archive."""
+    try:
+        archive = zogwedu.Archive.open(path, **how)
+    except zogwedu.Refused as error:
+        return f"== refused\n{error}\n".encode()
+    with archive:
+        parts = [b"== list\n", archive.list_text(), b"== rows\n", *map(row_text, archive)]
+        parts += [b"== check\n", *map(finding_text, archive.check()), b"== fixity\n", fixity_text(archive.fixity())]
+        for record in archive:
+            parts += [f"== body {record.position}\n".encode(), body_text(record.body)]
+            if record.target:
+                replay = body_text(lambda: archive.replay(record.target, record.date))
+                parts += [f"== replay {record.position}\n".encode(), replay]
+    return b"".join(parts)
+
+
+if __name__ == "__main__":
+    sys.stdout.buffer.write(report(sys.argv[1]))
