@@ -1,7 +1,8 @@
 #!/usr/bin/env python3
 """Looks for what the pages may not hold, and prints a line for each place. Needs Python alone.
 
-- A block of Rattle code in README.md or docs/LIBRARY.md is part of a file of crates/example_*, word for word.
+- A block of code in README.md or docs/LIBRARY.md is part of a file of crates/example_*, of c/ or of python/ or
+  rust/examples, word for word.
 - The table of crates in docs/ARCHITECTURE.md names the libraries that crates.txt names.
 - docs/PROGRAM.md has a section, and README.md a row, for each command of the program and for no other.
 - A link or a path that a page names is there.
@@ -16,15 +17,17 @@ import sys
 from shared import TOP, crates, read, version
 
 PAGES = ["README.md", "CONTRIBUTING.md", "CHANGELOG.md", "docs/*.md", "examples/README.md"]
+EXAMPLES = ["crates/example_*/src/*.rt", "c/*.c", "python/*.py", "rust/examples/*.rs"]
 MOST = 9 * 1024
 
 
 def code_elsewhere(page):
-    """Blocks of Rattle code that no example crate holds."""
-    sources = [open(path, encoding="utf-8").read() for path in glob.glob(f"{TOP}/crates/example_*/src/*.rt")]
-    for block in re.findall(r"^```rust\n(.*?)^```$", read(page), re.MULTILINE | re.DOTALL):
+    """Blocks of code that no example holds."""
+    paths = [path for pattern in EXAMPLES for path in glob.glob(f"{TOP}/{pattern}")]
+    sources = [open(path, encoding="utf-8").read() for path in paths]
+    for block in re.findall(r"^```(?:rust|c|python)\n(.*?)^```$", read(page), re.MULTILINE | re.DOTALL):
         if not any(block in text for text in sources):
-            yield f"{page}: no example crate has this code: {block.splitlines()[0]} .."
+            yield f"{page}: no example has this code: {block.splitlines()[0]} .."
 
 
 def crates_elsewhere():
@@ -54,7 +57,7 @@ def missing_paths(page):
     for link in re.findall(r"\]\(([^)#:]+)(?:#[^)]*)?\)", text):
         if not os.path.exists(f"{TOP}/{folder}/{link}"):
             yield f"{page}: no file {link}"
-    for path in re.findall(r"`((?:crates|tools|docs|examples|packaging|bench)/[\w./-]*\w)`", text):
+    for path in re.findall(r"`((?:crates|tools|docs|examples|packaging|bench|c|python|rust)/[\w./-]*\w)`", text):
         if not os.path.exists(f"{TOP}/{path}") and "NAME" not in path:
             yield f"{page}: no file {path}"
 
