@@ -1,0 +1,3 @@
+mod Rooms
+mod Taken
+mod Values

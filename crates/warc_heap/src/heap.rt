@@ -1,0 +1,68 @@
+//! An allocator over memory of a host.
+ghost use Rattle.std.specs.Prelude.{◌≡◌, ◌*◌, ◌^◌, ◌<◌, ◌≤◌, IfSome};
+ghost use Rattle.std.specs.Borrow.{ftrue};
+
+use crate::memory::{Memory, UNIT};
+use std::alloc::{AllocError, Allocator};
+use std::cell::Cell;
+
+/// What isn't handed out yet.
+#[derive(Drop)]
+struct Free {
+    memory: Memory,
+    units: usize,
+    ghost whole: { memory.units ≡ units },
+}
+
+/// An allocator that hands out the memory of a host from front to back, and takes nothing back.
+#[derive(Drop)]
+pub struct Heap {
+    free: Cell<Option<Free>>,
+}
+
+impl Heap {
+    /// An allocator over memory of so many units.
+    pub fn new(memory: Memory, units: usize) -> Heap
+        requires { memory.units ≡ units }
+    {
+        Heap {
+            free: Cell::new(Some(Free { memory, units })),
+        }
+    }
+
+    /// Takes the first units that have room for so many bytes. The cell is empty only while this runs, and what it
+    /// calls can't come back here.
+    fn take(&self, size: usize, align: usize) -> Option<Memory>
+        ensures { IfSome result (λ m. (size ≤ m.units * 16) × (size < 2 ^ 63) × (align ≤ 16)) }
+    {
+        if align > UNIT || size > isize::MAX as usize {
+            return None;
+        }
+        let units = size.div_ceil(UNIT);
+        let free = self.free.replace(None)?;
+        if units > free.units {
+            self.free.set(Some(free));
+            return None;
+        }
+        let Free { memory, units: all } = free;
+        let (front, rest) = memory.cut(units, units * UNIT);
+        self.free.set(Some(Free {
+            memory: rest,
+            units: all - units,
+        }));
+        Some(front)
+    }
+}
+
+unsafe impl Allocator for Heap {
+    ghost dealloc_token = { λ _ _ _. ftrue };
+
+    fn allocate(&self, size: usize, align: usize) -> Result<*mut u8, AllocError> {
+        match self.take(size, align) {
+            Some(Memory { at }) => Ok(at),
+            None => Err(AllocError),
+        }
+    }
+
+    unsafe fn deallocate(&self, _ptr: *mut u8, _size: usize, _align: usize) {}
+}
