@@ -8,7 +8,7 @@ ghost use Rattle.warc.specs.Bounds.{IsKeptCount};
 ghost use Rattle.warc_checking.specs.Checks.{Checks};
 ghost use Rattle.warc.specs.Extracting.{Extracts, position_with};
 ghost use Rattle.warc_reading.specs.Keeping.{kept_bytes};
-ghost use Rattle.warc_index.specs.Captures.{AreCapturesOf};
+ghost use Rattle.warc_index.specs.Captures.{AreCapturesOf, chosen_of};
 ghost use Rattle.warc_reading.specs.Indexed.{AreOf, IsIndexed, archive_of, indexed_record, source_left};
 ghost use Rattle.warc.specs.Capturing.{JudgesAll};
 ghost use Rattle.warc.specs.Captures.{capture_positions, captures_text};
@@ -342,6 +342,15 @@ impl<S: Source, A: Allocator + Copy> Archive<S, A> {
         self.lookup
             .index
             .captures_of(self.listing.rows.allocator(), uri)
+    }
+
+    /// The position of the capture that is chosen for a URI as of a moment: the one that a replay gives, or gives a
+    /// reason for. `Err`: P1 where no capture has the URI, P2 where each that has is later.
+    pub fn chosen(&self, uri: &[u8], moment: &Moment) -> Result<usize, Unfound>
+        ensures { (records : List Placed) → AreOf records self.now.index self.now.parts →
+            result ≡ chosen_of (map indexed_record records) uri.now moment.now }
+    {
+        self.lookup.index.latest(uri, moment)
     }
 
     /// Writes a line for each finding, as a listing does, and answers how many there are.

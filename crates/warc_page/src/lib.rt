@@ -1,0 +1,20 @@
+//! What a page of a browser asks of an archive whose bytes lie in its memory.
+//!
+//! Each call is given memory for good: it isn't touched again, neither by the page nor by a later call. Lent bytes and
+//! buffers are the page's own again when the call returns.
+#![tactic(auto)]
+
+mod answers;
+mod findings;
+mod front;
+mod shapes;
+mod slice;
+mod texts;
+
+pub use answers::page_answers;
+pub use findings::page_findings;
+pub use front::page_front;
+pub use shapes::{PageAnswer, PageFront, PageOutcome, PageQuestion, PageRow};
+
+#[test]
+fn nothing() {}
