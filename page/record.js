@@ -1,0 +1,302 @@
+// One record: the page as of its moment, its source, its heads, its facts, or why there is no body.
+'use strict';
+
+function forgetUrls() {
+  room.urls.forEach((url) => URL.revokeObjectURL(url));
+  room.urls = [];
+}
+
+function download(blob, name) {
+  const url = URL.createObjectURL(blob);
+  make('a', { href: url, download: name.replace(/[^\w.-]+/g, '_').slice(-100) || 'bytes' }).click();
+  setTimeout(() => URL.revokeObjectURL(url), 60e3);
+}
+
+const bytesAt = async (from, length) => new Uint8Array(await room.file.slice(from, from + length).arrayBuffer());
+
+// The captures of a target, in the order of time. Only for the points: the library decides which one answers.
+function capturesOf(target) {
+  if (!room.captures || room.capturesOver !== room.rows.count) {
+    room.captures = new Map();
+    room.capturesOver = room.rows.count;
+    for (let position = 0; position < room.rows.count; position += 1) {
+      const row = room.rows.row(position);
+      if (!CAPTURES.has(row.kind.toLowerCase()) || !row.target.length) continue;
+      const name = latin.decode(row.target);
+      if (!room.captures.has(name)) room.captures.set(name, []);
+      room.captures.get(name).push({ position, time: captureTime(row.date) ?? 0, date: row.date, kind: row.kind.toLowerCase() });
+    }
+    room.captures.forEach((list) => list.sort((a, b) => a.time - b.time || a.position - b.position));
+  }
+  return room.captures.get(latin.decode(target)) ?? [];
+}
+
+// The content type that a record's block states, and the head of its stored HTTP response, if it has one.
+async function typeOf(row) {
+  const fields = warcFields(await bytesAt(row.offset, row.blockStart - row.offset));
+  const isHttp = row.kind.toLowerCase() !== 'resource' && /^https?:/i.test(latin.decode(row.target.subarray(0, 8)));
+  const http = isHttp ? httpHead(await bytesAt(row.blockStart, Math.min(row.blockLength, 65536))) : null;
+  return { fields, http, type: http ? http.get('content-type') : isHttp ? '' : fieldOf(fields, 'Content-Type') };
+}
+
+// Asks the library, and adds to each answer its content type. A coded body is decoded by the browser, and marked so.
+async function answersWithTypes(questions) {
+  const answers = await room.library.ask(questions);
+  await Promise.all(answers.map(async (answer) => {
+    if (answer.given === null || answer.given === undefined) return;
+    const row = room.rows.row(answer.given);
+    Object.assign(answer, { type: (await typeOf(row)).type });
+    if (numberOf(answer.reason ?? '') !== 'P10') return;
+    try {
+      const { body: bytes, steps } = await decoded(await bytesAt(row.blockStart, row.blockLength));
+      Object.assign(answer, { body: bytes, steps, isDecoded: true });
+    } catch { /* it stays without a body */ }
+  }));
+  return answers;
+}
+
+function closeRecord() {
+  byId('record').hidden = true;
+  byId('record').replaceChildren();
+  byId('room').classList.remove('has-record');
+}
+
+// Opens the record at a position, and moves the list to it.
+async function openRecord(position, focus = false, note = null) {
+  forgetUrls();
+  const visit = room.visit += 1, row = room.rows.row(position);
+  room.current = position;
+  byId('room').classList.add('has-record');
+  const place = room.order?.indexOf(position) ?? -1;
+  if (place >= 0) bringIntoView(place);
+  drawRows();
+  const panel = byId('record'), isCapture = CAPTURES.has(row.kind.toLowerCase());
+  panel.hidden = false;
+  panel.replaceChildren(titleOf(row), make('div', { className: 'panel' }, make('p', { className: 'small' }, 'Reading…')));
+  if (focus) panel.focus();
+  const own = await typeOf(row);
+  const answer = isCapture && room.holds ? (await room.library.ask([{ position }]))[0] : null;
+  const given = answer && answer.given !== null && answer.given !== position ? room.rows.row(answer.given) : row;
+  const shownType = given === row ? own : await typeOf(given);
+  if (visit !== room.visit) return;
+  const it = { position, row, own, answer, given, type: shownType.type, http: shownType.http, isCapture, note };
+  const tabs = isCapture ? [['Page', pageTab], ['Source', sourceTab], ['HTTP head', httpTab], ['Record head', headTab], ['Facts', factsTab]] : [['Block', blockTab], ['Record head', headTab], ['Facts', factsTab]];
+  panel.replaceChildren(titleOf(row), isCapture && row.target.length ? timeline(it) : '', ...tabList(tabs, it, visit));
+  if (focus) panel.focus();
+}
+
+function titleOf(row) {
+  return make('header', {}, make('button', { className: 'button quiet close', type: 'button', 'aria-label': 'Close the record', on: { click: () => { room.visit += 1; closeRecord(); drawRows(); byId('list').focus(); } } }, 'Close'),
+    make('h2', {}, make('bdi', {}, shown(row.target) || `${row.kind} ${latin.decode(row.id)}`)),
+    make('div', { className: 'sub' }, `Record ${row.position}, ${row.kind}, ${row.date}, ${size(row.blockLength)}, digest `, make('span', { className: `verdict ${row.verdict}` }, row.verdict), row.truncated ? ', marked as truncated' : ''));
+}
+
+// The captures of the URI as points in time.
+function timeline(it) {
+  const list = capturesOf(it.row.target), first = list[0].time, last = list[list.length - 1].time, span = Math.max(1, last - first);
+  const now = list.findIndex((capture) => capture.position === it.position);
+  const points = list.length > 2000 ? list.filter((_, number) => number % Math.ceil(list.length / 2000) === 0 || number === now) : list;
+  const step = (by) => { const next = list[now + by]; if (next) openRecord(next.position, false); };
+  return make('div', { className: 'timeline', role: 'group', 'aria-label': 'Captures of this URI' },
+    make('div', { className: 'small' }, `Capture ${now + 1} of ${list.length} of this URI`, list.length > 1 ? ' ' : '',
+      list.length > 1 ? make('button', { className: 'link', type: 'button', disabled: now === 0, on: { click: () => step(-1) } }, 'earlier') : '', list.length > 1 ? ' · ' : '',
+      list.length > 1 ? make('button', { className: 'link', type: 'button', disabled: now === list.length - 1, on: { click: () => step(1) } }, 'later') : ''),
+    make('div', { className: 'line-of' }, ...points.map((capture) => make('button', { type: 'button', className: capture.kind, title: `${capture.date} ${capture.kind}, record ${capture.position}`, 'aria-label': `${capture.date}, ${capture.kind}`,
+      'aria-current': String(capture.position === it.position), style: { left: `${list.length === 1 ? 50 : span === 1 ? (list.indexOf(capture) / (list.length - 1)) * 100 : (capture.time - first) / span * 100}%` }, on: { click: () => openRecord(capture.position) } }))),
+    make('div', { className: 'ends' }, make('span', {}, list[0].date), list.length > 1 ? make('span', {}, list[list.length - 1].date) : ''));
+}
+
+function tabList(tabs, it, visit) {
+  const panel = make('div', { className: 'panel', role: 'tabpanel', id: 'panel', tabIndex: 0, 'aria-labelledby': 'tab-0' });
+  const buttons = tabs.map(([name], number) => make('button', { type: 'button', role: 'tab', id: `tab-${number}`, 'aria-controls': 'panel', on: { click: () => choose(number), keydown: (event) => arrows(event, number) } }, name));
+  async function choose(number) {
+    buttons.forEach((button, other) => { button.setAttribute('aria-selected', String(other === number)); button.tabIndex = other === number ? 0 : -1; });
+    panel.setAttribute('aria-labelledby', `tab-${number}`);
+    room.tab = tabs[number][0];
+    panel.dataset.ready = 'no';
+    panel.replaceChildren(make('p', { className: 'small' }, 'Reading…'));
+    const mine = panel.dataset.turn = String(Math.random());
+    let content;
+    try { content = await tabs[number][1](it); } catch (error) { content = [make('p', { className: 'note reason' }, String(error.message || error))]; }
+    if (visit !== room.visit || panel.dataset.turn !== mine) return;
+    panel.replaceChildren(...content.filter((node) => node));
+    panel.dataset.ready = 'yes';
+  }
+  function arrows(event, number) {
+    const next = { ArrowRight: number + 1, ArrowLeft: number - 1, Home: 0, End: tabs.length - 1 }[event.key];
+    if (next === undefined) return;
+    event.preventDefault();
+    const to = (next + tabs.length) % tabs.length;
+    buttons[to].focus();
+    choose(to);
+  }
+  choose(Math.max(0, tabs.findIndex(([name]) => name === room.tab)));
+  return [make('div', { className: 'tabs', role: 'tablist', 'aria-label': 'What is shown of the record' }, ...buttons), panel];
+}
+
+const fileName = (it) => { const path = shown(it.row.target).split(/[?#]/)[0].split('/').pop(); return path || 'page.html'; };
+const saving = (name, bytes, words) => make('button', { className: 'button', type: 'button', on: { click: () => download(new Blob([bytes]), name) } }, words);
+
+// What is said before a body: where a revisit leads, or why there is none.
+function wordsBefore(it) {
+  const words = [];
+  if (it.note) words.push(make('p', { className: 'note plainly' }, it.note));
+  if (!room.holds && it.isCapture) words.push(make('p', { className: 'note' }, 'This archive is too long to be replayed here. The block is shown as it is stored.'));
+  if (it.given !== it.row) words.push(make('p', { className: 'note plainly' }, 'This is a revisit: its payload is that of ', make('button', { className: 'link', type: 'button', on: { click: () => openRecord(it.given.position) } }, `record ${it.given.position}`), `, captured ${it.given.date}.`));
+  if (it.answer?.reason) {
+    const [meaning, hint] = inWords(it.answer.reason);
+    words.push(make('div', { className: 'note reason' }, make('p', {}, make('b', {}, `No body: ${it.answer.reason}. `), meaning), hint ? make('p', {}, hint) : ''));
+  }
+  if (it.answer?.truncated) words.push(make('p', { className: 'note' }, 'A record that this body is joined from is marked as truncated: the page was captured only in part.'));
+  return words;
+}
+
+// The bytes that are shown: the body that the library gives, or a coded body as the browser decodes it, or none.
+async function bodyOf(it) {
+  if (it.answer?.body) return { bytes: it.answer.body, words: [] };
+  const stored = await bytesAt(it.given.blockStart, it.given.blockLength);
+  if (numberOf(it.answer?.reason ?? '') !== 'P10') return { bytes: null, stored, words: [] };
+  try {
+    const { body: bytes, steps } = await decoded(stored);
+    return { bytes, stored, isDecoded: true, words: [make('div', { className: 'note' }, make('p', {}, make('b', {}, 'Decoded by this browser'), ` (${steps.join(', then ')}), outside of what is proved. `),
+      make('div', { className: 'actions' }, saving(`${fileName(it)}.stored`, stored, 'Save the stored block')))] };
+  } catch (error) {
+    return { bytes: null, stored, words: [make('p', { className: 'note reason' }, `This browser can’t decode it: ${error.message || error}.`)] };
+  }
+}
+
+async function pageTab(it) {
+  const found = await bodyOf(it), words = [...wordsBefore(it), ...found.words];
+  if (!found.bytes) return [...words, ...storedBytes(it, found.stored)];
+  const media = mediaOf(it.type, found.bytes, shown(it.row.target));
+  const saved = make('div', { className: 'actions' }, saving(fileName(it), found.bytes, found.isDecoded ? 'Save the decoded bytes' : 'Save the exact bytes'), make('span', { className: 'small' }, `${media}, ${size(found.bytes.length)}`));
+  if (found.bytes.length === 0) return [...words, make('p', {}, 'The body is empty.'), saved];
+  if (isPicture(media)) return [...words, picture(found.bytes, media), saved];
+  if (isHtml(media)) return [...words, ...(await htmlView(it, found.bytes)), saved];
+  if (isText(media)) return [...words, textView(textOf(found.bytes, it.type)), saved];
+  return [...words, make('p', {}, `Not shown here: ${media}.`), hexView(found.bytes), saved];
+}
+
+function picture(bytes, media) {
+  const url = URL.createObjectURL(new Blob([bytes], { type: media }));
+  room.urls.push(url);
+  return make('img', { className: 'picture', src: url, alt: 'The captured picture' });
+}
+
+function textView(words) {
+  const front = words.slice(0, MOST_TEXT);
+  return make('pre', { className: 'text', tabIndex: 0 }, front, words.length > MOST_TEXT ? `\n… (the first ${size(MOST_TEXT)} are shown)` : '');
+}
+
+function hexView(bytes) {
+  const lines = [];
+  for (let at = 0; at < Math.min(bytes.length, 4096); at += 16) {
+    const part = [...bytes.subarray(at, at + 16)];
+    lines.push(`${at.toString(16).padStart(6, '0')}  ${part.map((it) => it.toString(16).padStart(2, '0')).join(' ').padEnd(48)} ${part.map((it) => (it > 31 && it < 127 ? String.fromCharCode(it) : '·')).join('')}`);
+  }
+  return make('pre', { className: 'text', tabIndex: 0 }, lines.join('\n'), bytes.length > 4096 ? '\n…' : '');
+}
+
+function storedBytes(it, stored) {
+  const words = /[\x00-\x08]/.test(latin.decode(stored.subarray(0, 4096))) ? hexView(stored) : textView(shown(stored));
+  return [make('p', { className: 'small' }, `The block of record ${it.given.position} as it is stored:`), words, make('div', { className: 'actions' }, saving(`block-${it.given.position}`, stored, 'Save the stored block'))];
+}
+
+// ---------------------------------------------------------------- HTML as of a moment
+
+// The moments as of which a page's pictures and styles may be looked for: in all of them this capture answers for the page.
+function moments(it) {
+  const list = capturesOf(it.row.target), next = list.find((capture) => capture.time > (captureTime(it.row.date) ?? 0));
+  const start = captureTime(it.row.date) ?? 0, latest = next ? next.time - 1 : null;
+  const until = (time) => (latest === null ? time : Math.min(time, latest));
+  const all = [['at its capture', it.row.date], ['an hour later', dateText(until(start + HOUR))], ['a day later', dateText(until(start + DAY))], [next ? 'just before the next capture' : 'at any later time', next ? dateText(latest) : '9999']];
+  return all;
+}
+
+async function htmlView(it, bytes) {
+  const frame = make('iframe', { className: 'view', title: 'The page as a view, without scripts and without network' });
+  frame.setAttribute('sandbox', '');
+  frame.referrerPolicy = 'no-referrer';
+  const summary = make('div', { 'aria-live': 'polite', className: 'small' }), below = make('div');
+  const choice = make('select', { 'aria-label': 'As of which moment pictures and styles are looked for', on: { change: () => draw(choice.value) } },
+    ...moments(it).map(([name, moment], number) => make('option', { value: moment, selected: number === 1 }, `${name}: ${moment}`)));
+  async function draw(moment) {
+    summary.textContent = 'Looking for pictures and styles…';
+    const resources = new Resources(answersWithTypes, moment), uri = shown(it.row.target);
+    const { source, links } = await viewOf(textOf(bytes, it.type), uri, resources);
+    frame.srcdoc = source;
+    const decodedCount = resources.there.filter(([, found]) => found.isDecoded).length;
+    summary.textContent = `${many(resources.there.length, 'picture or style', 'pictures and styles')} from the archive as of ${moment}${decodedCount ? `, ${decodedCount} of them decoded by this browser` : ''}; ${resources.missing.length} missing.`;
+    below.replaceChildren(...listed(resources, links, moment));
+  }
+  await draw(moments(it)[1][1]);
+  return [make('div', { className: 'note plainly' }, make('p', {}, make('b', {}, 'This is a view. '), 'Scripts and network are off, links don’t lead away, and what isn’t in the archive is missing. The bytes on disk and in the download are never changed.'),
+    make('div', { className: 'actions' }, make('span', { className: 'small' }, 'Pictures and styles as of'), choice), summary), frame, below];
+}
+
+function listed(resources, links, moment) {
+  const parts = [];
+  if (resources.there.length) parts.push(make('details', {}, make('summary', {}, `Pictures and styles in this view (${resources.there.length})`), make('ul', { className: 'plain-list' }, ...resources.there.map(([uri, found]) => make('li', {}, make('button', { className: 'link', type: 'button', on: { click: () => openRecord(found.chosen, true) } }, uri), ` record ${found.chosen}${found.given !== found.chosen ? `, from ${found.given}` : ''}${found.isDecoded ? ', decoded by this browser' : ''}`)))));
+  if (resources.missing.length) parts.push(make('details', {}, make('summary', {}, `Missing (${resources.missing.length})`), make('ul', { className: 'plain-list' }, ...resources.missing.map(([uri, found]) => make('li', { className: 'absent' }, `${uri} `, make('span', { className: 'small' }, found.reason ?? ''))))));
+  if (links.length) {
+    const there = links.filter((uri) => capturesOf(typed(uri)).length).length;
+    parts.push(make('details', {}, make('summary', {}, `Links on this page (${links.length}, ${there} of them in this archive)`), make('ul', { className: 'plain-list' }, ...links.slice(0, 2000).map((uri) => (capturesOf(typed(uri)).length ? make('li', {}, make('button', { className: 'link', type: 'button', on: { click: () => openAsOf(typed(uri), moment, true) } }, uri)) : make('li', { className: 'absent' }, uri))))));
+  }
+  return parts;
+}
+
+// ---------------------------------------------------------------- the other tabs
+
+async function sourceTab(it) {
+  const found = await bodyOf(it), words = [...wordsBefore(it), ...found.words];
+  if (!found.bytes) return [...words, ...storedBytes(it, found.stored)];
+  const isWords = isText(mediaOf(it.type, found.bytes, ''));
+  return [...words, isWords ? textView(textOf(found.bytes, it.type)) : hexView(found.bytes), make('div', { className: 'actions' }, saving(fileName(it), found.bytes, found.isDecoded ? 'Save the decoded bytes' : 'Save the exact bytes'))];
+}
+
+async function httpTab(it) {
+  return [...(it.given !== it.row ? wordsBefore({ ...it, answer: null }) : []), it.http ? textView(it.http.text.trimEnd()) : make('p', {}, 'This record stores no HTTP head.'), it.given !== it.row && it.own.http ? make('p', { className: 'small' }, 'The head that the revisit itself stores:') : '', it.given !== it.row && it.own.http ? textView(it.own.http.text.trimEnd()) : ''];
+}
+
+async function headTab(it) {
+  const bytes = await bytesAt(it.row.offset, it.row.blockStart - it.row.offset);
+  return [textView(shown(bytes).replace(/\r\n/g, '\n').trimEnd()), make('div', { className: 'actions' }, saving(`head-${it.position}`, bytes, 'Save the head'))];
+}
+
+async function blockTab(it) {
+  const bytes = await bytesAt(it.row.blockStart, Math.min(it.row.blockLength, MOST_TEXT)), whole = room.file.slice(it.row.blockStart, it.row.blockStart + it.row.blockLength);
+  const isBinary = /[\x00-\x08]/.test(latin.decode(bytes.subarray(0, 4096)));
+  return [it.row.blockLength ? (isBinary ? hexView(bytes) : textView(shown(bytes))) : make('p', {}, 'The block is empty.'), make('div', { className: 'actions' }, make('button', { className: 'button', type: 'button', on: { click: () => download(whole, `block-${it.position}`) } }, 'Save the block'))];
+}
+
+const VERDICT_WORDS = { good: 'good: the block has the digest that the record states', bad: 'bad: the block doesn’t have the digest that the record states', unchecked: 'unchecked: the record states no digest, or one that can’t be checked' };
+async function factsTab(it) {
+  const facts = [['Position', String(it.position)], ['Offset', `${it.row.offset.toLocaleString('en')} bytes`], ['Type', it.row.kind], ['Date', it.row.date], ['Id', latin.decode(it.row.id)], ['Target', shown(it.row.target) || '–'],
+    ['Head', size(it.row.blockStart - it.row.offset)], ['Block', `${it.row.blockLength.toLocaleString('en')} bytes from offset ${it.row.blockStart.toLocaleString('en')}`], ['Digest of the block', VERDICT_WORDS[it.row.verdict]],
+    ['Digest as stated', fieldOf(it.own.fields, 'WARC-Block-Digest') || '–']];
+  const answer = it.answer;
+  if (answer?.body) facts.push(['Chosen', `record ${answer.chosen}`], ['Given', `record ${answer.given}${answer.given === answer.chosen ? '' : ', where the revisit leads'}`], ['Status', answer.status === null ? '–' : String(answer.status)], ['Truncated', answer.truncated ? 'yes' : 'no'], ['Length of the body', `${answer.length.toLocaleString('en')} bytes`]);
+  if (answer?.reason) facts.push(['No body', `${answer.reason}. ${inWords(answer.reason)[0]}`]);
+  const found = (room.findings ?? []).filter((finding) => finding.position === it.position);
+  return [make('dl', { className: 'facts' }, ...facts.flatMap(([name, value]) => [make('dt', {}, name), make('dd', {}, value)])),
+    make('p', { className: 'small' }, 'These facts are the library’s answers, whose contracts are proved. “Digest as stated” is read by this page.'),
+    found.length ? make('div', {}, make('h3', {}, 'Findings'), make('ul', { className: 'plain-list' }, ...found.map((finding) => make('li', {}, `${finding.number} ${finding.field} ${FINDINGS[finding.number] ?? ''}`)))) : make('p', { className: 'small' }, room.findings ? 'Nothing was found wrong with this record.' : '')];
+}
+
+// ---------------------------------------------------------------- a URI as of a date
+
+async function openAsOf(uri, date, focus) {
+  if (!room.holds) { say('This archive is too long to be replayed here.'); return; }
+  const [answer] = await room.library.ask([{ uri, date }]);
+  if (answer.chosen !== null && answer.chosen !== undefined) {
+    await openRecord(answer.chosen, focus, `As of ${date}, the archive chooses this capture of the URI.`);
+    return;
+  }
+  room.visit += 1;
+  const [meaning, hint] = inWords(answer.reason), panel = byId('record');
+  byId('room').classList.add('has-record');
+  panel.hidden = false;
+  panel.replaceChildren(make('header', {}, make('button', { className: 'button quiet close', type: 'button', on: { click: closeRecord } }, 'Close'), make('h2', {}, make('bdi', {}, shown(uri))), make('div', { className: 'sub' }, `as of ${date}`)),
+    make('div', { className: 'panel' }, make('div', { className: 'note reason' }, make('p', {}, make('b', {}, `No body: ${answer.reason}. `), meaning), hint ? make('p', {}, hint) : '')));
+  if (focus) panel.focus();
+}

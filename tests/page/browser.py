@@ -1,0 +1,134 @@
+"""A headless Chromium that a script drives by the DevTools protocol, over a pipe, with Python's standard library alone."""
+import base64
+import json
+import os
+import shutil
+import subprocess
+import tempfile
+import time
+
+FLAGS = [
+    "--headless=new", "--no-sandbox", "--no-first-run", "--disable-gpu", "--disable-extensions", "--hide-scrollbars",
+    "--disable-background-networking", "--disable-component-update", "--disable-sync", "--remote-debugging-pipe",
+    "--disable-dev-shm-usage", "--force-color-profile=srgb",
+]
+
+
+class Browser:
+    """One browser with one page. Events of the page are kept as they come."""
+
+    def __init__(self, program="chromium", size=(1440, 1000), dark=False):
+        self.folder = tempfile.mkdtemp(prefix="zogwedu-browser-")
+        to_read, self.to_write = os.pipe()
+        self.to_hear, to_tell = os.pipe()
+
+        def connect():
+            os.dup2(to_read, 3)
+            os.dup2(to_tell, 4)
+
+        os.set_inheritable(to_read, True)
+        os.set_inheritable(to_tell, True)
+        high = [os.dup(to_read), os.dup(to_tell)]
+        self.process = subprocess.Popen(
+            [program, *FLAGS, f"--user-data-dir={self.folder}", f"--window-size={size[0]},{size[1]}", "about:blank"],
+            preexec_fn=connect, close_fds=False, stdout=subprocess.DEVNULL, stderr=subprocess.DEVNULL)
+        for end in (to_read, to_tell, *high):
+            os.close(end)
+        self.rest, self.number, self.events = b"", 0, []
+        targets = self.ask("Target.getTargets", session=None)["targetInfos"]
+        target = next(it for it in targets if it["type"] == "page")
+        self.session = self.ask("Target.attachToTarget", {"targetId": target["targetId"], "flatten": True}, None)["sessionId"]
+        for domain in ("Page", "Runtime", "Network", "Log", "DOM", "Audits"):
+            self.ask(f"{domain}.enable")
+        self.ask("Target.setAutoAttach", {"autoAttach": True, "waitForDebuggerOnStart": False, "flatten": True})
+        self.ask("Emulation.setEmulatedMedia", {"features": [
+            {"name": "prefers-color-scheme", "value": "dark" if dark else "light"}]})
+        self.ask("Emulation.setDeviceMetricsOverride", {
+            "width": size[0], "height": size[1], "deviceScaleFactor": 1, "mobile": False})
+
+    def hear(self):
+        """The next message of the browser."""
+        while b"\0" not in self.rest:
+            piece = os.read(self.to_hear, 1 << 20)
+            if not piece:
+                raise RuntimeError("the browser ended")
+            self.rest += piece
+        message, _, self.rest = self.rest.partition(b"\0")
+        return json.loads(message)
+
+    def ask(self, method, params=None, session="page"):
+        """What the browser answers to a command."""
+        self.number += 1
+        message = {"id": self.number, "method": method, "params": params or {}}
+        if session:
+            message["sessionId"] = self.session if session == "page" else session
+        data = json.dumps(message).encode() + b"\0"
+        while data:
+            data = data[os.write(self.to_write, data):]
+        wanted = self.number
+        while True:
+            heard = self.hear()
+            if heard.get("id") == wanted:
+                if "error" in heard:
+                    raise RuntimeError(f"{method}: {heard['error']}")
+                return heard["result"]
+            if "method" in heard:
+                self.events.append(heard)
+                if heard["method"] == "Target.attachedToTarget":
+                    self.watch(heard["params"]["sessionId"], heard["params"]["targetInfo"])
+
+    def watch(self, session, target):
+        """Also hears what a frame or a worker loads."""
+        self.number += 1
+        data = json.dumps({"id": self.number, "method": "Network.enable", "params": {}, "sessionId": session})
+        os.write(self.to_write, data.encode() + b"\0")
+
+    def run(self, code, wait=True):
+        """The value of an expression in the page."""
+        result = self.ask("Runtime.evaluate", {
+            "expression": code, "awaitPromise": wait, "returnByValue": True, "allowUnsafeEvalBlockedByCSP": True})
+        if "exceptionDetails" in result:
+            details = result["exceptionDetails"]
+            raise RuntimeError(details.get("exception", {}).get("description") or details["text"])
+        return result["result"].get("value")
+
+    def until(self, code, seconds=60):
+        """Waits until an expression is true, and gives how long that took."""
+        begun = time.monotonic()
+        while not self.run(code):
+            if time.monotonic() - begun > seconds:
+                raise RuntimeError(f"never true: {code}; the page says: {self.run('document.body.innerText.slice(-300)')}")
+            time.sleep(0.02)
+        return time.monotonic() - begun
+
+    def go(self, path):
+        self.ask("Page.navigate", {"url": f"file://{path}"})
+        self.until("document.readyState === 'complete' && typeof room === 'object'")
+
+    def give_file(self, selector, path):
+        """Chooses a file, as a reader does."""
+        root = self.ask("DOM.getDocument")["root"]["nodeId"]
+        node = self.ask("DOM.querySelector", {"nodeId": root, "selector": selector})["nodeId"]
+        self.ask("DOM.setFileInputFiles", {"nodeId": node, "files": [os.path.abspath(path)]})
+
+    def press(self, key, text=""):
+        for kind in ("keyDown", "keyUp"):
+            self.ask("Input.dispatchKeyEvent", {"type": kind, "key": key, "code": key, **({"text": text} if text and kind == "keyDown" else {}),
+                "windowsVirtualKeyCode": {"Enter": 13, "ArrowDown": 40, "ArrowUp": 38, "Home": 36, "End": 35, "Escape": 27}.get(key, 0)})
+
+    def picture(self, path, whole=False):
+        data = self.ask("Page.captureScreenshot", {"format": "png", "captureBeyondViewport": whole})["data"]
+        with open(path, "wb") as out:
+            out.write(base64.b64decode(data))
+
+    def close(self):
+        """Ends this browser, and no other."""
+        try:
+            self.ask("Browser.close", session=None)
+        except (RuntimeError, OSError):
+            pass
+        try:
+            self.process.wait(10)
+        except subprocess.TimeoutExpired:
+            self.process.kill()
+        shutil.rmtree(self.folder, ignore_errors=True)
