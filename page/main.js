@@ -336,7 +336,7 @@ function drawLine(position, number, top) {
   const cell = (name, ...children) => make('span', { className: name, role: 'gridcell' }, ...children);
   const target = shown(row.target.subarray(0, 400));
   return make('div', { className: `line${current ? ' current' : ''}`, role: 'row', id: current ? 'current-line' : '', 'aria-rowindex': String(number + 2), 'aria-selected': String(current), style: { top: `${top}px`, '--tone': tone(row.kind) }, on: { click: () => openRecord(position) } },
-    cell('position', String(position)), cell('kind', make('i', { 'aria-hidden': 'true' }), row.kind), cell('date', row.date), cell('target', make('bdi', {}, target || '–')),
+    cell('position', String(position)), cell('kind', make('i', { 'aria-hidden': 'true', title: row.kind }), make('span', {}, row.kind)), cell('date', row.date), cell('target', make('bdi', {}, target || '–')),
     cell('size', size(row.blockLength)), cell(`verdict ${row.verdict}`, make('span', {}, row.verdict), row.verdict === 'bad' ? ' ●' : ''));
 }
 

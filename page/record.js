@@ -147,6 +147,10 @@ function wordsBefore(it) {
     const [meaning, hint] = inWords(it.answer.reason);
     words.push(make('div', { className: 'note reason' }, make('p', {}, make('b', {}, `No body: ${it.answer.reason}. `), meaning), hint ? make('p', {}, hint) : ''));
   }
+  const location = it.http?.get('location');
+  const leads = it.answer?.status >= 300 && it.answer.status < 400 && location ? resolved(location, shown(it.row.target)) : null;
+  if (leads) words.push(make('p', { className: 'note plainly' }, `Status ${it.answer.status}: the server sent the reader on to `, make('button', { className: 'link', type: 'button', on: { click: () => openAsOf(typed(leads), moments(it)[1][1], true) } }, leads), '.'));
+  else if (it.answer?.status >= 400) words.push(make('p', { className: 'note plainly' }, `Status ${it.answer.status}: this is the server’s error page.`));
   if (it.answer?.truncated) words.push(make('p', { className: 'note' }, 'A record that this body is joined from is marked as truncated: the page was captured only in part.'));
   return words;
 }
@@ -204,12 +208,15 @@ function storedBytes(it, stored) {
 
 // ---------------------------------------------------------------- HTML as of a moment
 
-// The moments as of which a page's pictures and styles may be looked for: in all of them this capture answers for the page.
+// The moments as of which a page's pictures and styles may be looked for: as of each of them the page's URI gives this
+// capture. The first is that of the capture.
 function moments(it) {
-  const list = capturesOf(it.row.target), next = list.find((capture) => capture.time > (captureTime(it.row.date) ?? 0));
-  const start = captureTime(it.row.date) ?? 0, latest = next ? next.time - 1 : null;
-  const until = (time) => (latest === null ? time : Math.min(time, latest));
-  const all = [['at its capture', it.row.date], ['an hour later', dateText(until(start + HOUR))], ['a day later', dateText(until(start + DAY))], [next ? 'just before the next capture' : 'at any later time', next ? dateText(latest) : '9999']];
+  const start = captureTime(it.row.date) ?? 0, next = capturesOf(it.row.target).find((capture) => capture.time > start);
+  const all = [['at its capture', it.row.date]];
+  for (const [name, after] of [['an hour later', HOUR], ['a day later', DAY]]) {
+    if (!next || start + after < next.time) all.push([name, dateText(start + after)]);
+  }
+  all.push(next ? ['just before the next capture', dateText(next.time - 1)] : ['at any later time', '9999']);
   return all;
 }
 
@@ -237,7 +244,7 @@ async function htmlView(it, bytes) {
 function listed(resources, links, moment) {
   const parts = [];
   if (resources.there.length) parts.push(make('details', {}, make('summary', {}, `Pictures and styles in this view (${resources.there.length})`), make('ul', { className: 'plain-list' }, ...resources.there.map(([uri, found]) => make('li', {}, make('button', { className: 'link', type: 'button', on: { click: () => openRecord(found.chosen, true) } }, uri), ` record ${found.chosen}${found.given !== found.chosen ? `, from ${found.given}` : ''}${found.isDecoded ? ', decoded by this browser' : ''}`)))));
-  if (resources.missing.length) parts.push(make('details', {}, make('summary', {}, `Missing (${resources.missing.length})`), make('ul', { className: 'plain-list' }, ...resources.missing.map(([uri, found]) => make('li', { className: 'absent' }, `${uri} `, make('span', { className: 'small' }, found.reason ?? ''))))));
+  if (resources.missing.length) parts.push(make('details', {}, make('summary', {}, `Missing (${resources.missing.length})`), make('ul', { className: 'plain-list' }, ...resources.missing.map(([uri, why]) => make('li', { className: 'absent' }, `${uri} `, make('span', { className: 'small' }, why))))));
   if (links.length) {
     const there = links.filter((uri) => capturesOf(typed(uri)).length).length;
     parts.push(make('details', {}, make('summary', {}, `Links on this page (${links.length}, ${there} of them in this archive)`), make('ul', { className: 'plain-list' }, ...links.slice(0, 2000).map((uri) => (capturesOf(typed(uri)).length ? make('li', {}, make('button', { className: 'link', type: 'button', on: { click: () => openAsOf(typed(uri), moment, true) } }, uri)) : make('li', { className: 'absent' }, uri))))));

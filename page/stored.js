@@ -140,12 +140,15 @@ class Resources {
     wanted.forEach((uri, number) => this.known.set(uri, answers[number]));
   }
 
-  get(uri) { const found = this.known.get(uri); return found && found.body ? found : null; }
+  get(uri) { const found = this.known.get(uri); return found && isThere(found) ? found : null; }
 
-  get there() { return [...this.known].filter(([, found]) => found.body); }
+  get there() { return [...this.known].filter(([, found]) => isThere(found)); }
 
-  get missing() { return [...this.known].filter(([, found]) => !found.body); }
+  get missing() { return [...this.known].filter(([, found]) => !isThere(found)).map(([uri, found]) => [uri, found.reason ?? `captured with status ${found.status}`]); }
 }
+
+// A body is there, and it isn't that of an error or of a redirect.
+const isThere = (found) => Boolean(found.body) && (!found.status || (found.status >= 200 && found.status < 300));
 
 const CSS_URL = /url\(\s*(?:"([^"]*)"|'([^']*)'|([^"')\s]*))\s*\)/gi;
 const CSS_IMPORT = /@import\s+(?:url\(\s*)?["']?([^"')\s;]+)["']?\s*\)?([^;]*);/gi;
@@ -215,7 +218,7 @@ async function viewOf(html, uri, resources) {
   for (let turn = 0; turn < MOST_ROUNDS && wanted.length; turn += 1) {
     const before = new Set(resources.known.keys());
     await resources.find(wanted);
-    wanted = [...resources.known].filter(([name, found]) => !before.has(name) && found.body && (sheetUris.has(name) || /^text\/css/i.test(found.type ?? '')))
+    wanted = [...resources.known].filter(([name, found]) => !before.has(name) && isThere(found) && (sheetUris.has(name) || /^text\/css/i.test(found.type ?? '')))
       .flatMap(([name, found]) => namedByStyle(textOf(found.body, found.type ?? ''), name));
   }
   const faces = pictures.map(({ node, reference }) => [node, resources.get(resolved(reference, base))]);

@@ -2,6 +2,7 @@
 import base64
 import json
 import os
+import select
 import shutil
 import subprocess
 import tempfile
@@ -12,6 +13,8 @@ FLAGS = [
     "--disable-background-networking", "--disable-component-update", "--disable-sync", "--remote-debugging-pipe",
     "--disable-dev-shm-usage", "--force-color-profile=srgb",
 ]
+
+PATIENCE = 300  # seconds
 
 
 class Browser:
@@ -49,6 +52,8 @@ class Browser:
     def hear(self):
         """The next message of the browser."""
         while b"\0" not in self.rest:
+            if not select.select([self.to_hear], [], [], PATIENCE)[0]:
+                raise RuntimeError("the browser doesn't answer")
             piece = os.read(self.to_hear, 1 << 20)
             if not piece:
                 raise RuntimeError("the browser ended")

@@ -2,12 +2,11 @@
 ghost use Rattle.std.specs.Prelude.{◌≡◌};
 
 use crate::shapes::{DONE, MEMORY, PageAnswer, PageOutcome, PageQuestion, REFUSED, UNKNOWN};
-use crate::slice::SliceSource;
 use crate::texts::put;
 use std::alloc::Allocator;
 use warc::{Archive, BodyFault};
 use warc_answer::{Answer, Reason, ReplayFault};
-use warc_frame::{Fault, FaultKind, MemSink, OutFault, Source};
+use warc_frame::{Fault, FaultKind, MemSink, OutFault, SliceSource, Source};
 use warc_heap::{Heap, Memory};
 use warc_index::Unfound;
 use warc_value::read_date;

@@ -2,11 +2,10 @@
 ghost use Rattle.std.specs.Prelude.{◌≡◌};
 
 use crate::shapes::{DONE, MEMORY, PageOutcome, REFUSED};
-use crate::slice::SliceSource;
 use crate::texts::put;
 use std::alloc::Allocator;
 use warc::Checked;
-use warc_frame::{Fault, FaultKind, MemSink};
+use warc_frame::{Fault, FaultKind, MemSink, SliceSource};
 use warc_heap::{Heap, Memory};
 
 /// The lines that `warc check` writes of these bytes.

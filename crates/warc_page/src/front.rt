@@ -2,11 +2,10 @@
 ghost use Rattle.std.specs.Prelude.{◌≡◌, ◌≤◌};
 
 use crate::shapes::{DONE, MEMORY, PageFront, PageRow, REFUSED};
-use crate::slice::SliceSource;
 use crate::texts::put;
 use std::alloc::Allocator;
 use warc::{Front, Row, open_front};
-use warc_frame::{Fault, FaultKind, Source};
+use warc_frame::{Fault, FaultKind, SliceSource, Source};
 use warc_heap::{Heap, Memory};
 use warc_value::Verdict;
 
@@ -19,6 +18,11 @@ fn verdict_number(verdict: Verdict) -> u32 {
     }
 }
 
+/// How many bytes a text has. No head is longer than 65,536 bytes, so no text of a row is.
+fn short(text: &[u8]) -> u32 {
+    text.len().min(u32::MAX as usize) as u32
+}
+
 /// What the page sees of a row, but for its texts.
 fn numbers_of(row: &Row<'_>) -> PageRow {
     PageRow {
@@ -27,10 +31,10 @@ fn numbers_of(row: &Row<'_>) -> PageRow {
         block_length: row.block_len,
         verdict: verdict_number(row.verdict),
         truncated: row.is_truncated as u32,
-        kind: row.kind.len() as u32,
-        date: row.date.len() as u32,
-        id: row.id.len() as u32,
-        target: row.target.len() as u32,
+        kind: short(row.kind),
+        date: short(row.date),
+        id: short(row.id),
+        target: short(row.target),
     }
 }
 

@@ -8,13 +8,9 @@ mod answers;
 mod findings;
 mod front;
 mod shapes;
-mod slice;
 mod texts;
 
 pub use answers::page_answers;
 pub use findings::page_findings;
 pub use front::page_front;
 pub use shapes::{PageAnswer, PageFront, PageOutcome, PageQuestion, PageRow};
-
-#[test]
-fn nothing() {}

@@ -41,6 +41,12 @@ def picture(number, wide=200, high=100):
         b"IDAT", zlib.compress(b"".join(rows), 6)) + chunk(b"IEND", b"")
 
 
+def paper():
+    """A PNG of one light point."""
+    return b"\x89PNG\r\n\x1a\n" + chunk(b"IHDR", struct.pack(">IIBBBBB", 1, 1, 8, 2, 0, 0, 0)) + chunk(
+        b"IDAT", zlib.compress(bytes([0, 253, 252, 246]))) + chunk(b"IEND", b"")
+
+
 def page(number, title="Station"):
     links = "".join(f'<a href="/page/{it}">{it}</a>' for it in range(max(1, number - 2), min(PAGES, number + 3)))
     return f"""<!doctype html><html lang="en"><head><meta charset="utf-8"><title>{title} {number}</title>
@@ -71,7 +77,7 @@ class Server(http.server.BaseHTTPRequestHandler):
         elif name == "picture":
             self.answer("image/png", picture(int(rest.split(".")[0])))
         elif name == "paper.png":
-            self.answer("image/png", picture(0, 8, 8))
+            self.answer("image/png", paper())
         elif name == "style.css":
             self.answer("text/css", STYLE.encode())
         elif name == "more.css":

@@ -1,0 +1,386 @@
+#!/usr/bin/env python3
+"""Tries the reading room in a real browser: Debian's Chromium, headless.
+
+Usage: test_page.py PAGE PROGRAM [FOLDER]
+
+PAGE is zogwedu.html, and PROGRAM is the program `warc`, with which lists, findings and replays are compared, byte for byte.
+Pictures of the main views go to FOLDER, if it is given. Needs chromium and wget. The last line is `N passed, M failed`.
+"""
+import base64
+import json
+import os
+import re
+import subprocess
+import sys
+import tempfile
+import time
+
+sys.path.insert(0, os.path.dirname(os.path.abspath(__file__)))
+import hostile
+from browser import Browser
+import stations
+
+HERE = os.path.dirname(os.path.abspath(__file__))
+TOP = os.path.dirname(os.path.dirname(HERE))
+MANY = 100_000
+MOST_NODES = 120  # lines of the list that are in the page at once
+MOST_DRAW = 60  # milliseconds for a jump in the list
+DATES = ("9999", "2026-11-26T04:49Z", "2000")
+
+ASKED = """async (questions) => (await room.library.ask(questions.map((it) => (it.uri === undefined ? it : { uri: Uint8Array.from(atob(it.uri), (c) => c.charCodeAt(0)), date: it.date })))).map((it) => {
+  let body = null;
+  if (it.body) { let words = ''; for (let at = 0; at < it.body.length; at += 0x8000) words += String.fromCharCode(...it.body.subarray(at, at + 0x8000)); body = btoa(words); }
+  return { ...it, body };
+})"""
+
+
+class Tests:
+    def __init__(self, page, program, pictures):
+        self.page, self.program, self.pictures = os.path.abspath(page), program.split(), pictures
+        self.passed = self.failed = 0
+
+    def holds(self, is_so, words, more=""):
+        """Counts a check, and prints one that doesn't hold."""
+        if is_so:
+            self.passed += 1
+        else:
+            self.failed += 1
+            print(f"FAILED {words} {str(more)[:600]}", flush=True)
+
+    def warc(self, *words):
+        run = subprocess.run([*self.program, *words], capture_output=True)
+        return run.stdout, run.stderr.decode(errors="replace"), run.returncode
+
+    def picture(self, browser, name):
+        if self.pictures:
+            os.makedirs(self.pictures, exist_ok=True)
+            browser.picture(f"{self.pictures}/{name}.png")
+
+    def opened(self, archive, **how):
+        """A browser in which an archive is opened, and its findings are there."""
+        browser = Browser(**how)
+        browser.go(self.page)
+        browser.give_file("#file", archive)
+        browser.until("room.listed && (!room.holds || room.findings !== null || (room.fault && room.end === 0))", 600)
+        return browser
+
+
+def facts_line(answer):
+    """The line that the program prints of an answer."""
+    if answer.get("reason"):
+        return f"warc: {answer['reason']}\n"
+    status = "-" if answer["status"] is None else answer["status"]
+    truncated = "yes" if answer["truncated"] else "no"
+    return f"chosen {answer['chosen']} given {answer['given']} status {status} truncated {truncated} length {answer['length']}\n"
+
+
+def lines_of(browser):
+    lines = browser.run("(() => { const lines = []; for (let p = 0; p < room.rows.count; p += 1) lines.push(listLine(room.rows.row(p))); return lines.join(''); })()")
+    return lines.encode("latin-1")
+
+
+def same_as_program(tests, name, archive):
+    """List, findings and every replay of an archive equal the program's bytes."""
+    browser = tests.opened(archive)
+    try:
+        out, err, status = tests.warc("list", archive)
+        if status != 0:
+            tests.holds(f"warc: {browser.run('room.fault')}\n" in err, f"{name}: fault", (err, browser.run("room.fault")))
+            good = f"{archive}.good"
+            with open(good, "wb") as saved:
+                saved.write(tests.warc("salvage", archive)[0])
+            tests.holds(os.path.getsize(good) == browser.run("room.end"), f"{name}: end of the good part")
+            archive = good
+            out = tests.warc("list", archive)[0]
+        tests.holds(lines_of(browser) == out, f"{name}: list", out[:200])
+        if browser.run("room.findings === null"):
+            return
+        tests.holds(browser.run("room.findingLines").encode("latin-1") == tests.warc("check", archive)[0], f"{name}: findings")
+        rows = [line.split(b"\t", 6) for line in out.split(b"\n")[:-1]]
+        captures = [row for row in rows if row[3].lower() in (b"response", b"resource", b"revisit")]
+        asked = [{"position": position} for position in range(len(rows) + 1)]
+        pairs = sorted({(row[6], date) for row in captures for date in (row[4].decode(), *DATES)})[:1200]
+        asked += [{"uri": base64.b64encode(uri).decode(), "date": date} for uri, date in pairs]
+        asked.append({"uri": base64.b64encode(b"http://nowhere.example/").decode(), "date": "9999"})
+        asked.append({"uri": base64.b64encode(b"x").decode(), "date": "2021-02-29"})
+        answers = browser.run(f"({ASKED})({json.dumps(asked)})")
+        for question, answer in zip(asked, answers):
+            words = ("body", archive, str(question["position"])) if "position" in question else (
+                "replay", archive, base64.b64decode(question["uri"]), question["date"])
+            body, told, _ = tests.warc(*words)
+            mine = base64.b64decode(answer["body"]) if answer["body"] is not None else b""
+            tests.holds((mine, facts_line(answer)) == (body, told), f"{name}: {words[0]} {words[2:]}", (facts_line(answer), told, len(mine), len(body)))
+        print(f"{name}: {len(rows)} records, {len(asked)} replays compared", flush=True)
+    finally:
+        browser.close()
+
+
+def open_all_tabs(browser, position):
+    """Opens a record, and each of its tabs."""
+    browser.run(f"openRecord({position})")
+    count = browser.run("document.querySelectorAll('[role=tab]').length")
+    for number in range(count):
+        browser.run(f"document.querySelectorAll('[role=tab]')[{number}].click()")
+        browser.until("document.getElementById('panel')?.dataset.ready === 'yes'", 30)
+        time.sleep(0.05)
+
+
+def loads(browser):
+    """What was asked of the network, and not of this computer alone."""
+    urls = [it["params"]["request"]["url"] for it in browser.events if it["method"] == "Network.requestWillBeSent"]
+    return [url for url in urls if not re.match(r"(file|blob|data|about|chrome):", url)]
+
+
+def blocked(browser):
+    """Reports of a policy that blocked something."""
+    issues = [it["params"]["issue"] for it in browser.events if it["method"] == "Audits.issueAdded"]
+    return [it for it in issues if it["code"] == "ContentSecurityPolicyIssue"]
+
+
+def hostile_archive(tests, folder):
+    """Nothing of a hostile archive runs, and nothing loads."""
+    archive = f"{folder}/hostile.warc"
+    hostile.make(archive)
+    browser = tests.opened(archive)
+    try:
+        tests.holds(browser.run("room.rows.count") == len(hostile.NAMES) + 2, "hostile: records")
+        for position in range(browser.run("room.rows.count")):
+            browser.run("room.tab = 'Page'")
+            open_all_tabs(browser, position)
+        browser.run("room.tab = 'Page'; openRecord(0)")
+        browser.until("document.querySelector('iframe.view') !== null")
+        time.sleep(1)
+        tests.picture(browser, "hostile")
+        browser.run("document.getElementById('words').value = 'script'; room.words = 'script'; filter()")
+        hacked = browser.run("window.hacked")
+        tests.holds(hacked is None, "hostile: nothing runs", hacked)
+        tests.holds(not loads(browser), "hostile: nothing loads", loads(browser))
+        tests.holds(not blocked(browser), "hostile: the policy has nothing to block in the views", blocked(browser)[:2])
+        tests.holds(not [it for it in browser.events if it["method"] == "Page.javascriptDialogOpening"], "hostile: no dialog")
+        tests.holds(browser.run("location.href").startswith("file:"), "hostile: the page stays")
+        wide = browser.run("document.documentElement.scrollWidth <= innerWidth")
+        tests.holds(wide, "hostile: a target of 60 KB doesn't widen the page")
+        # The frame and its policy alone hold the same, even if nothing is taken out of the page.
+        source = json.dumps(hostile.PAGE)
+        browser.run(f"document.querySelector('iframe.view').srcdoc = '<meta http-equiv=Content-Security-Policy content=\"' + VIEW_POLICY + '\">' + {source}; 0")
+        time.sleep(2)
+        hacked = browser.run("window.hacked")
+        tests.holds(hacked is None, "hostile, not rewritten: nothing runs", hacked)
+        reached = [it for it in browser.events if it["method"] in ("Network.responseReceived",) and "evil.example" in it["params"]["response"]["url"]]
+        tests.holds(not reached, "hostile, not rewritten: nothing is reached")
+        tests.holds(len(blocked(browser)) > 5, "hostile, not rewritten: the policy reports what it blocks", len(blocked(browser)))
+        tests.holds(browser.run("location.href").startswith("file:"), "hostile, not rewritten: the page stays")
+        print(f"hostile: {len(blocked(browser))} reports of the policy, all for the page that wasn't rewritten", flush=True)
+    finally:
+        browser.close()
+
+
+def small_record(number):
+    block = b"number %d" % number
+    return (b"WARC/1.1\r\nWARC-Type: resource\r\nWARC-Record-ID: <urn:x:%d>\r\nWARC-Date: 20%02d-%02d-01T00:00:00Z\r\n"
+            b"WARC-Target-URI: http://host%d.example/page/%d\r\nContent-Type: text/plain\r\nContent-Length: %d\r\n\r\n%s\r\n\r\n"
+            % (number, number % 25, number % 12 + 1, number % 40, number, len(block), block))
+
+
+def many_rows(tests, folder):
+    """100,000 records: only lines that are seen are drawn, jumps are quick, and a search finds."""
+    archive = f"{folder}/many.warc"
+    with open(archive, "wb") as out:
+        for number in range(MANY):
+            out.write(small_record(number))
+    browser = tests.opened(archive)
+    try:
+        tests.holds(browser.run("room.rows.count") == MANY, "many: records")
+        draw = browser.run("""(async () => { const list = document.getElementById('rows'); let worst = 0, nodes = 0;
+          for (let turn = 0; turn < 60; turn += 1) { const begun = performance.now(); list.scrollTop = (turn * 7919 % 100) / 100 * list.scrollHeight; drawRows(); list.offsetHeight; worst = Math.max(worst, performance.now() - begun);
+            nodes = Math.max(nodes, document.querySelectorAll('.line').length); await new Promise((done) => requestAnimationFrame(done)); } return [worst, nodes]; })()""")
+        tests.holds(draw[1] <= MOST_NODES, "many: only lines that are seen are drawn", draw)
+        tests.holds(draw[0] <= MOST_DRAW, "many: a jump in the list is quick", draw)
+        begun = time.monotonic()
+        browser.run("document.getElementById('words').value = '/page/777'; room.words = '/page/777'; filter()")
+        found = browser.run("room.order.length")
+        took = time.monotonic() - begun
+        tests.holds(found == 111, "many: the search finds", found)
+        browser.run("room.words = ''; filter(); sortBy('target')")
+        first = browser.run("latin.decode(room.rows.row(room.order[0]).target)")
+        tests.holds(first == "http://host0.example/page/0", "many: sorted by target", first)
+        browser.run("sortBy('position')")
+        browser.run("document.querySelector('#hosts .bar').click()")
+        tests.holds(browser.run("room.order.length") == MANY // 40, "many: a plot filters the list")
+        browser.run("document.querySelector('#hosts .bar').click()")
+        self_time = browser.run("room.listedIn")
+        print(f"many: listed in {self_time:.0f} ms, worst jump {draw[0]:.1f} ms, {draw[1]} lines drawn, first search {took * 1000:.0f} ms", flush=True)
+        tests.picture(browser, "many")
+    finally:
+        browser.close()
+
+
+def by_keyboard(tests, archive):
+    """A reader without a mouse gets to a record and through its tabs; each control has a name."""
+    browser = tests.opened(archive)
+    try:
+        browser.run("document.getElementById('list').focus()")
+        for _ in range(3):
+            browser.press("ArrowDown")
+        tests.holds(browser.run("room.current") == 2, "keyboard: arrows", browser.run("room.current"))
+        tests.holds(browser.run("document.getElementById('list').getAttribute('aria-activedescendant')") == "current-line", "keyboard: the list says its line")
+        browser.press("Enter", "\r")
+        browser.until("document.getElementById('panel')?.dataset.ready === 'yes'", 30)
+        tests.holds(browser.run("document.activeElement.id") == "record", "keyboard: focus goes to the record", browser.run("document.activeElement.id"))
+        browser.run("document.getElementById('tab-0').focus()")
+        browser.press("ArrowRight")
+        browser.until("document.getElementById('panel')?.dataset.ready === 'yes'", 30)
+        tests.holds(browser.run("document.activeElement.id + document.activeElement.getAttribute('aria-selected')") == "tab-1true", "keyboard: tabs by arrows")
+        browser.run("document.activeElement.blur()")
+        browser.press("/", "/")
+        tests.holds(browser.run("document.activeElement.id") == "words", "keyboard: / goes to the search", browser.run("document.activeElement.id"))
+        tree = browser.ask("Accessibility.getFullAXTree")["nodes"]
+        nameless = [it for it in tree if it.get("role", {}).get("value") in ("button", "textbox", "searchbox", "combobox", "grid", "tab", "tabpanel", "image", "Iframe")
+                    and not it.get("ignored") and not it.get("name", {}).get("value")]
+        tests.holds(not nameless, "each control has a name", [browser.ask("DOM.describeNode", {"backendNodeId": it["backendDOMNodeId"]})["node"].get("attributes") for it in nameless])
+    finally:
+        browser.close()
+
+
+def views(tests, archive, site):
+    """The main views over a crawl: pictures and styles of the moment, what is missing, coded pages, reasons in words."""
+    browser = tests.opened(archive)
+    where = "(() => { for (let p = 0; p < room.rows.count; p += 1) { const row = room.rows.row(p); if (row.kind === '%s' && latin.decode(row.target).endsWith('%s')) return p; } return -1; })()"
+
+    def show(kind, end):
+        browser.run(f"room.tab = 'Page'; openRecord({browser.run(where % (kind, end))})")
+        browser.until("document.getElementById('panel')?.dataset.ready === 'yes'", 60)
+        time.sleep(0.7)
+        return browser.run("document.getElementById('panel').innerText")
+
+    try:
+        tests.picture(browser, "overview")
+        words = show("response", "/page/12")
+        tests.holds("4 pictures and styles from the archive" in words and "1 missing" in words, "view: pictures and styles", words[:400])
+        source = browser.run("document.querySelector('iframe.view').srcdoc")
+        tests.holds("data:image/png" in source and "line-height" in source, "view: a style that a style names, and a picture")
+        tests.holds(source.count("http://") == 0 or "src=\"http" not in source, "view: no reference leads out")
+        tests.holds(browser.run("document.querySelector('iframe.view').getAttribute('sandbox')") == "", "view: an empty sandbox")
+        tests.picture(browser, "page")
+        words = show("revisit", "/page/12")
+        tests.holds("This is a revisit" in words, "view: where a revisit leads", words[:300])
+        for end in ("/packed", "/chunked"):
+            words = show("response", end)
+            tests.holds("P10 Coded" in words and "Decoded by this browser" in words, f"view: {end} is decoded, and says so", words[:300])
+        tests.picture(browser, "coded")
+        words = show("response", "/moved")
+        tests.holds("sent the reader on to" in words, "view: a redirect says where", words[:300])
+        words = show("response", "/empty")
+        tests.holds("The body is empty" in words, "view: an empty body", words[:300])
+        browser.run("document.getElementById('uri').value = 'http://nowhere.example/'; document.getElementById('as-of').requestSubmit()")
+        browser.until("document.getElementById('record').innerText.includes('P1 NoCapture')", 30)
+        tests.holds("No capture has this URI" in browser.run("document.getElementById('record').innerText"), "as of: a reason in words")
+        browser.run(f"document.getElementById('uri').value = '{site}page/12'; document.getElementById('moment').value = '9999'; document.getElementById('as-of').requestSubmit()")
+        browser.until("document.getElementById('panel')?.dataset.ready === 'yes' && document.getElementById('panel').innerText.includes('chooses this capture')", 30)
+        tests.passed += 1
+        tests.holds(not loads(browser), "views: nothing loads", loads(browser))
+        errors = [it["params"]["exceptionDetails"] for it in browser.events if it["method"] == "Runtime.exceptionThrown"]
+        tests.holds(not errors, "views: no error", errors[:1])
+        printed = browser.ask("Page.printToPDF", {"printBackground": False})["data"]
+        tests.holds(len(printed) > 5000, "views: prints")
+    finally:
+        browser.close()
+    browser = tests.opened(archive, dark=True)
+    try:
+        browser.run(f"openRecord({browser.run(where % ('response', '/page/12'))})")
+        browser.until("document.getElementById('panel')?.dataset.ready === 'yes'", 60)
+        time.sleep(0.7)
+        tests.picture(browser, "dark")
+        dark = browser.run("getComputedStyle(document.body).backgroundColor")
+        tests.holds(dark != "rgb(251, 250, 247)", "dark: other colours", dark)
+    finally:
+        browser.close()
+
+
+def saved_bytes(tests, folder, archive):
+    """A download has exactly the bytes that the program gives."""
+    browser = tests.opened(archive)
+    try:
+        browser.ask("Browser.setDownloadBehavior", {"behavior": "allow", "downloadPath": folder}, session=None)
+        browser.run("room.tab = 'Page'; openRecord(4)")
+        browser.until("document.getElementById('panel')?.dataset.ready === 'yes'", 30)
+        browser.run("[...document.querySelectorAll('.actions button')].find((it) => it.textContent === 'Save the exact bytes').click()")
+        path, end = f"{folder}/sky.png", time.monotonic() + 20
+        while not os.path.exists(path) and time.monotonic() < end:
+            browser.run("0")
+            time.sleep(0.1)
+        with open(path, "rb") as saved:
+            tests.holds(saved.read() == tests.warc("body", archive, "4")[0], "download: the exact bytes")
+    except OSError as error:
+        tests.holds(False, "download", error)
+    finally:
+        browser.close()
+
+
+def without_wide_memory(tests):
+    """A browser without 64-bit WebAssembly gets a plain message."""
+    browser = Browser()
+    try:
+        browser.ask("Page.addScriptToEvaluateOnNewDocument", {"source": "WebAssembly.validate = () => false"})
+        browser.go(tests.page)
+        tests.holds("64-bit memory" in browser.run("document.body.innerText"), "no 64-bit memory: a plain message")
+    finally:
+        browser.close()
+
+
+def damaged(tests, folder):
+    """A damaged archive: where and why, and its good part."""
+    archive = f"{folder}/torn.warc"
+    with open(f"{TOP}/examples/crawl.warc", "rb") as whole, open(archive, "wb") as out:
+        out.write(whole.read()[:-500])
+    browser = tests.opened(archive)
+    try:
+        words = browser.run("document.getElementById('damage').innerText")
+        tests.holds("F11 Truncated" in words and "The file ends before the record does" in words, "damaged: why", words)
+        tests.holds("17 records" in words, "damaged: its good part", words)
+        tests.picture(browser, "damaged")
+    finally:
+        browser.close()
+
+
+def compare_all(tests, folder, crawled):
+    """The worked archives, odd ones, and the crawl."""
+    archives = sorted(f"{TOP}/examples/{name}" for name in os.listdir(f"{TOP}/examples") if name.endswith(".warc"))
+    odd = {"split": tests.warc("split", f"{TOP}/examples/crawl.warc", "100")[0], "empty": b"",
+           "packed": b"\x1f\x8b\x08\0\0\0\0\0\0\xff" + b"x" * 100}
+    for name, data in odd.items():
+        with open(f"{folder}/{name}.warc", "wb") as out:
+            out.write(data)
+    for archive in [*[copied(it, folder) for it in archives], *[f"{folder}/{name}.warc" for name in odd], crawled]:
+        same_as_program(tests, os.path.basename(archive), archive)
+
+
+def main():
+    tests = Tests(sys.argv[1], sys.argv[2], (sys.argv[3:] or [None])[0])
+    with tempfile.TemporaryDirectory(prefix="zogwedu-page-test-") as folder:
+        crawled, small = f"{folder}/stations.warc", f"{TOP}/examples/crawl.warc"
+        where = stations.crawl(crawled)
+        parts = {
+            "compare": lambda: compare_all(tests, folder, crawled), "damaged": lambda: damaged(tests, folder),
+            "hostile": lambda: hostile_archive(tests, folder), "views": lambda: views(tests, crawled, where),
+            "keyboard": lambda: by_keyboard(tests, small), "saved": lambda: saved_bytes(tests, folder, small),
+            "without": lambda: without_wide_memory(tests), "many": lambda: many_rows(tests, folder),
+        }
+        for name in os.environ.get("PAGE_TESTS", ",".join(parts)).split(","):
+            try:
+                parts[name]()
+            except RuntimeError as error:
+                tests.holds(False, name, error)
+    print(f"{tests.passed} passed, {tests.failed} failed")
+    sys.exit(1 if tests.failed else 0)
+
+
+def copied(archive, folder):
+    """A copy, beside which the test may write."""
+    path = f"{folder}/{os.path.basename(archive)}"
+    with open(archive, "rb") as whole, open(path, "wb") as out:
+        out.write(whole.read())
+    return path
+
+
+main()
