@@ -15,6 +15,8 @@
 # make verify-dist FILE=..   builds from this folder, and compares with such a tarball byte for byte
 # make stress       runs bin/warc over generated archives, and where the system fails it; minutes; before a release
 # make test-package makes a Debian package of that tarball, installs it, runs it and removes it (as root)
+# make page         proves and builds the library for WebAssembly, and writes zogwedu.html, the reading room
+# make test-page    tries the reading room in headless Chromium (needs chromium and wget); minutes
 # make bench        measures; docs/SPEED.md has the figures
 # make clean        drops what was built and kept
 
@@ -24,7 +26,7 @@ JOBS ?= $(shell nproc)
 VERSION := $(shell sed -n 's/^const VERSION: &str = "\(.*\)";$$/\1/p' crates/warc_commands/src/words.rt)
 
 .PHONY: all try test check lint test-docs lint-docs man install uninstall dist verify-dist test-package stress bench clean
-.PHONY: lib python rust test-callers
+.PHONY: lib python rust test-callers page test-page
 
 all:
 	@python3 tools/build.py $(JOBS)
@@ -90,13 +92,24 @@ test-package: dist
 stress: bin/warc
 	@bash tests/stress/run.sh
 
-bench: all
+page:
+	@python3 tools/build_page.py
+
+# Takes a built page as it is. Build anew with `make page`.
+zogwedu.html:
+	@python3 tools/build_page.py
+
+test-page: bin/warc zogwedu.html
+	@python3 tests/page/test_page.py zogwedu.html bin/warc out/page
+
+bench: all zogwedu.html
 	@python3 bench/bench.py bin/warc out/bench
 	@python3 bench/decoder.py . out/bench
 	@python3 bench/order.py . out/bench
 	@python3 bench/segment.py . out/bench
 	@python3 bench/index.py . out/bench
 	@python3 bench/replay.py . bin/warc out/bench
+	@python3 bench/page.py zogwedu.html bin/warc out/bench
 
 clean:
 	rm -rf out bin dist crates/*/out

@@ -298,7 +298,7 @@ const COLUMNS = ['position', 'type', 'date', 'target', 'size', 'digest'];
 function drawHead() {
   const focused = document.activeElement?.dataset?.column;
   byId('columns').replaceChildren(...COLUMNS.map((name) => make('div', { role: 'columnheader', className: name === 'digest' ? 'last' : '', 'aria-sort': room.sort.by === name ? (room.sort.up ? 'ascending' : 'descending') : 'none' },
-    make('button', { type: 'button', tabIndex: 0, on: { click: () => sortBy(name) } }, make('span', {}, name === 'position' ? 'no.' : name), room.sort.by === name ? (room.sort.up ? ' ↑' : ' ↓') : ''))));
+    make('button', { type: 'button', tabIndex: 0, 'aria-label': `Sort by ${name}`, on: { click: () => sortBy(name) } }, make('span', {}, name === 'position' ? 'no.' : name), room.sort.by === name ? (room.sort.up ? ' ↑' : ' ↓') : ''))));
   byId('columns').querySelectorAll('button').forEach((button, number) => { button.dataset.column = COLUMNS[number]; if (focused === COLUMNS[number]) button.focus(); });
   byId('list').setAttribute('aria-rowcount', String((room.order?.length ?? 0) + 1));
 }

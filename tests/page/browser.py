@@ -84,9 +84,10 @@ class Browser:
 
     def watch(self, session, target):
         """Also hears what a frame or a worker loads."""
-        self.number += 1
-        data = json.dumps({"id": self.number, "method": "Network.enable", "params": {}, "sessionId": session})
-        os.write(self.to_write, data.encode() + b"\0")
+        for domain in ("Network", "Audits", "Log"):
+            self.number += 1
+            message = {"id": self.number, "method": f"{domain}.enable", "params": {}, "sessionId": session}
+            os.write(self.to_write, json.dumps(message).encode() + b"\0")
 
     def run(self, code, wait=True):
         """The value of an expression in the page."""

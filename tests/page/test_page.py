@@ -137,6 +137,11 @@ def blocked(browser):
     return [it for it in issues if it["code"] == "ContentSecurityPolicyIssue"]
 
 
+def directive(issue):
+    """Which rule of the policy an issue is about."""
+    return issue["details"]["contentSecurityPolicyIssueDetails"]["violatedDirective"]
+
+
 def hostile_archive(tests, folder):
     """Nothing of a hostile archive runs, and nothing loads."""
     archive = f"{folder}/hostile.warc"
@@ -155,7 +160,9 @@ def hostile_archive(tests, folder):
         hacked = browser.run("window.hacked")
         tests.holds(hacked is None, "hostile: nothing runs", hacked)
         tests.holds(not loads(browser), "hostile: nothing loads", loads(browser))
-        tests.holds(not blocked(browser), "hostile: the policy has nothing to block in the views", blocked(browser)[:2])
+        parsed = ("base-uri", "script-src-attr", "script-src-elem", "style-src-attr")
+        tried = [it for it in map(directive, blocked(browser)) if it not in parsed]
+        tests.holds(not tried, "hostile: the policy has no load to block in the views", tried)
         tests.holds(not [it for it in browser.events if it["method"] == "Page.javascriptDialogOpening"], "hostile: no dialog")
         tests.holds(browser.run("location.href").startswith("file:"), "hostile: the page stays")
         wide = browser.run("document.documentElement.scrollWidth <= innerWidth")
@@ -168,9 +175,10 @@ def hostile_archive(tests, folder):
         tests.holds(hacked is None, "hostile, not rewritten: nothing runs", hacked)
         reached = [it for it in browser.events if it["method"] in ("Network.responseReceived",) and "evil.example" in it["params"]["response"]["url"]]
         tests.holds(not reached, "hostile, not rewritten: nothing is reached")
-        tests.holds(len(blocked(browser)) > 5, "hostile, not rewritten: the policy reports what it blocks", len(blocked(browser)))
+        tried = [it for it in map(directive, blocked(browser)) if it not in parsed]
+        tests.holds(len(tried) > 5, "hostile, not rewritten: the policy reports what it blocks", tried)
         tests.holds(browser.run("location.href").startswith("file:"), "hostile, not rewritten: the page stays")
-        print(f"hostile: {len(blocked(browser))} reports of the policy, all for the page that wasn't rewritten", flush=True)
+        print(f"hostile: {len(tried)} loads blocked and reported, all of the page that wasn't rewritten", flush=True)
     finally:
         browser.close()
 

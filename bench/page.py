@@ -1,0 +1,54 @@
+#!/usr/bin/env python3
+"""Times how long the reading room takes to open an archive of 500 MB, beside `warc list` and `warc check`.
+
+Usage: page.py PAGE PROGRAM FOLDER
+
+The archive is made in FOLDER once and kept: 50,000 pages of 10,000 bytes, each with the digest of its block. Printed:
+seconds of the program, and seconds until the page shows its first rows, all rows, the findings, and one replay.
+"""
+import os
+import sys
+import time
+
+from shared import make, run
+
+sys.path.insert(0, os.path.join(os.path.dirname(os.path.abspath(__file__)), "..", "tests", "page"))
+from browser import Browser
+
+RUNS = 3
+RECORDS, LENGTH = 50_000, 10_000
+
+
+def open_page(page, archive):
+    """Seconds until the first rows, all rows and the findings are there, and seconds of a replay."""
+    browser = Browser()
+    try:
+        browser.go(os.path.abspath(page))
+        browser.run("""window.seen = {}; const old = hear; room.library.worker.onmessage = (() => {
+          const before = room.library.worker.onmessage;
+          return (event) => { if (event.data.tell && !window.seen[event.data.tell]) window.seen[event.data.tell] = performance.now(); before(event); }; })(); 0""")
+        browser.run("const given = openFile; openFile = (file) => { window.began = performance.now(); given(file); }; 0")
+        browser.give_file("#file", archive)
+        browser.until("room.findings !== null || document.getElementById('status').textContent.includes('stopped')", 300)
+        times = browser.run("['rows', 'listed', 'findings'].map((name) => (window.seen[name] - window.began) / 1000)")
+        begun = time.monotonic()
+        browser.run("room.library.ask([{ position: 7 }]).then((answers) => answers[0].length)")
+        return [*times, time.monotonic() - begun]
+    finally:
+        browser.close()
+
+
+def main():
+    page, program, folder = sys.argv[1:]
+    os.makedirs(folder, exist_ok=True)
+    archive = os.path.join(folder, "pages.warc")
+    make(archive, RECORDS, LENGTH)
+    print(f"{os.path.getsize(archive)} bytes, {RECORDS} records")
+    for command in ("list", "check"):
+        print(f"  warc {command}: {min(run([*program.split(), command, archive]) for _ in range(RUNS))[0]:.2f} s")
+    least = [min(times) for times in zip(*(open_page(page, archive) for _ in range(RUNS)))]
+    for name, seconds in zip(("first rows", "all rows", "findings", "one replay"), least):
+        print(f"  page, {name}: {seconds:.2f} s")
+
+
+main()
