@@ -31,7 +31,8 @@ class Instance {
     this.memory = this.exports.memory;
     this.end = this.memory.buffer.byteLength;
     this.start = this.end;
-    this.spent = 0;
+    this.spent = 0; // bytes that were given for good
+    this.lent = new Map();
   }
 
   // Takes part of the memory that nobody has used.
@@ -40,6 +41,15 @@ class Instance {
     this.end = round(this.end + bytes + 1, UNIT);
     const pages = Math.ceil((this.end - this.memory.buffer.byteLength) / WASM_PAGE);
     if (pages > 0) grow(this.memory, pages);
+    return at;
+  }
+
+  // Part of the memory that is lent to calls, and used again by the next one.
+  lend(name, bytes) {
+    const found = this.lent.get(name);
+    if (found && found.room >= bytes) return found.at;
+    const at = this.take(bytes);
+    this.lent.set(name, { at, room: bytes });
     return at;
   }
 
@@ -70,13 +80,9 @@ function grow(memory, pages) {
 
 // Lists the records at the front of some bytes, which begin with a record.
 function front(instance, bytes) {
-  const rowsRoom = Math.floor(bytes.length / LEAST_RECORD) + 1;
-  if (!instance.area || instance.area.room < bytes.length) {
-    const room = Math.max(bytes.length, PIECE);
-    instance.area = { room, bytes: instance.take(room), texts: instance.take(room), fault: instance.take(FAULT),
-      rows: instance.take((Math.floor(room / LEAST_RECORD) + 1) * ROW), outcome: instance.take(FRONT) };
-  }
-  const area = instance.area;
+  const room = Math.max(bytes.length, PIECE), rowsRoom = Math.floor(bytes.length / LEAST_RECORD) + 1;
+  const area = { bytes: instance.lend('bytes', room), texts: instance.lend('texts', room), fault: instance.lend('fault', FAULT),
+    rows: instance.lend('rows', (Math.floor(room / LEAST_RECORD) + 1) * ROW), outcome: instance.lend('front', FRONT) };
   instance.bytes(area.bytes, bytes.length).set(bytes);
   const state = instance.call('page_front', Math.max(4 * MEGABYTE, bytes.length / 4), [area.bytes, bytes.length,
     area.rows, rowsRoom, area.texts, bytes.length, area.fault, FAULT, area.outcome], area.outcome + 24);
@@ -131,7 +137,7 @@ async function keep() {
     const bytes = await read(at, Math.min(end, at + PIECE));
     instance.bytes(instance.file + at, bytes.length).set(bytes);
   }
-  instance.outcome = instance.take(OUTCOME);
+  instance.outcome = instance.lend('outcome', OUTCOME);
   kept = instance;
   return instance;
 }
@@ -143,40 +149,46 @@ const heapFor = () => 32 * MEGABYTE + 4 * textBytes + 600 * count;
 async function findings() {
   const instance = await ready();
   for (let room = MEGABYTE; ; room *= 8) {
-    const out = instance.take(room);
+    const out = instance.lend('out', room);
     instance.call('page_findings', heapFor(), [instance.file, end, out, room, instance.outcome], instance.outcome);
     const length = Number(new DataView(instance.memory.buffer).getBigUint64(instance.outcome + 8, true));
     if (length <= room) return instance.bytes(out, length).slice();
   }
 }
 
-// Asks all questions at once, so that the archive is opened once.
-async function ask(questions) {
-  const instance = await ready();
-  const parts = questions.map((it) => (it.uri ? [it.uri, new TextEncoder().encode(it.date)] : [new Uint8Array(0), new Uint8Array(0)]));
-  const words = instance.take(parts.reduce((sum, it) => sum + it[0].length + it[1].length, 0));
-  const asked = instance.take(questions.length * QUESTION), answers = instance.take(questions.length * ANSWER);
+// Puts questions into the memory of a module, and gives their places.
+function putQuestions(instance, questions) {
+  const encoder = new TextEncoder(), none = new Uint8Array(0);
+  const parts = questions.map((it) => (it.uri ? [it.uri, encoder.encode(it.date)] : [none, none]));
+  const length = parts.reduce((sum, it) => sum + it[0].length + it[1].length, 0);
+  const words = instance.lend('words', length), asked = instance.lend('questions', questions.length * QUESTION);
   const view = new DataView(instance.memory.buffer);
   let place = 0;
   questions.forEach((it, number) => {
-    const [uri, date] = parts[number], at = asked + number * QUESTION;
+    const [uri, date] = parts[number], middle = place + uri.length, end = middle + date.length;
     instance.bytes(words + place, uri.length).set(uri);
-    instance.bytes(words + place + uri.length, date.length).set(date);
-    [it.uri ? 0 : 1, it.uri ? 0 : it.position, place, place + uri.length, place + uri.length + date.length]
-      .forEach((value, index) => view.setBigUint64(at + index * 8, BigInt(value), true));
-    place += uri.length + date.length;
+    instance.bytes(words + middle, date.length).set(date);
+    [it.uri ? 0 : 1, it.uri ? 0 : it.position, place, middle, end].forEach((value, index) => view.setBigUint64(asked + number * QUESTION + index * 8, BigInt(value), true));
+    place = end;
   });
-  for (let room = Math.min(32 * MEGABYTE, end + 4096); ;) {
-    const out = instance.take(room);
-    const state = instance.call('page_answers', heapFor() + 4 * room, [instance.file, end, words, place, asked,
-      questions.length, answers, questions.length, out, room, instance.outcome], instance.outcome);
-    const told = new DataView(instance.memory.buffer);
-    const length = Number(told.getBigUint64(instance.outcome + 8, true));
-    if (state !== DONE) return questions.map(() => ({ reason: text(instance.bytes(out, length)) }));
-    if (length > room) { room = round(length, MEGABYTE); continue; }
-    const found = questions.map((_, number) => answer(instance, answers + number * ANSWER, out));
-    if (!found.some((it) => it.memory)) return found;
-    throw new Error('out of memory');
+  return { words, length, asked };
+}
+
+// Asks all questions at once, so that the archive is opened once. Where room or memory doesn't suffice, asks again.
+async function ask(questions) {
+  for (let room = Math.min(8 * MEGABYTE, end + 4096), heap = heapFor() + room; ;) {
+    const instance = await ready();
+    const answers = instance.lend('answers', questions.length * ANSWER), out = instance.lend('out', room);
+    const { words, length, asked } = putQuestions(instance, questions);
+    const state = instance.call('page_answers', heap, [instance.file, end, words, length, asked, questions.length,
+      answers, questions.length, out, room, instance.outcome], instance.outcome);
+    const need = Number(new DataView(instance.memory.buffer).getBigUint64(instance.outcome + 8, true));
+    if (state !== DONE) return questions.map(() => ({ reason: text(instance.bytes(out, need)) }));
+    const states = questions.map((_, number) => Number(new DataView(instance.memory.buffer).getBigUint64(answers + number * ANSWER, true)));
+    if (states.includes(MEMORY)) heap *= 4;
+    else if (need > room) { heap += 4 * (need - room); room = round(need, MEGABYTE); }
+    else return questions.map((_, number) => answer(instance, answers + number * ANSWER, out));
+    if (heap > MOST_HEAP) throw new Error('out of memory');
   }
 }
 
@@ -185,7 +197,6 @@ function answer(instance, at, out) {
   const view = new DataView(instance.memory.buffer, at, ANSWER);
   const number = (place) => Number(view.getBigUint64(place, true));
   const state = number(0), bytes = instance.bytes(out + number(8), number(16));
-  if (state === MEMORY) return { memory: true };
   const position = (place) => (view.getBigUint64(place, true) === NOWHERE ? null : number(place));
   const facts = { chosen: position(24), given: position(32) };
   if (state !== DONE) return { ...facts, reason: text(bytes) };
