@@ -23,6 +23,13 @@ function listen() {
   byId('list').addEventListener('keydown', listKey);
   body().addEventListener('scroll', () => requestAnimationFrame(drawRows), { passive: true });
   body().addEventListener('click', () => byId('list').focus({ preventScroll: true }));
+  byId('fold').addEventListener('click', () => {
+    const hide = !byId('plots').hidden;
+    byId('plots').hidden = hide;
+    byId('fold').setAttribute('aria-expanded', String(!hide));
+    byId('fold').textContent = hide ? 'Show plots' : 'Hide plots';
+    if (!hide) drawStrip();
+  });
   byId('strip').addEventListener('click', (event) => {
     const part = event.offsetX / byId('strip').clientWidth, offset = part * room.file.size;
     let low = 0, high = room.rows.count - 1;

@@ -72,6 +72,8 @@ async function openRecord(position, focus = false, note = null) {
   drawRows();
   const panel = byId('record'), isCapture = CAPTURES.has(row.kind.toLowerCase());
   panel.hidden = false;
+  const top = panel.getBoundingClientRect().top;
+  if (top < 0 || top > innerHeight * 0.6) panel.scrollIntoView({ block: 'start' });
   panel.replaceChildren(titleOf(row), make('div', { className: 'panel' }, make('p', { className: 'small' }, 'Reading…')));
   if (focus) panel.focus();
   const own = await typeOf(row);
