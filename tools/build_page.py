@@ -54,7 +54,7 @@ def quoted(text):
 
 def page(module):
     """The whole page."""
-    names = {"MODULE": quoted(base64.b64encode(module).decode()), "WORKER": quoted(open(os.environ["MOCK"]).read() if "MOCK" in os.environ else read("page/worker.js")),
+    names = {"MODULE": quoted(base64.b64encode(module).decode()), "WORKER": quoted(read("page/worker.js")),
              "VERSION": quoted(version())}
     script = "".join(f"const {name} = {value};\n" for name, value in names.items())
     script += "\n".join(read(f"page/{name}").replace("'use strict';\n", "") for name in SCRIPTS)
