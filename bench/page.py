@@ -15,7 +15,7 @@ from shared import make, run
 sys.path.insert(0, os.path.join(os.path.dirname(os.path.abspath(__file__)), "..", "tests", "page"))
 from browser import Browser
 
-RUNS = 3
+RUNS = int(os.environ.get("RUNS", "3"))
 RECORDS, LENGTH = 50_000, 10_000
 
 
