@@ -127,6 +127,7 @@ function hear(message) {
     const why = /memory/i.test(message.why) ? 'The memory of this browser doesn’t suffice for it.' : message.why;
     say(`The library stopped. ${why}`);
     room.holds = false;
+    room.listed = true;
     drawAll();
   }
 }

@@ -8,7 +8,7 @@ const WASM_PAGE = 65536;
 const UNIT = 16;
 const MEGABYTE = 1048576;
 const ROW = 48, FRONT = 40, OUTCOME = 16, QUESTION = 40, ANSWER = 48, FAULT = 128;
-const FIRST_PIECE = MEGABYTE, PIECE = 16 * MEGABYTE;
+const FIRST_PIECE = MEGABYTE, PIECE = 16 * MEGABYTE, MOST_PIECE = 4096 * MEGABYTE;
 const LEAST_RECORD = 81; // bytes: no record is shorter
 const DONE = 0, MEMORY = 2;
 const NOWHERE = 2n ** 64n - 1n; // a position that isn't known
@@ -121,7 +121,7 @@ async function list(mine) {
     start += found.end;
     size = found.end > 0 ? PIECE : size * 4;
     const goesOn = !found.fault || (found.fault.startsWith('F11 ') && stop < file.size);
-    if (goesOn && size > limit * 2) throw new Error('a record is longer than this page can read');
+    if (goesOn && found.end === 0 && size > MOST_PIECE) throw new Error('a record is longer than this page can read');
     if (!goesOn) { fault = placed(found.fault, start - found.end); break; }
   }
   end = start;

@@ -7,6 +7,7 @@ PAGE is zogwedu.html, and PROGRAM is the program `warc`, with which lists, findi
 Pictures of the main views go to FOLDER, if it is given. Needs chromium and wget. The last line is `N passed, M failed`.
 """
 import base64
+import hashlib
 import json
 import os
 import re
@@ -14,6 +15,7 @@ import subprocess
 import sys
 import tempfile
 import time
+from concurrent.futures import ThreadPoolExecutor
 
 sys.path.insert(0, os.path.dirname(os.path.abspath(__file__)))
 import hostile
@@ -104,10 +106,11 @@ def same_as_program(tests, name, archive):
         asked.append({"uri": base64.b64encode(b"http://nowhere.example/").decode(), "date": "9999"})
         asked.append({"uri": base64.b64encode(b"x").decode(), "date": "2021-02-29"})
         answers = browser.run(f"({ASKED})({json.dumps(asked)})")
-        for question, answer in zip(asked, answers):
-            words = ("body", archive, str(question["position"])) if "position" in question else (
-                "replay", archive, base64.b64decode(question["uri"]), question["date"])
-            body, told, _ = tests.warc(*words)
+        every = [("body", archive, str(it["position"])) if "position" in it else (
+            "replay", archive, base64.b64decode(it["uri"]), it["date"]) for it in asked]
+        with ThreadPoolExecutor() as pool:
+            runs = list(pool.map(lambda words: tests.warc(*words), every))
+        for words, answer, (body, told, _) in zip(every, answers, runs):
             mine = base64.b64decode(answer["body"]) if answer["body"] is not None else b""
             tests.holds((mine, facts_line(answer)) == (body, told), f"{name}: {words[0]} {words[2:]}", (facts_line(answer), told, len(mine), len(body)))
         print(f"{name}: {len(rows)} records, {len(asked)} replays compared", flush=True)
@@ -336,6 +339,38 @@ def without_wide_memory(tests):
         browser.close()
 
 
+def with_limit(page, limit, folder):
+    """The same page with another limit, and with the digest of its script that its policy then wants."""
+    with open(page, encoding="utf-8", newline="") as text:
+        whole = text.read()
+    before, script = whole[:whole.rindex("<script>") + 8], whole[whole.rindex("<script>") + 8:whole.rindex("</script>")]
+    changed = script.replace("const LIMIT = 2 * 1024 ** 3;", f"const LIMIT = {limit};")
+    digest = base64.b64encode(hashlib.sha256(changed.encode()).digest()).decode()
+    path = f"{folder}/limited.html"
+    with open(path, "w", encoding="utf-8", newline="") as out:
+        out.write(re.sub(r"sha256-[\w+/=]+", f"sha256-{digest}", before, count=1) + changed + "</script></body></html>")
+    return path
+
+
+def too_long(tests, folder, archive):
+    """An archive over the limit is listed, its records are shown, and the page says that it isn't replayed."""
+    whole = tests.page
+    tests.page = with_limit(whole, 5000, folder)
+    try:
+        browser = tests.opened(archive)
+    finally:
+        tests.page = whole
+    try:
+        tests.holds(lines_of(browser) == tests.warc("list", archive)[0], "too long: list")
+        tests.holds("too long to be replayed" in browser.run("document.getElementById('status').textContent"), "too long: says so")
+        browser.run("room.tab = 'Page'; openRecord(2)")
+        browser.until("document.getElementById('panel')?.dataset.ready === 'yes'", 30)
+        words = browser.run("document.getElementById('panel').innerText")
+        tests.holds("as it is stored" in words and "HTTP/1.1 200 OK" in words, "too long: the block", words[:300])
+    finally:
+        browser.close()
+
+
 def damaged(tests, folder):
     """A damaged archive: where and why, and its good part."""
     archive = f"{folder}/torn.warc"
@@ -367,14 +402,15 @@ def main():
     tests = Tests(sys.argv[1], sys.argv[2], (sys.argv[3:] or [None])[0])
     with tempfile.TemporaryDirectory(prefix="zogwedu-page-test-") as folder:
         crawled, small = f"{folder}/stations.warc", f"{TOP}/examples/crawl.warc"
-        where = stations.crawl(crawled)
+        names = os.environ.get("PAGE_TESTS", "compare,damaged,hostile,views,keyboard,saved,without,long,many").split(",")
+        where = stations.crawl(crawled) if {"compare", "views"} & set(names) else None
         parts = {
             "compare": lambda: compare_all(tests, folder, crawled), "damaged": lambda: damaged(tests, folder),
             "hostile": lambda: hostile_archive(tests, folder), "views": lambda: views(tests, crawled, where),
             "keyboard": lambda: by_keyboard(tests, small), "saved": lambda: saved_bytes(tests, folder, small),
-            "without": lambda: without_wide_memory(tests), "many": lambda: many_rows(tests, folder),
+            "without": lambda: without_wide_memory(tests), "long": lambda: too_long(tests, folder, small), "many": lambda: many_rows(tests, folder),
         }
-        for name in os.environ.get("PAGE_TESTS", ",".join(parts)).split(","):
+        for name in names:
             try:
                 parts[name]()
             except RuntimeError as error:
