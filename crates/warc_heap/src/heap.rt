@@ -21,7 +21,7 @@ pub struct Heap {
 }
 
 impl Heap {
-    /// An allocator over memory of so many units.
+    /// An allocator over memory that has this many units.
     pub fn new(memory: Memory, units: usize) -> Heap
         requires { memory.units ≡ units }
     {
@@ -30,7 +30,7 @@ impl Heap {
         }
     }
 
-    /// Takes the first units that have room for so many bytes. The cell is empty only while this runs, and what it
+    /// Takes the first units that have room for this many bytes. The cell is empty only while this runs, and what it
     /// calls can't come back here.
     fn take(&self, size: usize, align: usize) -> Option<Memory>
         ensures { IfSome result (λ m. (size ≤ m.units * 16) × (size < 2 ^ 63) × (align ≤ 16)) }

@@ -21,7 +21,7 @@ impl Model for Memory {
 }
 
 impl Memory {
-    /// Cuts off the first units, which have so many bytes: they, and the rest.
+    /// Cuts off the first units, which have this many bytes, and gives them and the rest.
     pub(crate) fn cut(self, _units: usize, bytes: usize) -> (Memory, Memory)
         requires { (_units ≤ self.units) × (bytes ≡ _units * 16) }
         ensures { (result.0.units ≡ _units) × (_units + result.1.units ≡ self.units) }

@@ -1,4 +1,4 @@
--- `cut` gives the first units to one pointer, and the others to one behind them. Assumes `Logic`.
+-- `cut` gives the first units to one pointer, and the others to one after them. Assumes `Logic`.
 use Rattle.std.proofs.Common.{◌≡◌, ◌+◌, ◌-◌, ◌*◌, ◌≤◌, List, [], ◌∷◌, ◌++◌, refl, ap, ◌∙◌, arith, w64}
 use mir.Syntax.{Fn}
 use mir.Val.{Val, vint, vptr}
