@@ -38,6 +38,14 @@ fn word<'a>(words: &'a [String], index: usize) -> &'a str {
     }
 }
 
+/// The word at an index, if there is one.
+fn optional_word<'a>(words: &'a [String], index: usize) -> Option<&'a str> {
+    match words.get(index) {
+        Some(word) => Some(word.as_str()),
+        None => None,
+    }
+}
+
 /// What `write` makes a record of.
 fn draft_of<'a>(words: &'a [String], content_type: &'a str) -> Draft<'a> {
     Draft {
@@ -72,10 +80,17 @@ pub(crate) fn command_of<'a>(words: &'a [String], given: &'a [u8]) -> Option<Com
             archive,
             uri: word(words, 1),
             date: word(words, 2),
+            in_hex: word(words, 3) == "--uri-hex",
         },
         "body" => Command::Body {
             archive,
             position: word(words, 1),
+            stored: word(words, 2) == "--stored",
+        },
+        "captures" => Command::Captures {
+            archive,
+            uri: optional_word(words, 1),
+            in_hex: word(words, 2) == "--uri-hex",
         },
         "rewrite" => Command::Rewrite { archive },
         "convert" => Command::Convert { archive },

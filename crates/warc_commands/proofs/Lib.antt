@@ -3,3 +3,4 @@ pub mod MakingLemmas
 pub mod ProgramLemmas
 pub mod SalvageLemmas
 mod WorkedValues
+pub mod CaptureLemmas

@@ -1,5 +1,5 @@
 -- How `salvage` ends, from what its calls answered.
-use Rattle.std.proofs.Common.{◌≡◌, ℕ, ◌+◌, ◌^◌, ◌<◌, List, ◌++◌, length, Option, Some, Ok, Err, refl, sym, ap, subst, ◌∙◌, arith}
+use Rattle.std.proofs.Common.{◌≡◌, ℕ, ◌^◌, ◌<◌, List, ◌++◌, length, Option, Some, Ok, Err, refl, sym, ap, subst, ◌∙◌, arith}
 use Rattle.warc_frame.specs.FaultText.{out_fault_text}
 use Rattle.warc_frame.specs.Seen.{Seen, Tapped}
 use Rattle.warc_frame.specs.declared.fault.Fault.{Fault}

@@ -1,5 +1,6 @@
 -- A command of the program.
-use Rattle.std.specs.Prelude.{Bool, true, false, List, [], ◌∷◌, ◌++◌, codes}
+use Rattle.std.specs.Prelude.{Bool, true, false, List, [], ◌∷◌, ◌++◌, codes, option_map}
+use Rattle.std.specs.Option.{option_to_list}
 use Rattle.clap.specs.Walk.{Text}
 use Rattle.warc_commands.specs.declared.words.Command.{Command}
 use Rattle.warc_commands.specs.declared.words.Command.TheVariants as command
@@ -15,8 +16,10 @@ abbrev pub view_of : Command → Text × List Text
 view_of (command.List archive) = (codes "list", archive.now ∷ [])
 view_of (command.Check archive) = (codes "check", archive.now ∷ [])
 view_of (command.Extract archive id) = (codes "extract", archive.now ∷ id.now ∷ [])
-view_of (command.Replay archive uri date) = (codes "replay", archive.now ∷ uri.now ∷ date.now ∷ [])
-view_of (command.Body archive position) = (codes "body", archive.now ∷ position.now ∷ [])
+view_of (command.Replay archive uri date hex) = (codes "replay", archive.now ∷ uri.now ∷ date.now ∷ [])
+view_of (command.Body archive position stored) = (codes "body", archive.now ∷ position.now ∷ [])
+view_of (command.Captures archive uri hex) =
+    (codes "captures", archive.now ∷ option_to_list (option_map (λ u. u.now) uri))
 view_of (command.Rewrite archive) = (codes "rewrite", archive.now ∷ [])
 view_of (command.Convert archive) = (codes "convert", archive.now ∷ [])
 view_of (command.Split archive size) = (codes "split", archive.now ∷ size.now ∷ [])
@@ -28,6 +31,9 @@ view_of (command.Salvage archive) = (codes "salvage", archive.now ∷ [])
 
 -- whether each of its flags is given, in order; `--quiet`, which every command has, isn't one of them
 abbrev pub flags_of : Command → List Bool
+flags_of (command.Replay archive uri date hex) = hex ∷ []
+flags_of (command.Body archive position stored) = stored ∷ []
+flags_of (command.Captures archive uri hex) = hex ∷ []
 flags_of _ = []
 
 -- what words ask for
@@ -44,8 +50,9 @@ abbrev pub path_of : Command → Text
 path_of (command.List archive) = archive.now
 path_of (command.Check archive) = archive.now
 path_of (command.Extract archive id) = archive.now
-path_of (command.Replay archive uri date) = archive.now
-path_of (command.Body archive position) = archive.now
+path_of (command.Replay archive uri date hex) = archive.now
+path_of (command.Body archive position stored) = archive.now
+path_of (command.Captures archive uri hex) = archive.now
 path_of (command.Rewrite archive) = archive.now
 path_of (command.Convert archive) = archive.now
 path_of (command.Split archive size) = archive.now

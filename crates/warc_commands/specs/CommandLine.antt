@@ -29,6 +29,31 @@ layout name words = record { name = name; words = words; optional = []; flags = 
 abbrev pub list_layout : Layout
 list_layout = layout (codes "list") (codes "archive" ∷ [])
 
+-- those with flags, and with a word that may be left out
+abbrev pub replay_layout : Layout
+replay_layout = record {
+  name = codes "replay";
+  words = codes "archive" ∷ codes "uri" ∷ codes "date" ∷ [];
+  optional = [];
+  flags = codes "uri-hex" ∷ [];
+}
+
+abbrev pub body_layout : Layout
+body_layout = record {
+  name = codes "body";
+  words = codes "archive" ∷ codes "position" ∷ [];
+  optional = [];
+  flags = codes "stored" ∷ [];
+}
+
+abbrev pub captures_layout : Layout
+captures_layout = record {
+  name = codes "captures";
+  words = codes "archive" ∷ [];
+  optional = codes "uri" ∷ [];
+  flags = codes "uri-hex" ∷ [];
+}
+
 -- the words of `write` before the path of its file
 abbrev pub draft_words : List Text
 draft_words = codes "kind" ∷ codes "uri" ∷ codes "date" ∷ codes "uuid" ∷ codes "type" ∷ []
@@ -39,8 +64,9 @@ layouts =
     list_layout
     ∷ layout (codes "check") (codes "archive" ∷ [])
     ∷ layout (codes "extract") (codes "archive" ∷ codes "id" ∷ [])
-    ∷ layout (codes "replay") (codes "archive" ∷ codes "uri" ∷ codes "date" ∷ [])
-    ∷ layout (codes "body") (codes "archive" ∷ codes "position" ∷ [])
+    ∷ replay_layout
+    ∷ body_layout
+    ∷ captures_layout
     ∷ layout (codes "rewrite") (codes "archive" ∷ [])
     ∷ layout (codes "convert") (codes "archive" ∷ [])
     ∷ layout (codes "split") (codes "archive" ∷ codes "size" ∷ [])
@@ -80,11 +106,13 @@ layout_app l = with_rule
 abbrev pub with_layout : App → Layout → App
 with_layout app l = with_subcommand app (layout_app l).top
 
--- the program, which has a version and of which a command is required
+-- the program without its commands: it has a version, and a command is required
+abbrev pub bare_app : App
+bare_app = on_top (λ s. record s { has_version = true; subcommand_required = true }) (new_app (codes "warc"))
+
+-- the program
 abbrev pub warc_app : App
-warc_app = fold with_layout
-    (on_top (λ s. record s { has_version = true; subcommand_required = true }) (new_app (codes "warc")))
-    layouts
+warc_app = fold with_layout bare_app layouts
 
 -- the command of a name; clap gives no other name than theirs, so one of them needs no test
 abbrev pub layout_of : Text → Layout

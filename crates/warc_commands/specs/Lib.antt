@@ -1,4 +1,5 @@
 pub mod Bodies
+pub mod Captures
 pub mod Command
 pub mod CommandLine
 pub mod Devices
@@ -8,3 +9,5 @@ pub mod Parts
 pub mod Program
 pub mod Running
 pub mod Salvage
+pub mod Stored
+pub mod Uris

@@ -63,7 +63,7 @@ where
 }
 
 /// Tells what is said of a body, or why it isn't written, or not whole, and answers the exit status.
-fn tell_body<E: Sink>(answer: Result<Answer, BodyFault>, err: &mut E) -> u8
+pub(crate) fn tell_body<E: Sink>(answer: Result<Answer, BodyFault>, err: &mut E) -> u8
     ensures told { Tells (body_line answer) (E.seen err.old) (E.seen err.new) }
     ensures status { result ≡ body_status answer }
 {

@@ -44,7 +44,7 @@ where
 /// Writes the body for a URI as of the first instant of a date.
 pub(crate) fn replay<A, S, W, E>(
     alloc: A,
-    uri: &str,
+    uri: &[u8],
     date: &str,
     source: S,
     out: &mut W,
@@ -73,7 +73,7 @@ where
 /// Writes the body for a URI as of a moment.
 fn replay_as_of<A, S, W, E>(
     alloc: A,
-    uri: &str,
+    uri: &[u8],
     moment: &Moment,
     source: S,
     out: &mut W,
@@ -94,7 +94,7 @@ where
         Ok(archive) => archive,
         Err((fault, source)) => return (tell_refusal(fault, err), source),
     };
-    let answer = archive.replay(uri.as_bytes(), moment, out);
+    let answer = archive.replay(uri, moment, out);
     (tell_replay(answer, err), archive.into_source())
 }
 
@@ -151,7 +151,7 @@ fn mark_text(mark: bool) -> &'static str
 }
 
 /// The line that tells what is said of a body.
-fn line_of_answer(answer: &Answer) -> ArrayString<LINE>
+pub(crate) fn line_of_answer(answer: &Answer) -> ArrayString<LINE>
     ensures { result.bytes ≡ answer_text answer.now ++ codes "\n" }
 {
     let mut digits = Buffer::new();

@@ -2,6 +2,7 @@
 #![tactic(auto)]
 
 mod bodies;
+mod captures;
 mod fixity;
 mod giving;
 mod making;
@@ -10,6 +11,8 @@ mod program;
 mod running;
 mod salvage;
 mod splitting;
+mod stored;
+mod uris;
 mod words;
 
 pub use program::{perform, refuse};

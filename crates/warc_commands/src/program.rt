@@ -8,12 +8,15 @@ ghost use Rattle.warc_commands.specs.Devices.{devices};
 ghost use Rattle.warc.specs.Forms.{texts_as};
 
 use crate::bodies::body;
+use crate::captures::captures;
 use crate::fixity::fixity;
-use crate::giving::{extract, replay};
+use crate::giving::extract;
 use crate::making::write;
 use crate::parts::give;
 use crate::salvage::salvage;
 use crate::splitting::split;
+use crate::stored::stored;
+use crate::uris::replay_named;
 use crate::words::{Command, CommandFault};
 use arrayvec::ArrayString;
 use itoa::Buffer;
@@ -72,11 +75,23 @@ where
             archive: _,
             uri,
             date,
-        } => replay(alloc, uri, date, source, out, err),
+            in_hex,
+        } => replay_named(alloc, *in_hex, uri, date, source, out, err),
         Command::Body {
             archive: _,
             position,
+            stored: false,
         } => body(alloc, position, source, out, err),
+        Command::Body {
+            archive: _,
+            position,
+            stored: true,
+        } => stored(alloc, position, source, out, err),
+        Command::Captures {
+            archive: _,
+            uri,
+            in_hex,
+        } => captures(alloc, *in_hex, *uri, source, out, err),
         Command::Rewrite { archive: _ } => write_anew(alloc, Form::Canonical, source, out, err),
         Command::Convert { archive: _ } => write_anew(alloc, Form::Converted, source, out, err),
         Command::Split { archive: _, size } => split(alloc, size, source, out, err),

@@ -5,10 +5,10 @@ ghost use Rattle.clap.specs.Matches.{found_of};
 ghost use Rattle.clap.specs.Simple.{App, app_of, subcommand_rows_of, with_rule};
 ghost use Rattle.clap.specs.Takes.{takes};
 ghost use Rattle.clap.specs.Values.{kind_of};
-ghost use Rattle.clap.specs.Walk.{rows_of, rule_of};
+ghost use Rattle.clap.specs.Walk.{first_of, rows_of, rule_of};
 ghost use Rattle.clap.specs.declared.builder.command.Command.TheViews.{out-Command};
 ghost use Rattle.warc_commands.specs.Command.{asked_by, draft_texts, flags_of, path_of, reads_once, view_of};
-ghost use Rattle.warc_commands.specs.CommandLine.{IsToldBy, asked_in, asked_of, command_fault_text, draft_words, flags_in, is_flagged};
+ghost use Rattle.warc_commands.specs.CommandLine.{IsToldBy, asked_in, bare_app, asked_of, command_fault_text, draft_words, flags_in, is_flagged};
 ghost use Rattle.warc_commands.specs.CommandLine.{layout_seen, named, rule_as, text_of, warc_app, with_layout, with_rules};
 
 use clap::error::ErrorKind;
@@ -39,11 +39,19 @@ pub enum Command<'a> {
         archive: &'a str,
         uri: &'a str,
         date: &'a str,
+        in_hex: bool,
     },
-    /// The body that the capture at a position gives.
+    /// The body that the capture at a position gives; as it is stored, also a coded one, where that is asked for.
     Body {
         archive: &'a str,
         position: &'a str,
+        stored: bool,
+    },
+    /// A line for each capture, of all or of a URI.
+    Captures {
+        archive: &'a str,
+        uri: Option<&'a str>,
+        in_hex: bool,
     },
     /// The records in canonical form.
     Rewrite {
@@ -111,10 +119,17 @@ impl<'a> Command<'a> {
                 archive,
                 uri: _,
                 date: _,
+                in_hex: _,
             } => archive,
             Command::Body {
                 archive,
                 position: _,
+                stored: _,
+            } => archive,
+            Command::Captures {
+                archive,
+                uri: _,
+                in_hex: _,
             } => archive,
             Command::Rewrite { archive } => archive,
             Command::Convert { archive } => archive,
@@ -245,7 +260,8 @@ Example: warc extract examples/abc.warc urn:uuid:00000000-0000-4000-8000-0000000
 const REPLAY_NOTES: &str =
     "The body is that of the latest capture of the URI that isn't later than the date: its segments joined, and
 of an HTTP response what stands behind its head. A date is YYYY, YYYY-MM, YYYY-MM-DD, YYYY-MM-DDThh:mmZ or
-YYYY-MM-DDThh:mm:ssZ, also with a fraction of a second, and names its first instant. A line on standard error
+YYYY-MM-DDThh:mm:ssZ, also with a fraction of a second, and names its first instant: 2010 is before everything
+of 2010. With --uri-hex the URI is written as hexadecimal digits, as for one that isn't UTF-8. A line on standard error
 tells the positions of the chosen record and of the one whose body is given, the status of the HTTP response
 or '-', whether a record is marked as truncated, and the length of the body in bytes.
 
@@ -257,13 +273,28 @@ Example: warc replay examples/abc.warc http://a.example/x 2021";
 const BODY_NOTES: &str =
     "The body is the one that 'warc replay' gives where it chooses this capture: of a revisit that of the record
 to which it leads, its segments joined, and of an HTTP response what follows its head. Positions are those of
-'warc list', from 0. The line on standard error is that of 'warc replay'.
+'warc list', from 0. The line on standard error is that of 'warc replay'. With --stored a coded body is written
+too, as it is stored after the HTTP head; then the line ends with 'coded' and the fields that name the codings,
+as 'coded transfer-encoding=chunked content-encoding=gzip'.
 
 Exit status: 0 written; 1 nothing was written: there is no body, for the reason P3 to P10 that is named, no
 record is at the position (E1), or the record there is no capture (E2), as a request or a metadata record;
 2 the archive is refused, and nothing was written; 3 the position isn't a number, or see 'warc --help'.
 
 Example: warc body examples/revisit.warc 1";
+
+const CAPTURES_NOTES: &str =
+    "Without URI every capture is listed, by position; of a URI its captures, by instant and then by position. A
+line has ten columns, with a tab between two: the capture's position, its date as written, its instant to the
+nanosecond, its type, the position of the record whose body it gives, the status of the HTTP response, the
+media type, the length of the body in bytes, the reason why there is no body, as 'warc replay' names it, and
+the target; '-' where there is none. A coded body (P10) has a status and a media type, and no length.
+With --uri-hex the URI is written as hexadecimal digits, as for one that isn't UTF-8.
+
+Exit status: 0 listed; 1 there is no capture (P1); 2 the archive is refused, and nothing was written; 3 the
+digits of --uri-hex are odd or wrong, or see 'warc --help'.
+
+Example: warc captures examples/crawl.warc http://127.0.0.1:8765/";
 
 const REWRITE_NOTES: &str =
     "Each record is written in canonical form: folded values in one line, one space behind each colon. Names,
@@ -360,6 +391,16 @@ const DATE: Word = Word {
     help: "The date as of which the URI is asked for; 9999 is the latest",
 };
 
+const URI_HEX: Word = Word {
+    name: "uri-hex",
+    help: "The URI is written as hexadecimal digits, two for each byte",
+};
+
+const STORED: Word = Word {
+    name: "stored",
+    help: "Writes a coded body too, as it is stored after the HTTP head",
+};
+
 const POSITION: Word = Word {
     name: "position",
     help: "The position of the record, from 0, as 'warc list' shows it",
@@ -405,7 +446,7 @@ const QUIET: Word = Word {
 };
 
 /// The commands, in the order in which help lists them.
-const COMMANDS: [Entry; 13] = [
+const COMMANDS: [Entry; 14] = [
     Entry {
         name: "list",
         about: "Prints a line for each record",
@@ -436,7 +477,7 @@ const COMMANDS: [Entry; 13] = [
         notes: REPLAY_NOTES,
         words: &[ARCHIVE, URI, DATE],
         optional: &[],
-        flags: &[],
+        flags: &[URI_HEX],
     },
     Entry {
         name: "body",
@@ -444,7 +485,15 @@ const COMMANDS: [Entry; 13] = [
         notes: BODY_NOTES,
         words: &[ARCHIVE, POSITION],
         optional: &[],
-        flags: &[],
+        flags: &[STORED],
+    },
+    Entry {
+        name: "captures",
+        about: "Prints a line for each capture, of all or of a URI",
+        notes: CAPTURES_NOTES,
+        words: &[ARCHIVE],
+        optional: &[URI],
+        flags: &[URI_HEX],
     },
     Entry {
         name: "rewrite",
@@ -512,15 +561,21 @@ const COMMANDS: [Entry; 13] = [
     },
 ];
 
-fn warc_parser<'a>(alloc: Global) -> Result<clap::Command<'a>, AllocError>
-    ensures { IfOk result (λ c. app_of c ≡ warc_app) }
+/// The parser of the program without its commands.
+fn bare_parser<'a>(alloc: Global) -> clap::Command<'a>
+    ensures { app_of result ≡ bare_app }
 {
-    let parser = clap::Command::new(alloc, "warc")
+    clap::Command::new(alloc, "warc")
         .about("Reads and writes archives in the WARC format")
         .version(VERSION)
         .after_help(NOTES)
-        .subcommand_required(true);
-    with_commands(parser, alloc, &COMMANDS)
+        .subcommand_required(true)
+}
+
+fn warc_parser<'a>(alloc: Global) -> Result<clap::Command<'a>, AllocError>
+    ensures { IfOk result (λ c. app_of c ≡ warc_app) }
+{
+    with_commands(bare_parser(alloc), alloc, &COMMANDS)
 }
 
 /// The parser with these commands, in their order.
@@ -615,6 +670,16 @@ fn text_at<'a>(matches: &ArgMatches<'a>, name: &str) -> &'a str
     }
 }
 
+/// The text of a word that may be left out.
+fn optional_text<'a>(matches: &ArgMatches<'a>, name: &str) -> Option<&'a str>
+    ensures { option_map (λ t. t.now) result ≡ first_of name.now (rows_of (found_of matches.now)) }
+{
+    match matches.get_str(name) {
+        Some(text) => Some(text),
+        None => None,
+    }
+}
+
 /// Whether a flag is given.
 fn is_given(matches: &ArgMatches<'_>, name: &str) -> bool
     ensures { result ≡ is_flagged (rows_of (found_of matches.now)) name.now }
@@ -652,10 +717,17 @@ fn read_command<'a>(name: &str, texts: &ArgMatches<'a>) -> Command<'a>
             archive,
             uri: text_at(texts, "uri"),
             date: text_at(texts, "date"),
+            in_hex: is_given(texts, "uri-hex"),
         },
         "body" => Command::Body {
             archive,
             position: text_at(texts, "position"),
+            stored: is_given(texts, "stored"),
+        },
+        "captures" => Command::Captures {
+            archive,
+            uri: optional_text(texts, "uri"),
+            in_hex: is_given(texts, "uri-hex"),
         },
         "rewrite" => Command::Rewrite { archive },
         "convert" => Command::Convert { archive },

@@ -15,7 +15,7 @@ returns-clause-ends g c = inl (record {
       record {
         records = contents archive.listed.are.records;
         are = good_records_of archive.listed;
-        told = rw (← c.as_bytes.ensures.value) (c.replay-answer.ensures.replays.told bytes (c.in-Ok.ensures.reads.kept ∙ held) archive.listed archive.kept);
+        told = c.replay-answer.ensures.replays.told bytes (c.in-Ok.ensures.reads.kept ∙ held) archive.listed archive.kept;
         source = failed_as (out_result c.replay-answer.result) _ _ _ _ c.in-Ok.ensures.reads.cause (ap (λ s. (g.S.Source.tapped s).faults) (sym c.into_source.ensures)) (c.replay-answer.ensures.replays.failed bytes (c.in-Ok.ensures.reads.kept ∙ held) archive.listed archive.kept);
       };
   silent = c.replay-answer.ensures.replays.silent;

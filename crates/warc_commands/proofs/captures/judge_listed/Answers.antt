@@ -1,0 +1,31 @@
+use Rattle.std.proofs.Common.{refl, subst}
+use Rattle.std.proofs.lemmas.Result.{IfOk-weaker}
+use Rattle.warc.specs.Capturing.{AreOutcomes, outcomes_seen}
+use Rattle.warc_reading.specs.Archive.{contents}
+use Rattle.warc_commands.proofs.captures.judge_listed.Goals as goal
+
+pub returns-in_default : goal.returns-in_default
+returns-in_default g c = record {
+  told = λ bytes held is. tt;
+  early = refl;
+  kept = refl;
+  may = refl;
+  rows = refl;
+}
+
+pub returns : goal.returns
+returns g c = record {
+  told = λ bytes held is.
+      IfOk-weaker c.outcomes.result _ _
+      (λ r are. record {
+        is = is.listed;
+        positions = c.in-Ok.positions.items;
+        listed = c.in-Ok.ensures bytes is;
+        outcomes = subst (λ l. AreOutcomes (contents is.listed.are.records) l (outcomes_seen r)) c.deref.ensures.value are;
+      })
+      (c.outcomes.ensures.judges.told bytes held is.listed is.kept);
+  early = c.outcomes.ensures.judges.early;
+  kept = c.outcomes.ensures.judges.kept;
+  may = c.outcomes.ensures.judges.may;
+  rows = c.outcomes.ensures.rows;
+}

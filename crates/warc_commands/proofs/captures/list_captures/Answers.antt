@@ -1,0 +1,12 @@
+use Rattle.std.proofs.Common.{inl, inr, ap}
+use Rattle.warc_commands.proofs.CaptureLemmas.{captures_end}
+use Rattle.warc_commands.proofs.ProgramLemmas.{not_opened}
+use Rattle.warc_commands.proofs.captures.list_captures.Goals as goal
+
+pub returns-in-Err-clause-ends : goal.returns-in-Err-clause-ends
+returns-in-Err-clause-ends g c = inr (inl (not_opened _ _ _ _ _ _ c.in-Err.fault _ c.in-Err.ensures c.tell_refusal.ensures.told c.tell_refusal.ensures.status))
+
+pub returns-clause-ends : goal.returns-clause-ends
+returns-clause-ends g c =
+    captures_end _ _ _ c.judge_listed-outcomes.result _ _ _ _ _ _ _ _ _ c.in-Ok.ensures c.judge_listed-outcomes.ensures
+    (ap (λ s. (g.S.Source.tapped s).faults) c.into_source.ensures) c.tell_outcomes.ensures

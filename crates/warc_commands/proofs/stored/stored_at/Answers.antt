@@ -1,0 +1,26 @@
+use Rattle.std.proofs.Common.{inl, inr, sym, ap, ◌∙◌}
+use Rattle.warc.specs.Outcomes.{answer_seen, fault_result}
+use Rattle.warc_reading.specs.Archive.{contents}
+use Rattle.warc_commands.proofs.ProgramLemmas.{failed_as, good_records_of, may_have_failed_as, not_opened}
+use Rattle.warc_commands.proofs.stored.stored_at.Goals as goal
+
+pub returns-in-Err-clause-ends : goal.returns-in-Err-clause-ends
+returns-in-Err-clause-ends g c = inr (not_opened _ _ _ _ _ _ c.in-Err.fault _ c.in-Err.ensures c.tell_refusal.ensures.told c.tell_refusal.ensures.status)
+
+pub returns-clause-ends : goal.returns-clause-ends
+returns-clause-ends g c = inl (record {
+  answer = answer_seen c.stored_to-answer.result;
+  is = λ bytes held.
+      let archive = c.in-Ok.ensures.accepted bytes held in
+      record {
+        records = contents archive.listed.are.records;
+        are = good_records_of archive.listed;
+        told = c.stored_to-answer.ensures.gives.told bytes (c.in-Ok.ensures.reads.kept ∙ held) archive.listed archive.kept;
+        source = failed_as (fault_result (answer_seen c.stored_to-answer.result)) _ _ _ _ c.in-Ok.ensures.reads.cause (ap (λ s. (g.S.Source.tapped s).faults) (sym c.into_source.ensures)) (c.stored_to-answer.ensures.gives.failed bytes (c.in-Ok.ensures.reads.kept ∙ held) archive.listed archive.kept);
+      };
+  silent = c.stored_to-answer.ensures.gives.silent;
+  source = may_have_failed_as (fault_result (answer_seen c.stored_to-answer.result)) _ _ _ _ c.in-Ok.ensures.reads.cause (ap (λ s. (g.S.Source.tapped s).faults) (sym c.into_source.ensures)) c.stored_to-answer.ensures.gives.may;
+  failed = c.stored_to-answer.ensures.gives.cause;
+  told = c.tell_stored.ensures.told;
+  status_is = c.tell_stored.ensures.status;
+})

@@ -1,0 +1,37 @@
+-- How the commands end that are given a URI as it is or as hexadecimal digits.
+use Rattle.std.specs.Prelude.{◌≡◌, ℕ, ◌⊎◌, Bool, true, false, List, codes, Option, Some, None, option_map}
+use Rattle.std.specs.Result.{result_ok}
+use Rattle.hex.specs.Hex.{decode_of}
+use Rattle.warc_frame.specs.FaultText.{out_fault_text}
+use Rattle.warc_frame.specs.declared.fault.OutFault.TheVariants.{Memory}
+use Rattle.warc_commands.specs.Devices.{Devices}
+use Rattle.warc_commands.specs.declared.uris.UriFault.{UriFault}
+use Rattle.warc_commands.specs.declared.uris.UriFault.TheVariants.{Digits, Memory as NoMemory}
+use Rattle.warc_commands.specs.Program.{IsBadWord, Tells, told_line}
+
+-- the URI that a word names: as it is, or by two hexadecimal digits for each byte
+abbrev pub uri_named : Bool → List ℕ → Option (List ℕ)
+uri_named false word = Some word
+uri_named true word = result_ok (decode_of word)
+
+-- the same where there may be no word, which names no URI
+abbrev pub uri_listed : Bool → Option (List ℕ) → Option (Option (List ℕ))
+uri_listed false word = Some word
+uri_listed true None = None
+uri_listed true (Some word) = option_map Some (uri_named true word)
+
+-- memory was refused before the archive was read
+pub record IsStarved (old new : Devices) (status : ℕ) : Type 0 where
+  pub unread : new.source ≡ old.source
+  pub untouched : new.out ≡ old.out
+  pub told : Tells (told_line (out_fault_text (Memory 0))) old.err new.err
+  pub status_is : status ≡ 3
+
+-- how a command ends, by the URI that its word names; digits may want memory
+abbrev pub UriEnds : {X : Type 0} → (X → Devices → Devices → ℕ → Type 0) → Option X → Devices → Devices → ℕ → Type 0
+UriEnds ends None old new status = IsBadWord (codes "bad hex") old new status ⊎ IsStarved old new status
+UriEnds ends (Some uri) old new status = ends uri old new status ⊎ IsStarved old new status
+
+abbrev pub uri_fault_text : UriFault → List ℕ
+uri_fault_text Digits = codes "bad hex"
+uri_fault_text NoMemory = out_fault_text (Memory 0)

@@ -1,0 +1,137 @@
+//! The command that gives what is stored of a capture, coded or not.
+ghost use Rattle.std.specs.Prelude.{◌≡◌, ◌++◌, ℕ, List, Some, codes, map};
+ghost use Rattle.std.specs.List.{concat};
+ghost use Rattle.warc_answer.specs.Seen.{stored_seen};
+ghost use Rattle.warc_answer.specs.Stored.{answer_with};
+ghost use Rattle.warc.specs.Outcomes.{answer_seen};
+ghost use Rattle.warc_commands.specs.Devices.{devices};
+ghost use Rattle.warc_commands.specs.Parts.{position_of};
+ghost use Rattle.warc_commands.specs.Program.{Tells, answer_text};
+ghost use Rattle.warc_commands.specs.Stored.{StoredEnds, coded_text, stored_line, stored_status};
+
+use crate::bodies::tell_body;
+use crate::giving::line_of_answer;
+use crate::parts::position_of;
+use crate::program::{DONE, FAILED, tell, tell_refusal};
+use std::alloc::Allocator;
+use warc::{Archive, BodyFault, StoredAt};
+use warc_answer::Answer;
+use warc_frame::{OutBuffer, Sink, Source, put_all};
+
+/// Writes what is stored of the origin of the capture at a position, which a word says.
+pub(crate) fn stored<A, S, W, E>(
+    alloc: A,
+    position: &str,
+    source: S,
+    out: &mut W,
+    err: &mut E,
+) -> (u8, S)
+where
+    A: Allocator + Copy,
+    S: Source + Drop,
+    W: Sink,
+    E: Sink,
+    ensures ends { StoredEnds (position_of position.now) (devices (S.tapped source) (W.seen out.old) (E.seen err.old))
+        (devices (S.tapped result.1) (W.seen out.new) (E.seen err.new)) result.0 }
+
+    // The source still holds what it held.
+    ensures kept { (S.tapped result.1).holds ≡ (S.tapped source).holds }
+{
+    match position_of(position.as_bytes()) {
+        Some(position) => stored_at(alloc, position, source, out, err),
+        None => {
+            tell("warc: bad position\n", err);
+            (FAILED, source)
+        }
+    }
+}
+
+/// Writes what is stored of the origin of the capture at a position.
+fn stored_at<A, S, W, E>(alloc: A, position: usize, source: S, out: &mut W, err: &mut E) -> (u8, S)
+where
+    A: Allocator + Copy,
+    S: Source + Drop,
+    W: Sink,
+    E: Sink,
+    ensures ends { StoredEnds (Some position) (devices (S.tapped source) (W.seen out.old) (E.seen err.old)) (devices
+        (S.tapped result.1) (W.seen out.new) (E.seen err.new)) result.0 }
+
+    // The source still holds what it held.
+    ensures kept { (S.tapped result.1).holds ≡ (S.tapped source).holds }
+{
+    let mut archive = match Archive::open(alloc, source) {
+        Ok(archive) => archive,
+        Err((fault, source)) => return (tell_refusal(fault, err), source),
+    };
+    let answer = archive.stored_to(position, out);
+    (tell_stored(&answer, err), archive.into_source())
+}
+
+/// Tells what is said of what is stored, or why it isn't written, or not whole, and answers the exit status.
+fn tell_stored<E: Sink, A: Allocator>(answer: &Result<StoredAt<A>, BodyFault>, err: &mut E) -> u8
+    ensures told { Tells (stored_line (answer_seen answer.now)) (E.seen err.old) (E.seen err.new) }
+    ensures status { result ≡ stored_status (answer_seen answer.now) }
+{
+    match answer {
+        Ok(at) => {
+            tell_answer(at, err);
+            DONE
+        }
+        Err(fault) => tell_body(Err(*fault), err),
+    }
+}
+
+/// Tells what is said of what is stored.
+fn tell_answer<E: Sink, A: Allocator>(at: &StoredAt<A>, err: &mut E)
+    ensures { Tells (answer_text (answer_with at.now.path (stored_seen at.now.stored))
+        ++ coded_text at.now.stored.coded at.now.stored.codings.items ++ codes "\n") (E.seen err.old) (E.seen err.new) }
+{
+    let line = line_of_answer(&Answer {
+        chosen: at.path.chosen,
+        given: at.path.given,
+        status: at.stored.status,
+        truncated: at.stored.truncated,
+        length: at.stored.length,
+    });
+    if at.stored.coded {
+        tell_coded(line.as_str(), &at.stored.codings, err);
+    } else {
+        tell(line.as_str(), err);
+    }
+}
+
+/// A line without the byte that ends it.
+fn without_end(line: &[u8]) -> &[u8]
+    ensures { (text : List ℕ) → line.now ≡ text ++ codes "\n" → result.now ≡ text }
+{
+    if line.is_empty() {
+        line
+    } else {
+        &line[..line.len() - 1]
+    }
+}
+
+/// Tells a line, before whose end stands what is said of a coded body.
+fn tell_coded<E: Sink>(line: &str, codings: &[u8], err: &mut E)
+    ensures { (text : List ℕ) → line.now ≡ text ++ codes "\n" →
+        Tells (text ++ (codes " coded" ++ codings.now) ++ codes "\n") (E.seen err.old) (E.seen err.new) }
+{
+    tell_all(
+        &[without_end(line.as_bytes()), b" coded", codings, b"\n"],
+        err,
+    );
+}
+
+/// Writes pieces of a line, as far as the sink takes them.
+fn tell_all<E: Sink>(pieces: &[&[u8]], err: &mut E)
+    ensures { Tells (concat (map (λ p. p.now) pieces.now)) (E.seen err.old) (E.seen err.new) }
+{
+    let mut buffer = OutBuffer::new();
+    match put_all(pieces, &mut buffer, err) {
+        Ok(()) => match buffer.flush(err) {
+            Ok(()) => {}
+            Err(_) => {}
+        },
+        Err(_) => {}
+    }
+}

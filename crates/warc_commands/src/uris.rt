@@ -1,0 +1,103 @@
+//! URIs that are written as hexadecimal digits.
+ghost use Rattle.std.specs.Prelude.{◌≡◌, Err, IfOk, None, Some, true};
+ghost use Rattle.warc_value.specs.Dates.{instant_of};
+ghost use Rattle.warc_commands.specs.Devices.{devices};
+ghost use Rattle.warc_commands.specs.Program.{ReplayEnds, Tells, told_line};
+ghost use Rattle.warc_commands.specs.Uris.{UriEnds, uri_fault_text, uri_named};
+
+use crate::giving::replay;
+use crate::program::{FAILED, tell, tell_cut};
+use hex::FromHexError;
+use std::alloc::Allocator;
+use warc_frame::{OutFault, Sink, Source};
+
+/// Why digits name no URI.
+#[derive(Clone, Copy, Debug, PartialEq, Eq)]
+pub(crate) enum UriFault {
+    /// Their number is odd, or one isn't a hexadecimal digit.
+    Digits,
+
+    /// A growth of the memory was refused.
+    Memory,
+}
+
+/// The bytes that hexadecimal digits name.
+pub(crate) fn bytes_of<A: Allocator + Copy>(alloc: A, word: &str) -> Result<Vec<u8, A>, UriFault>
+    ensures ok { IfOk result (λ bytes. uri_named true word.now ≡ Some bytes.items) }
+    ensures bad { result ≡ Err UriFault.Digits → uri_named true word.now ≡ None }
+{
+    match hex::decode(alloc, word.as_bytes()) {
+        Ok(bytes) => Ok(bytes),
+        Err(FromHexError::OutOfMemory) => Err(UriFault::Memory),
+        Err(_) => Err(UriFault::Digits),
+    }
+}
+
+/// Tells why digits name no URI, and answers the exit status.
+pub(crate) fn tell_fault<E: Sink>(fault: UriFault, err: &mut E) -> u8
+    ensures told { Tells (told_line (uri_fault_text fault)) (E.seen err.old) (E.seen err.new) }
+    ensures status { result ≡ 3 }
+{
+    match fault {
+        UriFault::Digits => {
+            tell("warc: bad hex\n", err);
+            FAILED
+        }
+        UriFault::Memory => tell_cut(OutFault::Memory(0), err),
+    }
+}
+
+/// Writes the body for the URI that a word names, as of the first instant of a date.
+pub(crate) fn replay_named<A, S, W, E>(
+    alloc: A,
+    in_hex: bool,
+    uri: &str,
+    date: &str,
+    source: S,
+    out: &mut W,
+    err: &mut E,
+) -> (u8, S)
+where
+    A: Allocator + Copy,
+    S: Source + Drop,
+    W: Sink,
+    E: Sink,
+    ensures ends { UriEnds (λ bytes. ReplayEnds bytes (instant_of date.now)) (uri_named in_hex uri.now) (devices
+        (S.tapped source) (W.seen out.old) (E.seen err.old)) (devices (S.tapped result.1) (W.seen out.new)
+        (E.seen err.new)) result.0 }
+
+    // The source still holds what it held.
+    ensures kept { (S.tapped result.1).holds ≡ (S.tapped source).holds }
+{
+    if in_hex {
+        return replay_in_hex(alloc, uri, date, source, out, err);
+    }
+    replay(alloc, uri.as_bytes(), date, source, out, err)
+}
+
+/// Writes the body for the URI whose digits a word has, as of the first instant of a date.
+fn replay_in_hex<A, S, W, E>(
+    alloc: A,
+    uri: &str,
+    date: &str,
+    source: S,
+    out: &mut W,
+    err: &mut E,
+) -> (u8, S)
+where
+    A: Allocator + Copy,
+    S: Source + Drop,
+    W: Sink,
+    E: Sink,
+    ensures ends { UriEnds (λ bytes. ReplayEnds bytes (instant_of date.now)) (uri_named true uri.now) (devices
+        (S.tapped source) (W.seen out.old) (E.seen err.old)) (devices (S.tapped result.1) (W.seen out.new)
+        (E.seen err.new)) result.0 }
+
+    // The source still holds what it held.
+    ensures kept { (S.tapped result.1).holds ≡ (S.tapped source).holds }
+{
+    match bytes_of(alloc, uri) {
+        Ok(bytes) => replay(alloc, &bytes, date, source, out, err),
+        Err(fault) => (tell_fault(fault, err), source),
+    }
+}
