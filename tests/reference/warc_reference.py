@@ -7,6 +7,8 @@ in memory. `run` gives what a command writes to standard output and standard err
     python3 tests/reference/warc_reference.py COMMAND ARCHIVE ARGUMENT..
 """
 import base64
+import binascii
+import collections
 import hashlib
 import re
 import sys
@@ -57,6 +59,7 @@ UUID_ID = re.compile(rb"urn:uuid:[0-9a-f]{8}(-[0-9a-f]{4}){3}-[0-9a-f]{12}", re.
 SHA1 = re.compile(rb"sha1:([a-z2-7]{32})", re.IGNORECASE)
 DATE = re.compile(rb"(\d{4})(?:-(\d\d)(?:-(\d\d)(?:T(\d\d):(\d\d)(?::(\d\d)(?:\.(\d{1,9}))?)?Z)?)?)?")
 STATUS_LINE = re.compile(rb"HTTP/1\.[01] (\d{3})(?: [\t\x20-\x7e\x80-\xff]*)?")
+MEDIA_TYPE = re.compile(rb"[!#$%&'*+\-.^_`|~0-9A-Za-z]+/[!#$%&'*+\-.^_`|~0-9A-Za-z]+")
 HTTP_FIELD = re.compile(rb"([!#$%&'*+\-.^_`|~0-9A-Za-z]+):([\t\x20-\x7e\x80-\xff]*)")
 
 
@@ -520,9 +523,16 @@ def http_head(block):
     return None if fields is None else (int(match.group(1)), fields, start)
 
 
-def is_coded(fields):
-    return any(name in (b"transfer-encoding", b"content-encoding") and value.lower() not in (b"", b"identity")
-               for name, value in fields)
+def codings_of(fields):
+    """What is said of the fields that say that a body is coded."""
+    return [name + b"=" + value for name, value in fields
+            if name in (b"transfer-encoding", b"content-encoding") and value.lower() not in (b"", b"identity")]
+
+
+def media_type_of(values):
+    """The media type that the first of the values begins with, or a dash."""
+    match = MEDIA_TYPE.match(values[0]) if values else None
+    return b"-" if match is None else match.group()
 
 
 def is_http_response(record):
@@ -530,24 +540,38 @@ def is_http_response(record):
             and re.match(rb"https?:", record.target, re.IGNORECASE) is not None)
 
 
-def payload_of(records, capture):
-    """The body that a capture gives, and the line about it. Raises Reason."""
-    origin = origin_of(records, capture)
+Stored = collections.namedtuple("Stored", "status media_type codings truncated body")
+
+
+def stored_of(records, origin):
+    """What is stored of an origin, coded or not. Raises Reason."""
     parts = joined(records, origin)
     if any(part.digest_verdict() == "bad" for part in parts):
         raise Reason("P8 BadDigest")
-    body, status = b"".join(part.block for part in parts), "-"
-    if is_http_response(origin):
-        head = http_head(body)
-        if head is None:
-            raise Reason("P9 BadHead")
-        if is_coded(head[1]):
-            raise Reason("P10 Coded")
-        status, body = str(head[0]), body[head[2]:]
+    body = b"".join(part.block for part in parts)
     truncated = "no" if all(part.is_absent("WARC-Truncated") for part in parts) else "yes"
-    line = "chosen %d given %d status %s truncated %s length %d\n" % (
-        capture.position, origin.position, status, truncated, len(body))
-    return body, line.encode()
+    if not is_http_response(origin):
+        return Stored("-", media_type_of(origin.values("Content-Type")), [], truncated, body)
+    head = http_head(body)
+    if head is None:
+        raise Reason("P9 BadHead")
+    status, fields, start = head
+    media_type = media_type_of([value for name, value in fields if name == b"content-type"])
+    return Stored(str(status), media_type, codings_of(fields), truncated, body[start:])
+
+
+def line_of(capture, origin, stored):
+    return ("chosen %d given %d status %s truncated %s length %d" % (
+        capture.position, origin.position, stored.status, stored.truncated, len(stored.body))).encode()
+
+
+def payload_of(records, capture):
+    """The body that a capture gives, and the line about it. Raises Reason."""
+    origin = origin_of(records, capture)
+    stored = stored_of(records, origin)
+    if stored.codings:
+        raise Reason("P10 Coded")
+    return stored.body, line_of(capture, origin, stored) + b"\n"
 
 
 # Commands. Each takes the archive and its arguments, and gives standard output, standard error and the status.
@@ -610,18 +634,57 @@ def block_command(archive, position):
     return record_at(archive, position).block, b"", 0
 
 
-def replay_command(archive, target, date):
+def replay_command(archive, target, date, flag=None):
+    target = target if flag is None else binascii.unhexlify(target)
     capture = chosen_capture(archive.records, target, instant_of(date))
     body, line = payload_of(archive.records, capture)
     return body, line, 0
 
 
-def body_command(archive, position):
+def body_command(archive, position, flag=None):
     capture = record_at(archive, position)
     if capture.kind not in CAPTURES:
         raise Reason("E2 NoCapture")
-    body, line = payload_of(archive.records, capture)
-    return body, line, 0
+    if flag is None:
+        body, line = payload_of(archive.records, capture)
+        return body, line, 0
+    origin = origin_of(archive.records, capture)
+    stored = stored_of(archive.records, origin)
+    words = [line_of(capture, origin, stored)] + ([b"coded"] + stored.codings if stored.codings else [])
+    return stored.body, b" ".join(words) + b"\n", 0
+
+
+def outcome_of(records, capture):
+    """Five columns: the position of the origin, the status, the media type, the length and the reason."""
+    try:
+        origin = origin_of(records, capture)
+    except Reason as reason:
+        return b"-", b"-", b"-", b"-", str(reason).encode()
+    given = b"%d" % origin.position
+    try:
+        stored = stored_of(records, origin)
+    except Reason as reason:
+        return given, b"-", b"-", b"-", str(reason).encode()
+    if stored.codings:
+        return given, stored.status.encode(), stored.media_type, b"-", b"P10 Coded"
+    return given, stored.status.encode(), stored.media_type, b"%d" % len(stored.body), b"-"
+
+
+def captures_command(archive, target=None, flag=None):
+    target = target if flag is None else binascii.unhexlify(target)
+    captures = [record for record in archive.records if record.kind in CAPTURES]
+    if target is not None:
+        captures = [record for record in captures if record.target == target]
+        captures.sort(key=lambda record: (record.instant, record.position))
+    if not captures:
+        raise Reason("P1 NoCapture")
+    lines = []
+    for record in captures:
+        columns = (b"%d" % record.position, record.first("WARC-Date"),
+                   b"%04d-%02d-%02dT%02d:%02d:%02d.%09dZ" % record.instant, record.first("WARC-Type"),
+                   *outcome_of(archive.records, record), b"-" if record.target is None else record.target)
+        lines.append(b"\t".join(columns) + b"\n")
+    return b"".join(lines), b"", 0
 
 
 def rewrite_command(archive):
@@ -645,7 +708,7 @@ def salvage_command(archive):
 
 
 COMMANDS = {"list": list_command, "check": check_command, "fixity": fixity_command, "extract": extract_command,
-            "head": head_command, "block": block_command, "replay": replay_command, "body": body_command,
+            "head": head_command, "block": block_command, "replay": replay_command, "body": body_command, "captures": captures_command,
             "rewrite": rewrite_command, "convert": convert_command}
 
 
@@ -653,10 +716,16 @@ def fault_line(fault):
     return ("warc: %s at %d\n" % (fault.name, fault.offset)).encode()
 
 
+def is_hex(word):
+    return re.fullmatch(rb"([0-9A-Fa-f]{2})*", word) is not None
+
+
 def bad_argument(command, arguments):
     """The line about an argument that is refused before the archive is read, or None."""
     if command in ("head", "block", "body") and number_of(arguments[0], MAX_NUMBER) is None:
         return b"warc: bad position\n"
+    if "--uri-hex" in [argument.decode("latin-1") for argument in arguments] and not is_hex(arguments[0]):
+        return b"warc: bad hex\n"
     if command == "replay" and instant_of(arguments[1]) is None:
         return b"warc: bad date\n"
     return None

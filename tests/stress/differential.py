@@ -3,7 +3,7 @@
 
     python3 tests/stress/differential.py WARC COUNT SEED
 
-Makes COUNT archives, from the seeds SEED to SEED + COUNT - 1, and runs ten command lines over each. Compares standard
+Makes COUNT archives, from the seeds SEED to SEED + COUNT - 1, and runs eleven command lines over each. Compares standard
 output, standard error and the exit status. Prints each difference, and last a line with the counts. The exit status
 is 1 if there is a difference.
 """
@@ -60,10 +60,11 @@ def contents(path):
 
 
 def words_of(line, path):
-    """The words of a command line. A word that begins with - needs -- before it."""
-    rest = [path] + list(line[1:])
+    """The words of a command line, flags first. Another word that begins with - needs -- before it."""
+    flags = [word for word in line[1:] if word in generate.FLAGS]
+    rest = [path] + [word for word in line[1:] if word not in generate.FLAGS]
     dashes = ["--"] if any(word.startswith("-") for word in rest) else []
-    return [line[0]] + dashes + rest
+    return [line[0]] + flags + dashes + rest
 
 
 def run_program(program, folder, line):

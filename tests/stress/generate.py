@@ -88,7 +88,7 @@ def plain_block(chance):
 
 def http_fields(chance):
     """Field lines of an HTTP head, good and bad."""
-    good = (b"Content-Type: text/html", b"A:", b"a:b", b"A: \tb \t", b"A: \xff", b"A: b:c", b"a!#$%&'*+-.^_`|~9: x",
+    good = (b"Content-Type: text/html", b"content-TYPE: Text/HTML; a=b", b"Content-Type: text", b"A:", b"a:b", b"A: \tb \t", b"A: \xff", b"A: b:c", b"a!#$%&'*+-.^_`|~9: x",
             b"Content-Length: 3", b"Content-Encoding: identity", b"Transfer-Encoding:",
             b"Content-Encoding: \tIdentity ")
     coded = (b"Transfer-Encoding: chunked", b"content-ENCODING: gzip", b"Content-Encoding: identity, gzip",
@@ -201,7 +201,7 @@ def common_fields(chance, kind, block):
     if kind != "warcinfo" and not yes(chance, 20):
         fields.append(("WARC-Target-URI", some_target(chance)))
     if not yes(chance, 5):
-        fields.append(("Content-Type", "text/plain"))
+        fields.append(("Content-Type", chance.choice(("text/plain", "text/plain", "a/b;c", "text", "a//b"))))
     if not yes(chance, 4):
         fields.append(("WARC-Block-Digest", sha1_text(block) if not yes(chance, 3) else some_digest(chance, block)))
     if yes(chance, 2):
@@ -388,23 +388,37 @@ def asked_target(chance):
     return some_target(chance) if yes(chance, 20) else TARGETS[chance.randrange(3)]
 
 
+def in_hex(chance, line):
+    """The line with its target as hexadecimal digits, now and then wrong ones."""
+    digits = line[1].encode("utf-8").hex()
+    if yes(chance, 10):
+        digits = chance.choice((digits[1:], digits + "0", digits + "0g", "x"))
+    return (line[0], digits.upper() if yes(chance, 3) else digits) + line[2:] + ("--uri-hex",)
+
+
 def pointed_command(chance, data):
-    """A command with a position, an id, or a target and a date."""
-    command = chance.choice(("extract", "head", "block", "body", "body", "body", "replay", "replay", "replay"))
+    """A command with a position, an id, or a target, mostly with a date."""
+    command = chance.choice(("extract", "head", "block", "body", "body", "body", "replay", "replay", "replay", "captures"))
     if command == "extract":
         return (command, asked_id(chance, data))
+    if command == "captures":
+        line = (command, asked_target(chance))
+        return in_hex(chance, line) if yes(chance, 4) else line
     if command == "replay":
         date = chance.choice(BAD_DATES) if yes(chance, 40) else chance.choice(DATES + ("9999",) * 20)
-        return (command, asked_target(chance), date)
+        line = (command, asked_target(chance), date)
+        return in_hex(chance, line) if yes(chance, 8) else line
     count = data.count(b"WARC/1.") + 1
-    return (command, chance.choice(NUMBERS) if yes(chance, 25) else str(chance.randrange(count)))
+    line = (command, chance.choice(NUMBERS) if yes(chance, 25) else str(chance.randrange(count)))
+    return line + ("--stored",) if command == "body" and yes(chance, 3) else line
 
 
-WHOLE = ("list", "check", "fixity", "salvage", "rewrite", "convert")
+WHOLE = ("list", "check", "fixity", "salvage", "rewrite", "convert", "captures")
+FLAGS = ("--stored", "--uri-hex")
 
 
 def command_lines(seed, data):
-    """The ten command lines to run over the archive of a seed, without the name of the archive."""
+    """The eleven command lines to run over the archive of a seed, without the name of the archive."""
     chance = random.Random("commands %d" % seed)
     return [(command,) for command in WHOLE] + [pointed_command(chance, data) for _ in range(4)]
 
