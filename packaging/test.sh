@@ -11,6 +11,7 @@ lintian --fail-on error --tag-display-limit 0 "$package"
 dpkg --install "$package" > /dev/null
 cd /
 /usr/bin/warc list /usr/share/doc/zogwedu/examples/abc.warc
+/usr/bin/warc-collection --help > /dev/null
 MANWIDTH=80 man --warnings warc-replay 2>&1 | grep -q '^SYNOPSIS'
 dpkg --remove zogwedu > /dev/null
 if [ -e /usr/bin/warc ] || [ -e /usr/share/doc/zogwedu ]; then

@@ -24,6 +24,7 @@ def files():
             yield f"out/lib/{library}", f"lib/{library}"
     if os.path.exists(f"{TOP}/out/lib/warc.h"):
         yield "out/lib/warc.h", "include/warc.h"
+    yield "collection/warc-collection", "bin/warc-collection"
     for page in sorted(glob.glob(f"{TOP}/out/man/man?/*")):
         yield os.path.relpath(page, TOP), os.path.relpath(page, f"{TOP}/out").replace("man/", "share/man/", 1)
     yield "out/completions/warc.bash", "share/bash-completion/completions/warc"

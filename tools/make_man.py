@@ -1,5 +1,6 @@
 #!/usr/bin/env python3
-"""Makes the manual pages from docs/: warc.1 and a page for each command from PROGRAM.md, warc.5 from FORMAT.md.
+"""Makes the manual pages from docs/: warc.1 and a page for each command from PROGRAM.md, warc.5 from FORMAT.md, and
+warc-collection.1 from COLLECTIONS.md.
 
 Usage: make_man.py FOLDER
 
@@ -30,6 +31,7 @@ def code(text):
 def inline(text):
     """A paragraph's code, bold and italic words, and the page that a document became."""
     text = text.replace("docs/FORMAT.md", "warc(5)").replace("docs/PROGRAM.md", "warc(1)")
+    text = text.replace("docs/COLLECTIONS.md", "warc-collection(1)")
     parts = re.split(r"(`[^`]+`|\*\*[^*]+\*\*|\*[^*\s][^*]*\*)", text)
     out = ""
     for part in parts:
@@ -177,6 +179,16 @@ def main():
     first, rules = sections(read("docs/FORMAT.md"))
     text = "# Description\n" + first + "".join(f"# {title}\n{re.sub('^###', '####', it, flags=re.M)}" for title, it in rules)
     write(folder, "warc", 5, page("warc", 5, "the WARC format, as Zogwedu reads it", text, ["warc(1)"]))
+    write(folder, "warc-collection", 1, collection_page(read("docs/COLLECTIONS.md")))
+
+
+def collection_page(text):
+    """warc-collection.1: the whole page, with its first block of code as the synopsis."""
+    first, parts = sections(text)
+    summary, usage, rest = re.match(r"\s*(.*?)\n\n```\n(.*?)```\n(.*)", first, re.DOTALL).groups()
+    text = f"# Synopsis\n\n```\n{usage}```\n\n# Description\n\n{summary}\n\n{rest}"
+    text += "".join(f"# {title}\n{re.sub('^###', '####', it, flags=re.M)}" for title, it in parts)
+    return page("warc-collection", 1, "checks, catalogues and replays many web archives", text, ["warc(1)", "parallel(1)"])
 
 
 main()
