@@ -1,14 +1,27 @@
 #!/bin/bash
-# Runs the program over generated archives, and where the system fails it. Takes some minutes.
+# Runs the program over generated archives, where the system fails it, and over a collection. Takes some minutes.
 #
-#   STRESS_COUNT=1000 STRESS_SEED=7 bash tests/stress/run.sh
+#   STRESS_COUNT=1000 STRESS_SEED=7 STRESS_ARCHIVES=100 bash tests/stress/run.sh
 #
-# STRESS_COUNT is the number of runs over generated archives, ten for each archive.
+# STRESS_COUNT is the number of runs over generated archives, ten for each archive; STRESS_ARCHIVES the number of
+# archives of the collection. As root on Debian it installs what it needs and isn't there.
 set -u
 cd "$(dirname "$0")/../.."
 count=${STRESS_COUNT:-100000}
 seed=${STRESS_SEED:-1}
+archives=${STRESS_ARCHIVES:-2000}
 status=0
+wanted=()
+for pair in strace:strace parallel:parallel /usr/sbin/sshd:openssh-server wget:wget ip:iproute2; do
+    command -v "${pair%%:*}" > /dev/null || wanted+=("${pair##*:}")
+done
+if [ ${#wanted[@]} -gt 0 ]; then
+    apt-get update -q > /dev/null && apt-get install -y -q --no-install-recommends "${wanted[@]}" > /dev/null ||
+        { echo "not installed: ${wanted[*]}"; exit 1; }
+fi
 python3 tests/stress/differential.py bin/warc $(((count + 9) / 10)) "$seed" || status=1
 python3 tests/stress/system.py bin/warc || status=1
+python3 tests/stress/memory.py bin/warc || status=1
+python3 tests/stress/terminal.py bin/warc || status=1
+python3 tests/stress/collection.py bin/warc "$archives" || status=1
 exit $status

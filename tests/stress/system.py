@@ -274,6 +274,35 @@ def full_device(stress):
     stress.end()
 
 
+def full_disks(stress):
+    """The output goes to a small disk, one in memory: the count is what arrived there. As root alone."""
+    stress.begin("a full disk")
+    folder = stress.path("disk")
+    os.makedirs(folder, exist_ok=True)
+    for size in (4096, 8192, 65536, 126976):
+        mounted = subprocess.run(["mount", "-t", "tmpfs", "-o", "size=%d" % size, "tmpfs", folder], check=False)
+        if mounted.returncode != 0:
+            print("a full disk: not tried, no tmpfs can be mounted here")
+            return
+        try:
+            for command in COMMANDS:
+                stress.judge(*write_to_disk(stress, command, os.path.join(folder, "out"), size))
+        finally:
+            subprocess.run(["umount", folder], check=True)
+    stress.end()
+
+
+def write_to_disk(stress, command, path, size):
+    """Runs a command with its output on a disk of so many bytes. Returns what `judge` takes."""
+    wanted = stress.expected[command]
+    with open(path, "wb") as out:
+        seen = stress.run_into(out, words_for(command, stress.archive))
+    seen = seen._replace(out=contents(path))
+    os.remove(path)
+    is_right = seen == wanted if len(wanted.out) <= size else is_failure(seen, wanted.out) and len(seen.out) == size
+    return is_right, (*command, "disk of", size), seen
+
+
 def closed_outputs(stress):
     """A closed standard output is a failed write. A closed or full standard error changes neither output nor status."""
     stress.begin("closed outputs")
@@ -588,12 +617,28 @@ def large_record(stress):
         length = len(begins) + SPARSE_BLOCK + len(ends)
         wanted = (begins.ljust(1000, b"\0"), ends.rjust(1000, b"\0"), length, message, 0)
         stress.judge(seen == wanted, command, "%d bytes, message %r, status %d" % seen[2:])
+    split_large_record(stress, path)
+    seen = stress.run(words_for(("write",), path), with_memory(2_000_000), seconds=600)
+    stress.judge(is_failure(seen, b""), ("write", "2 GB of memory"), seen)
     os.remove(path)
     stress.end()
 
 
-KINDS = (plain_runs, failing_system_calls, failing_piped_reads, full_device, closed_outputs, reader_goes_away,
-         file_size_limit, memory_limit, odd_files, odd_names, standard_input, changing_files, two_at_once, large_record)
+def split_large_record(stress, path):
+    """A first segment of over 2^32 bytes; what is split is listed from a pipe."""
+    size = 2 ** 32 + 7
+    script = '"$0" split "$1" %d | "$0" list -' % size
+    done = subprocess.run(["bash", "-o", "pipefail", "-c", script, stress.program, path], capture_output=True,
+                          stdin=subprocess.DEVNULL, check=False)
+    rows = [line.split(b"\t") for line in done.stdout.splitlines()]
+    seen = [(int(row[2]), row[3]) for row in rows]
+    is_right = seen == [(size, b"resource"), (SPARSE_BLOCK - size, b"continuation"), (3, b"metadata")]
+    is_right = is_right and (done.returncode, done.stderr) == (0, b"") and int(rows[1][1]) > size
+    stress.judge(is_right, script, (done.returncode, done.stderr, done.stdout))
+
+
+KINDS = (plain_runs, failing_system_calls, failing_piped_reads, full_device, full_disks, closed_outputs,
+         reader_goes_away, file_size_limit, memory_limit, odd_files, odd_names, standard_input, changing_files, two_at_once, large_record)
 
 
 def main(program):
