@@ -638,7 +638,8 @@ def split_large_record(stress, path):
 
 
 KINDS = (plain_runs, failing_system_calls, failing_piped_reads, full_device, full_disks, closed_outputs,
-         reader_goes_away, file_size_limit, memory_limit, odd_files, odd_names, standard_input, changing_files, two_at_once, large_record)
+         reader_goes_away, file_size_limit, memory_limit, odd_files, odd_names, standard_input, changing_files,
+         two_at_once, large_record)
 
 
 def main(program):
