@@ -313,6 +313,64 @@ def as_an_array(trial, archives):
     trial.end()
 
 
+def killed_run(trial, archives):
+    """A run that is killed while GNU parallel goes on; then another, and a third at once, which is refused."""
+    trial.begin("warc-collection, a killed run")
+    expected = expected_below(archives)
+    child = subprocess.Popen(trial.words("killed", "run", "--jobs", "2", archives), stdin=subprocess.DEVNULL,
+                             stdout=subprocess.DEVNULL, stderr=subprocess.PIPE)
+    wait_for(trial, child, "killed", max(1, len(expected) // 5))
+    child.kill()
+    child.wait()
+    child = subprocess.Popen(trial.words("killed", "run", "--jobs", "2"), stdin=subprocess.DEVNULL,
+                             stdout=subprocess.DEVNULL, stderr=subprocess.PIPE)
+    while child.poll() is None and not child.stderr.readline().endswith(b" to read\n"):
+        continue
+    done = trial.run("killed", "run")
+    trial.judge(done.returncode == 3 and b"another run" in done.stderr, "a run at the same time", done.stderr)
+    message = child.communicate(timeout=MOST_SECONDS)[1]
+    trial.judge(child.returncode == 1, "the run that goes on", message)
+    trial.compare("killed", expected, 1)
+    trial.end()
+
+
+def odd_requests(trial):
+    """A folder that is missing, a list of names, a command that takes too long, no program."""
+    trial.begin("warc-collection, odd requests")
+    folder = os.path.join(trial.folder, "odd")
+    os.makedirs(os.path.join(folder, "a b"))
+    paths = [os.path.join(folder, "a b", name) for name in ("it's.warc", "$(x)\n\".warc")]
+    for path in paths:
+        with open(path, "wb") as out:
+            out.write(generate.archive(1))
+    names = os.path.join(trial.folder, "names")
+    with open(names, "wb") as out:
+        out.write(b"".join(os.fsencode(path) + b"\0" for path in [*paths, folder + "/missing.warc"]))
+    done = trial.run("odd-base", "run", "--files", names)
+    trial.judge(read_now(done) == 2 and b"missing.warc" in done.stderr, "a list with a missing file", done.stderr)
+    trial.compare("odd-base", expected_below(folder), 1)
+    moved = folder + ".moved"
+    trial.run("odd-base", "run", folder)
+    os.rename(folder, moved)
+    done = trial.run("odd-base", "run")
+    trial.judge(done.returncode == 3 and b"gone" not in done.stdout, "a folder that is missing", done.stdout)
+    os.rename(moved, folder)
+    done = trial.run("odd-base", "run")
+    trial.judge(done.returncode in (0, 1) and read_now(done) == 0, "the folder is back", done.stderr)
+    slow = os.path.join(trial.folder, "slow")
+    with open(slow, "w", encoding="ascii") as out:
+        out.write("#!/bin/sh\nsleep 100\n")
+    os.chmod(slow, 0o755)
+    done = trial.run("odd-base", "run", "--warc", slow, "--timeout", "1", "--all")
+    trial.judge(b"failed\t2\t" in done.stdout and b"took too long" in done.stdout, "--timeout", done.stdout)
+    done = trial.run("odd-base", "run", "--warc", "/nothing")
+    trial.judge(b"failed\t2\t" in done.stdout, "no program", done.stdout)
+    done = trial.run("odd-base", "run")
+    trial.judge(read_now(done) == 2, "a file that failed is read again", done.stderr)
+    trial.compare("odd-base", expected_below(folder))
+    trial.end()
+
+
 # Two hosts: network namespaces of this machine, each with its own sshd
 
 class Host:
@@ -467,6 +525,8 @@ def main(program, count):
         on_this_machine(trial, archives, jobs)
         across_files(trial, archives, site)
         growing_file(trial)
+        killed_run(trial, small)
+        odd_requests(trial)
         as_an_array(trial, small)
         on_two_hosts(trial, archives)
         lost_host(trial, small)
