@@ -435,7 +435,8 @@ def made_hosts(folder):
     for host in hosts:
         host.start()
     time.sleep(1)
-    return hosts, ["2/ssh -F %s/config %s" % (folder, host.name) for host in hosts]
+    jobs = os.environ.get("STRESS_HOST_JOBS", "2")
+    return hosts, ["%s/ssh -F %s/config %s" % (jobs, folder, host.name) for host in hosts]
 
 
 def files_read(trial, catalogue):

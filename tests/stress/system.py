@@ -68,6 +68,8 @@ def made_record(block):
 
 COMMANDS = (("list",), ("check",), ("fixity",), ("salvage",), ("rewrite",), ("convert",), ("extract", FIRST_ID),
             ("head", "0"), ("block", "0"), ("body", "701"), ("replay", TARGET, "9999"), ("split", "50000"), ("write",))
+COMMANDS += tuple((name,) for name in ("captures", "summary") if name in warc_reference.COMMANDS)
+SHORT = ("list", "check", "fixity", "head", "body", "captures", "summary")
 
 
 def words_for(command, path):
@@ -489,11 +491,11 @@ def changing_files(stress):
     data = record_text("resource", FIRST_ID, block)
     data += record_text("resource", LAST_ID, b"abc", (("WARC-Payload-Digest", "x"),))
     for command in COMMANDS:
-        if command[0] in ("list", "check", "fixity", "head", "body"):
+        if command[0] in SHORT:
             continue
         for way in ("cut", "grow"):
             stress.judge(*change_while_read(stress, command, data, way))
-    for command in (("list",), ("check",), ("fixity",), ("head", "0"), ("body", "0")):
+    for command in [command for command in COMMANDS if command[0] in SHORT]:
         for way in ("cut", "grow"):
             stress.judge(*change_while_opened(stress, command, data, way))
     stress.end()
@@ -602,6 +604,15 @@ def large_record(stress):
              (("fixity",), unchecked + b"records 2 good 0 bad 0 unchecked 2\n", 4, b""),
              (("head", "0"), head, 0, b""), (("head", "1"), last_head, 0, b""), (("block", "1"), b"abc", 0, b""),
              (("extract", LAST_ID), b"abc", 0, b""), (("body", "1"), b"", 1, b"warc: E2 NoCapture\n"))
+    capture = b"0\t%s\t%sT00:00:00.000000000Z\tresource\t0\t-\t-\t%d\t-\t%s\n" % (
+        date, date, SPARSE_BLOCK, TARGET.encode())
+    counts = (2, place + len(last), 0, 0, 1, 0, 1, 0, 0, 0, 0, 1, 0, 0, 2, 0, 0)
+    names = (b"records bytes warcinfo response resource request metadata revisit conversion continuation other captures"
+             b" good bad unchecked truncated segmented").split()
+    summary = b"".join(b"%s\t%d\n" % pair for pair in zip(names, counts))
+    summary += b"first date\t%s\nlast date\t%s\n" % (date, date)
+    short += tuple((command, out, 0, b"") for command, out in ((("captures",), capture), (("summary",), summary))
+                   if command in COMMANDS)
     for command, out, status, message in short:
         seen = stress.run(words_for(command, path), seconds=600)
         stress.judge(seen == Result(out, message, status), command, seen)
