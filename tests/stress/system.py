@@ -33,6 +33,7 @@ FIRST_ID = "urn:uuid:00000000-0000-4000-8000-000000000001"
 LAST_ID = "urn:uuid:00000000-0000-4000-8000-000000000009"
 WRITE_UUID = FIRST_ID[9:]
 SPARSE_BLOCK = 5_000_000_000
+SPLIT_SIZE = 2 ** 32 + 7
 
 Result = collections.namedtuple("Result", "out message status")
 
@@ -637,14 +638,13 @@ def large_record(stress):
 
 def split_large_record(stress, path):
     """A first segment of over 2^32 bytes; what is split is listed from a pipe."""
-    size = 2 ** 32 + 7
-    script = '"$0" split "$1" %d | "$0" list -' % size
+    script = '"$0" split "$1" %d | "$0" list -' % SPLIT_SIZE
     done = subprocess.run(["bash", "-o", "pipefail", "-c", script, stress.program, path], capture_output=True,
                           stdin=subprocess.DEVNULL, check=False)
     rows = [line.split(b"\t") for line in done.stdout.splitlines()]
     seen = [(int(row[2]), row[3]) for row in rows]
-    is_right = seen == [(size, b"resource"), (SPARSE_BLOCK - size, b"continuation"), (3, b"metadata")]
-    is_right = is_right and (done.returncode, done.stderr) == (0, b"") and int(rows[1][1]) > size
+    wanted = [(SPLIT_SIZE, b"resource"), (SPARSE_BLOCK - SPLIT_SIZE, b"continuation"), (3, b"metadata")]
+    is_right = seen == wanted and (done.returncode, done.stderr) == (0, b"") and int(rows[1][1]) > SPLIT_SIZE
     stress.judge(is_right, script, (done.returncode, done.stderr, done.stdout))
 
 
