@@ -72,6 +72,7 @@ all_written opened writes same = record {
         are = good_records_of archive;
         told = writes.told bytes (opened.reads.kept ∙ held) archive;
       };
+  unfailed = writes.cause;
   sound = same ∙ writes.may ∙ opened.reads.cause;
   silent = refl;
   status_is = refl;

@@ -22,6 +22,7 @@ pub record IsFixityTold (old new : Devices) (status : ℕ) : Type 0 where
   pub digests : List (List ℕ)
   pub are : IfHeld old.source.holds (λ bytes. AreDigested bytes rows digests)
   pub told : new.out.tells ≡ append_known old.out.tells (fixity_text rows digests)
+  pub unfailed : new.out.faults ≡ old.out.faults
   pub sound : new.source.faults ≡ old.source.faults
   pub silent : new.err ≡ old.err
   pub status_is : status ≡ fixity_status (counts_of rows)

@@ -75,6 +75,7 @@ pub record IsListed (old new : Devices) (status : ℕ) : Type 0 where
   pub rows : List Row
   pub are : IfHeld old.source.holds (λ bytes. IsArchiveOf bytes rows)
   pub told : new.out.tells ≡ append_known old.out.tells (listing rows)
+  pub unfailed : new.out.faults ≡ old.out.faults
   pub sound : new.source.faults ≡ old.source.faults
   pub silent : new.err ≡ old.err
   pub status_is : status ≡ 0
@@ -115,6 +116,7 @@ pub record IsCheckOf (bytes : List ℕ) (old new : Seen) (status : ℕ) : Type 0
 -- all lines of `check` went out
 pub record IsChecked (old new : Devices) (status : ℕ) : Type 0 where
   pub is : IfHeld old.source.holds (λ bytes. IsCheckOf bytes old.out new.out status)
+  pub unfailed : new.out.faults ≡ old.out.faults
   pub sound : new.source.faults ≡ old.source.faults
   pub silent : new.err ≡ old.err
   pub status_in : (status ≡ 0) ⊎ (status ≡ 1)
@@ -251,6 +253,7 @@ pub record IsWrittenOf (text : List Record → List ℕ) (bytes : List ℕ) (old
 -- all of it was written
 pub record IsWritten (text : List Record → List ℕ) (old new : Devices) (status : ℕ) : Type 0 where
   pub is : IfHeld old.source.holds (λ bytes. IsWrittenOf text bytes old.out new.out)
+  pub unfailed : new.out.faults ≡ old.out.faults
   pub sound : new.source.faults ≡ old.source.faults
   pub silent : new.err ≡ old.err
   pub status_is : status ≡ 0
@@ -289,6 +292,7 @@ pub record IsMadeOf (d : Draft) (bytes : List ℕ) (old new : Seen) : Type 0 whe
 
 pub record IsMade (d : Draft) (old new : Devices) (status : ℕ) : Type 0 where
   pub is : IfHeld old.source.holds (λ bytes. IsMadeOf d bytes old.out new.out)
+  pub unfailed : new.out.faults ≡ old.out.faults
   pub sound : new.source.faults ≡ old.source.faults
   pub silent : new.err ≡ old.err
   pub status_is : status ≡ 0
@@ -340,7 +344,7 @@ MakeEnds d old new status =
 -- a text that was asked for went out, or a write failed and a front of it did
 abbrev pub IsShown : List ℕ → Seen → Seen → Seen → Seen → ℕ → Type 0
 IsShown text out out' err err' status =
-    ((status ≡ 0) × (out'.tells ≡ append_known out.tells text) × (err' ≡ err))
+    ((status ≡ 0) × (out'.tells ≡ append_known out.tells text) × (out'.faults ≡ out.faults) × (err' ≡ err))
     ⊎ ((status ≡ 3) × (sent : ℕ) × (out'.tells ≡ append_known out.tells (take sent text))
     × (out'.faults ≡ raised out.faults)
     × Tells (told_line (out_fault_text (Write sent))) err err')

@@ -35,6 +35,7 @@ returns-in-Ok-render_one-clause-ends g c = inl (record {
     is = c.in-Ok.ensures bytes (c.deref.ensures.value ∙ some_of _ c.in-Ok-Some.field-0-is (c.in-Ok-Some.ensures.bytes bytes held));
     told = c.in-Ok-render_one.ensures.told;
   };
+  unfailed = c.in-Ok-render_one.ensures.cause;
   sound = c.in-Ok-Some.ensures.failed;
   silent = refl;
   status_is = refl;

@@ -20,6 +20,7 @@ returns-in-Ok-check-clause-ends g c = inl (record {
         told = tells.told;
         status_is = c.status_of_count.ensures.value ∙ ap (λ n. min n 1) tells.number ∙ status_by (findings_of_archive rs);
       };
+  unfailed = c.in-Ok-check.ensures.cause;
   sound = ap (λ s. (g.S.Source.tapped s).faults) c.into_source.ensures ∙ c.in-Ok.ensures.reads.cause;
   silent = refl;
   status_in = c.status_of_count.ensures.cases;

@@ -13,6 +13,7 @@ returns-in-Ok-list-clause-ends g c = inl (record {
   rows = c.in-Ok.listing.rows;
   are = c.in-Ok.ensures.accepted;
   told = c.in-Ok-list.ensures.told;
+  unfailed = c.in-Ok-list.ensures.cause;
   sound = ap (λ s. (g.S.Source.tapped s).faults) c.into_source.ensures ∙ c.in-Ok.ensures.reads.cause;
   silent = refl;
   status_is = refl;
