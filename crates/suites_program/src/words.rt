@@ -112,6 +112,7 @@ pub(crate) fn command_of<'a>(words: &'a [String], given: &'a [u8]) -> Option<Com
         },
         "fixity" => Command::Fixity { archive },
         "salvage" => Command::Salvage { archive },
+        "summary" => Command::Summary { archive },
         _ => return None,
     })
 }

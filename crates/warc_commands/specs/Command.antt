@@ -28,6 +28,7 @@ view_of (command.Head archive position) = (codes "head", archive.now ∷ positio
 view_of (command.Block archive position) = (codes "block", archive.now ∷ position.now ∷ [])
 view_of (command.Fixity archive) = (codes "fixity", archive.now ∷ [])
 view_of (command.Salvage archive) = (codes "salvage", archive.now ∷ [])
+view_of (command.Summary archive) = (codes "summary", archive.now ∷ [])
 
 -- whether each of its flags is given, in order; `--quiet`, which every command has, isn't one of them
 abbrev pub flags_of : Command → List Bool
@@ -61,10 +62,12 @@ path_of (command.Head archive position) = archive.now
 path_of (command.Block archive position) = archive.now
 path_of (command.Fixity archive) = archive.now
 path_of (command.Salvage archive) = archive.now
+path_of (command.Summary archive) = archive.now
 
 -- whether it asks for each offset once, in order
 abbrev pub reads_once : Command → Bool
 reads_once (command.List archive) = true
 reads_once (command.Check archive) = true
 reads_once (command.Fixity archive) = true
+reads_once (command.Summary archive) = true
 reads_once _ = false

@@ -58,16 +58,20 @@ captures_layout = record {
 abbrev pub draft_words : List Text
 draft_words = codes "kind" ∷ codes "uri" ∷ codes "date" ∷ codes "uuid" ∷ codes "type" ∷ []
 
--- the commands, in the order in which help lists them
-abbrev pub layouts : List Layout
-layouts =
+-- the commands, in the order in which help lists them: the first ones, and the others
+abbrev pub first_layouts : List Layout
+first_layouts =
     list_layout
     ∷ layout (codes "check") (codes "archive" ∷ [])
     ∷ layout (codes "extract") (codes "archive" ∷ codes "id" ∷ [])
     ∷ replay_layout
     ∷ body_layout
     ∷ captures_layout
-    ∷ layout (codes "rewrite") (codes "archive" ∷ [])
+    ∷ []
+
+abbrev pub other_layouts : List Layout
+other_layouts =
+    layout (codes "rewrite") (codes "archive" ∷ [])
     ∷ layout (codes "convert") (codes "archive" ∷ [])
     ∷ layout (codes "split") (codes "archive" ∷ codes "size" ∷ [])
     ∷ layout (codes "write") (draft_words ++ codes "file" ∷ [])
@@ -75,7 +79,11 @@ layouts =
     ∷ layout (codes "block") (codes "archive" ∷ codes "position" ∷ [])
     ∷ layout (codes "fixity") (codes "archive" ∷ [])
     ∷ layout (codes "salvage") (codes "archive" ∷ [])
+    ∷ layout (codes "summary") (codes "archive" ∷ [])
     ∷ []
+
+abbrev pub layouts : List Layout
+layouts = first_layouts ++ other_layouts
 
 -- what the program's table says of a command
 abbrev pub layout_seen : Entry → Layout
@@ -110,9 +118,12 @@ with_layout app l = with_subcommand app (layout_app l).top
 abbrev pub bare_app : App
 bare_app = on_top (λ s. record s { has_version = true; subcommand_required = true }) (new_app (codes "warc"))
 
--- the program
+-- the program, and that with its first commands alone
 abbrev pub warc_app : App
 warc_app = fold with_layout bare_app layouts
+
+abbrev pub first_app : App
+first_app = fold with_layout bare_app first_layouts
 
 -- the command of a name; clap gives no other name than theirs, so one of them needs no test
 abbrev pub layout_of : Text → Layout

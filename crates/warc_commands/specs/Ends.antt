@@ -12,6 +12,7 @@ use Rattle.warc_commands.specs.Program.{CheckEnds, ExtractEnds, ListEnds, MakeEn
 use Rattle.warc_commands.specs.Captures.{CapturesEnds}
 use Rattle.warc_commands.specs.Salvage.{SalvageEnds}
 use Rattle.warc_commands.specs.Stored.{StoredEnds}
+use Rattle.warc_commands.specs.Summaries.{SummaryEnds}
 use Rattle.warc_commands.specs.Uris.{UriEnds, uri_listed, uri_named}
 use Rattle.warc_commands.specs.declared.words.Command.{Command}
 use Rattle.warc_commands.specs.declared.words.Command.TheVariants as command
@@ -35,6 +36,7 @@ Ends (command.Head archive position) old new status = PartEnds Head (position_of
 Ends (command.Block archive position) old new status = PartEnds Block (position_of position.now) old new status
 Ends (command.Fixity archive) old new status = FixityEnds old new status
 Ends (command.Salvage archive) old new status = SalvageEnds old new status
+Ends (command.Summary archive) old new status = SummaryEnds old new status
 
 -- the exit statuses of a command
 abbrev pub IsStatusOf : Command → ℕ → Type 0
@@ -53,6 +55,7 @@ IsStatusOf (command.Block archive position) status = (status ≡ 0) ⊎ ((status
 IsStatusOf (command.Fixity archive) status =
     (status ≡ 0) ⊎ ((status ≡ 1) ⊎ ((status ≡ 2) ⊎ ((status ≡ 3) ⊎ (status ≡ 4))))
 IsStatusOf (command.Salvage archive) status = (status ≡ 0) ⊎ ((status ≡ 2) ⊎ (status ≡ 3))
+IsStatusOf (command.Summary archive) status = (status ≡ 0) ⊎ ((status ≡ 2) ⊎ (status ≡ 3))
 
 -- whether a command writes what is good of an archive that it refuses: `salvage` alone does
 abbrev pub writes_front : Command → Bool

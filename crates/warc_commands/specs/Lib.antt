@@ -10,4 +10,5 @@ pub mod Program
 pub mod Running
 pub mod Salvage
 pub mod Stored
+pub mod Summaries
 pub mod Uris

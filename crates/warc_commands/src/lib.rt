@@ -12,6 +12,7 @@ mod running;
 mod salvage;
 mod splitting;
 mod stored;
+mod summary;
 mod uris;
 mod words;
 

@@ -16,6 +16,7 @@ use crate::parts::give;
 use crate::salvage::salvage;
 use crate::splitting::split;
 use crate::stored::stored;
+use crate::summary::summary;
 use crate::uris::replay_named;
 use crate::words::{Command, CommandFault};
 use arrayvec::ArrayString;
@@ -106,6 +107,7 @@ where
         } => give(alloc, Part::Block, position, source, out, err),
         Command::Fixity { archive: _ } => fixity(alloc, source, out, err),
         Command::Salvage { archive: _ } => salvage(alloc, source, out, err),
+        Command::Summary { archive: _ } => summary(alloc, source, out, err),
     }
 }
 

@@ -8,7 +8,7 @@ ghost use Rattle.clap.specs.Values.{kind_of};
 ghost use Rattle.clap.specs.Walk.{first_of, rows_of, rule_of};
 ghost use Rattle.clap.specs.declared.builder.command.Command.TheViews.{out-Command};
 ghost use Rattle.warc_commands.specs.Command.{asked_by, draft_texts, flags_of, path_of, reads_once, view_of};
-ghost use Rattle.warc_commands.specs.CommandLine.{IsToldBy, asked_in, bare_app, asked_of, command_fault_text, draft_words, flags_in, is_flagged};
+ghost use Rattle.warc_commands.specs.CommandLine.{IsToldBy, asked_in, bare_app, first_app, asked_of, command_fault_text, draft_words, flags_in, is_flagged};
 ghost use Rattle.warc_commands.specs.CommandLine.{layout_seen, named, rule_as, text_of, warc_app, with_layout, with_rules};
 
 use clap::error::ErrorKind;
@@ -89,6 +89,10 @@ pub enum Command<'a> {
     Salvage {
         archive: &'a str,
     },
+    /// What the archive holds, in numbers and dates.
+    Summary {
+        archive: &'a str,
+    },
 }
 
 /// What `write` makes a record of, beside its block.
@@ -145,6 +149,7 @@ impl<'a> Command<'a> {
             } => archive,
             Command::Fixity { archive } => archive,
             Command::Salvage { archive } => archive,
+            Command::Summary { archive } => archive,
         }
     }
 
@@ -155,7 +160,8 @@ impl<'a> Command<'a> {
         match self {
             Command::List { archive: _ }
             | Command::Check { archive: _ }
-            | Command::Fixity { archive: _ } => true,
+            | Command::Fixity { archive: _ }
+            | Command::Summary { archive: _ } => true,
             _ => false,
         }
     }
@@ -371,6 +377,17 @@ memory failed (F13, F14), and the records before it were written, or see 'warc -
 
 Example: warc salvage examples/damaged.warc > good.warc";
 
+const SUMMARY_NOTES: &str =
+    "A line is a name, a tab and a value, in this order: records, bytes, then how many records there are of each type
+(warcinfo, response, resource, request, metadata, revisit, conversion, continuation, other), captures (responses,
+resources and revisits), how many blocks are good, bad and unchecked by their digests, how many records are marked
+as truncated and are segments, and the first and the last date as written, by instant; '-' where there is none.
+
+Exit status: 0 written; 2 the archive is refused, and nothing was written; 3 see 'warc --help'. There is no
+status 1.
+
+Example: warc summary examples/crawl.warc";
+
 const ARCHIVE: Word = Word {
     name: "archive",
     help: "The path of the archive; '-' is standard input, also a pipe, as from 'gunzip -c a.warc.gz'",
@@ -445,8 +462,8 @@ const QUIET: Word = Word {
     help: "Shows no progress",
 };
 
-/// The commands, in the order in which help lists them.
-const COMMANDS: [Entry; 14] = [
+/// The first commands, in the order in which help lists them.
+const FIRST_COMMANDS: [Entry; 6] = [
     Entry {
         name: "list",
         about: "Prints a line for each record",
@@ -495,6 +512,10 @@ const COMMANDS: [Entry; 14] = [
         optional: &[URI],
         flags: &[URI_HEX],
     },
+];
+
+/// The other commands, in that order. Two tables are cheaper to prove than one.
+const OTHER_COMMANDS: [Entry; 9] = [
     Entry {
         name: "rewrite",
         about: "Writes the archive in canonical form",
@@ -559,6 +580,14 @@ const COMMANDS: [Entry; 14] = [
         optional: &[],
         flags: &[],
     },
+    Entry {
+        name: "summary",
+        about: "Prints what the archive holds: records, bytes, types, captures, verdicts and dates",
+        notes: SUMMARY_NOTES,
+        words: &[ARCHIVE],
+        optional: &[],
+        flags: &[],
+    },
 ];
 
 /// The parser of the program without its commands.
@@ -572,10 +601,20 @@ fn bare_parser<'a>(alloc: Global) -> clap::Command<'a>
         .subcommand_required(true)
 }
 
+/// The parser with the first commands.
+fn first_parser<'a>(alloc: Global) -> Result<clap::Command<'a>, AllocError>
+    ensures { IfOk result (λ c. app_of c ≡ first_app) }
+{
+    with_commands(bare_parser(alloc), alloc, &FIRST_COMMANDS)
+}
+
 fn warc_parser<'a>(alloc: Global) -> Result<clap::Command<'a>, AllocError>
     ensures { IfOk result (λ c. app_of c ≡ warc_app) }
 {
-    with_commands(bare_parser(alloc), alloc, &COMMANDS)
+    match first_parser(alloc) {
+        Ok(parser) => with_commands(parser, alloc, &OTHER_COMMANDS),
+        Err(refused) => Err(refused),
+    }
 }
 
 /// The parser with these commands, in their order.
@@ -749,6 +788,7 @@ fn read_command<'a>(name: &str, texts: &ArgMatches<'a>) -> Command<'a>
         },
         "fixity" => Command::Fixity { archive },
         "salvage" => Command::Salvage { archive },
+        "summary" => Command::Summary { archive },
         _ => Command::List { archive },
     }
 }

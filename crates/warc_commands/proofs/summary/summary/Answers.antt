@@ -1,0 +1,38 @@
+use Rattle.std.proofs.Common.{inl, inr, refl, ap, ◌∙◌}
+use Rattle.warc_frame.specs.FaultText.{out_fault_text}
+use Rattle.warc_frame.specs.Send.{sent_of}
+use Rattle.warc_commands.specs.Program.{told_line}
+use Rattle.warc_commands.proofs.ProgramLemmas.{not_opened, told_as}
+use Rattle.warc_commands.proofs.summary.summary.Goals as goal
+
+pub returns-in-Err-clause-ends : goal.returns-in-Err-clause-ends
+returns-in-Err-clause-ends g c = inr (inl (not_opened _ _ _ _ _ _ c.in-Err.fault _ c.in-Err.ensures c.tell_refusal.ensures.told c.tell_refusal.ensures.status))
+
+pub returns-in-Ok-write-clause-ends : goal.returns-in-Ok-write-clause-ends
+returns-in-Ok-write-clause-ends g c = inl (record {
+  rows = c.in-Ok.summarized.listing.rows;
+  segmented = c.in-Ok.summarized.segmented;
+  are = c.in-Ok.ensures.accepted;
+  summary = c.summary.result;
+  is = c.summary.ensures;
+  told = c.in-Ok-write.ensures.told;
+  unfailed = c.in-Ok-write.ensures.cause;
+  sound = ap (λ s. (g.S.Source.tapped s).faults) c.into_source.ensures ∙ c.in-Ok.ensures.reads.cause;
+  silent = refl;
+  status_is = refl;
+})
+
+pub returns-in-Err-write-clause-ends : goal.returns-in-Err-write-clause-ends
+returns-in-Err-write-clause-ends g c = inr (inr (record {
+  rows = c.in-Ok.summarized.listing.rows;
+  segmented = c.in-Ok.summarized.segmented;
+  are = c.in-Ok.ensures.accepted;
+  summary = c.summary.result;
+  is = c.summary.ensures;
+  sent = sent_of c.in-Err-write.fault;
+  front = c.in-Err-write.ensures.cut;
+  failed = c.in-Err-write.ensures.cause;
+  sound = ap (λ s. (g.S.Source.tapped s).faults) c.into_source-in-Err-write.ensures ∙ c.in-Ok.ensures.reads.cause;
+  told = told_as (ap (λ e. told_line (out_fault_text e)) c.in-Err-write.ensures.write) c.tell_cut.ensures.told;
+  status_is = c.tell_cut.ensures.status;
+}))

@@ -1,0 +1,44 @@
+-- How `summary` ends.
+use Rattle.std.specs.Prelude.{◌≡◌, ℕ, ◌⊎◌, Bool, List}
+use Rattle.std.specs.Io.KnownBytes.{append_known}
+use Rattle.warc_frame.specs.Count.{raised}
+use Rattle.warc_frame.specs.FaultText.{out_fault_text}
+use Rattle.warc_frame.specs.Seen.{IfHeld}
+use Rattle.warc_frame.specs.Send.{WentOut}
+use Rattle.warc_frame.specs.declared.fault.OutFault.TheVariants.{Write}
+use Rattle.warc_reading.specs.Row.{Row}
+use Rattle.warc.specs.Summary.{AreFlagged, IsSummaryOf, summary_text}
+use Rattle.warc.specs.declared.summary.Summary.{Summary}
+use Rattle.warc_commands.specs.Devices.{Devices}
+use Rattle.warc_commands.specs.Program.{IsNotOpened, Tells, told_line}
+
+-- all lines of `summary` went out, and no write failed
+pub record IsSummaryTold (old new : Devices) (status : ℕ) : Type 0 where
+  pub rows : List Row
+  pub segmented : List Bool
+  pub are : IfHeld old.source.holds (λ bytes. AreFlagged bytes rows segmented)
+  pub summary : Summary
+  pub is : IsSummaryOf rows segmented summary
+  pub told : new.out.tells ≡ append_known old.out.tells (summary_text summary)
+  pub unfailed : new.out.faults ≡ old.out.faults
+  pub sound : new.source.faults ≡ old.source.faults
+  pub silent : new.err ≡ old.err
+  pub status_is : status ≡ 0
+
+-- a write failed: a front of the lines went out
+pub record IsSummaryCutOff (old new : Devices) (status : ℕ) : Type 0 where
+  pub rows : List Row
+  pub segmented : List Bool
+  pub are : IfHeld old.source.holds (λ bytes. AreFlagged bytes rows segmented)
+  pub summary : Summary
+  pub is : IsSummaryOf rows segmented summary
+  pub sent : ℕ
+  pub front : WentOut old.out.tells (summary_text summary) new.out.tells sent
+  pub failed : new.out.faults ≡ raised old.out.faults
+  pub sound : new.source.faults ≡ old.source.faults
+  pub told : Tells (told_line (out_fault_text (Write sent))) old.err new.err
+  pub status_is : status ≡ 3
+
+abbrev pub SummaryEnds : Devices → Devices → ℕ → Type 0
+SummaryEnds old new status =
+    IsSummaryTold old new status ⊎ (IsNotOpened old new status ⊎ IsSummaryCutOff old new status)
