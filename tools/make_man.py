@@ -42,7 +42,8 @@ def inline(text):
         elif part.startswith("*") and len(part) > 2:
             out += f"\\fI{inline(part[1:-1])}\\fR"
         else:
-            out += plain(re.sub(r"\[([^]]*)\]\([^)]*\)", r"\1", part)).replace("\\&.", ".") if out else plain(part)
+            words = plain(re.sub(r"\[([^]]*)\]\([^)]*\)", r"\1", part))
+            out += words.replace("\\&.", ".") if out else words
     return "\\&" + out if out.startswith((".", "'")) else out
 
 
@@ -110,6 +111,8 @@ def body(text):
             out += [".PP", ".EX", *("\\&" + code(it) for it in lines), ".EE"]
         elif kind == "table":
             out += table(lines)
+        elif lines[0].startswith("!["):
+            continue  # a page has no pictures
         elif kind == "item":
             mark, first = ITEM.match(lines[0]).groups()
             words = " ".join([first, *(it.strip() for it in lines[1:])])
@@ -174,7 +177,8 @@ def main():
         name = title.replace(" ", "-")
         short = summary[0].lower() + summary[1:].partition(": ")[0].rstrip(".")
         write(folder, name, 1, page(name, 1, short, synopsis(text), ["warc(1)", "warc(5)"]))
-    common = "".join(text for title, text in parts if not title.startswith("warc "))
+    shared = [part for part in parts if not part[0].startswith("warc ")]
+    common = shared[0][1] + "".join(f"### {title}\n{text}" for title, text in shared[1:])
     write(folder, "warc", 1, main_page(front, common, commands))
     first, rules = sections(read("docs/FORMAT.md"))
     text = "# Description\n" + first + "".join(f"# {title}\n{re.sub('^###', '####', it, flags=re.M)}" for title, it in rules)
