@@ -4,8 +4,9 @@
     python3 tests/stress/differential.py WARC COUNT SEED
 
 Makes COUNT archives, from the seeds SEED to SEED + COUNT - 1, and runs eleven command lines over each. Compares standard
-output, standard error and the exit status. Prints each difference, and last a line with the counts. The exit status
-is 1 if there is a difference.
+output, standard error and the exit status. Then asks `replay` for each capture that is the chosen one of its own instant,
+and compares with what `captures` says of it. Prints each difference, and last a line with the counts. The exit status is
+1 if there is a difference.
 """
 import collections
 import os
@@ -120,6 +121,36 @@ def compare_seed(program, folder, seed, counts):
                 show(seed, line, given, expected)
 
 
+def answer_of(columns):
+    """What `replay` says where it chooses a capture, by the capture's columns."""
+    position, _, _, _, given, status, _, length, reason = columns[:9]
+    if reason != b"-":
+        return b"warc: " + reason, 1
+    return b"chosen %s given %s status %s" % (position, given, status), b" length " + length, 0
+
+
+def agrees(answer, message, status):
+    """Whether `replay` answered so."""
+    return answer[-1] == status and message.startswith(answer[0]) and message.rstrip().endswith(answer[-2])
+
+
+def compare_captures(program, folder, seed, counts):
+    """Asks `replay` for each capture that is the chosen one of its own instant, and compares with what `captures` says."""
+    lines = run_program(program, folder, ["captures"])[0].split(b"\n")[:-1]
+    chosen = {}
+    for columns in (line.split(b"\t", 9) for line in lines):
+        if columns[9] != b"-" and columns[2] != b"-":
+            chosen[columns[9], columns[2]] = columns  # by position, so the last of an instant stays
+    for (target, instant), columns in chosen.items():
+        line = ["replay", target.hex(), instant.decode(), "--uri-hex"]
+        _, message, status = run_program(program, folder, line)
+        counts["captures replayed"] += 1
+        if not agrees(answer_of(columns), message, status):
+            counts["differences"] += 1
+            if counts["differences"] <= MOST_SHOWN:
+                print("difference: seed %d, captures %r, replay %r" % (seed, columns, message))
+
+
 def main(program, count, seed):
     signal.signal(signal.SIGALRM, ring)
     program = os.path.abspath(program)
@@ -130,14 +161,16 @@ def main(program, count, seed):
     try:
         for each in range(seed, seed + count):
             compare_seed(program, folder, each, counts)
+            compare_captures(program, folder, each, counts)
     finally:
         shutil.rmtree(folder)
     for kind in ("runs of", "status", "answer"):
         names = sorted(name for name in counts if name.startswith(kind + " "))
         print("%s: %s" % (kind, ", ".join("%s %d" % (name[len(kind) + 1:], counts[name]) for name in names)))
-    print("differential: seeds %d to %d, %d archives (%d refused), %d records, %d runs, %d differences" % (
-        seed, seed + count - 1, counts["archives"], counts["refused"], counts["records"], counts["runs"],
-        counts["differences"]))
+    print("differential: seeds %d to %d, %d archives (%d refused), %d records, %d runs, %d captures replayed, "
+          "%d differences" % (
+              seed, seed + count - 1, counts["archives"], counts["refused"], counts["records"], counts["runs"],
+              counts["captures replayed"], counts["differences"]))
     return 1 if counts["differences"] else 0
 
 
