@@ -1,5 +1,6 @@
 #!/bin/bash
-# Runs the program over generated archives, where the system fails it, and over a collection. Takes some minutes.
+# Runs the program over generated archives, where the system fails it, and over a collection, and compares it with the
+# library as C, Python and Rust call it. Takes some minutes.
 #
 #   STRESS_COUNT=1000 STRESS_SEED=7 STRESS_ARCHIVES=100 bash tests/stress/run.sh
 #
@@ -12,7 +13,7 @@ seed=${STRESS_SEED:-1}
 archives=${STRESS_ARCHIVES:-2000}
 status=0
 wanted=()
-for pair in strace:strace parallel:parallel /usr/sbin/sshd:openssh-server wget:wget ip:iproute2; do
+for pair in strace:strace valgrind:valgrind parallel:parallel /usr/sbin/sshd:openssh-server wget:wget ip:iproute2; do
     command -v "${pair%%:*}" > /dev/null || wanted+=("${pair##*:}")
 done
 if [ ${#wanted[@]} -gt 0 ]; then
@@ -24,4 +25,5 @@ python3 tests/stress/system.py bin/warc || status=1
 python3 tests/stress/memory.py bin/warc || status=1
 python3 tests/stress/terminal.py bin/warc || status=1
 python3 tests/stress/collection.py bin/warc "$archives" || status=1
+make -s test-callers || status=1
 exit $status
