@@ -247,7 +247,7 @@ def growing_file(trial):
 
     def append():
         with open(path, "ab", buffering=0) as out:
-            while not stop.wait(0.05):
+            while not stop.wait(0.001):
                 out.write(record)
 
     record = warc_reference.read_record(generate.archive(1), 0, 0).canonical()
@@ -477,7 +477,8 @@ def on_two_hosts(trial, archives):
         hosts[1].start()
         time.sleep(1)
         done = trial.run("far", "run", *words)
-        is_right = done.returncode == 1 and read_now(done) == len(expected) - first
+        # A host may have ended files after the stop, which the next run takes in unread.
+        is_right = done.returncode == 1 and 0 < read_now(done) <= len(expected) - first
         trial.judge(is_right, "the run that goes on", done.stderr)
         trial.compare("far", expected, 1)
         with trial.base("far") as base:
