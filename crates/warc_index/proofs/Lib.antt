@@ -11,3 +11,4 @@ pub mod PassLemmas
 pub mod LinkedLemmas
 pub mod ChainLemmas
 pub mod CaptureLemmas
+pub mod TextLemmas

@@ -5,3 +5,4 @@ pub mod Referents
 pub mod Links
 pub mod Linked
 pub mod Orders
+pub mod Texts

@@ -1,6 +1,7 @@
 //! Laws over the definitions: functions that do nothing, each with a law as its contract.
 ghost use Rattle.warc_index.specs.Captures.{ChosenIsLatest, LatestIsLast};
 ghost use Rattle.warc_index.specs.Referents.{ChainLoops, OriginsStand};
+ghost use Rattle.warc_index.specs.Texts.{KeepsTexts};
 ghost use Rattle.warc_index.specs.Walks.{LoopsWhereUnfinished};
 
 /// Among n positions, a walk hasn't ended after n steps exactly if it comes back to one that it has left.
@@ -27,4 +28,11 @@ pub fn origins_stand()
 /// A capture has no origin for a loop exactly if the chain of referents comes back to a record that it has left.
 pub fn chain_loops()
     ensures { ChainLoops }
+{}
+
+/// Of each record an index keeps the key of its id, of a capture its target, of a response or a resource its payload
+/// digest, and of a revisit what it names; of one that names nothing its payload digest, and its target once more. So
+/// `kept` of an index is the sum of their lengths, each as often as it is kept.
+pub fn kept_texts_are_counted()
+    ensures { KeepsTexts }
 {}
