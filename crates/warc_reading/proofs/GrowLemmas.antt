@@ -19,9 +19,9 @@ use Rattle.warc_record.specs.Heads.{head_fault}
 use Rattle.warc_reading.specs.Archive.{Contents, IsArchiveOf, IsFaultOf, SpellsFrom, contents}
 use Rattle.warc_reading.specs.Fronts.{AreFrontRows, IsLongestFront, reach_of}
 use Rattle.warc_reading.specs.Growing.{Grows, IsDeviceFault, grown}
-use Rattle.warc_reading.specs.Opening.{Opens, faults_after}
+use Rattle.warc_reading.specs.Opening.{Opens, OpensFrom, faults_after}
 use Rattle.warc_reading.specs.Row.{Placed, Row, row_of}
-use Rattle.warc_reading.specs.Stream.{Extends, Follows, HasGiven, HasGivenFrom, HasRead, IsKeptOf, IsLeft, Matches, Since, Stands, StaysRefused, Stops, WantsSince}
+use Rattle.warc_reading.specs.Stream.{BeginsSince, Extends, Follows, HasGiven, HasGivenFrom, HasRead, IsKeptOf, IsLeft, Matches, Since, Stands, StaysRefused, Stops, WantsSince}
 use Rattle.warc_reading.specs.declared.reading.Current.{Current}
 use Rattle.warc_reading.specs.declared.reading.Reading.{Reading}
 use Rattle.warc_reading.proofs.FrontLemmas.{longest_cut, none_read}
@@ -65,6 +65,28 @@ pub since_more : {L : Type 0} (K : L → List Placed → Type 0) (was : List Pla
 since_more K was l m records p (kept, (more, is)) now = (now, (more ++ p ∷ [], ap (λ rs. rs ++ p ∷ []) is ∙ append_assoc was more (p ∷ [])))
 
 -- ---- where reading begins
+
+-- records that begin with others have no fewer bytes
+shorter : (q : ℕ) (ps more : List Placed) (a b : List ℕ) → SpellsFrom q ps a → SpellsFrom q (ps ++ more) b → length a ≤ length b
+shorter q [] more a b none all = omega (arith, ap length none)
+shorter q (p ∷ ps) more a b (front, rest, one, at, start, is, tail) (front2, rest2, one2, at2, start2, is2, tail2) =
+    let same : q + length front2 ≡ q + length front = omega (arith, start, start2) in
+    let P : ℕ → Type 0 = λ n. SpellsFrom n (ps ++ more) rest2 in
+    omega (arith, shorter (q + length front) ps more rest rest2 tail (subst P same tail2), same, ap length is ∙ length-append front rest, ap length is2 ∙ length-append front2 rest2)
+
+-- the record that is being read begins behind those that were kept
+begins_after : {A L : Type 0} (K : L → List Placed → Type 0) (bytes text : List ℕ) (was : List Row × L) (is : IsKeptOf K bytes was) (told : Told) (r : Reading A L) → HasRead (Since K is.listed.are.records) text told r
+    → length bytes ≤ r.begin
+begins_after K bytes text was is told r has =
+    let on = has.beside.1 in
+    let P : List Placed → Type 0 = λ rs. SpellsFrom 0 rs has.front in
+    omega (arith, has.begin_is, shorter 0 is.listed.are.records on.0 bytes has.front is.listed.are.spelled (subst P on.1 has.spelled))
+
+-- so memory is wanted behind them
+wants_after : {A L : Type 0} (K : L → List Placed → Type 0) (bytes taken : List ℕ) (was : List Row × L) (is : IsKeptOf K bytes was) (told : Told) (r : Reading A L) (offset : ℕ)
+    → HasRead (Since K is.listed.are.records) (bytes ++ taken) told r → BeginsSince (bytes ++ taken) r.begin offset → length bytes ≤ offset
+wants_after K bytes taken was is told r offset has (inl same) = omega (arith, same, begins_after K bytes (bytes ++ taken) was is told r has)
+wants_after K bytes taken was is told r offset has (inr after) = omega (arith, after, length-append bytes taken)
 
 -- the decoder begins behind records that it might have taken
 begins_behind : (bytes : List ℕ) (records : List Placed) (d : State) → SpellsFrom 0 records bytes → IsAt (length bytes) [] nothing d → IsAt 0 bytes (record { records = contents records; unclosed = None }) d
@@ -232,13 +254,16 @@ module _ (start : ℕ) (old mid new : Tapped) (taken : List ℕ) (has : HasGiven
   tried_on bytes at (Err f) there = λ is. omega (arith, has.cost, read.counted, raised_by_one mid.reads, there is, at)
 
   grows_by : {X : Type 0} {Is : List ℕ → X → Type 0} (was : X) (answer : Result X Fault) → ((bytes : List ℕ) → Is bytes was → start ≡ length bytes)
-      → ((bytes more : List ℕ) → Is bytes was → old.holds ≡ Some (bytes ++ more) → Opens Is old new answer)
+      → ((bytes more : List ℕ) → Is bytes was → old.holds ≡ Some (bytes ++ more) → OpensFrom (length bytes) Is old new answer)
       → ((bytes held : List ℕ) → Is bytes was → old.holds ≡ Some held → length held ≤ length bytes → MatchResult answer (Is bytes) IsDeviceFault)
       → MatchResult answer (λ x. new.faults ≡ old.faults) (λ f. new.faults ≡ faults_after f.kind old.faults) → IfErr answer (λ f. f.kind ≡ Read → f.offset ≡ new.asked)
-      → IfErr answer (λ f. f.kind ≡ Read → f.offset ≡ start + length taken) → Grows Is was old new answer
-  grows_by was answer at whole less cause asked there = record {
+      → IfErr answer (λ f. f.kind ≡ Read → f.offset ≡ start + length taken) → ((bytes : List ℕ) → Is bytes was → IfOk answer (λ x. (more : List ℕ) × Is (bytes ++ more) x))
+      → ((bytes : List ℕ) → Is bytes was → IfErr answer (λ f. f.kind ≡ Memory → length bytes ≤ f.offset)) → Grows Is was old new answer
+  grows_by was answer at whole less cause asked there some behind = record {
     whole = whole;
     less = less;
+    some = some;
+    behind = behind;
     cost = λ bytes more is held. cost bytes more (at bytes is) held;
     tried = λ bytes is. tried_on bytes (at bytes is) answer there;
     reads = record {
@@ -270,12 +295,13 @@ module _ (start : ℕ) (old mid new : Tapped) (taken : List ℕ) (has : HasGiven
         (λ bytes more is held.
         let here = at bytes is in
         let s = stands bytes is in
-        let P : ℕ → Type 0 = λ n. Opens (IsKeptOf K) old new (Err (fault Read n)) in
-        subst P (sym (size bytes here)) (opens_unread old mid new (bytes ++ taken) (whole_given start old mid taken bytes more has here held) failed len (read_of bytes here) (short_of bytes here) (fits_of bytes here) s.told r fails
+        let P : ℕ → Type 0 = λ n. OpensFrom (length bytes) (IsKeptOf K) old new (Err (fault Read n)) in
+        subst P (sym (size bytes here)) (opens_unread (length bytes) old mid new (bytes ++ taken) (whole_given start old mid taken bytes more has here held) failed len (read_of bytes here) (short_of bytes here) (fits_of bytes here) s.told r fails
         (lies (bytes ++ taken) s.told s.is_at) s.has))
         (λ bytes held is holds less. inl refl)
         (read.cause ∙ ap (λ b. if b then raised mid.faults else mid.faults) fails ∙ ap raised has.sound)
         (λ is. sym read.asked) (λ is. refl)
+        (λ bytes is. tt) (λ bytes is memory. cc memory)
 
     -- a piece was refused
     pub grows_refused : (buf : List ℕ) (n place : ℕ) (f : Fault) → failed ≡ false → place ≡ start + length taken → 0 < n → f.kind ≢ Read → ((bytes : List ℕ) → old.holds ≡ Some bytes → Gives bytes place buf n)
@@ -287,21 +313,23 @@ module _ (start : ℕ) (old mid new : Tapped) (taken : List ℕ) (has : HasGiven
         let here = at bytes is in
         let s = stands bytes is in
         let given = whole_given start old mid taken bytes more has here held in
-        opens_refused old mid new (bytes ++ taken) given failed len (read_of bytes here) (short_of bytes here) (fits_of bytes here) s.told r (take n buf) (length (bytes ++ taken) + n) f well (lies (bytes ++ taken) s.told s.is_at) s.has
+        opens_refused (length bytes) old mid new (bytes ++ taken) given failed len (read_of bytes here) (short_of bytes here) (fits_of bytes here) s.told r (take n buf) (length (bytes ++ taken) + n) f well (lies (bytes ++ taken) s.told s.is_at) s.has
         (λ all holds. front_grows all (bytes ++ taken) buf place n (there ∙ size bytes here) (given.part all holds) (gives all holds))
         (stays bytes is) (wants bytes is))
         (λ bytes held is holds less. absurd (omega (arith, some, less, there, at bytes is, (gives held holds).within)))
         (sound well ∙ sym (not_raised f.kind old.faults never))
         (λ is. absurd (never is)) (λ is. absurd (never is))
+        (λ bytes is. tt)
+        (λ bytes is memory. let s = stands bytes is in wants_after K bytes taken was is s.told r f.offset s.has (wants bytes is memory).0)
 
     ended : (bytes more buf : List ℕ) (n place : ℕ) (result : Result (Unit {0}) Fault) → failed ≡ false → place ≡ start + length taken → n ≡ 0 → 0 < length buf
         → ((all : List ℕ) → old.holds ≡ Some all → Gives all place buf n) → ((at : ℕ) (text : List ℕ) (told : Told) → IsAt at text told d → Finishes at text told result)
-        → IsKeptOf K bytes was → old.holds ≡ Some (bytes ++ more) → Opens (IsKeptOf K) old new (grown result (r.rows, r.beside))
+        → IsKeptOf K bytes was → old.holds ≡ Some (bytes ++ more) → OpensFrom (length bytes) (IsKeptOf K) old new (grown result (r.rows, r.beside))
     ended bytes more buf n place result well there zero room gives ends_so is held =
         let here = at bytes is in
         let s = stands bytes is in
         let given = whole_given start old mid taken bytes more has here held in
-        opens_ended old mid new (bytes ++ taken) given failed len (read_of bytes here) (short_of bytes here) (fits_of bytes here) (grown result (r.rows, r.beside)) well
+        opens_ended (length bytes) old mid new (bytes ++ taken) given failed len (read_of bytes here) (short_of bytes here) (fits_of bytes here) (grown result (r.rows, r.beside)) well
         (λ all holds. ends all (bytes ++ taken) buf place n (there ∙ size bytes here) (given.part all holds) (gives all holds) room zero)
         (finished K is.listed.are.records (bytes ++ taken) s.told r result s.has (lies (bytes ++ taken) s.told s.is_at) (short_of bytes here) (ends_so 0 (bytes ++ taken) s.told s.is_at))
 
@@ -333,6 +361,13 @@ module _ (start : ℕ) (old mid new : Tapped) (taken : List ℕ) (has : HasGiven
         (λ bytes more is held. ended bytes more buf n place (Ok u) well there zero room gives ends_so is held)
         (λ bytes held is holds less. unchanged bytes held (Ok u) ends_so is holds less)
         (sound well) tt tt
+        (λ bytes is.
+        let here = at bytes is in
+        let s = stands bytes is in (
+          taken,
+          finished K is.listed.are.records (bytes ++ taken) s.told r (Ok u) s.has (lies (bytes ++ taken) s.told s.is_at) (short_of bytes here) (ends_so 0 (bytes ++ taken) s.told s.is_at),
+        ))
+        (λ bytes is. tt)
     grows_ended told buf n place (Err f) is_at well there zero room gives ends_so =
         let kind : f.kind ≡ Truncated = ap (λ (g : Fault). g.kind) (ends_so start taken told is_at).0 in
         let never : f.kind ≢ Read = λ (is : f.kind ≡ Read). let no : Truncated ≡ Read = sym kind ∙ is in cc no in
@@ -341,6 +376,8 @@ module _ (start : ℕ) (old mid new : Tapped) (taken : List ℕ) (has : HasGiven
         (λ bytes held is holds less. unchanged bytes held (Err f) ends_so is holds less)
         (sound well ∙ sym (not_raised f.kind old.faults never))
         (λ is. absurd (never is)) (λ is. absurd (never is))
+        (λ bytes is. tt)
+        (λ bytes is (memory : f.kind ≡ Memory). let no : Truncated ≡ Memory = sym kind ∙ memory in cc no)
 
 -- ---- the front that was read
 
@@ -398,11 +435,12 @@ module _ (start : ℕ) (old mid : Tapped) (taken : List ℕ) (has : HasGivenFrom
 -- ---- the whole answer
 
 -- memory was refused before the first read
-pub grows_untried : {X : Type 0} {Is : List ℕ → X → Type 0} (was : X) (old : Tapped) → Grows Is was old old (Err (fault Memory 0))
-grows_untried was old = record {
+pub grows_untried : {X : Type 0} {Is : List ℕ → X → Type 0} (start : ℕ) (was : X) (old : Tapped) → ((bytes : List ℕ) → Is bytes was → start ≡ length bytes) → Grows Is was old old (Err (fault Memory start))
+grows_untried start was old at = record {
   whole = λ bytes more is held. record {
     accepted = λ all holds. tt;
-    refused = λ all holds. inl (record { front = refl; same = refl });
+    refused = λ all holds. inl (record { front = at bytes is; same = refl });
+    some = tt;
     reads = record {
       kept = refl;
       cause = refl;
@@ -415,6 +453,8 @@ grows_untried was old = record {
     cost = λ all holds. omega arith;
   };
   less = λ bytes held is holds less. inr refl;
+  some = λ bytes is. tt;
+  behind = λ bytes is memory. omega (arith, at bytes is);
   cost = λ bytes more is held. omega arith;
   tried = λ bytes is not. cc not;
   reads = record {
@@ -428,8 +468,8 @@ grows_untried was old = record {
   };
 }
 
-pub opens_as : {X Y : Type 0} {Is : List ℕ → X → Type 0} {Gives : List ℕ → Y → Type 0} {old new : Tapped} (x : X) (y : Y) (r : Result (Unit {0}) Fault) → ((bytes : List ℕ) → Is bytes x → Gives bytes y)
-    → Opens Is old new (grown r x) → Opens Gives old new (grown r y)
+pub opens_as : {X Y : Type 0} {Is : List ℕ → X → Type 0} {Gives : List ℕ → Y → Type 0} {start : ℕ} {old new : Tapped} (x : X) (y : Y) (r : Result (Unit {0}) Fault) → ((bytes : List ℕ) → Is bytes x → Gives bytes y)
+    → OpensFrom start Is old new (grown r x) → OpensFrom start Gives old new (grown r y)
 opens_as x y (Ok u) gives o = opens_with x y gives o
 opens_as x y (Err f) gives o = refuses_with f o
 
@@ -441,6 +481,11 @@ asked_as : {X Y : Type 0} (x : X) (y : Y) (r : Result (Unit {0}) Fault) (R : Fau
 asked_as x y (Ok u) R m = tt
 asked_as x y (Err f) R m = m
 
+some_as : {X Y : Type 0} (Is : List ℕ → X → Type 0) (Gives : List ℕ → Y → Type 0) (bytes : List ℕ) (x : X) (y : Y) (r : Result (Unit {0}) Fault) → ((bytes : List ℕ) → Is bytes x → Gives bytes y)
+    → IfOk (grown r x) (λ z. (more : List ℕ) × Is (bytes ++ more) z) → IfOk (grown r y) (λ z. (more : List ℕ) × Gives (bytes ++ more) z)
+some_as Is Gives bytes x y (Ok u) gives (more, is) = (more, gives (bytes ++ more) is)
+some_as Is Gives bytes x y (Err f) gives some = tt
+
 -- the same growth, by what is made of what it keeps
 pub grows_as : {X Y : Type 0} {Is : List ℕ → X → Type 0} {Gives : List ℕ → Y → Type 0} {old new : Tapped} (was x : X) (seen y : Y) (r : Result (Unit {0}) Fault) → ((bytes : List ℕ) → Gives bytes seen → Is bytes was)
     → ((bytes : List ℕ) → Is bytes x → Gives bytes y) → Grows Is was old new (grown r x) → Grows Gives seen old new (grown r y)
@@ -448,6 +493,8 @@ grows_as {X} {Y} {Is} {Gives} {old} {new} was x seen y r begins gives grows = re
   whole = λ bytes more is held. opens_as x y r gives (grows.whole bytes more (begins bytes is) held);
   less = λ bytes held is holds less. match_as x y r (Is bytes) (Gives bytes) IsDeviceFault (gives bytes) (grows.less bytes held (begins bytes is) holds less);
   cost = λ bytes more is held. grows.cost bytes more (begins bytes is) held;
+  some = λ bytes is. some_as Is Gives bytes x y r gives (grows.some bytes (begins bytes is));
+  behind = λ bytes is. asked_as x y r (λ f. f.kind ≡ Memory → length bytes ≤ f.offset) (grows.behind bytes (begins bytes is));
   tried = λ bytes is. asked_as x y r (λ f. f.kind ≡ Read → new.reads + length bytes ≤ old.reads + f.offset + 1) (grows.tried bytes (begins bytes is));
   reads = record {
     kept = grows.reads.kept;
@@ -465,6 +512,7 @@ pub opens_new : {X : Type 0} {Is : List ℕ → X → Type 0} {old new : Tapped}
 opens_new was answer is grows = record {
   accepted = λ bytes held. (grows.whole [] bytes is held).accepted bytes held;
   refused = λ bytes held. (grows.whole [] bytes is held).refused bytes held;
+  some = grows.some [] is;
   reads = grows.reads;
   cost = λ bytes held. (grows.whole [] bytes is held).cost bytes held;
 }

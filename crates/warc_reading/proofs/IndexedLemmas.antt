@@ -10,7 +10,7 @@ use Rattle.warc_index.specs.Orders.{IsKeptOf, Kept as Indexes}
 use Rattle.warc_segment.specs.Kept.{Kept as Parts, kept_in}
 use Rattle.warc_segment.specs.declared.place.Place.{Place}
 use Rattle.warc_reading.specs.Indexed.{AreOf, indexed_record, place_of, placed_record}
-use Rattle.warc_reading.specs.Opening.{Opens}
+use Rattle.warc_reading.specs.Opening.{OpensFrom}
 use Rattle.warc_reading.specs.Row.{Placed}
 
 -- one more record
@@ -35,11 +35,12 @@ kept_more records p index parts head place is at indexed joined =
     record { index_is = index_more records p index head is indexed; parts_are = parts_more records p parts head place is at joined }
 
 -- the same opening, by what is made of its answer
-pub opens_with : {X Y : Type 0} {Is : List ℕ → X → Type 0} {Gives : List ℕ → Y → Type 0} {old new : Tapped} (x : X) (y : Y) → ((bytes : List ℕ) → Is bytes x → Gives bytes y) → Opens Is old new (Ok x)
-    → Opens Gives old new (Ok y)
+pub opens_with : {X Y : Type 0} {Is : List ℕ → X → Type 0} {Gives : List ℕ → Y → Type 0} {start : ℕ} {old new : Tapped} (x : X) (y : Y) → ((bytes : List ℕ) → Is bytes x → Gives bytes y) → OpensFrom start Is old new (Ok x)
+    → OpensFrom start Gives old new (Ok y)
 opens_with x y gives opens = record {
   accepted = λ bytes held. gives bytes (opens.accepted bytes held);
   refused = λ bytes held. tt;
+  some = (opens.some.0, gives opens.some.0 opens.some.1);
   reads = record {
     kept = opens.reads.kept;
     cause = opens.reads.cause;
@@ -52,9 +53,10 @@ opens_with x y gives opens = record {
   cost = opens.cost;
 }
 
-pub refuses_with : {X Y : Type 0} {Is : List ℕ → X → Type 0} {Gives : List ℕ → Y → Type 0} {old new : Tapped} (f : Fault) → Opens Is old new (Err f) → Opens Gives old new (Err f)
+pub refuses_with : {X Y : Type 0} {Is : List ℕ → X → Type 0} {Gives : List ℕ → Y → Type 0} {start : ℕ} {old new : Tapped} (f : Fault) → OpensFrom start Is old new (Err f) → OpensFrom start Gives old new (Err f)
 refuses_with f opens = record {
   accepted = λ bytes held. tt;
+  some = tt;
   refused = opens.refused;
   reads = record {
     kept = opens.reads.kept;

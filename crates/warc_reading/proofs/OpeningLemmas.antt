@@ -16,7 +16,7 @@ use Rattle.warc_frame.proofs.JudgedLemmas.{truncated}
 use Rattle.warc_frame.proofs.LawLemmas.{first_fault_is_unique, no_fault_where_spelled}
 use Rattle.warc_record.specs.Heads.{head_fault}
 use Rattle.warc_reading.specs.Archive.{IsFaultOf, IsRecordEnd}
-use Rattle.warc_reading.specs.Opening.{IsOnlyCut, IsRefusalOf, IsUnkept, Opens, RefusesBy}
+use Rattle.warc_reading.specs.Opening.{IsOnlyCut, IsUnkept, OpensFrom, RefusesFrom}
 use Rattle.warc_reading.specs.Row.{Placed}
 use Rattle.warc_frame.specs.Seen.{AsksOnly, Tapped}
 use Rattle.warc_frame.specs.Ranges.{IsReadAt}
@@ -106,7 +106,7 @@ fits_near {at} {there} room same low = omega (arith, same, low, min-le_left (max
 pub read_there : {old new : Tapped} {failed : Bool} {at len n : ℕ} → at ≡ n → IsReadAt at len failed old new → IsReadAt n len failed old new
 read_there {old} {new} {failed} {at} {len} same read = let P : ℕ → Type 0 = λ q. IsReadAt q len failed old new in subst P same read
 
-module _ (old mid new : Tapped) (text : List ℕ) (has : HasGiven old mid text) (failed : Bool) (len : ℕ) (read : IsReadAt (length text) len failed mid new) (short : length text ≤ max_archive) (fits : length text + len ≤ max_archive + 1) where
+module _ (start : ℕ) (old mid new : Tapped) (text : List ℕ) (has : HasGiven old mid text) (failed : Bool) (len : ℕ) (read : IsReadAt (length text) len failed mid new) (short : length text ≤ max_archive) (fits : length text + len ≤ max_archive + 1) where
   low : (bytes : List ℕ) → old.holds ≡ Some bytes → length text ≤ length bytes
   low bytes held = omega (arith, ap length (has.part bytes held) ∙ length-take (length text) bytes)
 
@@ -117,9 +117,10 @@ module _ (old mid new : Tapped) (text : List ℕ) (has : HasGiven old mid text) 
   cost bytes held = omega (arith, has.cost, read.counted, raised_by_one mid.reads, low bytes held)
 
   -- a read failed
-  pub opens_unread : {X A L : Type 0} {Is : List ℕ → X → Type 0} {K : L → List Placed → Type 0} (told : Told) (r : Reading A L) → failed ≡ true → Lies text told → HasRead K text told r → Opens Is old new (Err (fault Read (length text)))
+  pub opens_unread : {X A L : Type 0} {Is : List ℕ → X → Type 0} {K : L → List Placed → Type 0} (told : Told) (r : Reading A L) → failed ≡ true → Lies text told → HasRead K text told r → OpensFrom start Is old new (Err (fault Read (length text)))
   opens_unread told r fails lies kept = record {
     accepted = λ bytes held. tt;
+    some = tt;
     refused = λ bytes held. record {
       within = low bytes held;
       before = let P : List ℕ → Type 0 = λ t. IsOnlyCut t in subst P (has.part bytes held) (only_cut text told r lies kept short);
@@ -140,9 +141,10 @@ module _ (old mid new : Tapped) (text : List ℕ) (has : HasGiven old mid text) 
   sound well = read.cause ∙ ap (λ b. if b then raised mid.faults else mid.faults) well ∙ has.sound
 
   -- a refusal that isn't a read fault
-  by_bytes : {X : Type 0} {Is : List ℕ → X → Type 0} (f : Fault) → failed ≡ false → f.kind ≢ Read → ((bytes : List ℕ) → old.holds ≡ Some bytes → IsRefusalOf bytes old new f) → Opens Is old new (Err f)
+  by_bytes : {X : Type 0} {Is : List ℕ → X → Type 0} (f : Fault) → failed ≡ false → f.kind ≢ Read → ((bytes : List ℕ) → old.holds ≡ Some bytes → RefusesFrom start f.kind bytes old new f) → OpensFrom start Is old new (Err f)
   by_bytes f well never refusal = record {
     accepted = λ bytes held. tt;
+    some = tt;
     refused = refusal;
     reads = record {
       kept = read.kept ∙ has.kept;
@@ -157,7 +159,7 @@ module _ (old mid new : Tapped) (text : List ℕ) (has : HasGiven old mid text) 
   }
 
   refusal_by : (kind : FaultKind) (offset : ℕ) (bytes : List ℕ) → StaysBy kind bytes (fault kind offset) → (kind ≡ Memory → IsRecordEnd bytes offset → IsUnkept bytes new.asked offset)
-      → RefusesBy kind bytes old new (fault kind offset)
+      → RefusesFrom start kind bytes old new (fault kind offset)
   refusal_by Memory offset bytes is unkept = inr (unkept refl is)
   refusal_by Read offset bytes is unkept = absurd is
   refusal_by Truncated offset bytes is unkept = absurd is
@@ -165,7 +167,7 @@ module _ (old mid new : Tapped) (text : List ℕ) (has : HasGiven old mid text) 
 
   -- a piece was refused
   pub opens_refused : {X A L : Type 0} {Is : List ℕ → X → Type 0} {K : L → List Placed → Type 0} (told : Told) (r : Reading A L) (part : List ℕ) (n : ℕ) (f : Fault) → failed ≡ false → Lies text told → HasRead K text told r
-      → ((bytes : List ℕ) → old.holds ≡ Some bytes → text ++ part ≡ take n bytes) → StaysRefused (text ++ part) f → WantsSince text part r.begin f → Opens Is old new (Err f)
+      → ((bytes : List ℕ) → old.holds ≡ Some bytes → text ++ part ≡ take n bytes) → StaysRefused (text ++ part) f → WantsSince text part r.begin f → OpensFrom start Is old new (Err f)
   opens_refused told r part n f well lies kept front stays wants =
       by_bytes f well (stays_not_read (text ++ part) f stays) (λ bytes held.
       let P : List ℕ → Type 0 = λ t. StaysRefused t f in
@@ -185,9 +187,10 @@ module _ (old mid new : Tapped) (text : List ℕ) (has : HasGiven old mid text) 
 
   -- the source ended
   pub opens_ended : {X : Type 0} {Is : List ℕ → X → Type 0} (answer : Result X Fault) → failed ≡ false → ((bytes : List ℕ) → old.holds ≡ Some bytes → text ≡ bytes)
-      → MatchResult answer (Is text) (λ f. (f.kind ≡ Truncated) × IsFaultOf text f) → Opens Is old new answer
+      → MatchResult answer (Is text) (λ f. (f.kind ≡ Truncated) × IsFaultOf text f) → OpensFrom start Is old new answer
   opens_ended {X} {Is} (Ok x) well whole is = record {
     accepted = λ bytes held. let P : List ℕ → Type 0 = λ t. Is t x in subst P (whole bytes held) is;
+    some = (text, is);
     refused = λ bytes held. tt;
     reads = record {
       kept = read.kept ∙ has.kept;
@@ -203,5 +206,5 @@ module _ (old mid new : Tapped) (text : List ℕ) (has : HasGiven old mid text) 
   opens_ended (Err f) well whole (kind, is) =
       by_bytes f well (λ (read_fault : f.kind ≡ Read). let e : Truncated ≡ Read = sym kind ∙ read_fault in cc e) (λ bytes held.
       let P : List ℕ → Type 0 = λ t. IsFaultOf t f in
-      let Q : FaultKind → Type 0 = λ k. RefusesBy k bytes old new f in
+      let Q : FaultKind → Type 0 = λ k. RefusesFrom start k bytes old new f in
       subst Q (sym kind) (subst P (whole bytes held) is))

@@ -25,16 +25,20 @@ pub record IsUnkept (bytes : List ℕ) (asked offset : ℕ) : Type 0 where
   pub begins : offset < length bytes
   pub cut : offset < asked → IsCut (drop offset (take asked bytes))
 
--- memory was wanted before the first read
-pub record IsUntried (old new : Tapped) (offset : ℕ) : Type 0 where
-  pub front : offset ≡ 0
+-- memory was wanted before the first read, where reading begins
+pub record IsUntried (start : ℕ) (old new : Tapped) (offset : ℕ) : Type 0 where
+  pub front : offset ≡ start
   pub same : new ≡ old
 
--- why bytes aren't opened: a read or a growth of the memory failed, or else this is their first fault
+-- why bytes aren't read from an offset on: a read or a growth of the memory failed, or else this is their first fault
+abbrev pub RefusesFrom : ℕ → FaultKind → List ℕ → Tapped → Tapped → Fault → Type 0
+RefusesFrom start Read bytes old new f = IsUnread bytes f.offset
+RefusesFrom start Memory bytes old new f = IsUntried start old new f.offset ⊎ IsUnkept bytes new.asked f.offset
+RefusesFrom start kind bytes old new f = IsFaultOf bytes f
+
+-- why they aren't opened
 abbrev pub RefusesBy : FaultKind → List ℕ → Tapped → Tapped → Fault → Type 0
-RefusesBy Read bytes old new f = IsUnread bytes f.offset
-RefusesBy Memory bytes old new f = IsUntried old new f.offset ⊎ IsUnkept bytes new.asked f.offset
-RefusesBy kind bytes old new f = IsFaultOf bytes f
+RefusesBy kind bytes old new f = RefusesFrom 0 kind bytes old new f
 
 abbrev pub IsRefusalOf : List ℕ → Tapped → Tapped → Fault → Type 0
 IsRefusalOf bytes old new f = RefusesBy f.kind bytes old new f
@@ -57,10 +61,17 @@ pub record ReadsOn {X : Type 0} (old new : Tapped) (answer : Result X Fault) : T
   pub bound : new.reads ≤ old.reads + max_archive + 1
   pub tried : IfErr answer (λ f. f.kind ≡ Read → new.reads ≤ old.reads + f.offset + 1)
 
--- opening a source: it gives what is right for the bytes, or a refusal, by the bytes that the source holds, where
--- they are known; at most one read is made for each of them, and one
-pub record Opens {X : Type 0} (Is : List ℕ → X → Type 0) (old new : Tapped) (answer : Result X Fault) : Type 0 where
+-- reading a source from an offset on: it gives what is right for the bytes, or a refusal, by the bytes that the source
+-- holds, where they are known; at most one read is made for each of them, and one. What it gives of any source is right
+-- for some bytes
+pub record OpensFrom (start : ℕ) {X : Type 0} (Is : List ℕ → X → Type 0) (old new : Tapped) (answer : Result X Fault)
+    : Type 0 where
   pub accepted : IfHeld old.holds (λ bytes. IfOk answer (Is bytes))
-  pub refused : IfHeld old.holds (λ bytes. IfErr answer (IsRefusalOf bytes old new))
+  pub refused : IfHeld old.holds (λ bytes. IfErr answer (λ f. RefusesFrom start f.kind bytes old new f))
   pub cost : IfHeld old.holds (λ bytes. new.reads ≤ old.reads + length bytes + 1)
+  pub some : IfOk answer (λ x. (bytes : List ℕ) × Is bytes x)
   pub reads : ReadsOn old new answer
+
+-- opening a source
+abbrev pub Opens : {X : Type 0} → (List ℕ → X → Type 0) → Tapped → Tapped → Result X Fault → Type 0
+Opens Is old new answer = OpensFrom 0 Is old new answer

@@ -356,8 +356,9 @@ pub fn read_on<S: Source, A: Allocator + Copy, L: Keep<A> + Drop>(
     ensures order { (bytes : List ℕ) → IsArchiveOf bytes rows
         → InOrder (length bytes) (S.tapped source.old) (S.tapped source.new) }
 {
+    let begin = rows.end();
     let Ok(mut buf) = vec![in alloc; 0u8; PIECE] else {
-        return (Err(FaultKind::Memory.at(0)), rows, beside);
+        return (Err(FaultKind::Memory.at(begin)), rows, beside);
     };
     let count = rows.len();
     let mut reading = Reading::behind(rows, beside);

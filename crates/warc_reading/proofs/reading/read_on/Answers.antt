@@ -11,7 +11,7 @@ read_through-requires-clause-begin g c = λ bytes is.
     c.behind-reading.ensures.begin bytes (subst P c.behind-reading.ensures.rows is)
 
 pub returns-in_default-clause-grows : goal.returns-in_default-clause-grows
-returns-in_default-clause-grows g c = rw c.at.ensures (grows_untried _ _)
+returns-in_default-clause-grows g c = rw c.at.ensures (grows_untried c.end-begin.result (c.args.rows, c.args.beside) _ (λ bytes is. c.end-begin.ensures.end bytes is.listed))
 
 pub returns-in_default-clause-beside : goal.returns-in_default-clause-beside
 returns-in_default-clause-beside g c = λ bytes is. is
