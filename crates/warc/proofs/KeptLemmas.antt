@@ -1,6 +1,6 @@
 -- How much is kept of an archive: at most three times its heads.
-use Rattle.std.proofs.Common.{◌≡◌, ℕ, ◌+◌, ◌*◌, ◌≤◌, ◌==◌, Bool, true, false, List, [], ◌∷◌, length, map, codes, Option, None, Some, if◌then◌else◌, length-append, refl, ◌∙◌, ap, arith}
-use Rattle.std.specs.Prelude.{option_and_then, option_map, min, unwrap_or, nat_le}
+use Rattle.std.proofs.Common.{◌≡◌, ℕ, ◌+◌, ◌*◌, ◌≤◌, Bool, true, false, List, [], ◌∷◌, length, map, codes, Option, None, Some, if◌then◌else◌, length-append, refl, ◌∙◌, ap, arith}
+use Rattle.std.specs.Prelude.{option_and_then, option_map, min, nat_le}
 use Rattle.std.specs.List.{cons_option, enumerate_from, filter_map, sum_by}
 use Rattle.std.specs.Option.{option_to_list}
 use Rattle.std.proofs.lemmas.List.Sums.{sum_by-append, sum_by-cons}
@@ -12,10 +12,10 @@ use Rattle.warc_frame.specs.VersionLine.{version_line}
 use Rattle.warc_frame.specs.declared.version.Version.{Version}
 use Rattle.warc_order.specs.declared.mark.Mark.{Mark}
 use Rattle.warc_order.specs.Entries.{Entry, entry_of}
-use Rattle.warc_record.specs.Ids.{bare_text, id_key}
+use Rattle.warc_record.specs.Ids.{id_key}
 use Rattle.warc_record.specs.Kinds.{is_continuation}
 use Rattle.warc_record.specs.Readings.{both, instant_in, present_bare, unless_empty}
-use Rattle.warc_record.proofs.LawLemmas.{bare_texts_are_no_longer, keys_are_no_longer}
+use Rattle.warc_record.proofs.LawLemmas.{keys_are_no_longer}
 use Rattle.warc_record.specs.declared.readings.SegmentNumber.{SegmentNumber}
 use Rattle.warc_record.specs.declared.readings.SegmentNumber.TheVariants.{Absent, Bad, Number}
 use Rattle.warc_record.specs.declared.types.Kind.{Kind}
@@ -31,25 +31,8 @@ use Rattle.warc_reading.specs.Indexed.{Archived, IsIndexed, indexed_record, plac
 use Rattle.warc_reading.specs.Keeping.{kept_bytes, texts_len}
 use Rattle.warc_reading.specs.Row.{Placed, row_of}
 use Rattle.warc.specs.Bounds.{IsKeptCount, head_length}
-use Rattle.warc.proofs.LengthLemmas.{AreApart, named_in_area, named_len}
-
-abbrev text_len : Option (List ℕ) → ℕ
-text_len text = length (unwrap_or text [])
-
--- what is read of a value is no longer
-unless_by : (b : Bool) (text : List ℕ) → text_len (if b then None else Some text) ≤ length text
-unless_by true text = omega arith
-unless_by false text = omega arith
-
-present_len : (found : Option (List ℕ)) → text_len (option_and_then unless_empty found) ≤ text_len found
-present_len None = omega arith
-present_len (Some value) = unless_by (length value == 0) value
-
-bare_len : (found : Option (List ℕ))
-    → text_len (option_and_then (λ v. unless_empty (bare_text v)) found) ≤ text_len found
-bare_len None = omega arith
-bare_len (Some value) =
-    omega (arith, unless_by (length (bare_text value) == 0) (bare_text value), bare_texts_are_no_longer value)
+use Rattle.warc_reading.proofs.FitLemmas.{bare_len, present_len, text_len}
+use Rattle.warc_reading.proofs.LengthLemmas.{AreApart, named_in_area, named_len}
 
 read_len : (key : Option (List ℕ)) (n : ℕ) → ((k : List ℕ) → key ≡ Some k → length k ≤ n) → text_len key ≤ n
 read_len None n short = omega arith

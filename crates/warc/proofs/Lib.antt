@@ -15,7 +15,6 @@ pub mod StandLemmas
 pub mod WholeLemmas
 pub mod TakeLemmas
 pub mod MigrationLemmas
-mod LengthLemmas
 pub mod KeptLemmas
 pub mod LookLemmas
 pub mod CaptureLemmas

@@ -9,3 +9,5 @@ pub mod RowLemmas
 pub mod SourceLemmas
 pub mod StepLemmas
 pub mod StreamLemmas
+pub mod LengthLemmas
+pub mod FitLemmas

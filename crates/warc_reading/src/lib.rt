@@ -8,4 +8,4 @@ mod spare;
 
 pub use beside::{Gathering, Keep, Lookup, Nothing};
 pub use reading::{read_front, read_on};
-pub use rows::{Row, Rows};
+pub use rows::{Row, Rows, rows_fit};

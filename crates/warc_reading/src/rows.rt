@@ -1,8 +1,9 @@
 //! What an archive keeps of its records, in flat lists: where each stands, and its texts one behind another.
-ghost use Rattle.std.specs.Prelude.{◌≡◌, ℕ, ◌+◌, ◌≤◌, ◌^◌, List, [], ◌∷◌, ◌++◌, length, take, slice_range, vec_capacity, vec_len, IfSome, OnErr, OnOk};
+ghost use Rattle.std.specs.Prelude.{◌≡◌, ℕ, ◌+◌, ◌≤◌, ◌^◌, List, [], ◌∷◌, ◌++◌, length, take, slice_range, vec_capacity, vec_len, IfNone, IfSome, OnErr, OnOk};
 ghost use Rattle.std.specs.List.{slice_get, sum_by};
 ghost use Rattle.warc_reading.specs.Archive.{IsArchiveOf};
 ghost use Rattle.warc_reading.specs.Keeping.{texts_len};
+ghost use Rattle.warc_reading.specs.Fitting.{Fits, RowsFit};
 ghost use Rattle.warc_reading.specs.Rows.{IsPackedOf, unpacked, whole};
 
 use std::alloc::{AllocError, Allocator};
@@ -81,7 +82,8 @@ impl Compact {
     /// The number, if it is below 2^48.
     #[tactic(auto, unfolding(crate::specs::Rows::whole))]
     fn of(number: u64) -> Option<Compact>
-        ensures { IfSome result (λ s. whole s ≡ number) }
+        ensures is { IfSome result (λ s. whole s ≡ number) }
+        ensures none { IfNone result (2 ^ 48 ≤ number) }
     {
         let Ok(high) = u16::try_from(number / 4_294_967_296) else {
             return None;
@@ -119,7 +121,8 @@ struct Packed {
 
 /// A length, if it is shorter than 2^16, as that of any value in a head is.
 fn short(len: usize) -> Option<u16>
-    ensures { IfSome result (λ n. n ≡ len) }
+    ensures is { IfSome result (λ n. n ≡ len) }
+    ensures none { IfNone result (2 ^ 16 ≤ len) }
 {
     match u16::try_from(len) {
         Ok(len) => Some(len),
@@ -129,7 +132,8 @@ fn short(len: usize) -> Option<u16>
 
 /// The length from one offset to another, if it is shorter than 2^32, as that of any head is.
 fn distance(from: u64, to: u64) -> Option<u32>
-    ensures { IfSome result (λ n. from + n ≡ to) }
+    ensures is { IfSome result (λ n. from + n ≡ to) }
+    ensures none { IfNone result (from ≤ to → from + 2 ^ 32 ≤ to) }
 {
     match u32::try_from(to.checked_sub(from)?) {
         Ok(len) => Some(len),
@@ -141,7 +145,8 @@ impl Packed {
     /// The entry of a row whose texts begin at a place of the list. `None`: an offset or a length of 2^48 or more, a
     /// head of 2^32 bytes or more, or a text of 2^16 or more, which no good record has.
     fn of(start: usize, row: &Row<'_>) -> Option<Packed>
-        ensures { IfSome result (IsPackedOf start row.now) }
+        ensures is { IfSome result (IsPackedOf start row.now) }
+        ensures none { IfNone result (Fits start row.now → ⊥) }
     {
         Some(Packed {
             head_len: distance(row.offset, row.block_start)?,
@@ -211,7 +216,8 @@ fn part(bytes: &[u8], start: usize, end: usize) -> &[u8]
 
 /// How many bytes a row's texts have, if they are fewer than 2^64.
 fn texts_len(row: &Row<'_>) -> Option<usize>
-    ensures { IfSome result (λ n. n ≡ texts_len row.now) }
+    ensures is { IfSome result (λ n. n ≡ texts_len row.now) }
+    ensures none { IfNone result (2 ^ 64 ≤ texts_len row.now) }
 {
     row.kind
         .len()
@@ -246,7 +252,8 @@ impl<A: Allocator + Copy> Rows<A> {
         }
     }
 
-    /// Adds a row behind the others. Where memory is refused no row is added, and no text is left behind.
+    /// Adds a row behind the others. Where memory is refused no row is added, and no text is left behind. A row that
+    /// doesn't fit an entry is refused in the same way; each row of an archive fits (law `rows_fit`).
     pub fn push(&mut self, row: &Row<'_>) -> Result<(), AllocError>
         ensures ok { OnOk result (self.new ≡ self.old ++ row.now ∷ []) }
         ensures err { OnErr result (self.new ≡ self.old) }
@@ -338,3 +345,9 @@ impl<A: Allocator> Rows<A> {
         })
     }
 }
+
+/// Each row of an archive fits an entry behind the texts of those before it: for none of them want of memory is
+/// reported because of a limit.
+pub fn rows_fit()
+    ensures { RowsFit }
+{}

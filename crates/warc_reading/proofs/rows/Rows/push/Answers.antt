@@ -28,7 +28,7 @@ pushed g c =
     let short : length t4 < 2 ^ 64 = search rules in
     let from : c.len.result ≡ length t = search rules in
     let P : ℕ → Type 0 = λ n. IsPackedOf n seen c.in-Some-of.packed in
-    let is = subst P from c.in-Some-of.ensures in
+    let is = subst P from c.in-Some-of.ensures.is in
     let more : c.push_reserved.new.self.items ≡ c.self.inside.entries.items ++ c.in-Some-of.packed ∷ [] = search rules in
     push_kept t t1 t2 t3 t4 seen c.in-Some-of.packed c.self.inside.entries.items c.push_reserved.new.self.items h1 h2 h3 h4 short is more c.self.invariant
 
