@@ -12,7 +12,7 @@ use Rattle.warc_frame.specs.declared.fault.FaultKind.{FaultKind}
 use Rattle.warc_frame.specs.declared.fault.FaultKind.TheVariants.{Memory as NoMemory}
 use Rattle.warc_reading.specs.Row.{Placed, Row, row_of}
 use Rattle.warc.specs.Standing.{IsEnd, IsWritten}
-use Rattle.warc.specs.Taking.{IsTaken, ReadsRecord, Takes, take_result}
+use Rattle.warc.specs.Taking.{IsSpelledIn, IsTaken, ReadsRecord, Takes, record_len, take_result}
 use Rattle.warc.specs.declared.fault.TakeFault.{TakeFault}
 use Rattle.warc.specs.declared.fault.TakeFault.TheVariants.{NoRecord, Read, Memory}
 use Rattle.warc_checking.proofs.RecordsLemmas.{placed}
@@ -82,6 +82,7 @@ pub takes_none : (rows : List Row) (i : ℕ) (s : Tapped) → slice_get rows i �
 takes_none rows i s none = record {
   taken = λ bytes held is. absent is.are.records i (ap (λ l. slice_get l i) (sym is.are.rows_are) ∙ none);
   failed = λ bytes held is. refl;
+  whole = tt;
   absent = (λ is. none, λ is. refl);
   kept = refl;
   may = refl;
@@ -100,14 +101,15 @@ taken_at o p r is taken = subst (λ x. IsTaken x r) (sym is) taken
 -- what giving the record of a row promises
 pub takes_row : (rows : List Row) (i : ℕ) (row : Row) (old new : Tapped) (r : Result Record TakeFault) → slice_get rows i ≡ Some row
     → ((bytes : List ℕ) (p : Placed) → old.holds ≡ Some bytes → length bytes ≤ max_archive → IsWritten bytes p → row ≡ row_of p → IsTaken (Some p) r × HasFailedBy (take_result r) old.faults new.faults)
-    → IfErr r IsEnd → new.holds ≡ old.holds → MayHaveFailedBy (take_result r) old.faults new.faults → ReadsRecord (Some row) old new → Takes rows i old new r
-takes_row rows i row old new r at given end kept may reads = record {
+    → IfErr r IsEnd → IfOk r (IsSpelledIn (record_len (Some row))) → new.holds ≡ old.holds → MayHaveFailedBy (take_result r) old.faults new.faults → ReadsRecord (Some row) old new → Takes rows i old new r
+takes_row rows i row old new r at given end whole kept may reads = record {
   taken = λ bytes held is.
       let (p, there, same) = placed is.are.records i row (sym (ap (λ l. slice_get l i) is.are.rows_are) ∙ at) in
       taken_at (slice_get is.are.records i) p r there (given bytes p held is.short (written bytes is.are.records is.are.spelled i p there) same).0;
   failed = λ bytes held is.
       let (p, there, same) = placed is.are.records i row (sym (ap (λ l. slice_get l i) is.are.rows_are) ∙ at) in
       (given bytes p held is.short (written bytes is.are.records is.are.spelled i p there) same).1;
+  whole = subst (λ o. IfOk r (IsSpelledIn (record_len o))) (sym at) whole;
   absent = (λ e. absurd (is_end r end e), λ none. let no : Some row ≡ None = sym at ∙ none in absurd (cc no));
   kept = kept;
   may = may;

@@ -6,7 +6,7 @@ ghost use Rattle.warc_frame.specs.Record.{Record, max_archive};
 ghost use Rattle.warc_frame.specs.Spelling.{Spells};
 ghost use Rattle.warc_reading.specs.Row.{Placed, row_of};
 ghost use Rattle.warc.specs.Standing.{IsEnd, IsWritten};
-ghost use Rattle.warc.specs.Taking.{IsTaken, ReadsRecord, take_result};
+ghost use Rattle.warc.specs.Taking.{IsSpelledIn, IsTaken, ReadsRecord, record_len, take_result};
 
 use crate::fault::TakeFault;
 use std::alloc::Allocator;
@@ -41,6 +41,7 @@ fn fault_of(kind: FaultKind) -> TakeFault
 /// The record that a whole text is.
 fn whole_record<A: Allocator + Copy>(alloc: A, text: &[u8]) -> Result<Framed<A>, TakeFault>
     ensures is { IfErr result IsEnd }
+    ensures whole { IfOk result (λ framed. Spells framed text.now) }
     ensures only { (r : Record) → Spells r text.now →
         MatchResult result (λ framed. framed ≡ r) (λ fault. fault ≡ TakeFault.Memory) }
 {
@@ -68,6 +69,7 @@ fn read_record<S: Source, A: Allocator + Copy>(
         (length text.old) (drop at bytes)) → at + length text.old ≤ length bytes → HasFailedBy (take_result result)
         (S.tapped source.old).faults (S.tapped source.new).faults }
     ensures is { IfErr result IsEnd }
+    ensures whole { IfOk result (IsSpelledIn (length text.old)) }
     ensures kept { (S.tapped source.new).holds ≡ (S.tapped source.old).holds }
     ensures may { MayHaveFailedBy (take_result result) (S.tapped source.old).faults (S.tapped source.new).faults }
     ensures filled { HasFilled at (length text.old) (S.tapped source.old) (S.tapped source.new) }
@@ -90,6 +92,7 @@ pub(crate) fn take_record<S: Source, A: Allocator + Copy>(
         max_archive → IsWritten bytes p → row.now ≡ row_of p → HasFailedBy (take_result result)
         (S.tapped source.old).faults (S.tapped source.new).faults }
     ensures is { IfErr result IsEnd }
+    ensures whole { IfOk result (IsSpelledIn (record_len (Some row.now))) }
     ensures kept { (S.tapped source.new).holds ≡ (S.tapped source.old).holds }
     ensures may { MayHaveFailedBy (take_result result) (S.tapped source.old).faults (S.tapped source.new).faults }
     ensures reads { ReadsRecord (Some row.now) (S.tapped source.old) (S.tapped source.new) }

@@ -3,6 +3,9 @@ use Rattle.std.proofs.Common.{◌≡◌, ℕ, ◌+◌, ◌-◌, true, true≢fal
 use Rattle.warc_frame.specs.Reading.{Head, any_fields, head_of}
 use Rattle.warc_frame.specs.declared.fault.Fault.{Fault}
 use Rattle.warc_checking.specs.Examining.{HasFailed, HasHead}
+use Rattle.warc_checking.specs.Heads.{IsHeadBy}
+use Rattle.warc_field.specs.Area.{Pair}
+use Rattle.warc_frame.specs.declared.version.Version.{Version}
 use Rattle.warc_reading.specs.Row.{Placed, Row, row_of}
 use Rattle.warc_checking.specs.declared.heads.Halt.{Halt}
 use Rattle.warc_checking.specs.declared.heads.Halt.TheVariants.{Memory}
@@ -44,3 +47,10 @@ pub only_memory : {X : Type 0} (r : Result X Halt) (P : X → Type 0) (old new :
     → IfErr r (λ halt. HasFailed halt old new)
 only_memory (Ok x) P old new is same = tt
 only_memory (Err e) P old new is same = rw is same
+
+-- a text that is read as a head by a row
+pub head_by : (row now : Row) (version : Version) (fields : List Pair) (text : List ℕ) → row ≡ now → now.offset + length text ≡ now.block_start
+    → head_of any_fields text ≡ Ok (record { version = version; fields = fields; len = length text; block_len = row.block_len }) → IsHeadBy now fields
+head_by row now version fields text same size reads =
+    let to : Row → Result Head Fault = λ r. Ok (record { version = version; fields = fields; len = length text; block_len = r.block_len }) in
+    record { version = version; text = text; size = size; reads = reads ∙ ap to same }

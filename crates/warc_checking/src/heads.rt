@@ -6,7 +6,7 @@ ghost use Rattle.warc_frame.specs.Record.{Record, max_head};
 ghost use Rattle.warc_record.specs.Heads.{head_fault};
 ghost use Rattle.warc_record.specs.Readings.{reading_of};
 ghost use Rattle.warc_record.specs.Seen.{said};
-ghost use Rattle.warc_checking.specs.Heads.{ReadsHeads};
+ghost use Rattle.warc_checking.specs.Heads.{IsHeadBy, ReadsHeads};
 ghost use Rattle.warc_reading.specs.Row.{Placed, row_of};
 ghost use Rattle.warc_checking.specs.Examining.{HasFailed, HasHead, IsHeadOf, MayHaveFailed, halt_of, halted};
 
@@ -56,9 +56,11 @@ fn halt_of(kind: FaultKind) -> Halt
 
 /// The head that a text is, where it is a whole one with a block of this length.
 fn head_in<A: Allocator + Copy>(alloc: A, text: &[u8], block_len: u64) -> Result<Head<A>, Halt>
-    ensures { (r : Record) → head_of any_fields text.now
+    ensures is { (r : Record) → head_of any_fields text.now
         ≡ Ok (record { version = r.version; fields = r.fields; len = length text.now; block_len = block_len })
         → MatchResult result (IsHeadOf r) (λ halt. halt ≡ Halt.Memory) }
+    ensures whole { IfOk result (λ h. head_of any_fields text.now
+        ≡ Ok (record { version = h.version; fields = h.fields; len = length text.now; block_len = block_len })) }
 {
     let head = match read_head(alloc, text) {
         Ok(head) => head,
@@ -73,6 +75,7 @@ fn head_in<A: Allocator + Copy>(alloc: A, text: &[u8], block_len: u64) -> Result
 /// What a head says that is good.
 fn typed<A: Allocator + Copy>(alloc: A, head: Head<A>) -> Result<Reread<A>, Halt>
     ensures said { IfOk result (λ x. said x.typed ≡ reading_of x.fields) }
+    ensures fields { IfOk result (λ x. x.fields ≡ head.fields) }
     ensures read { head_fault head.fields ≡ None →
         MatchResult result (λ x. x.fields ≡ head.fields) (λ halt. halt ≡ Halt.Memory) }
 {
@@ -103,7 +106,8 @@ pub fn head_buffer<A: Allocator>(alloc: A) -> Result<Vec<u8, A>, AllocError>
     vec![in alloc; 0u8; MAX_HEAD]
 }
 
-/// Reads a record's head again, through a buffer that any head fits.
+/// Reads a record's head again, through a buffer that any head fits. Of a source that doesn't give what it gave, it is
+/// taken only if it is a whole head as long as the row says, with a block as long as the row says.
 pub fn reread_head<S: Source, A: Allocator + Copy>(
     alloc: A,
     source: &mut S,
@@ -113,6 +117,7 @@ pub fn reread_head<S: Source, A: Allocator + Copy>(
     requires { max_head ≤ length buf.old }
     ensures read { (bytes : List ℕ) (p : Placed) → (S.tapped source.old).holds ≡ Some bytes → HasHead bytes p → row.now
         ≡ row_of p → IfOk result (IsHeadOf p.content) }
+    ensures whole { IfOk result (λ h. IsHeadBy row.now h.fields) }
     ensures order { OnOk result (row.now.offset ≤ row.now.block_start) }
     ensures kept { (S.tapped source.new).holds ≡ (S.tapped source.old).holds }
     ensures sound { OnOk result ((S.tapped source.new).faults ≡ (S.tapped source.old).faults) }
@@ -134,7 +139,8 @@ pub fn reread_head<S: Source, A: Allocator + Copy>(
     head_in(alloc, text, row.block_len)
 }
 
-/// Reads a record's head again, through a buffer that any head fits, and what it says.
+/// Reads a record's head again, through a buffer that any head fits, and what it says. Of a source that doesn't give
+/// what it gave, it is taken as by `reread_head`.
 pub fn read_again<S: Source, A: Allocator + Copy>(
     alloc: A,
     source: &mut S,
@@ -143,6 +149,7 @@ pub fn read_again<S: Source, A: Allocator + Copy>(
 ) -> Result<Reread<A>, Halt>
     requires { max_head ≤ length buf.old }
     ensures said { IfOk result (λ x. said x.typed ≡ reading_of x.fields) }
+    ensures whole { IfOk result (λ x. IsHeadBy row.now x.fields) }
     ensures read { (bytes : List ℕ) (p : Placed) → (S.tapped source.old).holds ≡ Some bytes → HasHead bytes p → row.now
         ≡ row_of p → IfOk result (λ x. x.fields ≡ p.content.fields) }
     ensures kept { (S.tapped source.new).holds ≡ (S.tapped source.old).holds }

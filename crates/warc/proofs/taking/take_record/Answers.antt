@@ -1,4 +1,5 @@
 use Rattle.std.proofs.Common.{◌≡◌, ◌∙◌, length, take, drop, refl, ap, sym, arith}
+use Rattle.std.proofs.lemmas.Result.{IfOk-weaker}
 use Rattle.warc_checking.proofs.HeadLemmas.{len_is_there}
 use Rattle.warc.proofs.TakeLemmas.{end_below, end_by_row, reads_record, spells_there, taken_by}
 use Rattle.warc_reading.specs.Row.{Row}
@@ -27,3 +28,8 @@ pub returns-clause-reads : goal.returns-clause-reads
 returns-clause-reads g c =
     let size : length c.deref_mut.result.now ≡ c.in-Some.len = c.deref_mut.ensures.len ∙ c.in-Ok.ensures.len in
     reads_record c.args.row.now c.in-Some.len _ _ c.in-Some.ensures.within.0 (rw (ap (λ (r : Row). r.offset) (sym c.row.view_is), sym size) c.read_record.ensures.filled)
+
+pub returns-clause-whole : goal.returns-clause-whole
+returns-clause-whole g c =
+    let size : length c.deref_mut.result.now ≡ c.in-Some.len = c.deref_mut.ensures.len ∙ c.in-Ok.ensures.len in
+    IfOk-weaker c.read_record.result _ _ (λ r is. (is.0, is.1, omega (arith, is.2, size, c.in-Some.ensures.within.0))) c.read_record.ensures.whole

@@ -1,6 +1,8 @@
-use Rattle.std.proofs.Common.{◌≡◌, None, ap, ◌∙◌}
+use Rattle.std.proofs.Common.{◌≡◌, None, List, ap, subst, sym, ◌∙◌}
 use Rattle.std.proofs.lemmas.Result.{IfOk-weaker}
+use Rattle.warc_field.specs.Area.{Pair}
 use Rattle.warc_record.specs.Heads.{head_fault}
+use Rattle.warc_checking.specs.Heads.{IsHeadBy}
 use Rattle.warc_checking.proofs.HeadLemmas.{only_memory, read_or_memory}
 use Rattle.warc_checking.proofs.heads.read_again.Goals as goal
 
@@ -15,3 +17,8 @@ returns-clause-failed g c = λ bytes p held has same.
     let head = c.in-Ok.ensures.read bytes p held has same in
     let good : head_fault c.in-Ok.head.fields ≡ None = ap head_fault head.fields ∙ has.good in
     only_memory c.typed.result _ _ _ (c.typed.ensures.read good) c.in-Ok.ensures.sound
+
+pub returns-clause-whole : goal.returns-clause-whole
+returns-clause-whole g c =
+    let P : List Pair → Type 0 = λ fields. IsHeadBy c.args.row.now fields in
+    IfOk-weaker c.typed.result _ _ (λ x e. subst P (sym e) c.in-Ok.ensures.whole) c.typed.ensures.fields

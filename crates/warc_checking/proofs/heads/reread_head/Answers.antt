@@ -1,6 +1,7 @@
 use Rattle.std.proofs.Common.{◌≡◌, ◌≤◌, ◌∙◌, length, take, drop, sym, ap, arith}
 use Rattle.std.proofs.lemmas.List.{length-take-le}
-use Rattle.warc_checking.proofs.HeadLemmas.{len_by_row, len_is, len_is_there, of_ok, only_memory, read_or_memory, reads_head}
+use Rattle.std.proofs.lemmas.Result.{IfOk-weaker}
+use Rattle.warc_checking.proofs.HeadLemmas.{head_by, len_by_row, len_is, len_is_there, of_ok, only_memory, read_or_memory, reads_head}
 use Rattle.warc_checking.proofs.ReadLemmas.{reads_one}
 use Rattle.warc_reading.specs.Row.{Row}
 use Rattle.warc_checking.proofs.heads.reread_head.Goals as goal
@@ -17,7 +18,7 @@ returns-clause-read g c = λ bytes p held has same.
     let part : length (take c.in-Some.len c.args.buf.now) ≡ c.in-Some.len = length-take-le c.in-Some.len c.args.buf.now (c.in-Some.ensures.within.0) in
     let text : c.read_range.new.buf ≡ take c.in-Some.len (drop c.row.inside.offset bytes) = of_ok c.read_range.result c.if-is_err.ensures.negation (c.read_range.ensures.bytes bytes held) ∙ ap (λ n. take n (drop c.row.inside.offset bytes)) part in
     let reads = reads_head bytes c.read_range.new.buf p _ c.in-Some.len has (c.row.view_is ∙ same) len text (c.read_range.auto.buf ∙ part) in
-    read_or_memory c.head_in.result _ (c.head_in.ensures p.content reads)
+    read_or_memory c.head_in.result _ (c.head_in.ensures.is p.content reads)
 
 pub returns-clause-failed : goal.returns-clause-failed
 returns-clause-failed g c = λ bytes p held has same.
@@ -26,7 +27,7 @@ returns-clause-failed g c = λ bytes p held has same.
     let part : length (take c.in-Some.len c.args.buf.now) ≡ c.in-Some.len = length-take-le c.in-Some.len c.args.buf.now (c.in-Some.ensures.within.0) in
     let text : c.read_range.new.buf ≡ take c.in-Some.len (drop c.row.inside.offset bytes) = of_ok c.read_range.result c.if-is_err.ensures.negation (c.read_range.ensures.bytes bytes held) ∙ ap (λ n. take n (drop c.row.inside.offset bytes)) part in
     let reads = reads_head bytes c.read_range.new.buf p _ c.in-Some.len has (c.row.view_is ∙ same) len text (c.read_range.auto.buf ∙ part) in
-    only_memory c.head_in.result _ _ _ (c.head_in.ensures p.content reads) (of_ok c.read_range.result c.if-is_err.ensures.negation c.read_range.ensures.sound)
+    only_memory c.head_in.result _ _ _ (c.head_in.ensures.is p.content reads) (of_ok c.read_range.result c.if-is_err.ensures.negation c.read_range.ensures.sound)
 
 pub returns-then-is_err-clause-heads : goal.returns-then-is_err-clause-heads
 returns-then-is_err-clause-heads g c =
@@ -37,3 +38,9 @@ pub returns-clause-heads : goal.returns-clause-heads
 returns-clause-heads g c =
     let part : length (take c.in-Some.len c.args.buf.now) ≡ c.in-Some.len = length-take-le c.in-Some.len c.args.buf.now (c.in-Some.ensures.within.0) in
     reads_one c.args.row.now c.in-Some.len _ _ (c.in-Some.ensures.within.1) (rw (ap (λ (r : Row). r.offset) (sym c.row.view_is), sym part) c.read_range.ensures.filled)
+
+pub returns-clause-whole : goal.returns-clause-whole
+returns-clause-whole g c =
+    let part : length (take c.in-Some.len c.args.buf.now) ≡ c.in-Some.len = length-take-le c.in-Some.len c.args.buf.now (c.in-Some.ensures.within.0) in
+    let size : length c.read_range.new.buf ≡ c.in-Some.len = c.read_range.auto.buf ∙ part in
+    IfOk-weaker c.head_in.result _ _ (λ h is. head_by _ c.args.row.now h.version h.fields c.read_range.new.buf c.row.view_is (omega (arith, size, c.in-Some.ensures.within.1)) is) c.head_in.ensures.whole
