@@ -1,5 +1,5 @@
 //! Where the body begins in the joined blocks of an origin.
-ghost use Rattle.std.specs.Prelude.{◌≡◌, ℕ, List, length, Some, IfErr};
+ghost use Rattle.std.specs.Prelude.{◌≡◌, ℕ, List, false, length, Some, IfErr};
 ghost use Rattle.warc_frame.specs.Failing.{HasFailedBy, MayHaveFailedBy, failed_by};
 ghost use Rattle.warc_record.specs.Seen.{said};
 ghost use Rattle.warc_answer.specs.Giving.{IsStart};
@@ -63,6 +63,7 @@ fn start_through<S: Source>(
     ensures failed { (bytes : List ℕ) → (S.tapped source.old).holds ≡ Some bytes → LieIn places.now bytes → HasFailedBy
         (out_result result) (S.tapped source.old).faults (S.tapped source.new).faults }
     ensures read { HasRead (len_of places.now) places.now (S.tapped source.old) (S.tapped source.new) }
+    ensures unread { http ≡ false → S.tapped source.new ≡ S.tapped source.old }
 {
     front_tells_head();
     front_tells_no_head();
@@ -100,6 +101,7 @@ pub(crate) fn find_body<S: Source>(
     ensures failed { (bytes : List ℕ) → (S.tapped source.old).holds ≡ Some bytes → LieIn places.now bytes → HasFailedBy
         (out_result result) (S.tapped source.old).faults (S.tapped source.new).faults }
     ensures read { HasRead (len_of places.now) places.now (S.tapped source.old) (S.tapped source.new) }
+    ensures unread { http ≡ false → S.tapped source.new ≡ S.tapped source.old }
 {
     let mut front = [0; MOST_HEAD_BYTES];
     start_through(source, http, places, &mut front)

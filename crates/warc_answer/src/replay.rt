@@ -1,5 +1,5 @@
 //! The end of a replay, behind the look-up of the capture and of its origin, and the joining of its segments.
-ghost use Rattle.std.specs.Prelude.{◌≡◌, ℕ, ◌+◌, ◌*◌, ◌≤◌, List, length, drop, map, Option, Some, Result, Ok, Err, IfErr, IfOk};
+ghost use Rattle.std.specs.Prelude.{◌≡◌, ℕ, ◌+◌, ◌*◌, ◌≤◌, List, false, length, drop, map, Option, Some, Result, Ok, Err, IfErr, IfOk};
 ghost use Rattle.std.specs.List.{list_any};
 ghost use Rattle.warc_value.specs.Digests.{is_bad};
 ghost use Rattle.warc_frame.specs.Count.{capped};
@@ -10,7 +10,7 @@ ghost use Rattle.warc_index.specs.declared.unfound.Unfound.{Unfound};
 ghost use Rattle.warc_segment.specs.Joined.{ReadRecord, ArePlacesOf};
 ghost use Rattle.warc_answer.specs.Answers.{IsAnswerOn};
 ghost use Rattle.warc_answer.specs.Laws.{IsFound};
-ghost use Rattle.warc_answer.specs.Payloads.{read_record};
+ghost use Rattle.warc_answer.specs.Payloads.{is_http_response, read_record};
 ghost use Rattle.warc_answer.specs.Places.{HasRead, len_of, text_at};
 ghost use Rattle.warc_answer.specs.Replays.{IsReplayOn, IsSilent, WantsNoMemory, given, out_result};
 
@@ -81,6 +81,7 @@ pub(crate) fn begin_body<S: Source, A: Allocator>(
         bytes ≤ max_archive → ArePlacesOf bytes places.now joined → HasFailedBy (out_result result)
         (S.tapped source.old).faults (S.tapped source.new).faults }
     ensures read { HasRead (len_of places.now) places.now (S.tapped source.old) (S.tapped source.new) }
+    ensures unread { is_http_response (said origin.now) ≡ false → S.tapped source.new ≡ S.tapped source.old }
 {
     one_of_three();
     joined_has_total();
@@ -132,8 +133,11 @@ pub fn replay_joined<S: Source, W: Sink, A: Allocator>(
         bytes ≤ max_archive → ArePlacesOf bytes places.now joined → HasFailedBy (out_result result)
         (S.tapped source.old).faults (S.tapped source.new).faults }
 
-    // It asks for no byte but those of the joined blocks, and reads at most twice for each.
+    // It asks for no byte but those of the joined blocks, and reads at most twice for each; at most once where the
+    // origin is no HTTP response, since then no front is read first.
     ensures read { HasRead (2 * len_of places.now) places.now (S.tapped source.old) (S.tapped source.new) }
+    ensures once { is_http_response (said origin.now) ≡ false → HasRead (len_of places.now) places.now
+        (S.tapped source.old) (S.tapped source.new) }
 {
     let begun = match begin_body(source, path, origin, places) {
         Ok(begun) => begun,

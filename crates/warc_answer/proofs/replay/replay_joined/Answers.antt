@@ -1,5 +1,6 @@
-use Rattle.std.proofs.Common.{◌+◌, ◌*◌, ◌∙◌, arith}
-use Rattle.warc_answer.specs.Places.{len_of}
+use Rattle.std.proofs.Common.{◌+◌, ◌*◌, ◌∙◌, arith, subst}
+use Rattle.warc_frame.specs.Seen.{Tapped}
+use Rattle.warc_answer.specs.Places.{HasRead, len_of}
 use Rattle.warc_answer.specs.declared.answer.Answer.{Answer}
 use Rattle.warc_answer.specs.declared.replay.Begun.{Begun}
 use Rattle.warc_answer.proofs.GiveLemmas.{places_lie, same_failed, failed_from}
@@ -39,3 +40,19 @@ returns-in-Err-send_blocks-clause-failed g c = λ bytes joined held short are.
     let lie = places_lie bytes c.args.places.now joined short are in
     failed_from c.in-Err-send_blocks.fault _ _ _ (c.in-Ok.ensures.failed bytes joined held short are)
     (c.in-Err-send_blocks.ensures.failed bytes (c.in-Ok.ensures.kept ∙ held) lie)
+
+pub returns-in-Ok-send_blocks-clause-once : goal.returns-in-Ok-send_blocks-clause-once
+returns-in-Ok-send_blocks-clause-once g c = λ other.
+    let P : Tapped → Type 0 = λ was. HasRead (len_of c.args.places.now) c.args.places.now was (g.S.Source.tapped c.send_blocks.new.source) in
+    subst P (c.in-Ok.ensures.unread other) c.in-Ok-send_blocks.ensures.read
+
+pub returns-in-Err-send_blocks-clause-once : goal.returns-in-Err-send_blocks-clause-once
+returns-in-Err-send_blocks-clause-once g c = λ other.
+    let P : Tapped → Type 0 = λ was. HasRead (len_of c.args.places.now) c.args.places.now was (g.S.Source.tapped c.send_blocks.new.source) in
+    subst P (c.in-Ok.ensures.unread other) c.in-Err-send_blocks.ensures.read
+
+pub returns-in-Err-send_blocks-clause-read : goal.returns-in-Err-send_blocks-clause-read
+returns-in-Err-send_blocks-clause-read g c =
+    let places = c.args.places.now in
+    let twice = read_twice places (len_of places) (len_of places) _ _ _ c.in-Ok.ensures.read c.in-Err-send_blocks.ensures.read in
+    read_no_more places (len_of places + len_of places) (2 * len_of places) _ _ (omega arith) twice
