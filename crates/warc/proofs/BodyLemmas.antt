@@ -81,8 +81,10 @@ module _ (rows : List Row) (index : Indexes) (parts : Parts) (position : ℕ) wh
     failed = λ bytes held is are. refl;
     cost = λ bytes held is are. omega arith;
     near = λ bytes held is are off. refl;
+    inside = λ bytes is are off. refl;
     silent = refl;
     kept = refl;
+    watched = refl;
     may = refl;
     cause = refl;
   }
@@ -93,8 +95,10 @@ module _ (rows : List Row) (index : Indexes) (parts : Parts) (position : ℕ) wh
     failed = λ bytes held is are. refl;
     cost = λ bytes held is are. omega arith;
     near = λ bytes held is are off. refl;
+    inside = λ bytes is are off. refl;
     silent = refl;
     kept = refl;
+    watched = refl;
     may = refl;
     cause = refl;
   }
@@ -113,8 +117,10 @@ module _ (rows : List Row) (index : Indexes) (parts : Parts) (position : ℕ) wh
     failed = λ bytes held is are. refl;
     cost = λ bytes held is are. omega arith;
     near = λ bytes held is are off. refl;
+    inside = λ bytes is are off. refl;
     silent = refl;
     kept = refl;
+    watched = refl;
     may = refl;
     cause = refl;
   }
@@ -132,8 +138,10 @@ module _ (rows : List Row) (index : Indexes) (parts : Parts) (position : ℕ) wh
     failed = by.failed;
     cost = by.cost;
     near = by.near;
+    inside = by.inside;
     silent = by.silent;
     kept = by.kept;
+    watched = by.watched;
     may = by.may;
     cause = by.cause;
   }
@@ -145,8 +153,10 @@ module _ (rows : List Row) (index : Indexes) (parts : Parts) (position : ℕ) wh
     failed = by.failed;
     cost = by.cost;
     near = by.near;
+    inside = by.inside;
     silent = by.silent;
     kept = by.kept;
+    watched = by.watched;
     may = by.may;
     cause = by.cause;
   }

@@ -1,5 +1,5 @@
 -- What a replay gives over the bytes of an archive.
-use Rattle.std.proofs.Common.{◌≡◌, inl, inr, Bool, false, ℕ, zero, suc, ◌+◌, ◌-◌, ◌*◌, ◌<◌, ◌≤◌, List, [], ◌∷◌, length, map, Some, None, Ok, Err, refl, sym, ap, subst, ◌∙◌, arith}
+use Rattle.std.proofs.Common.{◌≡◌, inl, inr, Bool, false, ℕ, zero, suc, ◌+◌, ◌-◌, ◌*◌, ◌<◌, ◌≤◌, List, [], ◌∷◌, length, map, Option, Some, None, Ok, Err, refl, sym, ap, subst, ◌∙◌, arith}
 use Rattle.std.specs.Prelude.{Result}
 use Rattle.std.specs.List.{slice_get}
 use Rattle.std.proofs.lemmas.List.Sums.{sum_by-cons}
@@ -8,9 +8,12 @@ use Rattle.warc_frame.specs.Failing.{HasFailedBy, MayHaveFailedBy}
 use Rattle.warc_frame.specs.Seen.{AsksOnly, Tapped}
 use Rattle.warc_frame.specs.Send.{sent_of}
 use Rattle.warc_record.specs.Readings.{reading_of}
-use Rattle.std.proofs.lemmas.List.{length-map}
+use Rattle.std.proofs.lemmas.List.{length-append, length-map}
+use Rattle.std.proofs.lemmas.List.Elements.{All-cons, All-contains, All-head, All-nil, All-tail}
+use Rattle.std.specs.List.{All, cons_option, filter_map}
 use Rattle.warc_index.specs.declared.unfound.Unfound.{Unfound}
-use Rattle.warc_segment.specs.Joined.{ArePlacesJoined, ArePlacesOf, AreStored, IsPlaceOf, PlacedRecord, PlacesAreOfRecords, ReadRecord, joined_places, joined_records}
+use Rattle.warc_segment.specs.Joined.{ArePlacesJoined, ArePlacesOf, AreStored, IsPlaceOf, PlacedRecord, PlacesAreOfRecords, ReadRecord, joined_places, joined_records, with_members}
+use Rattle.warc_segment.specs.Series.{Member}
 use Rattle.std.specs.declared.vec.Vec.{Vec}
 use Rattle.warc_segment.specs.Joining.{IsJoin}
 use Rattle.warc_segment.specs.declared.fault.JoinFault.{JoinFault}
@@ -22,7 +25,7 @@ use Rattle.warc_answer.specs.Laws.{EndsInside, IsFound, PlacesAreAsLong}
 use Rattle.warc_answer.specs.Payloads.{read_record}
 use Rattle.warc_answer.specs.Places.{IsInOne, len_of}
 use Rattle.warc_answer.specs.declared.answer.Path.{Path}
-use Rattle.warc_reading.specs.Archive.{contents}
+use Rattle.warc_reading.specs.Archive.{SpellsFrom, contents}
 use Rattle.warc_checking.specs.Heads.{IsInHead, ReadsHeads, heads_len}
 use Rattle.warc_reading.specs.Indexed.{indexed_record, place_of, placed_record}
 use Rattle.warc.specs.Replaying.{IsJoined, IsOfOrigin, IsOnPath, joined_len, origin_reads, path_reads}
@@ -198,3 +201,57 @@ pub near_path : (records : List Placed) (found : Result Path Unfound) (path : Pa
     → slice_get records path.given ≡ Some p → Asks (IsOfOrigin records (Some p)) watches old new → Asks (IsOnPath records found) watches old new
 near_path records found path p watches old new is there near =
     λ off. near (λ at in_. off at (subst (λ r. IsOnPath records r at) (sym is) (subst (λ o. IsOfOrigin records o at) (sym there) in_)))
+
+-- ---- what a source is asked for, whatever it gives
+
+all_at : (P : Place → Type 0) (xs : List Place) (i : ℕ) (p : Place) → All P xs → slice_get xs i ≡ Some p → P p
+all_at P [] i p all is = absurd (cc is)
+all_at P (x ∷ xs) zero p all is = let same : x ≡ p = cc is in subst P same (All-head P x xs all)
+all_at P (x ∷ xs) (suc i) p all is = all_at P xs i p (All-tail P x xs all) is
+
+all_option : (P : Place → Type 0) (o : Option Place) (xs : List Place) → ((p : Place) → o ≡ Some p → P p) → All P xs → All P (cons_option o xs)
+all_option P None xs one all = all
+all_option P (Some p) xs one all = All-cons P p xs (one p refl) all
+
+members_all : (P : Place → Type 0) (xs : List Place) → All P xs → (members : List Member) → All P (filter_map (λ (m : Member). slice_get xs m.position) members)
+members_all P xs all [] = All-nil P
+members_all P xs all (m ∷ ms) = all_option P (slice_get xs m.position) (filter_map (λ (n : Member). slice_get xs n.position) ms) (λ p is. all_at P xs m.position p all is) (members_all P xs all ms)
+
+joined_all : (P : Place → Type 0) (xs : List Place) (own : Place) (r : Result (List Member) Gap) (places : List Place) → All P xs → P own → with_members xs own r ≡ Ok places → All P places
+joined_all P xs own (Ok members) places all one is =
+    let same : own ∷ filter_map (λ (m : Member). slice_get xs m.position) members ≡ places = cc is in
+    subst (λ l. All P l) same (All-cons P own (filter_map (λ (m : Member). slice_get xs m.position) members) one (members_all P xs all members))
+joined_all P xs own (Err gap) places all one is = absurd (cc is)
+
+-- a place ends before the bytes do
+abbrev EndsBy : ℕ → Place → Type 0
+EndsBy n p = p.start + p.len ≤ n
+
+all_end : (q n : ℕ) (ps : List Placed) (text : List ℕ) → SpellsFrom q ps text → q + length text ≤ n → All (EndsBy n) (map (λ (r : PlacedRecord). r.place) (map placed_record ps))
+all_end q n [] text is short = All-nil (EndsBy n)
+all_end q n (p ∷ ps) text (front, rest, one, at, start, whole, more) short =
+    let size : length text ≡ length front + length rest = ap length whole ∙ length-append front rest in
+    All-cons (EndsBy n) (place_of p) (map (λ (r : PlacedRecord). r.place) (map placed_record ps)) (omega (arith, start, size, short)) (all_end (q + length front) n ps rest more (omega (arith, size, short)))
+
+in_all : (n q : ℕ) (places : List Place) → All (EndsBy n) places → IsInOne places q → q < n
+in_all n q places all (p, here, from, to) = omega (arith, to, All-contains (EndsBy n) places p all here)
+
+module _ (bytes : List ℕ) (records : List Placed) (found : Result Path Unfound) (path : Path) (p : Placed) (is : IsOrigin bytes records found path p) where
+  -- what is joined to the origin lies among the bytes, whatever its head is read as
+  pub joined_inside : (q : PlacedRecord) (items places : List Place) (watches : ℕ → Bool) (old new : ℕ) → q.place ≡ place_of p → joined_places (map placed_record records) q ≡ Ok items → places ≡ items
+      → Asks (IsInOne places) watches old new → Asks (λ at. at < length bytes) watches old new
+  joined_inside q items places watches old new place joined same near =
+      let has = written bytes records is.spelled path.given p is.stands in
+      let own : EndsBy (length bytes) q.place = omega (arith, has.end, has.within, ap (λ (x : Place). x.start + x.len) place) in
+      let all = joined_all (EndsBy (length bytes)) _ q.place _ items (all_end 0 (length bytes) records bytes is.spelled (omega arith)) own joined in
+      λ off. near (λ at in_. off at (in_all (length bytes) at items all (subst (λ (l : List Place). IsInOne l at) same in_)))
+
+  -- and so does its head
+  pub head_inside : (row : Row) (old new : Tapped) → row ≡ row_of p → ReadsHeads (row ∷ []) old new → AsksOnly (λ at. at < length bytes) old new
+  head_inside row old new same head =
+      let has = written bytes records is.spelled path.given p is.stands in
+      λ off. head.near (λ at in_. off at (omega (arith, has.end, has.within, (in_own_head p row at same in_).1)))
+
+-- the head, and then what is joined
+pub asks_both : (These : ℕ → Type 0) (old mid : Tapped) (new : ℕ) → mid.watches ≡ old.watches → AsksOnly These old mid → Asks These mid.watches mid.strays new → Asks These old.watches old.strays new
+asks_both These old mid new watched first then = λ off. then (λ at in_. ap (λ (w : ℕ → Bool). w at) watched ∙ off at in_) ∙ first off

@@ -1,5 +1,5 @@
 -- What the record at a position gives, and what it reads of the source. This project's own notion.
-use Rattle.std.specs.Prelude.{◌≡◌, ℕ, ◌+◌, ◌≤◌, List, codes, slice_get, Option, Some, None, Result, Ok, Err, IsTrue, IsFalse}
+use Rattle.std.specs.Prelude.{◌≡◌, ℕ, ◌+◌, ◌<◌, ◌≤◌, List, codes, length, slice_get, Option, Some, None, Result, Ok, Err, IsTrue, IsFalse}
 use Rattle.warc_frame.specs.Failing.{HasFailedBy, MayHaveFailedBy, failed_by}
 use Rattle.warc_frame.specs.Record.{Record}
 use Rattle.warc_frame.specs.Seen.{AsksOnly, IfHeld, Seen, Tapped}
@@ -65,7 +65,7 @@ IsSilentAt (Err (Replay fault)) old new = IsSilent {X = Answer} (Err fault) old 
 -- The body of the capture at a position, by rows, an index and parts. Where the archive's source holds its bytes, what
 -- goes out and what is answered are as the definition says of its records, in no more reads than the length of the
 -- origin's head and twice that of its joined block, of these alone, and the source has failed once more exactly where a
--- read is told. Any source still holds what it held
+-- read is told. Any source is asked for no byte behind the archive's, and still holds and watches what it did
 pub record GivesBodyAt (rows : List Row) (index : Indexes) (parts : Parts) (position : ℕ) (old new : Tapped)
     (before after : Seen) (answer : Result Answer BodyFault) : Type 0 where
   pub told : IfHeld old.holds (λ bytes. (is : IsArchiveOf bytes rows) → AreOf is.are.records index parts
@@ -76,7 +76,10 @@ pub record GivesBodyAt (rows : List Row) (index : Indexes) (parts : Parts) (posi
       → new.reads ≤ old.reads + path_reads is.are.records (path_at (contents is.are.records) position))
   pub near : IfHeld old.holds (λ bytes. (is : IsArchiveOf bytes rows) → AreOf is.are.records index parts
       → AsksOnly (IsOnPath is.are.records (path_at (contents is.are.records) position)) old new)
+  pub inside : (bytes : List ℕ) (is : IsArchiveOf bytes rows) → AreOf is.are.records index parts
+      → AsksOnly (λ at. at < length bytes) old new
   pub silent : IsSilentAt answer before.tells after.tells
   pub kept : new.holds ≡ old.holds
+  pub watched : new.watches ≡ old.watches
   pub may : MayHaveFailedBy (body_result answer) old.faults new.faults
   pub cause : after.faults ≡ failed_by (body_result answer) before.faults

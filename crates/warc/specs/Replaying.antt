@@ -59,7 +59,8 @@ IsOnPath all (Err unfound) at = ⊥
 -- A replay on a way from records to a path, by rows, an index and parts. Where the archive's source holds its bytes,
 -- what goes out and what is answered are as the definition of the answer says of its records, in at most `path_reads`
 -- reads, of the origin's head and the joined blocks alone, and the source has failed once more exactly where a read is
--- told. Any source still holds what it held; before a reason nothing goes out
+-- told. Any source is asked for no byte behind the archive's, and still holds and watches what it did; before a reason
+-- nothing goes out
 pub record ReplaysOn (rows : List Row) (index : Indexes) (parts : Parts) (way : List Record → Result Path Unfound)
     (old new : Tapped) (before after : Seen) (answer : Result Answer ReplayFault) : Type 0 where
   pub told : IfHeld old.holds (λ bytes. (is : IsArchiveOf bytes rows) → AreOf is.are.records index parts
@@ -70,8 +71,11 @@ pub record ReplaysOn (rows : List Row) (index : Indexes) (parts : Parts) (way : 
       → new.reads ≤ old.reads + path_reads is.are.records (way (contents is.are.records)))
   pub near : IfHeld old.holds (λ bytes. (is : IsArchiveOf bytes rows) → AreOf is.are.records index parts
       → AsksOnly (IsOnPath is.are.records (way (contents is.are.records))) old new)
+  pub inside : (bytes : List ℕ) (is : IsArchiveOf bytes rows) → AreOf is.are.records index parts
+      → AsksOnly (λ at. at < length bytes) old new
   pub silent : IsSilent answer before.tells after.tells
   pub kept : new.holds ≡ old.holds
+  pub watched : new.watches ≡ old.watches
   pub may : MayHaveFailedBy (out_result answer) old.faults new.faults
   pub cause : after.faults ≡ failed_by (out_result answer) before.faults
 

@@ -1,5 +1,5 @@
 //! What an archive gives for a URI as of a moment.
-ghost use Rattle.std.specs.Prelude.{◌≡◌, ℕ, ◌+◌, ◌-◌, ◌*◌, ◌≤◌, List, length, map, Some, Result};
+ghost use Rattle.std.specs.Prelude.{◌≡◌, ℕ, ◌+◌, ◌-◌, ◌*◌, ◌<◌, ◌≤◌, List, length, map, Some, Result};
 ghost use Rattle.warc_frame.specs.Failing.{HasFailedBy, MayHaveFailedBy, failed_by};
 ghost use Rattle.warc_frame.specs.Record.{Record, max_head};
 ghost use Rattle.warc_frame.specs.Seen.{AsksOnly};
@@ -88,8 +88,12 @@ fn replay_origin<S: Source, W: Sink, A: Allocator + Copy>(
         (map placed_record records) → said origin.now ≡ reading_of p.content.fields → place ≡ place_of p → AsksOnly
         (IsJoined (joined_places (map placed_record records) (placed_record p))) (S.tapped source.old)
         (S.tapped source.new) }
+    ensures inside { (bytes : List ℕ) (records : List Placed) (found : Result Path Unfound) (p : Placed) →
+        IsOrigin bytes records found path p → parts.now ≡ kept_in (map placed_record records) → place ≡ place_of p →
+        AsksOnly (λ at. at < length bytes) (S.tapped source.old) (S.tapped source.new) }
     ensures silent { IsSilent result (W.seen out.old).tells (W.seen out.new).tells }
     ensures kept { (S.tapped source.new).holds ≡ (S.tapped source.old).holds }
+    ensures watched { (S.tapped source.new).watches ≡ (S.tapped source.old).watches }
     ensures may { MayHaveFailedBy (out_result result) (S.tapped source.old).faults (S.tapped source.new).faults }
     ensures cause { (W.seen out.new).faults ≡ failed_by (out_result result) (W.seen out.old).faults }
 {
@@ -134,8 +138,12 @@ fn replay_row<S: Source, W: Sink, A: Allocator + Copy>(
         (S.tapped source.old).holds ≡ Some bytes → IsOrigin bytes records found path p → HasHead bytes p → row.now
         ≡ row_of p → parts.now ≡ kept_in (map placed_record records) → AsksOnly (IsOfOrigin records (Some p))
         (S.tapped source.old) (S.tapped source.new) }
+    ensures inside { (bytes : List ℕ) (records : List Placed) (found : Result Path Unfound) (p : Placed) →
+        IsOrigin bytes records found path p → row.now ≡ row_of p → parts.now ≡ kept_in (map placed_record records) →
+        AsksOnly (λ at. at < length bytes) (S.tapped source.old) (S.tapped source.new) }
     ensures silent { IsSilent result (W.seen out.old).tells (W.seen out.new).tells }
     ensures kept { (S.tapped source.new).holds ≡ (S.tapped source.old).holds }
+    ensures watched { (S.tapped source.new).watches ≡ (S.tapped source.old).watches }
     ensures may { MayHaveFailedBy (out_result result) (S.tapped source.old).faults (S.tapped source.new).faults }
     ensures cause { (W.seen out.new).faults ≡ failed_by (out_result result) (W.seen out.old).faults }
 {

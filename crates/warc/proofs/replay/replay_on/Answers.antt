@@ -14,8 +14,10 @@ returns-in_default g c = λ way leads. record {
   failed = λ bytes held is are. refl;
   cost = λ bytes held is are. omega arith;
   near = λ bytes held is are off. refl;
+  inside = λ bytes is are off. refl;
   silent = (refl, refl);
   kept = refl;
+  watched = refl;
   may = refl;
   cause = refl;
 }
@@ -28,8 +30,10 @@ returns-in_default-get g c = λ way leads. record {
       (ap (λ l. slice_get l c.args.path.given) (sym is.are.rows_are) ∙ sym c.get.ensures ∙ c.in_default-get.is));
   cost = λ bytes held is are. omega arith;
   near = λ bytes held is are off. refl;
+  inside = λ bytes is are off. refl;
   silent = tt;
   kept = refl;
+  watched = refl;
   may = inl refl;
   cause = refl;
 }
@@ -61,8 +65,13 @@ returns g c = λ way leads. record {
       let origin : IsOrigin bytes is.are.records (way (contents is.are.records)) c.args.path p = record { short = is.short; spelled = is.are.spelled; path_is = leads.is bytes is are; stands = there } in
       near_path is.are.records _ c.args.path p _ _ _ origin.path_is there
       (c.replay_row.ensures.near bytes is.are.records _ p held origin (can.heads c.args.path.given p there) same are.parts_are);
+  inside = λ bytes is are.
+      let (p, there, same) = placed is.are.records c.args.path.given c.in-Some.row (ap (λ l. slice_get l c.args.path.given) (sym is.are.rows_are) ∙ sym c.get.ensures ∙ c.in-Some.is) in
+      let origin : IsOrigin bytes is.are.records (way (contents is.are.records)) c.args.path p = record { short = is.short; spelled = is.are.spelled; path_is = leads.is bytes is are; stands = there } in
+      c.replay_row.ensures.inside bytes is.are.records _ p origin same are.parts_are;
   silent = c.replay_row.ensures.silent;
   kept = c.replay_row.ensures.kept;
+  watched = c.replay_row.ensures.watched;
   may = c.replay_row.ensures.may;
   cause = c.replay_row.ensures.cause;
 }

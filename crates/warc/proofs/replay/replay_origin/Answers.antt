@@ -5,7 +5,7 @@ use Rattle.warc_answer.specs.Payloads.{read_record}
 use Rattle.warc_frame.specs.declared.fault.OutFault.TheVariants as outs
 use Rattle.warc_reading.specs.Archive.{contents}
 use Rattle.warc_reading.specs.Indexed.{placed_record}
-use Rattle.warc.proofs.ReplayLemmas.{found_as, gap_is, join_gap, near_joined, origin_inside, places_are, reads_are}
+use Rattle.warc.proofs.ReplayLemmas.{found_as, gap_is, join_gap, joined_inside, near_joined, origin_inside, places_are, reads_are}
 use Rattle.warc.proofs.replay.replay_origin.Goals as goal
 
 pub returns-in-Err-Gap-clause-told : goal.returns-in-Err-Gap-clause-told
@@ -42,3 +42,8 @@ pub returns-clause-near : goal.returns-clause-near
 returns-clause-near g c = λ bytes records found p held is kept says at.
     let q : PlacedRecord = record { head = said c.args.origin.now; place = c.args.place } in
     near_joined records p q c.deref.result.now c.in-Ok.places.items _ _ _ says at (c.in-Ok.ensures (map placed_record records) kept) c.deref.ensures.value c.replay_joined.ensures.read.near
+
+pub returns-clause-inside : goal.returns-clause-inside
+returns-clause-inside g c = λ bytes records found p is kept at.
+    let q : PlacedRecord = record { head = said c.args.origin.now; place = c.args.place } in
+    joined_inside bytes records found c.args.path p is q c.in-Ok.places.items c.deref.result.now _ _ _ at (c.in-Ok.ensures (map placed_record records) kept) c.deref.ensures.value c.replay_joined.ensures.read.near

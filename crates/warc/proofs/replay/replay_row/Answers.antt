@@ -1,8 +1,8 @@
-use Rattle.std.proofs.Common.{ap, ◌∙◌}
+use Rattle.std.proofs.Common.{◌<◌, length, ap, ◌∙◌}
 use Rattle.warc_record.specs.Readings.{reading_of}
 use Rattle.warc_reading.specs.Archive.{contents}
 use Rattle.warc_checking.specs.Examining.{halted}
-use Rattle.warc.proofs.ReplayLemmas.{halted_failed, halted_sent, near_head, near_origin, origin_inside, place_by_row, row_reads}
+use Rattle.warc.proofs.ReplayLemmas.{asks_both, halted_failed, halted_sent, head_inside, near_head, near_origin, origin_inside, place_by_row, row_reads}
 use Rattle.warc.proofs.replay.replay_row.Goals as goal
 
 pub returns-in-Err-clause-told : goal.returns-in-Err-clause-told
@@ -36,3 +36,12 @@ pub returns-clause-near : goal.returns-clause-near
 returns-clause-near g c = λ bytes records found p held is has same parts.
     let says = c.in-Ok.ensures.said ∙ ap reading_of (c.in-Ok.ensures.read bytes p held has same) in
     near_origin records p c.args.row.now _ _ _ same c.in-Ok.ensures.heads (c.replay_origin.ensures.near bytes records found p (c.in-Ok.ensures.kept ∙ held) is parts says (place_by_row p _ (c.row.view_is ∙ same)))
+
+pub returns-in-Err-clause-inside : goal.returns-in-Err-clause-inside
+returns-in-Err-clause-inside g c = λ bytes records found p is same parts.
+    head_inside bytes records found c.args.path p is c.args.row.now _ _ same c.in-Err.ensures.heads
+
+pub returns-clause-inside : goal.returns-clause-inside
+returns-clause-inside g c = λ bytes records found p is same parts.
+    asks_both (λ at. at < length bytes) (g.S.Source.tapped c.args.source.now) (g.S.Source.tapped c.read_again.new.source) (g.S.Source.tapped c.replay_origin.new.source).strays c.in-Ok.ensures.heads.watched (head_inside bytes records found c.args.path p is c.args.row.now _ _ same c.in-Ok.ensures.heads)
+    (c.replay_origin.ensures.inside bytes records found p is parts (place_by_row p _ (c.row.view_is ∙ same)))

@@ -21,8 +21,10 @@ returns-in-Err g c = record {
   failed = λ bytes held is are. refl;
   cost = λ bytes held is are. omega arith;
   near = λ bytes held is are off. refl;
+  inside = λ bytes is are off. refl;
   silent = refl;
   kept = refl;
+  watched = refl;
   may = refl;
   cause = refl;
 }
