@@ -1,16 +1,18 @@
 -- The laws of archives.
-use Rattle.std.specs.Prelude.{◌≡◌, ◌≢◌, ◌⊎◌, ◌↔◌, ℕ, ◌^◌, ◌<◌, ◌≤◌, List, ◌++◌, length, map, Option, Result}
+use Rattle.std.specs.Prelude.{◌≡◌, ◌≢◌, ◌⊎◌, ◌↔◌, ℕ, ◌^◌, ◌<◌, ◌≤◌, List, ◌++◌, length, map, Option, Some, Result}
 use Rattle.warc_value.specs.Dates.{Instant}
 use Rattle.warc_frame.specs.Record.{Record, max_archive}
 use Rattle.warc_frame.specs.Spelling.{SpellsAll}
 use Rattle.warc_frame.specs.declared.fault.Fault.{Fault}
-use Rattle.warc_frame.specs.declared.fault.FaultKind.TheVariants.{Truncated}
+use Rattle.warc_frame.specs.Seen.{Tapped}
+use Rattle.warc_frame.specs.declared.fault.FaultKind.TheVariants.{Memory, Truncated}
 use Rattle.warc_answer.specs.Answers.{Given, IsAnswer}
 use Rattle.warc_answer.specs.Replays.{IsReplay}
 use Rattle.warc_answer.specs.declared.answer.Answer.{Answer}
 use Rattle.warc_answer.specs.declared.answer.Reason.{Reason}
 use Rattle.warc_answer.specs.declared.answer.ReplayFault.{ReplayFault}
 use Rattle.warc_reading.specs.Archive.{AreGood, IsArchiveOf, IsFaultOf, contents}
+use Rattle.warc_reading.specs.Opening.{IsRefusalOf, faults_after}
 use Rattle.warc_checking.specs.Checking.{check_text}
 use Rattle.warc.specs.Forms.{record_as, texts_as}
 use Rattle.warc.specs.Listing.{listing}
@@ -27,6 +29,22 @@ pub record AreSpelledBy (bytes : List ℕ) (records : List Record) : Type 0 wher
 abbrev pub ArchivesSpell : Type 0
 ArchivesSpell = (bytes : List ℕ) (rows : List Row) → IsArchiveOf bytes rows
     → (placed : List Placed) × AreSpelledBy bytes (contents placed) × (rows ≡ map row_of placed)
+
+-- the records that it speaks of are those that the bytes spell
+abbrev pub RecordsAreSpelled : Type 0
+RecordsAreSpelled = (bytes : List ℕ) (rows : List Row) (is : IsArchiveOf bytes rows)
+    → AreSpelledBy bytes (contents is.are.records)
+
+-- two listings of the same bytes speak of the same records
+abbrev pub RecordsAreTheSame : Type 0
+RecordsAreTheSame = (bytes : List ℕ) (rows others : List Row) (is : IsArchiveOf bytes rows)
+    (other : IsArchiveOf bytes others) → contents is.are.records ≡ contents other.are.records
+
+-- a source that holds its bytes and never fails is refused for want of memory, or for the first fault of its bytes
+abbrev pub RefusedForFault : Type 0
+RefusedForFault = (bytes : List ℕ) (old new : Tapped) (f : Fault) → old.holds ≡ Some bytes → old.faults ≡ 0
+    → new.faults ≡ 0 → new.faults ≡ faults_after f.kind old.faults → IsRefusalOf bytes old new f
+    → (f.kind ≡ Memory) ⊎ IsFaultOf bytes f
 
 -- where good records are spelled there is no fault
 abbrev pub NoFaultWhereSpelled : Type 0

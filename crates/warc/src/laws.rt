@@ -1,16 +1,32 @@
 //! Laws over the definitions: each function does nothing, and its contract is the law.
 ghost use Rattle.warc.specs.Laws.{ArchivesSpell, FaultsAreStable, NoFaultWhereSpelled, OneFault};
 ghost use Rattle.warc.specs.Laws.{MigrationKeepsAnswers, MigrationKeepsReplays, OutputsAreCounted, SomeFaultElse};
+ghost use Rattle.warc.specs.Laws.{RecordsAreSpelled, RecordsAreTheSame, RefusedForFault};
 ghost use Rattle.warc.specs.Laws.{WrittenOpensAsSame, WrittenSpells};
 
 use warc_answer::laws::conversion_keeps_answers;
 pub use warc_checking::laws::findings_are_counted;
+use warc_frame::laws::spelling_is_unambiguous;
 use warc_record::laws::{bare_texts_of_values, findings_are_few, findings_are_short};
 use warc_write::laws::{converted_stays_good, rendered_opens_as_same};
 
 /// An archive spells good records, in their order, and has a row for each.
 pub fn an_archive_spells_its_records()
     ensures { ArchivesSpell }
+{}
+
+/// The records that a listing speaks of are those that its bytes spell, and two listings of the same bytes speak of the
+/// same records. So what holds of an archive's records before a refused growth holds of them after it.
+pub fn records_are_spelled()
+    ensures spelled { RecordsAreSpelled }
+    ensures same { RecordsAreTheSame }
+{
+    spelling_is_unambiguous();
+}
+
+/// A source in memory, which never fails, is refused for the first fault of its bytes, or for want of memory.
+pub fn memory_is_refused_for_faults()
+    ensures { RefusedForFault }
 {}
 
 /// Bytes of at most 2^48 have no fault exactly if they spell good records.

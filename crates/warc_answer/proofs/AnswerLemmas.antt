@@ -19,7 +19,7 @@ use Rattle.warc_answer.proofs.PayloadLemmas.{payload_once, payload_some}
 
 -- ---- the origin stands in the list
 
-below_stands : {A : Type 0} (xs : List A) (p : ℕ) (x : A) → slice_get xs p ≡ Some x → p < length xs
+pub below_stands : {A : Type 0} (xs : List A) (p : ℕ) (x : A) → slice_get xs p ≡ Some x → p < length xs
 below_stands [] p x e = absurd (cc)
 below_stands (y ∷ xs) zero x e = omega arith
 below_stands (y ∷ xs) (suc p) x e = let lt : p < length xs = below_stands xs p x e in omega arith

@@ -2,6 +2,7 @@ pub mod PayloadLemmas
 pub mod AnswerLemmas
 pub mod MigrationLemmas
 pub mod ReasonLemmas
+pub mod LoopLemmas
 pub mod PlaceLemmas
 pub mod GiveLemmas
 pub mod LocatedLemmas

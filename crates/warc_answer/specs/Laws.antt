@@ -1,23 +1,29 @@
 -- The laws of the definitions.
-use Rattle.std.specs.Prelude.{◌≡◌, ◌↔◌, ℕ, ◌<◌, List, length, map, slice_get, Option, Some, Result, Ok, Err}
+use Rattle.std.specs.Prelude.{◌≡◌, ◌↔◌, ℕ, ◌<◌, List, length, map, slice_get, Option, Some, Result, Ok, Err, ⊤}
 use Rattle.warc_value.specs.Dates.{Instant}
 use Rattle.warc_frame.specs.Record.{Record}
 use Rattle.warc_frame.specs.Send.{sent_of}
 use Rattle.warc_frame.specs.declared.fault.OutFault.{OutFault}
+use Rattle.warc_index.specs.Captures.{chosen_of}
+use Rattle.warc_index.specs.Referents.{next_of}
+use Rattle.warc_index.specs.Walks.{ComesBack}
 use Rattle.warc_index.specs.declared.unfound.Unfound.{Unfound}
+use Rattle.warc_index.specs.declared.unfound.Unfound.TheVariants.{Loop}
 use Rattle.warc_segment.specs.Joined.{ReadRecord, ArePlacesOf, joined_records}
 use Rattle.warc_segment.specs.declared.gap.Gap.{Gap}
 use Rattle.warc_segment.specs.declared.place.Place.{Place}
 use Rattle.warc_write.specs.Conversion.{converted}
 use Rattle.warc_write.specs.Rendering.{AllGood}
 use Rattle.warc_answer.specs.Payloads.{read_record, whole_block}
-use Rattle.warc_answer.specs.Answers.{Given, IsAnswer, IsAnswerOn, path_at, path_for}
+use Rattle.warc_answer.specs.Answers.{Given, IsAnswer, IsAnswerOn, index_of, path_at, path_for}
 use Rattle.warc_answer.specs.Places.{len_of}
-use Rattle.warc_answer.specs.Replays.{IsReplayOn}
+use Rattle.warc_answer.specs.Replays.{IsReplay, IsReplayOn}
+use Rattle.warc_answer.specs.declared.answer.Answer.{Answer}
 use Rattle.warc_answer.specs.declared.answer.Path.{Path}
 use Rattle.warc_answer.specs.declared.answer.Reason.{Reason}
 use Rattle.warc_answer.specs.declared.answer.Reason.TheVariants.{NotFound, Segments}
-use Rattle.warc_answer.specs.declared.answer.ReplayFault.TheVariants.{Out}
+use Rattle.warc_answer.specs.declared.answer.ReplayFault.{ReplayFault}
+use Rattle.warc_answer.specs.declared.answer.ReplayFault.TheVariants.{Reason as IsReason, Out}
 
 -- each replay gives one thing, and no other
 abbrev pub AnswersOnce : Type 0
@@ -70,3 +76,25 @@ abbrev pub FailsBeforeAll : Type 0
 FailsBeforeAll =
     (records : List Record) (found : Result Path Unfound) (told : Option (List ℕ)) (e : OutFault)
     → EndsInside records found → sent_of e ≡ 0 → IsReplayOn records found (Err (Out e)) told told
+
+-- a capture is chosen for a URI as of a moment, and the chain from it comes back to a record that it has left
+pub record ChosenLoops (records : List Record) (uri : List ℕ) (moment : Instant) : Type 0 where
+  pub chosen : ℕ
+  pub is : chosen_of (index_of (map read_record records)) uri moment ≡ Ok chosen
+  pub back : ComesBack (next_of (index_of (map read_record records))) chosen
+
+-- there, and only there, the answer is that it loops
+abbrev pub LoopsAreAnswered : Type 0
+LoopsAreAnswered = (records : List Record) (uri : List ℕ) (moment : Instant)
+    → IsAnswer records uri moment (Err (NotFound Loop)) ↔ ChosenLoops records uri moment
+
+-- a replay that no device and no want of memory ends gives this reason exactly where that holds
+abbrev pub IsOfLoop : Type 0 → Result Answer ReplayFault → Type 0
+IsOfLoop Loops (Ok answer) = Loops → ⊥
+IsOfLoop Loops (Err (IsReason why)) = (why ≡ NotFound Loop) ↔ Loops
+IsOfLoop Loops (Err (Out e)) = ⊤
+
+abbrev pub LoopsAreReplayed : Type 0
+LoopsAreReplayed = (records : List Record) (uri : List ℕ) (moment : Instant) (answer : Result Answer ReplayFault)
+    (old new : Option (List ℕ)) → IsReplay records uri moment answer old new
+    → IsOfLoop (ChosenLoops records uri moment) answer

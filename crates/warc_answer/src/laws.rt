@@ -1,8 +1,9 @@
 //! Laws over the definitions: functions that do nothing, each with a law as its contract.
-ghost use Rattle.warc_answer.specs.Laws.{AnswersOnce, ConversionKeepsAnswers, FailsBeforeAll, PathsEndInside, PlacesAreAsLong, ReasonsAreAnswers};
+ghost use Rattle.warc_answer.specs.Laws.{AnswersOnce, ConversionKeepsAnswers, FailsBeforeAll, LoopsAreAnswered, LoopsAreReplayed};
+ghost use Rattle.warc_answer.specs.Laws.{PathsEndInside, PlacesAreAsLong, ReasonsAreAnswers};
 ghost use Rattle.warc_answer.specs.Stored.{StoredIsAnswered};
 
-use warc_index::laws::{chosen_is_latest, origins_stand};
+use warc_index::laws::{chain_loops, chosen_is_latest, origins_stand};
 use warc_payload::laws::{at_most_one_body, no_body_where_coded, one_of_three};
 use warc_write::laws::converted_says_the_same;
 
@@ -56,3 +57,13 @@ pub fn fails_before_all()
 pub fn stored_is_answered()
     ensures { StoredIsAnswered }
 {}
+
+/// P6 is the answer exactly where the chain of the chosen capture comes back to a record that it has left, whatever its
+/// length. A replay that no read, write or request for memory ends gives that reason exactly there.
+pub fn loops_are_answered()
+    ensures answers { LoopsAreAnswered }
+    ensures replays { LoopsAreReplayed }
+{
+    chosen_is_latest();
+    chain_loops();
+}
