@@ -1,3 +1,4 @@
+pub mod Asking
 pub mod Bodies
 pub mod Captures
 pub mod Command
@@ -7,6 +8,7 @@ pub mod Ends
 pub mod Fixity
 pub mod Parts
 pub mod Program
+pub mod Reads
 pub mod Running
 pub mod Salvage
 pub mod Stored

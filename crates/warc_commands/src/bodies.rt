@@ -4,6 +4,7 @@ ghost use Rattle.warc_commands.specs.Bodies.{BodyEnds, body_line, body_status};
 ghost use Rattle.warc_commands.specs.Devices.{devices};
 ghost use Rattle.warc_commands.specs.Parts.{position_of};
 ghost use Rattle.warc_commands.specs.Program.{Tells};
+ghost use Rattle.warc_commands.specs.Reads.{AsksNear};
 
 use crate::giving::tell_replay;
 use crate::parts::position_of;
@@ -31,6 +32,7 @@ where
 
     // The source still holds what it held.
     ensures kept { (S.tapped result.1).holds ≡ (S.tapped source).holds }
+    ensures reads { AsksNear (S.tapped source) (S.tapped result.1) }
 {
     match position_of(position.as_bytes()) {
         Some(position) => body_at(alloc, position, source, out, err),
@@ -53,6 +55,7 @@ where
 
     // The source still holds what it held.
     ensures kept { (S.tapped result.1).holds ≡ (S.tapped source).holds }
+    ensures reads { AsksNear (S.tapped source) (S.tapped result.1) }
 {
     let mut archive = match Archive::open(alloc, source) {
         Ok(archive) => archive,

@@ -2,6 +2,7 @@
 ghost use Rattle.std.specs.Prelude.{◌≡◌, ◌⊎◌};
 ghost use Rattle.warc_commands.specs.Devices.{devices};
 ghost use Rattle.warc_commands.specs.Fixity.{FixityEnds, fixity_status};
+ghost use Rattle.warc_commands.specs.Reads.{ReadsTimes};
 
 use crate::program::{DONE, FOUND, tell_cut, tell_refusal};
 use std::alloc::Allocator;
@@ -38,6 +39,7 @@ where
 
     // The source still holds what it held.
     ensures kept { (S.tapped result.1).holds ≡ (S.tapped source).holds }
+    ensures reads { ReadsTimes 1 (S.tapped source) (S.tapped result.1) }
 {
     let fixity = match Fixity::open(alloc, source) {
         Ok(fixity) => fixity,

@@ -1,11 +1,14 @@
 //! What the program does to write one record, made of a file.
 ghost use Rattle.std.specs.Option.{IfSome};
-ghost use Rattle.std.specs.Prelude.{◌≡◌, ℕ, ◌+◌, ◌<◌, nat_lt, List, length, take, Err, Some, is_none, IfOk, IfErr};
+ghost use Rattle.std.specs.Prelude.{◌≡◌, ℕ, ◌+◌, ◌<◌, nat_lt, List, length, take, Err, Some, is_err, is_none, IfOk, IfErr};
 ghost use Rattle.warc_frame.specs.Failing.{HasFailedBy};
 ghost use Rattle.warc_frame.specs.Record.{max_block};
 ghost use Rattle.warc_write.specs.Making.{Makes, made, make_fault_text};
+ghost use Rattle.warc_commands.specs.Asking.{AsksFar, ReadsFront};
 ghost use Rattle.warc_commands.specs.Devices.{devices};
 ghost use Rattle.warc_commands.specs.Program.{IsUnsent, MakeEnds, Tells, plan_of, told_line};
+ghost use Rattle.warc_commands.specs.Reads.{ReadsForRecord};
+ghost use Rattle.warc_frame.specs.Ranges.{IsReadAt};
 
 use crate::program::{DONE, FAILED, line_of, tell, tell_cut};
 use crate::words::Draft;
@@ -30,6 +33,7 @@ fn read_through<S: Source, A: Allocator>(
     ensures kept { (S.tapped source.new).holds ≡ (S.tapped source.old).holds }
     ensures failed { HasFailedBy result (S.tapped source.old).faults (S.tapped source.new).faults }
     ensures unsent { IfErr result IsUnsent }
+    ensures reads { ReadsFront most (length buf.old) (S.tapped source.old) (S.tapped source.new) }
 {
     let mut read = Vec::new(alloc);
     'reading: while (read.len() as u64) < most {
@@ -61,6 +65,7 @@ pub(crate) fn read_front<S: Source, A: Allocator + Copy>(
     ensures kept { (S.tapped source.new).holds ≡ (S.tapped source.old).holds }
     ensures failed { HasFailedBy result (S.tapped source.old).faults (S.tapped source.new).faults }
     ensures unsent { IfErr result IsUnsent }
+    ensures reads { ReadsFront most 65536 (S.tapped source.old) (S.tapped source.new) }
 {
     let Ok(mut buf) = vec![in alloc; 0u8; PIECE] else {
         return Err(OutFault::Memory(0));
@@ -75,6 +80,7 @@ fn has_byte_at<S: Source>(source: &mut S, at: u64) -> Result<bool, OutFault>
     ensures kept { (S.tapped source.new).holds ≡ (S.tapped source.old).holds }
     ensures failed { HasFailedBy result (S.tapped source.old).faults (S.tapped source.new).faults }
     ensures unsent { IfErr result IsUnsent }
+    ensures read { IsReadAt at 1 (is_err result) (S.tapped source.old) (S.tapped source.new) }
 {
     let mut byte = [0u8];
     match source.read_at(at, &mut byte) {
@@ -91,6 +97,7 @@ fn is_long<S: Source>(source: &mut S) -> Result<bool, OutFault>
     ensures kept { (S.tapped source.new).holds ≡ (S.tapped source.old).holds }
     ensures failed { HasFailedBy result (S.tapped source.old).faults (S.tapped source.new).faults }
     ensures unsent { IfErr result IsUnsent }
+    ensures reads { AsksFar (S.tapped source.old) (S.tapped source.new) }
 {
     let mut at = PIECE as u64;
     'asking: while at < MAX_BLOCK {
@@ -114,6 +121,7 @@ fn read_block<S: Source, A: Allocator + Copy>(
     ensures kept { (S.tapped source.new).holds ≡ (S.tapped source.old).holds }
     ensures failed { HasFailedBy result (S.tapped source.old).faults (S.tapped source.new).faults }
     ensures unsent { IfErr result IsUnsent }
+    ensures reads { ReadsForRecord (S.tapped source.old) (S.tapped source.new) }
 {
     if is_long(source)? {
         return Ok(None);
@@ -172,6 +180,7 @@ where
 
     // The source still holds what it held.
     ensures kept { (S.tapped result.1).holds ≡ (S.tapped source).holds }
+    ensures reads { ReadsForRecord (S.tapped source) (S.tapped result.1) }
 {
     let mut source = source;
     let block = match read_block(alloc, &mut source) {

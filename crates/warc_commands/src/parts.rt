@@ -2,6 +2,7 @@
 ghost use Rattle.std.specs.Prelude.{◌≡◌};
 ghost use Rattle.warc_commands.specs.Devices.{devices};
 ghost use Rattle.warc_commands.specs.Parts.{PartEnds, position_of};
+ghost use Rattle.warc_commands.specs.Reads.{ReadsTimes};
 
 use crate::giving::tell_extract;
 use crate::program::{FAILED, tell, tell_refusal};
@@ -39,6 +40,7 @@ where
 
     // The source still holds what it held.
     ensures kept { (S.tapped result.1).holds ≡ (S.tapped source).holds }
+    ensures reads { ReadsTimes 2 (S.tapped source) (S.tapped result.1) }
 {
     let Some(position) = position_of(position.as_bytes()) else {
         tell("warc: bad position\n", err);

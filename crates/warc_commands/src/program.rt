@@ -5,6 +5,7 @@ ghost use Rattle.warc_frame.specs.Send.{sent_of};
 ghost use Rattle.warc_commands.specs.Ends.{Ends, IsStatusOf, writes_front};
 ghost use Rattle.warc_commands.specs.Program.{CheckEnds, FaultEnds, IsShown, ListEnds, Tells, WriteEnds, fault_line, status_of_kind, told_line};
 ghost use Rattle.warc_commands.specs.Devices.{devices};
+ghost use Rattle.warc_commands.specs.Reads.{CommandReads, ReadsTimes};
 ghost use Rattle.warc.specs.Forms.{texts_as};
 
 use crate::bodies::body;
@@ -62,6 +63,9 @@ where
 
     // The source still holds what it held.
     ensures kept { (S.tapped result.1).holds ≡ (S.tapped source).holds }
+
+    // What it asks of the source.
+    ensures reads { CommandReads command.now (S.tapped source) (S.tapped result.1) }
 
     // Nothing is written where the archive is refused, whatever the source holds, but by `salvage`.
     ensures refused { writes_front command.now ≡ false → result.0 ≡ 2 → ((W.seen out.new).tells ≡
@@ -122,6 +126,7 @@ where
 
     // The source still holds what it held.
     ensures kept { (S.tapped result.1).holds ≡ (S.tapped source).holds }
+    ensures reads { ReadsTimes 1 (S.tapped source) (S.tapped result.1) }
 {
     let listing = match Listing::open(alloc, source) {
         Ok(listing) => listing,
@@ -144,6 +149,7 @@ where
 
     // The source still holds what it held.
     ensures kept { (S.tapped result.1).holds ≡ (S.tapped source).holds }
+    ensures reads { ReadsTimes 1 (S.tapped source) (S.tapped result.1) }
 {
     let checked = match Checked::open(alloc, source) {
         Ok(checked) => checked,
@@ -167,6 +173,7 @@ where
 
     // The source still holds what it held.
     ensures kept { (S.tapped result.1).holds ≡ (S.tapped source).holds }
+    ensures reads { ReadsTimes 2 (S.tapped source) (S.tapped result.1) }
 {
     let mut archive = match Listing::open(alloc, source) {
         Ok(archive) => archive,

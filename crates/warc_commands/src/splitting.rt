@@ -2,6 +2,7 @@
 ghost use Rattle.std.specs.Prelude.{◌≡◌, ◌⊎◌};
 ghost use Rattle.warc_commands.specs.Devices.{devices};
 ghost use Rattle.warc_commands.specs.Program.{SplitEnds, size_of};
+ghost use Rattle.warc_commands.specs.Reads.{ReadsTimes};
 
 use crate::program::{DONE, FAILED, tell, tell_cut, tell_refusal};
 use std::alloc::Allocator;
@@ -37,6 +38,7 @@ where
 
     // The source still holds what it held.
     ensures kept { (S.tapped result.1).holds ≡ (S.tapped source).holds }
+    ensures reads { ReadsTimes 3 (S.tapped source) (S.tapped result.1) }
 {
     let Some(size) = size_of(size.as_bytes()) else {
         tell("warc: bad size\n", err);

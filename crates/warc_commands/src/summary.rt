@@ -1,6 +1,7 @@
 //! The command that says what an archive holds.
 ghost use Rattle.std.specs.Prelude.{◌≡◌};
 ghost use Rattle.warc_commands.specs.Devices.{devices};
+ghost use Rattle.warc_commands.specs.Reads.{ReadsTimes};
 ghost use Rattle.warc_commands.specs.Summaries.{SummaryEnds};
 
 use crate::program::{DONE, tell_cut, tell_refusal};
@@ -20,6 +21,7 @@ where
 
     // The source still holds what it held.
     ensures kept { (S.tapped result.1).holds ≡ (S.tapped source).holds }
+    ensures reads { ReadsTimes 1 (S.tapped source) (S.tapped result.1) }
 {
     let summarized = match Summarized::open(alloc, source) {
         Ok(summarized) => summarized,

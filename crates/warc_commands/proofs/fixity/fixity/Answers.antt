@@ -4,6 +4,7 @@ use Rattle.warc_frame.specs.Send.{sent_of}
 use Rattle.warc_commands.specs.Fixity.{fixity_status}
 use Rattle.warc_commands.specs.Program.{told_line}
 use Rattle.warc_commands.proofs.ProgramLemmas.{not_opened, told_as}
+use Rattle.warc_commands.proofs.ReadLemmas.{opened}
 use Rattle.warc_commands.proofs.fixity.fixity.Goals as goal
 
 pub returns-in-Err-clause-ends : goal.returns-in-Err-clause-ends
@@ -34,3 +35,12 @@ returns-in-Err-list-clause-ends g c = inr (inr (record {
   told = told_as (ap (λ e. told_line (out_fault_text e)) c.in-Err-list.ensures.write) c.tell_cut.ensures.told;
   status_is = c.tell_cut.ensures.status;
 }))
+
+pub returns-in-Err-clause-reads : goal.returns-in-Err-clause-reads
+returns-in-Err-clause-reads g c = opened c.in-Err.ensures refl
+
+pub returns-in-Ok-list-clause-reads : goal.returns-in-Ok-list-clause-reads
+returns-in-Ok-list-clause-reads g c = opened c.in-Ok.ensures (ap (λ s. g.S.Source.tapped s) c.into_source.ensures)
+
+pub returns-in-Err-list-clause-reads : goal.returns-in-Err-list-clause-reads
+returns-in-Err-list-clause-reads g c = opened c.in-Ok.ensures (ap (λ s. g.S.Source.tapped s) c.into_source-in-Err-list.ensures)

@@ -1,6 +1,8 @@
-use Rattle.std.proofs.Common.{inl, inr, sym, ap, ◌∙◌}
+use Rattle.std.proofs.Common.{inl, inr, refl, sym, ap, ◌∙◌}
 use Rattle.warc.specs.Parts.{extract_result}
 use Rattle.warc_commands.proofs.ProgramLemmas.{failed_as, may_have_failed_as, not_opened}
+use Rattle.warc.specs.declared.part.Part.TheVariants.{Block}
+use Rattle.warc_commands.proofs.ReadLemmas.{opened, part_read, twice_at_most}
 use Rattle.warc_commands.proofs.giving.extract.Goals as goal
 
 pub returns-in-Err-clause-ends : goal.returns-in-Err-clause-ends
@@ -23,3 +25,11 @@ returns-clause-ends g c = inl (record {
   told = c.tell_extract.ensures.told;
   status_is = c.tell_extract.ensures.status;
 })
+
+pub returns-in-Err-clause-reads : goal.returns-in-Err-clause-reads
+returns-in-Err-clause-reads g c = twice_at_most (opened c.in-Err.ensures refl)
+
+pub returns-clause-reads : goal.returns-clause-reads
+returns-clause-reads g c =
+    let (place, reads) = c.extract-answer.ensures.extracts.near in
+    part_read c.in-Ok.archive.listing.rows (λ bytes is. is.listed) c.in-Ok.ensures (ap (λ s. g.S.Source.tapped s) c.into_source.ensures) Block place reads

@@ -1,7 +1,8 @@
-use Rattle.std.proofs.Common.{inl, inr, sym, ap, ◌∙◌}
+use Rattle.std.proofs.Common.{inl, inr, refl, sym, ap, ◌∙◌}
 use Rattle.warc_answer.specs.Replays.{out_result}
 use Rattle.warc_reading.specs.Archive.{contents}
 use Rattle.warc_commands.proofs.ProgramLemmas.{failed_as, good_records_of, may_have_failed_as, not_opened}
+use Rattle.warc_commands.proofs.ReadLemmas.{opened, replay_near}
 use Rattle.warc_commands.proofs.giving.replay_as_of.Goals as goal
 
 pub returns-in-Err-clause-ends : goal.returns-in-Err-clause-ends
@@ -24,3 +25,9 @@ returns-clause-ends g c = inl (record {
   told = c.tell_replay.ensures.told;
   status_is = c.tell_replay.ensures.status;
 })
+
+pub returns-in-Err-clause-reads : goal.returns-in-Err-clause-reads
+returns-in-Err-clause-reads g c = (opened c.in-Err.ensures refl).near
+
+pub returns-clause-reads : goal.returns-clause-reads
+returns-clause-reads g c = replay_near c.in-Ok.ensures (ap (λ s. g.S.Source.tapped s) c.into_source.ensures) c.replay-answer.ensures.replays.inside

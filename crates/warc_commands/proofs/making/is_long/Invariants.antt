@@ -1,13 +1,15 @@
-use Rattle.std.proofs.Common.{◌≡◌, ◌-◌, ◌<◌}
+use Rattle.std.proofs.Common.{◌≡◌, ◌-◌, ◌≤◌}
 use Rattle.warc_frame.specs.Record.{max_block}
+use Rattle.warc_commands.specs.Asking.{HasAsked}
 use Rattle.warc_commands.proofs.making.is_long.Given as goal
 
 -- no read has failed
 abbrev pub invariant-asking : goal.invariant-asking
 invariant-asking g l = record {
-  some : 0 < l.at;
+  some : 65536 ≤ l.at;
   kept : (g.S.Source.tapped l.source).holds ≡ (g.S.Source.tapped l.fn.source).holds;
   sound : (g.S.Source.tapped l.source).faults ≡ (g.S.Source.tapped l.fn.source).faults;
+  asked : HasAsked l.at (g.S.Source.tapped l.fn.source) (g.S.Source.tapped l.source);
 }
 
 abbrev pub decreases-asking : goal.decreases-asking

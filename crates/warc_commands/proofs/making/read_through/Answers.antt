@@ -1,5 +1,6 @@
 use Rattle.std.proofs.Common.{◌≡◌, ◌<◌, ◌≤◌, length, take, drop, ap, ◌∙◌, arith, length-append, length-take}
 use Rattle.warc_commands.proofs.MakingLemmas.{ended, read_all, read_more, read_most}
+use Rattle.warc_commands.proofs.ReadLemmas.{front_done, front_last, front_more, front_within}
 use Rattle.warc_commands.proofs.making.read_through.Goals as goal
 use Rattle.warc_commands.proofs.making.read_through.Goals.{else-reading-test, then-reading-test+in-Ok+then-n-eq0}
 
@@ -28,6 +29,11 @@ reading-preserved g c =
           (gives.same ∙ ap (λ k. take c.in-Ok.n (drop k bytes)) at);
       kept = c.in-Ok.ensures.kept ∙ c.reading.invariant.kept;
       sound = c.in-Ok.ensures.cause ∙ c.reading.invariant.sound;
+      asked = front_more c.args.most (length c.args.buf.now) items _ _ (g.S.Source.tapped c.read_at.new.self) c.len-in-reading-2.result (length (take c.min-want.result c.reading.buf)) c.reading.invariant.asked
+          c.in-Ok.ensures.watched c.in-Ok.ensures.counted c.in-Ok.ensures.asks at
+          (omega (arith, at, length-take c.min-want.result c.reading.buf, c.min-want.ensures, c.len-in-reading.ensures, c.reading-test.true, c.len.ensures))
+          (omega (arith, length-take c.min-want.result c.reading.buf, c.reading.auto.buf)) (λ bytes held. front_within bytes items (c.reading.invariant.bytes bytes held)) _
+          (omega (arith, ap (λ l. length l) more, length-append items (take c.in-Ok.n c.read_at.new.buf), length-take c.in-Ok.n c.read_at.new.buf, c.in-Ok.ensures.bound, c.if-n-eq0.false));
     }
 
 pub returns-clause-bytes : goal.returns-clause-bytes
@@ -53,3 +59,34 @@ returns-clause-failed g c = elim c.reading-test.branch [
   | else-reading-test w ↦ ap (λ s. (g.S.Source.tapped s).faults) w.source-is ∙ c.reading.invariant.sound
   | then-reading-test+in-Ok+then-n-eq0 w ↦ ap (λ s. (g.S.Source.tapped s).faults) w.source-is ∙ (w.in-Ok.ensures.cause ∙ c.reading.invariant.sound)
 ]
+
+pub returns-in-Err-clause-reads : goal.returns-in-Err-clause-reads
+returns-in-Err-clause-reads g c =
+    let items = c.reading.read.items in
+    let at : c.len-in-reading-2.result ≡ length items = omega (arith, c.len-in-reading-2.ensures) in
+    front_last c.args.most (length c.args.buf.now) items _ _ (g.S.Source.tapped c.read_at.new.self) c.len-in-reading-2.result (length (take c.min-want.result c.reading.buf)) c.reading.invariant.asked
+    c.in-Err.ensures.watched c.in-Err.ensures.counted c.in-Err.ensures.asks at
+    (omega (arith, at, length-take c.min-want.result c.reading.buf, c.min-want.ensures, c.len-in-reading.ensures, c.reading-test.true, c.len.ensures))
+    (omega (arith, length-take c.min-want.result c.reading.buf, c.reading.auto.buf)) (λ bytes held. front_within bytes items (c.reading.invariant.bytes bytes held))
+
+pub returns-in-Err-extend_from_slice-clause-reads : goal.returns-in-Err-extend_from_slice-clause-reads
+returns-in-Err-extend_from_slice-clause-reads g c =
+    let items = c.reading.read.items in
+    let at : c.len-in-reading-2.result ≡ length items = omega (arith, c.len-in-reading-2.ensures) in
+    front_last c.args.most (length c.args.buf.now) items _ _ (g.S.Source.tapped c.read_at.new.self) c.len-in-reading-2.result (length (take c.min-want.result c.reading.buf)) c.reading.invariant.asked
+    c.in-Ok.ensures.watched c.in-Ok.ensures.counted c.in-Ok.ensures.asks at
+    (omega (arith, at, length-take c.min-want.result c.reading.buf, c.min-want.ensures, c.len-in-reading.ensures, c.reading-test.true, c.len.ensures))
+    (omega (arith, length-take c.min-want.result c.reading.buf, c.reading.auto.buf)) (λ bytes held. front_within bytes items (c.reading.invariant.bytes bytes held))
+
+pub returns-clause-reads : goal.returns-clause-reads
+returns-clause-reads g c =
+    let items = c.reading.read.items in
+    elim c.reading-test.branch [
+      | else-reading-test w ↦ rw w.source-is (front_done c.args.most (length c.args.buf.now) items _ _ c.reading.invariant.asked (λ bytes held. front_within bytes items (c.reading.invariant.bytes bytes held)))
+      | then-reading-test+in-Ok+then-n-eq0 w ↦
+          let at : w.len-in-reading-2.result ≡ length items = omega (arith, w.len-in-reading-2.ensures) in
+          rw w.source-is (front_last c.args.most (length c.args.buf.now) items _ _ (g.S.Source.tapped w.read_at.new.self) w.len-in-reading-2.result (length (take w.min-want.result c.reading.buf)) c.reading.invariant.asked
+          w.in-Ok.ensures.watched w.in-Ok.ensures.counted w.in-Ok.ensures.asks at
+          (omega (arith, at, length-take w.min-want.result c.reading.buf, w.min-want.ensures, w.len-in-reading.ensures, w.reading-test.true, c.len.ensures))
+          (omega (arith, length-take w.min-want.result c.reading.buf, c.reading.auto.buf)) (λ bytes held. front_within bytes items (c.reading.invariant.bytes bytes held)))
+    ]

@@ -1,4 +1,5 @@
 use Rattle.std.proofs.Common.{◌≡◌, ℕ, ◌≤◌, ◌-◌, List, length, take, Some}
+use Rattle.warc_commands.specs.Asking.{HasReadFront}
 use Rattle.warc_commands.proofs.making.read_through.Given as goal
 
 -- the bytes so far were read, and no read has failed
@@ -8,6 +9,7 @@ invariant-reading g l = record {
   bytes : (bytes : List ℕ) → (g.S.Source.tapped l.fn.source).holds ≡ Some bytes → l.read.items ≡ take (length l.read.items) bytes;
   kept : (g.S.Source.tapped l.source).holds ≡ (g.S.Source.tapped l.fn.source).holds;
   sound : (g.S.Source.tapped l.source).faults ≡ (g.S.Source.tapped l.fn.source).faults;
+  asked : HasReadFront l.most (length l.fn.buf) l.read.items (g.S.Source.tapped l.fn.source) (g.S.Source.tapped l.source);
 }
 
 abbrev pub decreases-reading : goal.decreases-reading

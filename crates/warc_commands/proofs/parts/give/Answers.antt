@@ -1,9 +1,10 @@
-use Rattle.std.proofs.Common.{◌≡◌, ℕ, List, Option, Some, inl, inr, sym, ap, subst, ◌∙◌}
+use Rattle.std.proofs.Common.{◌≡◌, ℕ, List, Option, Some, inl, inr, refl, sym, ap, subst, ◌∙◌}
 use Rattle.warc.specs.Parts.{extract_result}
 use Rattle.warc.specs.declared.part.Part.{Part}
 use Rattle.warc_commands.specs.Devices.{Devices}
 use Rattle.warc_commands.specs.Parts.{PartEnds, position_of}
 use Rattle.warc_commands.proofs.ProgramLemmas.{failed_as, may_have_failed_as, not_opened}
+use Rattle.warc_commands.proofs.ReadLemmas.{opened, part_read, twice_at_most, unread}
 use Rattle.warc_commands.proofs.parts.give.Goals as goal
 
 part_by : (part : Part) (word : List ℕ) (n : ℕ) (old new : Devices) (status : ℕ) → Some n ≡ position_of word → PartEnds part (Some n) old new status → PartEnds part (position_of word) old new status
@@ -33,3 +34,13 @@ returns-clause-ends g c =
       told = c.tell_extract.ensures.told;
       status_is = c.tell_extract.ensures.status;
     }))
+
+pub returns-in_default-clause-reads : goal.returns-in_default-clause-reads
+returns-in_default-clause-reads g c = twice_at_most (unread _)
+
+pub returns-in-Err-clause-reads : goal.returns-in-Err-clause-reads
+returns-in-Err-clause-reads g c = twice_at_most (opened c.in-Err.ensures refl)
+
+pub returns-clause-reads : goal.returns-clause-reads
+returns-clause-reads g c =
+    part_read c.in-Ok.archive.rows (λ bytes is. is) c.in-Ok.ensures (ap (λ s. g.S.Source.tapped s) c.into_source.ensures) c.args.part c.in-Some.position c.part_to-answer.ensures.gives.reads

@@ -3,6 +3,7 @@ use Rattle.warc_reading.specs.Archive.{contents}
 use Rattle.warc_checking.specs.Checking.{findings_of_archive}
 use Rattle.warc_commands.proofs.ProgramLemmas.{good_records_of, not_opened, status_by}
 use Rattle.warc_checking.proofs.RecordsLemmas.{unread}
+use Rattle.warc_commands.proofs.ReadLemmas.{opened}
 use Rattle.warc_commands.proofs.program.check.Goals as goal
 
 pub returns-in-Err-clause-ends : goal.returns-in-Err-clause-ends
@@ -48,3 +49,12 @@ returns-in-Err-check-clause-ends g c =
       unread = c.in-Err-check.ensures.unread;
       sound = same;
     }))
+
+pub returns-in-Err-clause-reads : goal.returns-in-Err-clause-reads
+returns-in-Err-clause-reads g c = opened c.in-Err.ensures refl
+
+pub returns-in-Ok-check-clause-reads : goal.returns-in-Ok-check-clause-reads
+returns-in-Ok-check-clause-reads g c = opened c.in-Ok.ensures (ap (λ s. g.S.Source.tapped s) c.into_source.ensures)
+
+pub returns-in-Err-check-clause-reads : goal.returns-in-Err-check-clause-reads
+returns-in-Err-check-clause-reads g c = opened c.in-Ok.ensures (ap (λ s. g.S.Source.tapped s) c.into_source-in-Err-check.ensures)
