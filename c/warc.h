@@ -40,8 +40,14 @@
  * MEMORY comes from malloc, realloc and free. If it runs out, the answer is WARC_FAULT_MEMORY or WARC_NO_MEMORY, and the
  * archive stays as it was. An archive keeps rows and an index, and no block: 230 bytes for each record of a crawl by wget.
  *
- * PROVED. The calls over a handle pass on what library functions with proved contracts answer (docs/PROMISES.md). What this
- * page demands of the caller isn't checked by anybody, and warc.c, which checks pointers, isn't proved.
+ * PROVED. A call over a handle is one call of a library function whose contract says what is answered and what is put into
+ * the buffers: put_row, put_captures, put_replay, put_body, put_list or put_check of the crate warc_lent, count or grow of
+ * warc. Around it the archive is taken out of the handle and put back, and a problem becomes numbers. warc_head_at,
+ * warc_block_at and warc_verdict_at take theirs from the row. warc_open, warc_fixity, warc_problem_text and
+ * warc_abi_version state their contracts themselves; warc_open answers true only for bytes that spell good records, and
+ * otherwise gives their first fault, or says that memory ran out. No contract says that a handle holds the archive that was
+ * opened: contracts see no value of a struct that C keeps (docs/PROMISES.md). What this page demands of the caller isn't
+ * checked by anybody, and warc.c, which checks pointers, isn't proved.
  */
 #ifndef WARC_H
 #define WARC_H

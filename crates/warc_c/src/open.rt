@@ -1,13 +1,22 @@
 //! Archives that stay open between calls, over bytes that C keeps where they are.
-use crate::problems::{WarcProblem, report};
+ghost use Rattle.std.specs.Prelude.{box_value, IfErr, IfOk};
+ghost use Rattle.std.specs.Bool.{OnFalse, OnTrue};
+ghost use Rattle.warc_reading.specs.Indexed.{IsIndexed};
+ghost use Rattle.warc_lent.specs.Texts.{IsRefusedFor};
+ghost use Rattle.warc_c.specs.Answered.{IsArchive, IsRefusedBy};
+
+use crate::problems::report;
 use std::alloc::Global;
 use warc::Archive;
 use warc_frame::SliceSource;
 use warc_handle::{Open, WarcArchive};
-use warc_lent::Problem;
+use warc_lent::{Numbers, Problem};
 
 /// An archive over these bytes, in a box.
-fn open_box(alloc: Global, bytes: &'static [u8]) -> Result<Box<Open>, Problem> {
+fn open_box(alloc: Global, bytes: &'static [u8]) -> Result<Box<Open>, Problem>
+    ensures opened { IfOk result (λ archive. IsIndexed bytes.now (box_value archive)) }
+    ensures refused { IfErr result (IsRefusedFor bytes.now) }
+{
     let archive = match Archive::open(alloc, SliceSource::new(bytes)) {
         Ok(archive) => archive,
         Err((fault, _source)) => return Err(Problem::Fault(fault)),
@@ -24,8 +33,11 @@ pub extern "C" fn warc_rt_open(
     alloc: Global,
     handle: &mut WarcArchive,
     bytes: &'static [u8],
-    problem: &mut WarcProblem,
-) -> bool {
+    problem: &mut Numbers,
+) -> bool
+    ensures opened { OnTrue result (IsArchive bytes.now) }
+    ensures refused { OnFalse result (IsRefusedBy bytes.now problem.new) }
+{
     drop(handle.take(alloc));
     match open_box(alloc, bytes) {
         Ok(archive) => {
@@ -45,7 +57,7 @@ pub extern "C" fn warc_rt_grow(
     alloc: Global,
     handle: &mut WarcArchive,
     bytes: &'static [u8],
-    problem: &mut WarcProblem,
+    problem: &mut Numbers,
 ) -> bool {
     let Some(mut archive) = handle.take(alloc) else {
         report(Problem::NotOpen, problem);

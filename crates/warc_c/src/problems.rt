@@ -1,32 +1,33 @@
 //! Problems, as C sees them.
 ghost use Rattle.std.specs.Prelude.{◌≡◌};
 ghost use Rattle.warc_lent.specs.Problems.{problem_numbers};
+ghost use Rattle.warc_lent.specs.Texts.{IsProblemPut};
+ghost use Rattle.warc_c.specs.Answered.{IsAnswered};
 
 use std::alloc::Global;
-use warc_lent::{Numbers, Problem, problem_text, put_text};
+use warc_lent::{Numbers, Problem, put_problem};
 
 /// The version of what C sees: its calls, structs and numbers.
 const ABI: u32 = 1;
 
-/// A problem as numbers, all 0 if there is none.
-#[repr(C)]
-#[derive(Drop)]
-pub struct WarcProblem {
-    pub code: u32,
-    pub detail: u32,
-    pub number: u64,
-}
-
-/// Puts the numbers where C looks for them.
-fn put_numbers(numbers: Numbers, out: &mut WarcProblem) {
-    out.code = numbers.code;
-    out.detail = numbers.detail;
-    out.number = numbers.number;
-}
-
 /// Reports a problem.
-pub(crate) fn report(problem: Problem, out: &mut WarcProblem) {
-    put_numbers(problem.numbers(), out);
+pub(crate) fn report(problem: Problem, out: &mut Numbers)
+    ensures { out.new ≡ problem_numbers problem }
+{
+    *out = problem.numbers();
+}
+
+/// The number that a call answers; 0 where there is a problem, which is reported.
+pub(crate) fn number_or_report(answer: Result<usize, Problem>, out: &mut Numbers) -> usize
+    ensures { IsAnswered answer result out.old out.new }
+{
+    match answer {
+        Ok(number) => number,
+        Err(problem) => {
+            report(problem, out);
+            0
+        }
+    }
 }
 
 /// The version of what C sees.
@@ -40,21 +41,8 @@ pub extern "C" fn warc_rt_abi_version() -> u32
 /// Puts the text of a problem into a buffer, as much as there is room for, and answers its length; 0 where no problem
 /// has these numbers.
 #[unsafe(no_mangle)]
-pub extern "C" fn warc_rt_problem_text(
-    alloc: Global,
-    problem: &WarcProblem,
-    out: &mut [u8],
-) -> usize {
-    let numbers = Numbers {
-        code: problem.code,
-        detail: problem.detail,
-        number: problem.number,
-    };
-    let Some(problem) = Problem::of(numbers) else {
-        return 0;
-    };
-    match problem_text(alloc, problem) {
-        Ok(text) => put_text(text.as_slice(), out),
-        Err(_) => 0,
-    }
+pub extern "C" fn warc_rt_problem_text(alloc: Global, problem: &Numbers, out: &mut [u8]) -> usize
+    ensures { IsProblemPut problem.now result out.old out.new }
+{
+    put_problem(alloc, *problem, out)
 }

@@ -1,23 +1,10 @@
 //! Texts that C asks for whole: listings, findings, and how blocks compare with their digests.
-use crate::problems::{WarcProblem, report};
+ghost use Rattle.warc_c.specs.Answered.{AnswersFixity};
+
+use crate::problems::{number_or_report, report};
 use std::alloc::Global;
 use warc_handle::WarcArchive;
-use warc_lent::{Problem, check_text, fixity_text, list_text, put_text};
-
-/// Puts a text as far as there is room, or reports why there is none. The answer is the text's length.
-fn put_or_report(
-    text: Result<Vec<u8>, Problem>,
-    out: &mut [u8],
-    problem: &mut WarcProblem,
-) -> usize {
-    match text {
-        Ok(text) => put_text(text.as_slice(), out),
-        Err(refusal) => {
-            report(refusal, problem);
-            0
-        }
-    }
-}
+use warc_lent::{Numbers, Problem, put_check, put_fixity, put_list};
 
 /// The lines that `warc list` writes.
 #[unsafe(no_mangle)]
@@ -25,15 +12,15 @@ pub extern "C" fn warc_rt_list(
     alloc: Global,
     handle: &mut WarcArchive,
     out: &mut [u8],
-    problem: &mut WarcProblem,
+    problem: &mut Numbers,
 ) -> usize {
     let Some(archive) = handle.take(alloc) else {
         report(Problem::NotOpen, problem);
         return 0;
     };
-    let text = list_text(alloc, &archive);
+    let answer = put_list(alloc, &archive, out);
     handle.put(archive, alloc);
-    put_or_report(text, out, problem)
+    number_or_report(answer, problem)
 }
 
 /// The lines that `warc check` writes.
@@ -42,15 +29,15 @@ pub extern "C" fn warc_rt_check(
     alloc: Global,
     handle: &mut WarcArchive,
     out: &mut [u8],
-    problem: &mut WarcProblem,
+    problem: &mut Numbers,
 ) -> usize {
     let Some(mut archive) = handle.take(alloc) else {
         report(Problem::NotOpen, problem);
         return 0;
     };
-    let text = check_text(alloc, &mut archive);
+    let answer = put_check(alloc, &mut archive, out);
     handle.put(archive, alloc);
-    put_or_report(text, out, problem)
+    number_or_report(answer, problem)
 }
 
 /// The lines that `warc fixity` writes of an archive of these bytes.
@@ -59,7 +46,10 @@ pub extern "C" fn warc_rt_fixity(
     alloc: Global,
     bytes: &[u8],
     out: &mut [u8],
-    problem: &mut WarcProblem,
-) -> usize {
-    put_or_report(fixity_text(alloc, bytes), out, problem)
+    problem: &mut Numbers,
+) -> usize
+    ensures { AnswersFixity bytes.now result out.old out.new problem.old problem.new }
+{
+    let answer = put_fixity(alloc, bytes, out);
+    number_or_report(answer, problem)
 }

@@ -1,1 +1,3 @@
-mod TextLemmas
+mod BodyLemmas
+pub mod BufferLemmas
+pub mod TextLemmas

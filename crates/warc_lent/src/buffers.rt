@@ -1,35 +1,58 @@
 //! What is put into buffers that callers lend.
-ghost use Rattle.std.specs.Prelude.{◌≡◌, length, min, take};
+ghost use Rattle.std.specs.Prelude.{◌≡◌, ◌++◌, ℕ, List, length, min, take};
+ghost use Rattle.warc_frame.specs.Count.{capped};
+ghost use Rattle.warc_lent.specs.Buffers.{HoldsFront};
 
-/// Puts the front of a text into a buffer, as much as it has room for, and answers the text's length.
-pub fn put_text(text: &[u8], out: &mut [u8]) -> usize
-    ensures whole { result ≡ length text.now }
+/// Copies as much of a text as a buffer has room for.
+fn copy_front(text: &[u8], out: &mut [u8])
     ensures front { take (min (length text.now) (length out.old)) out.new
         ≡ take (min (length text.now) (length out.old)) text.now }
     ensures room { length out.new ≡ length out.old }
 {
     let count = text.len().min(out.len());
     out[..count].copy_from_slice(&text[..count]);
+}
+
+/// Puts the front of a text into a buffer, as much as it has room for, and answers the text's length.
+pub fn put_text(text: &[u8], out: &mut [u8]) -> usize
+    ensures whole { result ≡ length text.now }
+    ensures front { HoldsFront text.now out.new }
+    ensures room { length out.new ≡ length out.old }
+{
+    copy_front(text, out);
     text.len()
 }
 
-/// Puts the front of a text into a buffer from an index on, as much as it has room for, and answers the index after the
-/// whole text.
-pub fn put_text_at(text: &[u8], at: usize, out: &mut [u8]) -> usize {
-    if at < out.len() {
-        put_text(text, &mut out[at..]);
-    }
+/// Puts a text into a buffer from an index on, as much as it has room for, and answers the index after the whole text,
+/// up to 2^64 - 1. So texts are put one after another: if the buffer holds the front of what comes before the index, it
+/// then holds the front of both.
+pub fn put_text_at(text: &[u8], at: usize, out: &mut [u8]) -> usize
+    ensures end { (before : List ℕ) → at ≡ capped (length before) → result ≡ capped (length (before ++ text.now)) }
+    ensures front { (before : List ℕ) → at ≡ capped (length before) → HoldsFront before out.old →
+        HoldsFront (before ++ text.now) out.new }
+    ensures room { length out.new ≡ length out.old }
+{
+    let from = at.min(out.len());
+    put_text(text, &mut out[from..]);
     at.saturating_add(text.len())
 }
 
-/// Puts the first positions into a buffer, as many as it has room for, and answers how many there are.
-pub fn put_positions(positions: &[usize], out: &mut [u64]) -> usize
-    ensures { result ≡ length positions.now }
+/// Copies as many positions as a buffer has room for.
+fn copy_positions(positions: &[usize], out: &mut [usize])
+    ensures front { take (min (length positions.now) (length out.old)) out.new
+        ≡ take (min (length positions.now) (length out.old)) positions.now }
+    ensures room { length out.new ≡ length out.old }
 {
-    for (index, position) in positions.iter().enumerate() {
-        if let Some(slot) = out.get_mut(index) {
-            *slot = *position as u64;
-        }
-    }
+    let count = positions.len().min(out.len());
+    out[..count].copy_from_slice(&positions[..count]);
+}
+
+/// Puts the first positions into a buffer, as many as it has room for, and answers how many there are.
+pub fn put_positions(positions: &[usize], out: &mut [usize]) -> usize
+    ensures number { result ≡ length positions.now }
+    ensures front { HoldsFront positions.now out.new }
+    ensures room { length out.new ≡ length out.old }
+{
+    copy_positions(positions, out);
     positions.len()
 }

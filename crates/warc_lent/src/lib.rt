@@ -1,11 +1,20 @@
-//! What callers in other languages ask of an archive over bytes that they lend: problems as numbers, and texts that
-//! they take whole.
+//! What callers in other languages ask of an archive over bytes that they lend: problems as numbers, rows, captures and
+//! bodies as numbers and texts in their buffers, and texts that they take whole.
 #![tactic(auto)]
 
+mod bodies;
 mod buffers;
+mod captures;
 mod problem;
+mod rows;
 mod texts;
 
+pub use bodies::{AnswerNumbers, SpanNumbers, put_body, put_replay, status_number};
 pub use buffers::{put_positions, put_text, put_text_at};
+pub use captures::put_captures;
 pub use problem::{Numbers, Problem};
-pub use texts::{check_text, fixity_text, list_text, problem_text};
+pub use rows::{RowNumbers, flag_of, put_row, put_row_texts, row_numbers};
+pub use texts::{
+    check_text, findings_text, fixity_text, list_text, problem_text, put_check, put_findings,
+    put_fixity, put_list, put_problem,
+};

@@ -1,5 +1,6 @@
 //! What goes wrong, as a value, as numbers and as a text.
-ghost use Rattle.std.specs.Prelude.{◌≡◌, Some};
+ghost use Rattle.std.specs.Prelude.{◌≡◌, IfSome, Some};
+ghost use Rattle.std.specs.Bool.{OnTrue};
 ghost use Rattle.warc_lent.specs.Problems.{fault_numbers, field_number, gap_numbers, kind_numbers, problem_numbers, problem_of_body, problem_of_out, problem_of_replay, problem_text, reason_numbers, unfound_code};
 
 use std::fmt;
@@ -60,6 +61,7 @@ impl fmt::Display for Problem {
 }
 
 /// A problem as numbers, for callers in other languages. No problem is all zeros.
+#[repr(C)]
 #[derive(Clone, Copy, Debug, PartialEq, Eq)]
 pub struct Numbers {
     /// 1 to 14 for F1 to F14, 101 to 110 for P1 to P10, and from 201 on what has no such number.
@@ -239,6 +241,37 @@ fn reason_numbers(reason: Reason) -> Numbers
     }
 }
 
+/// The problem with this code, by what else it says.
+fn coded(numbers: Numbers) -> Option<Problem> {
+    match numbers.code {
+        1..=14 => kind_of(numbers.code, numbers.detail).map(|kind| Problem::Fault(kind.at(
+            numbers.number,
+        ))),
+        101..=110 => reason_of(numbers.code, numbers.detail, numbers.number).map(Problem::Reason),
+        201 => Some(Problem::NoRecord),
+        202 => Some(Problem::NoCapture),
+        203 => Some(Problem::Changed),
+        204 => Some(Problem::Memory),
+        205 => Some(Problem::BadDate),
+        206 => Some(Problem::NotOpen),
+        207 => Some(Problem::BadArgument),
+        _ => None,
+    }
+}
+
+/// Whether both are the same numbers.
+fn are_same(a: Numbers, b: Numbers) -> bool
+    ensures { OnTrue result (a ≡ b) }
+{
+    if a.code != b.code {
+        return false;
+    }
+    if a.detail != b.detail {
+        return false;
+    }
+    a.number == b.number
+}
+
 impl Problem {
     /// Its numbers.
     pub fn numbers(self) -> Numbers
@@ -257,24 +290,23 @@ impl Problem {
         }
     }
 
-    /// The problem with these numbers.
-    pub fn of(numbers: Numbers) -> Option<Problem> {
-        match numbers.code {
-            1..=14 => kind_of(numbers.code, numbers.detail).map(|kind| Problem::Fault(kind.at(
-                numbers.number,
-            ))),
-            101..=110 => reason_of(numbers.code, numbers.detail, numbers.number).map(
-                Problem::Reason,
-            ),
-            201 => Some(Problem::NoRecord),
-            202 => Some(Problem::NoCapture),
-            203 => Some(Problem::Changed),
-            204 => Some(Problem::Memory),
-            205 => Some(Problem::BadDate),
-            206 => Some(Problem::NotOpen),
-            207 => Some(Problem::BadArgument),
-            _ => None,
+    /// The problem with these numbers, if there is one.
+    pub fn of(numbers: Numbers) -> Option<Problem>
+        ensures { IfSome result (λ problem. problem_numbers problem ≡ numbers) }
+    {
+        let problem = coded(numbers)?;
+        if are_same(problem.numbers(), numbers) {
+            Some(problem)
+        } else {
+            None
         }
+    }
+
+    /// Why no capture is found, or no origin.
+    pub fn of_unfound(unfound: Unfound) -> Problem
+        ensures { result ≡ Problem.Reason (Reason.NotFound unfound) }
+    {
+        Problem::Reason(Reason::NotFound(unfound))
     }
 
     /// Why an output that memory takes whole ends early.

@@ -1,13 +1,16 @@
 //! Texts that callers ask for whole.
-ghost use Rattle.std.specs.Prelude.{◌≡◌, IfErr, IfOk};
+ghost use Rattle.std.specs.Prelude.{◌≡◌, length, IfErr, IfOk, OnErr};
 ghost use Rattle.warc.specs.Listing.{listing};
+ghost use Rattle.warc_checking.specs.Checking.{check_text};
+ghost use Rattle.warc_reading.specs.Archive.{IsArchiveOf, contents};
 ghost use Rattle.warc_lent.specs.Problems.{problem_text};
 ghost use Rattle.warc_frame.specs.Seen.{IfHeld};
-ghost use Rattle.warc_lent.specs.Texts.{IsFindingsOf, IsFixityOf, IsRefusedFor};
+ghost use Rattle.warc_lent.specs.Texts.{AreFindingsOf, IsFindingsOf, IsFixityOf, IsProblemPut, IsTextPut, IsRefusedFor, PutsFindings, PutsFixity};
 
-use crate::problem::Problem;
+use crate::buffers::put_text;
+use crate::problem::{Numbers, Problem};
 use std::alloc::{AllocError, Allocator};
-use warc::{Archive, Fixity};
+use warc::{Archive, Checked, Fixity};
 use warc_frame::{MemSink, SliceSource, Source};
 
 /// The text of a problem.
@@ -62,5 +65,103 @@ pub fn fixity_text<A: Allocator + Copy>(alloc: A, bytes: &[u8]) -> Result<Vec<u8
     match fixity.list(&mut lines) {
         Ok(()) => Ok(lines.into_inner()),
         Err(fault) => Err(Problem::of_out(fault)),
+    }
+}
+
+/// The lines that `warc check` writes of these bytes.
+pub fn findings_text<A: Allocator + Copy>(alloc: A, bytes: &[u8]) -> Result<Vec<u8, A>, Problem>
+    ensures lines { IfOk result (λ text. AreFindingsOf bytes.now text.items) }
+    ensures refused { IfErr result (IsRefusedFor bytes.now) }
+{
+    let checked = match Checked::open(alloc, SliceSource::new(bytes)) {
+        Ok(checked) => checked,
+        Err((fault, _source)) => return Err(Problem::Fault(fault)),
+    };
+    let mut lines = MemSink::new(Vec::new(alloc));
+    match checked.check(&mut lines) {
+        Ok(_) => Ok(lines.into_inner()),
+        Err(fault) => Err(Problem::of_out(fault)),
+    }
+}
+
+/// Puts the text of the problem with these numbers, as far as there is room, and answers its length; 0 where no problem
+/// has these numbers, or memory runs out.
+pub fn put_problem<A: Allocator>(alloc: A, numbers: Numbers, out: &mut [u8]) -> usize
+    ensures put { IsProblemPut numbers result out.old out.new }
+    ensures room { length out.new ≡ length out.old }
+{
+    let Some(problem) = Problem::of(numbers) else {
+        return 0;
+    };
+    match problem_text(alloc, problem) {
+        Ok(text) => put_text(text.as_slice(), out),
+        Err(_) => 0,
+    }
+}
+
+/// Puts the lines that `warc list` writes of an archive, as far as there is room, and answers their length.
+pub fn put_list<A: Allocator + Copy, S: Source>(
+    alloc: A,
+    archive: &Archive<S, A>,
+    out: &mut [u8],
+) -> Result<usize, Problem>
+    ensures lines { IfOk result (λ answered. IsTextPut (listing archive.now.listing.rows) answered out.new) }
+    ensures same { OnErr result (out.new ≡ out.old) }
+    ensures room { length out.new ≡ length out.old }
+{
+    match list_text(alloc, archive) {
+        Ok(text) => Ok(put_text(text.as_slice(), out)),
+        Err(problem) => Err(problem),
+    }
+}
+
+/// Puts the lines that `warc check` writes of an archive, as far as there is room, and answers their length.
+pub fn put_check<A: Allocator + Copy, S: Source>(
+    alloc: A,
+    archive: &mut Archive<S, A>,
+    out: &mut [u8],
+) -> Result<usize, Problem>
+    ensures findings { IfOk result (λ answered. IfHeld (S.tapped archive.old.listing.source).holds (λ bytes.
+        (is : IsArchiveOf bytes archive.old.listing.rows) → IsTextPut (check_text (contents is.are.records)) answered
+        out.new)) }
+    ensures same { OnErr result (out.new ≡ out.old) }
+    ensures room { length out.new ≡ length out.old }
+    ensures rows { archive.new.listing.rows ≡ archive.old.listing.rows }
+    ensures index { archive.new.index ≡ archive.old.index }
+    ensures parts { archive.new.parts ≡ archive.old.parts }
+{
+    match check_text(alloc, archive) {
+        Ok(text) => Ok(put_text(text.as_slice(), out)),
+        Err(problem) => Err(problem),
+    }
+}
+
+/// Puts the lines that `warc fixity` writes of these bytes, as far as there is room, and answers their length.
+pub fn put_fixity<A: Allocator + Copy>(
+    alloc: A,
+    bytes: &[u8],
+    out: &mut [u8],
+) -> Result<usize, Problem>
+    ensures puts { PutsFixity bytes.now result out.old out.new }
+    ensures room { length out.new ≡ length out.old }
+{
+    match fixity_text(alloc, bytes) {
+        Ok(text) => Ok(put_text(text.as_slice(), out)),
+        Err(problem) => Err(problem),
+    }
+}
+
+/// Puts the lines that `warc check` writes of these bytes, as far as there is room, and answers their length.
+pub fn put_findings<A: Allocator + Copy>(
+    alloc: A,
+    bytes: &[u8],
+    out: &mut [u8],
+) -> Result<usize, Problem>
+    ensures puts { PutsFindings bytes.now result out.old out.new }
+    ensures room { length out.new ≡ length out.old }
+{
+    match findings_text(alloc, bytes) {
+        Ok(text) => Ok(put_text(text.as_slice(), out)),
+        Err(problem) => Err(problem),
     }
 }

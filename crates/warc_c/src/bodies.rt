@@ -1,0 +1,45 @@
+//! Where bodies lie, and what is said of them.
+use crate::problems::{number_or_report, report};
+use std::alloc::Global;
+use warc_handle::WarcArchive;
+use warc_lent::{AnswerNumbers, Numbers, Problem, SpanNumbers, put_body, put_replay};
+
+/// The body for a URI as of a date: what is said of it, and its spans, as many as there is room for. The answer is how
+/// many there are.
+#[unsafe(no_mangle)]
+pub extern "C" fn warc_rt_replay(
+    alloc: Global,
+    handle: &mut WarcArchive,
+    uri: &[u8],
+    date: &[u8],
+    answer: &mut AnswerNumbers,
+    spans: &mut [SpanNumbers],
+    problem: &mut Numbers,
+) -> usize {
+    let Some(mut archive) = handle.take(alloc) else {
+        report(Problem::NotOpen, problem);
+        return 0;
+    };
+    let count = put_replay(&mut archive, uri, date, answer, spans);
+    handle.put(archive, alloc);
+    number_or_report(count, problem)
+}
+
+/// The body that the capture at a position gives, in the same way.
+#[unsafe(no_mangle)]
+pub extern "C" fn warc_rt_body(
+    alloc: Global,
+    handle: &mut WarcArchive,
+    position: usize,
+    answer: &mut AnswerNumbers,
+    spans: &mut [SpanNumbers],
+    problem: &mut Numbers,
+) -> usize {
+    let Some(mut archive) = handle.take(alloc) else {
+        report(Problem::NotOpen, problem);
+        return 0;
+    };
+    let count = put_body(&mut archive, position, answer, spans);
+    handle.put(archive, alloc);
+    number_or_report(count, problem)
+}

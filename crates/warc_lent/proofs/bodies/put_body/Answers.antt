@@ -1,0 +1,17 @@
+use Rattle.std.proofs.Common.{ap, ◌∙◌}
+use Rattle.warc_lent.specs.Bodies.{path_numbers_at}
+use Rattle.warc_lent.proofs.BodyLemmas.{kept_on, same_path_at}
+use Rattle.warc_lent.proofs.bodies.put_body.Goals as goal
+
+pub returns-in-Err-clause-puts : goal.returns-in-Err-clause-puts
+returns-in-Err-clause-puts g c = λ bytes held is.
+    let ps = is.listed.are.records in
+    let kept = kept_on ps _ _ _ _ c.in-Err.ensures.index c.in-Err.ensures.parts is.kept in
+    record {
+      fault = c.in-Err.fault;
+      is = c.in-Err.ensures.locates.located bytes held is.listed is.kept;
+      problem_is = c.of_body.ensures;
+      path =
+          c.put_path_at.ensures
+          ∙ ap (λ p. path_numbers_at c.in-Err.fault p c.args.answer.now) (c.path_at.ensures ps kept ∙ same_path_at ps c.args.position);
+    }

@@ -1,0 +1,8 @@
+use Rattle.std.proofs.Common.{◌≡◌, length, map, take}
+use Rattle.warc_lent.specs.Bodies.{span_numbers}
+use Rattle.warc_lent.specs.Buffers.{HoldsFront}
+use Rattle.warc_lent.proofs.bodies.put_spans.Given as goal
+
+-- the spans so far
+abbrev pub invariant-putting : goal.invariant-putting
+invariant-putting g l = HoldsFront (map span_numbers (take l.index l.located.spans)) l.out
