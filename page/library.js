@@ -13,7 +13,8 @@ function shown(bytes) {
 // A text for people that a reader typed, as the bytes of an archive.
 const typed = (words) => new TextEncoder().encode(words);
 
-const ROW_BYTES = 48;
+// Where the numbers of a row are: offset, block and its length, four lengths of texts, verdict, mark of truncation.
+const ROW_BYTES = 48, LENGTHS = 24, VERDICT = 40, TRUNCATED = 44;
 const VERDICTS = ['good', 'bad', 'unchecked'];
 
 // The rows of all records, in the pieces in which they came.
@@ -24,7 +25,7 @@ class Rows {
     const starts = new Uint32Array(count + 1), view = new DataView(rows);
     for (let number = 0; number < count; number += 1) {
       let length = 0;
-      for (let part = 0; part < 4; part += 1) length += view.getUint32(number * ROW_BYTES + 32 + part * 4, true);
+      for (let part = 0; part < 4; part += 1) length += view.getUint32(number * ROW_BYTES + LENGTHS + part * 4, true);
       starts[number + 1] = starts[number] + length;
     }
     this.pieces.push({ first: this.count, base, count, view, words: new Uint8Array(words), starts });
@@ -47,12 +48,12 @@ class Rows {
     let start = piece.starts[number];
     const texts = [0, 1, 2, 3].map((part) => {
       const from = start;
-      start += piece.view.getUint32(at + 32 + part * 4, true);
+      start += piece.view.getUint32(at + LENGTHS + part * 4, true);
       return piece.words.subarray(from, start);
     });
     return {
       position, offset: big(0) + piece.base, blockStart: big(8) + piece.base, blockLength: big(16),
-      verdict: VERDICTS[piece.view.getUint32(at + 24, true)], truncated: piece.view.getUint32(at + 28, true) === 1,
+      verdict: VERDICTS[piece.view.getUint32(at + VERDICT, true)], truncated: piece.view.getUint32(at + TRUNCATED, true) === 1,
       kind: latin.decode(texts[0]), date: latin.decode(texts[1]), id: texts[2], target: texts[3],
     };
   }
@@ -64,7 +65,7 @@ class Rows {
 
   verdict(position) {
     const piece = this.piece(position);
-    return piece.view.getUint32((position - piece.first) * ROW_BYTES + 24, true);
+    return piece.view.getUint32((position - piece.first) * ROW_BYTES + VERDICT, true);
   }
 }
 
@@ -74,32 +75,80 @@ function listLine(row) {
   return parts.map((part) => (typeof part === 'string' ? part : latin.decode(part))).join('');
 }
 
-// The library in its worker.
+const MOST_REMEMBERED = 128 * 1048576; // bytes of bodies
+
+// The library in its worker. The archive is opened anew for each set of questions, so questions that come meanwhile are
+// asked together, and answers are remembered.
 class Library {
   constructor(module, limit, script, tell) {
-    this.waiting = new Map();
-    this.number = 0;
+    this.forget();
+    this.asked = null; // the questions that the worker has
+    this.pending = [];
     const url = URL.createObjectURL(new Blob([script], { type: 'text/javascript' }));
     this.worker = new Worker(url);
     this.worker.onmessage = ({ data }) => {
-      const waits = data.id && this.waiting.get(data.id);
-      if (!waits) { tell(data); return; }
-      this.waiting.delete(data.id);
-      if (data.answers) waits.done(data.answers); else waits.failed(new Error(data.why));
+      if (!data.id) { tell(data); return; }
+      const all = this.asked;
+      this.asked = null;
+      let from = 0;
+      for (const { questions, done, failed } of all.waiting) {
+        const answers = data.answers?.slice(from, from += questions.length);
+        if (!answers) { failed(new Error(data.why)); continue; }
+        if (all.since === this.since) this.remember(questions, answers);
+        done(answers.map((it) => ({ ...it })));
+      }
+      this.send();
     };
     this.worker.onerror = (event) => tell({ tell: 'failed', why: event.message || 'the worker stopped' });
     this.worker.postMessage({ wasm: module, limit });
   }
 
-  open(file) { this.worker.postMessage({ open: file }); }
+  open(file) {
+    this.forget();
+    this.worker.postMessage({ open: file });
+  }
 
-  // The answers to questions: of a URI and a date, or of a position.
-  ask(questions) {
-    if (questions.length === 0) return Promise.resolve([]);
-    this.number += 1;
-    const id = this.number;
-    this.worker.postMessage({ id, questions });
-    return new Promise((done, failed) => this.waiting.set(id, { done, failed }));
+  // The answers to questions: of a URI and a date, or of a position. Null if they are no longer wanted when it is their
+  // turn. Where the archive has to be opened for them, it is also asked what may be wanted next.
+  ask(questions, isWanted = () => true, next = []) {
+    const isKnown = (it) => this.known.has(Library.name(it));
+    if (questions.every(isKnown)) return Promise.resolve(questions.map((it) => ({ ...this.known.get(Library.name(it)) })));
+    const all = [...questions, ...next.filter((it) => !isKnown(it))];
+    return new Promise((done, failed) => {
+      this.pending.push({ questions: all, isWanted, failed, done: (answers) => done(answers && answers.slice(0, questions.length)) });
+      this.send();
+    });
+  }
+
+  send() {
+    if (this.asked || !this.pending.length) return;
+    const waiting = this.pending.filter((it) => it.isWanted());
+    this.pending.filter((it) => !waiting.includes(it)).forEach((it) => it.done(null));
+    this.pending = [];
+    if (!waiting.length) return;
+    this.asked = { waiting, since: this.since };
+    this.worker.postMessage({ id: 1, questions: waiting.flatMap((it) => it.questions) });
+  }
+
+  static name(question) { return question.uri ? `${question.date} ${latin.decode(question.uri)}` : question.position; }
+
+  forget() { this.known = new Map(); this.remembered = 0; this.since = {}; }
+
+  // An answer is also that of the capture that is chosen.
+  remember(questions, answers) {
+    questions.forEach((it, number) => {
+      const answer = answers[number];
+      for (const name of [Library.name(it), answer.chosen]) {
+        if (name === null || name === undefined || this.known.has(name)) continue;
+        this.known.set(name, answer);
+        this.remembered += answer.body?.length ?? 0;
+      }
+    });
+    for (const [name, answer] of this.known) {
+      if (this.remembered <= MOST_REMEMBERED) break;
+      this.known.delete(name);
+      this.remembered -= answer.body?.length ?? 0;
+    }
   }
 }
 

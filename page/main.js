@@ -74,7 +74,7 @@ function showProgress(part) {
 function openFile(file) {
   forgetUrls();
   Object.assign(room, { file, rows: new Rows(), counts: new Counts(), fault: '', end: 0, holds: false, listed: false, findings: null, order: null,
-    current: -1, words: '', captures: null, targets: null, began: performance.now(), visit: room.visit + 1, sort: { by: 'position', up: true } });
+    current: -1, words: '', captures: null, targets: null, drawn: Infinity, began: performance.now(), visit: room.visit + 1, sort: { by: 'position', up: true } });
   room.filters.clear();
   byId('words').value = '';
   byId('start').hidden = true;
@@ -159,7 +159,7 @@ function showDamage() {
 function drawAll() {
   room.counts.addAll(room.rows);
   drawNumbers();
-  drawStrip();
+  drawStrip(room.listed);
   drawPlots();
   filter();
 }
@@ -173,25 +173,29 @@ function drawNumbers() {
     span ? make('div', {}, make('span', {}, span)) : '');
 }
 
-function drawStrip() {
+// The file from beginning to end. While it is read, only what is new is drawn.
+function drawStrip(isNew = true) {
   const canvas = byId('strip'), wide = Math.max(300, canvas.clientWidth), scale = devicePixelRatio || 1;
-  canvas.width = wide * scale;
-  canvas.height = 28 * scale;
   const pen = canvas.getContext('2d'), styles = getComputedStyle(document.documentElement), colours = new Map();
-  pen.scale(scale, scale);
-  const length = Math.max(1, room.file?.size ?? 1);
-  const bad = styles.getPropertyValue('--bad');
-  for (const piece of room.rows.pieces) {
+  if (isNew || room.drawn > room.rows.pieces.length || canvas.width !== Math.round(wide * scale)) {
+    canvas.width = Math.round(wide * scale);
+    canvas.height = Math.round(28 * scale);
+    pen.scale(scale, scale);
+    room.drawn = 0;
+  }
+  const length = Math.max(1, room.file?.size ?? 1), bad = styles.getPropertyValue('--bad');
+  for (; room.drawn < room.rows.pieces.length; room.drawn += 1) {
+    const piece = room.rows.pieces[room.drawn];
     for (let number = 0; number < piece.count; number += 1) {
       const at = number * ROW_BYTES, start = Number(piece.view.getBigUint64(at, true)) + piece.base;
       const end = Number(piece.view.getBigUint64(at + 8, true)) + piece.base + Number(piece.view.getBigUint64(at + 16, true));
-      const kindEnd = piece.starts[number] + piece.view.getUint32(at + 32, true);
+      const kindEnd = piece.starts[number] + piece.view.getUint32(at + LENGTHS, true);
       const kind = latin.decode(piece.words.subarray(piece.starts[number], kindEnd)).toLowerCase();
       if (!colours.has(kind)) colours.set(kind, styles.getPropertyValue(`--c${TONES[kind] ?? 5}`));
       pen.fillStyle = colours.get(kind);
-      const x = start / length * wide, width = Math.max(0.6, (end - start) / length * wide - (length / room.rows.count * 0 + 0.4));
+      const x = start / length * wide, width = Math.max(0.6, (end - start) / length * wide - 0.4);
       pen.fillRect(x, 0, width, 28);
-      if (piece.view.getUint32(at + 24, true) === 1) { pen.fillStyle = bad; pen.fillRect(x, 23, Math.max(2, width), 5); }
+      if (piece.view.getUint32(at + VERDICT, true) === 1) { pen.fillStyle = bad; pen.fillRect(x, 23, Math.max(2, width), 5); }
     }
   }
   if (room.fault) { pen.fillStyle = bad; pen.fillRect(room.end / length * wide, 0, wide, 28); }
@@ -352,8 +356,10 @@ function moveTo(number) {
 function bringIntoView(place) {
   const list = body(), high = list.clientHeight;
   if (room.order.length * LINE > MOST_PIXELS) { list.scrollTop = place / room.order.length * (pixels() - high); return; }
-  if (place * LINE < list.scrollTop) list.scrollTop = place * LINE;
-  else if ((place + 1) * LINE > list.scrollTop + high) list.scrollTop = (place + 1) * LINE - high;
+  const top = place * LINE, under = top + LINE - (list.scrollTop + high), over = list.scrollTop - top;
+  if (under <= 0 && over <= 0) return;
+  if (Math.max(under, over) > LINE) list.scrollTop = top - high / 4; // a jump, and no step
+  else list.scrollTop += under > 0 ? under : -over;
 }
 
 function listKey(event) {

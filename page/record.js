@@ -77,14 +77,30 @@ async function openRecord(position, focus = false, note = null) {
   panel.replaceChildren(titleOf(row), make('div', { className: 'panel' }, make('p', { className: 'small' }, 'Reading…')));
   if (focus) panel.focus();
   const own = await typeOf(row);
-  const answer = isCapture && room.holds ? (await room.library.ask([{ position }]))[0] : null;
-  const given = answer && answer.given !== null && answer.given !== position ? room.rows.row(answer.given) : row;
-  const shownType = given === row ? own : await typeOf(given);
   if (visit !== room.visit) return;
-  const it = { position, row, own, answer, given, type: shownType.type, http: shownType.http, isCapture, note };
+  const it = { position, row, own, given: row, type: own.type, http: own.http, isCapture, note };
+  it.answered = isCapture && room.holds ? completed(it, visit) : Promise.resolve();
+  it.answered.catch(() => {}); // the tab that waits for it says so
   const tabs = isCapture ? [['Page', pageTab], ['Source', sourceTab], ['HTTP head', httpTab], ['Record head', headTab], ['Facts', factsTab]] : [['Block', blockTab], ['Record head', headTab], ['Facts', factsTab]];
   panel.replaceChildren(titleOf(row), isCapture && row.target.length ? timeline(it) : '', ...tabList(tabs, it, visit));
   if (focus) panel.focus();
+}
+
+const NEAR = 5, MOST_AHEAD = 1048576; // captures before and after one, and bytes of their blocks, that are asked for with it
+
+// Adds the library's answer. Since the archive is opened once for all questions, the captures around this one are asked
+// for with it.
+async function completed(it, visit) {
+  const list = capturesOf(it.row.target), now = list.findIndex((capture) => capture.position === it.position);
+  const near = list.slice(Math.max(0, now - NEAR), now + NEAR + 1).map(({ position }) => position);
+  const next = near.filter((position) => position !== it.position && room.rows.blockLength(position) <= MOST_AHEAD);
+  const answers = await room.library.ask([{ position: it.position }], () => visit === room.visit, next.map((position) => ({ position })));
+  if (!answers) return;
+  it.answer = answers[0];
+  if (it.answer.given === null || it.answer.given === it.position) return;
+  it.given = room.rows.row(it.answer.given);
+  const { type, http } = await typeOf(it.given);
+  Object.assign(it, { type, http });
 }
 
 function titleOf(row) {
@@ -116,10 +132,13 @@ function tabList(tabs, it, visit) {
     panel.setAttribute('aria-labelledby', `tab-${number}`);
     room.tab = tabs[number][0];
     panel.dataset.ready = 'no';
-    panel.replaceChildren(make('p', { className: 'small' }, 'Reading…'));
+    panel.replaceChildren(make('p', { className: 'small' }, 'Asking the archive…'));
     const mine = panel.dataset.turn = String(Math.random());
     let content;
-    try { content = await tabs[number][1](it); } catch (error) { content = [make('p', { className: 'note reason' }, String(error.message || error))]; }
+    try {
+      if (tabs[number][1] !== headTab) await it.answered;
+      content = await tabs[number][1](it);
+    } catch (error) { content = [make('p', { className: 'note reason' }, String(error.message || error))]; }
     if (visit !== room.visit || panel.dataset.turn !== mine) return;
     panel.replaceChildren(...content.filter((node) => node));
     panel.dataset.ready = 'yes';

@@ -1,4 +1,4 @@
-// The library in a worker: lists a file piece by piece, then keeps it in the module's memory and answers questions.
+// The library in a worker: lists a file piece by piece, keeps it in the module's memory, and answers questions.
 //
 // Each call of the module is given memory for good, as its contract wants: that part of the memory is never touched
 // again. Once too much of it is spent, the module is started anew.
@@ -78,16 +78,15 @@ function grow(memory, pages) {
   }
 }
 
-// Lists the records at the front of some bytes, which begin with a record.
-function front(instance, bytes) {
-  const room = Math.max(bytes.length, PIECE), rowsRoom = Math.floor(bytes.length / LEAST_RECORD) + 1;
-  const area = { bytes: instance.lend('bytes', room), texts: instance.lend('texts', room), fault: instance.lend('fault', FAULT),
+// Lists the records at the front of bytes in the module's memory, which begin with a record.
+function front(instance, at, length) {
+  const room = Math.max(length, PIECE), rowsRoom = Math.floor(length / LEAST_RECORD) + 1;
+  const area = { texts: instance.lend('texts', room), fault: instance.lend('fault', FAULT),
     rows: instance.lend('rows', (Math.floor(room / LEAST_RECORD) + 1) * ROW), outcome: instance.lend('front', FRONT) };
-  instance.bytes(area.bytes, bytes.length).set(bytes);
-  const state = instance.call('page_front', Math.max(4 * MEGABYTE, bytes.length / 4), [area.bytes, bytes.length,
-    area.rows, rowsRoom, area.texts, bytes.length, area.fault, FAULT, area.outcome], area.outcome + 24);
+  const state = instance.call('page_front', Math.max(4 * MEGABYTE, length / 4), [at, length, area.rows, rowsRoom,
+    area.texts, length, area.fault, FAULT, area.outcome], area.outcome + 24);
   const view = new DataView(instance.memory.buffer, area.outcome, FRONT);
-  const number = (at) => Number(view.getBigUint64(at, true));
+  const number = (place) => Number(view.getBigUint64(place, true));
   const records = number(0), texts = number(8);
   return {
     records, texts, end: number(16),
@@ -105,27 +104,57 @@ function placed(fault, start) {
   return fault.replace(/ at (\d+)$/, (_, offset) => ` at ${Number(offset) + start}`);
 }
 
-// Lists the file piece by piece, and tells of each.
-async function list(mine) {
-  let start = 0, size = FIRST_PIECE, instance = new Instance(), fault = '';
-  count = 0; textBytes = 0;
-  while (start < file.size && mine === run) {
+// Tells of the records that were found from an offset on. Whether there may be more after the bytes so far.
+function tell(found, start, stop) {
+  count += found.records;
+  textBytes += found.texts;
+  postMessage({ tell: 'rows', base: start, count: found.records, rows: found.rows, words: found.words,
+    read: start + found.end, size: file.size }, [found.rows, found.words]);
+  return !found.fault || (found.fault.startsWith('F11 ') && stop < file.size);
+}
+
+// Lists a file that fits into the module's memory. It is read once, the next piece while the library lists one.
+async function listKept(mine) {
+  const instance = new Instance();
+  instance.file = instance.take(file.size);
+  instance.outcome = instance.lend('outcome', OUTCOME);
+  let start = 0, stop = 0, wanted = FIRST_PIECE, next = read(0, Math.min(file.size, FIRST_PIECE));
+  while (stop < file.size) {
+    do {
+      const bytes = await next;
+      if (mine !== run) return null;
+      instance.bytes(instance.file + stop, bytes.length).set(bytes);
+      stop += bytes.length;
+      next = read(stop, Math.min(file.size, stop + PIECE));
+      next.catch(() => {}); // it is reported when it is waited for
+    } while (stop < file.size && stop - start < wanted);
+    const found = front(instance, instance.file + start, stop - start), goesOn = tell(found, start, stop);
+    end = start + found.end;
+    if (!goesOn) { kept = instance; return placed(found.fault, start); }
+    wanted = found.end > 0 ? 0 : 4 * (stop - start); // a record that doesn't end in the bytes so far
+    start = end;
+  }
+  kept = instance;
+  return '';
+}
+
+// Lists a longer file piece by piece.
+async function listPieces(mine) {
+  let start = 0, size = FIRST_PIECE, instance = new Instance();
+  while (start < file.size) {
     const stop = Math.min(file.size, start + size);
     if (instance.spent > SPENT / 2) instance = new Instance();
-    const found = front(instance, await read(start, stop));
+    const bytes = await read(start, stop), at = instance.lend('bytes', Math.max(bytes.length, PIECE));
     if (mine !== run) return null;
-    count += found.records;
-    textBytes += found.texts;
-    postMessage({ tell: 'rows', base: start, count: found.records, rows: found.rows, words: found.words,
-      read: start + found.end, size: file.size }, [found.rows, found.words]);
-    start += found.end;
+    instance.bytes(at, bytes.length).set(bytes);
+    const found = front(instance, at, bytes.length), goesOn = tell(found, start, stop);
+    end = start + found.end;
+    if (!goesOn) return placed(found.fault, start);
     size = found.end > 0 ? PIECE : size * 4;
-    const goesOn = !found.fault || (found.fault.startsWith('F11 ') && stop < file.size);
-    if (goesOn && found.end === 0 && size > MOST_PIECE) throw new Error('a record is longer than this page can read');
-    if (!goesOn) { fault = placed(found.fault, start - found.end); break; }
+    if (found.end === 0 && size > MOST_PIECE) throw new Error('a record is longer than this page can read');
+    start = end;
   }
-  end = start;
-  return fault;
+  return '';
 }
 
 // Puts the good part of the file into the memory of a new module.
@@ -133,11 +162,11 @@ async function keep() {
   kept = null;
   const instance = new Instance();
   instance.file = instance.take(end);
+  instance.outcome = instance.lend('outcome', OUTCOME);
   for (let at = 0; at < end; at += PIECE) {
     const bytes = await read(at, Math.min(end, at + PIECE));
     instance.bytes(instance.file + at, bytes.length).set(bytes);
   }
-  instance.outcome = instance.lend('outcome', OUTCOME);
   kept = instance;
   return instance;
 }
@@ -208,7 +237,8 @@ async function open(given) {
   const mine = ++run;
   file = given;
   kept = null;
-  const fault = await list(mine);
+  count = 0; textBytes = 0; end = 0;
+  const fault = await (file.size <= limit ? listKept(mine) : listPieces(mine));
   if (fault === null) return;
   const holds = end <= limit;
   postMessage({ tell: 'listed', fault, end, holds });

@@ -316,12 +316,12 @@ def saved_bytes(tests, folder, archive):
         browser.run("room.tab = 'Page'; openRecord(4)")
         browser.until("document.getElementById('panel')?.dataset.ready === 'yes'", 30)
         browser.run("[...document.querySelectorAll('.actions button')].find((it) => it.textContent === 'Save the exact bytes').click()")
-        path, end = f"{folder}/sky.png", time.monotonic() + 20
-        while not os.path.exists(path) and time.monotonic() < end:
+        path, end, wanted = f"{folder}/sky.png", time.monotonic() + 20, tests.warc("body", archive, "4")[0]
+        while not (os.path.exists(path) and os.path.getsize(path) >= len(wanted)) and time.monotonic() < end:
             browser.run("0")
             time.sleep(0.1)
         with open(path, "rb") as saved:
-            tests.holds(saved.read() == tests.warc("body", archive, "4")[0], "download: the exact bytes")
+            tests.holds(saved.read() == wanted, "download: the exact bytes")
     except OSError as error:
         tests.holds(False, "download", error)
     finally:

@@ -1,33 +1,23 @@
 //! What an archive gives for the page's questions.
-ghost use Rattle.std.specs.Prelude.{◌≡◌};
+ghost use Rattle.std.specs.Prelude.{◌≡◌, ◌≤◌, length, drop, take};
+ghost use Rattle.warc_frame.specs.Seen.{IfHeld};
+ghost use Rattle.warc_reading.specs.Archive.{contents};
+ghost use Rattle.warc_reading.specs.Indexed.{IsIndexed};
+ghost use Rattle.warc_lent.specs.Buffers.{HoldsFront};
+ghost use Rattle.warc_page.specs.Answering.{AnswersAt, EndsAt, body_numbers, without_body};
 
-use crate::shapes::{DONE, MEMORY, PageAnswer, PageOutcome, PageQuestion, REFUSED, UNKNOWN};
-use crate::texts::put;
+use crate::ending::end_by;
+use crate::shapes::{DONE, PageAnswer, PageOutcome, PageQuestion, UNKNOWN};
 use std::alloc::Allocator;
-use warc::{Archive, BodyFault};
-use warc_answer::{Answer, Reason, ReplayFault};
-use warc_frame::{Fault, FaultKind, MemSink, OutFault, SliceSource, Source};
+use warc::Archive;
+use warc_answer::Answer;
+use warc_frame::{MemSink, SliceSource, Source};
 use warc_heap::{Heap, Memory};
-use warc_index::Unfound;
+use warc_lent::{Problem, flag_of, put_text, status_number};
 use warc_value::read_date;
 
-/// What is said where a date isn't one, as the program says it.
-const BAD_DATE: &[u8] = b"bad date";
-
-/// Why a question has no body.
-enum NoBody {
-    /// Memory ran out.
-    Memory,
-
-    /// The date isn't one.
-    Date,
-
-    /// The archive gives none.
-    Fault(BodyFault),
-}
-
 /// What a question is about: the capture at a position, or why none is chosen.
-type Asked = Result<usize, NoBody>;
+type Asked = Result<usize, Problem>;
 
 /// Part of a text, or nothing where it lies outside.
 fn part(text: &[u8], start: u64, end: u64) -> &[u8] {
@@ -36,11 +26,6 @@ fn part(text: &[u8], start: u64, end: u64) -> &[u8] {
     } else {
         b""
     }
-}
-
-/// What a reason why nothing is found is as a fault.
-fn unfound_fault(unfound: Unfound) -> NoBody {
-    NoBody::Fault(BodyFault::Replay(ReplayFault::Reason(Reason::NotFound(unfound))))
 }
 
 /// The capture that a question is about.
@@ -53,30 +38,32 @@ fn asked<S: Source, A: Allocator + Copy>(
         return Ok(question.position as usize);
     }
     let Some(moment) = read_date(part(texts, question.date, question.end)) else {
-        return Err(NoBody::Date);
+        return Err(Problem::BadDate);
     };
     match archive.chosen(part(texts, question.uri, question.date), &moment) {
         Ok(chosen) => Ok(chosen),
-        Err(unfound) => Err(unfound_fault(unfound)),
+        Err(unfound) => Err(Problem::of_unfound(unfound)),
     }
 }
 
-/// A body's fault, or want of memory.
-fn why(fault: BodyFault) -> NoBody {
-    match fault {
-        BodyFault::Replay(ReplayFault::Out(OutFault::Memory(_))) => NoBody::Memory,
-        BodyFault::Replay(ReplayFault::Out(OutFault::Write(_))) => NoBody::Memory,
-        fault => NoBody::Fault(fault),
-    }
+/// Puts a text into a buffer from an index on, as far as there is room.
+fn put(text: &[u8], start: usize, out: &mut [u8])
+    ensures before { take start out.new ≡ take start out.old }
+    ensures front { HoldsFront text.now (drop start out.new) }
+    ensures room { length out.new ≡ length out.old }
+{
+    let from = start.min(out.len());
+    put_text(text, &mut out[from..]);
 }
 
-/// An answer without a body, by its reason.
-fn without(state: u64, start: usize, text: &[u8], out: &mut [u8]) -> PageAnswer {
-    put(text, out, start);
+/// An answer without a body, and how the text of its reason is put.
+fn without_body(outcome: PageOutcome, start: usize) -> PageAnswer
+    ensures { result ≡ without_body outcome start }
+{
     PageAnswer {
-        state,
+        state: outcome.state,
         start: start as u64,
-        length: text.len() as u64,
+        length: outcome.length,
         chosen: UNKNOWN,
         given: UNKNOWN,
         status: 0,
@@ -84,29 +71,28 @@ fn without(state: u64, start: usize, text: &[u8], out: &mut [u8]) -> PageAnswer 
     }
 }
 
-/// Puts the reason why there is no body into the buffer.
-fn put_reason<A: Allocator>(alloc: A, reason: NoBody, start: usize, out: &mut [u8]) -> PageAnswer {
-    match reason {
-        NoBody::Memory => without(MEMORY, start, b"", out),
-        NoBody::Date => without(REFUSED, start, BAD_DATE, out),
-        NoBody::Fault(fault) => match fault.to_string(alloc) {
-            Ok(text) => without(REFUSED, start, text.as_bytes(), out),
-            Err(_) => without(MEMORY, start, b"", out),
-        },
-    }
+/// Puts the text of a problem into a buffer from an index on, unless memory ran out, and says how the call ends.
+fn end_at<A: Allocator>(alloc: A, problem: Problem, start: usize, out: &mut [u8]) -> PageOutcome
+    ensures before { take start out.new ≡ take start out.old }
+    ensures ends { EndsAt problem result (drop start out.new) }
+    ensures room { length out.new ≡ length out.old }
+{
+    let from = start.min(out.len());
+    end_by(alloc, problem, &mut out[from..])
 }
 
-/// Puts a body into the buffer, and says what it is.
-fn put_body(answer: Answer, body: &[u8], start: usize, out: &mut [u8]) -> PageAnswer {
-    put(body, out, start);
+/// The answer that has a body, which begins at an index.
+fn body_numbers(answer: Answer, start: usize) -> PageAnswer
+    ensures { result ≡ body_numbers answer start }
+{
     PageAnswer {
         state: DONE,
         start: start as u64,
         length: answer.length,
         chosen: answer.chosen as u64,
         given: answer.given as u64,
-        status: answer.status.unwrap_or(0) as u32,
-        truncated: answer.truncated as u32,
+        status: status_number(answer.status),
+        truncated: flag_of(answer.truncated),
     }
 }
 
@@ -118,20 +104,30 @@ fn origin_of<S: Source, A: Allocator + Copy>(archive: &Archive<S, A>, chosen: us
     }
 }
 
-/// Answers a question about the capture at a position.
+/// Answers a question about the capture at a position: puts the body that it gives, or the reason why there is none,
+/// into the buffer from an index on, as far as there is room.
 fn answer_at<S: Source, A: Allocator + Copy>(
     alloc: A,
     archive: &mut Archive<S, A>,
     chosen: usize,
     start: usize,
     out: &mut [u8],
-) -> PageAnswer {
+) -> PageAnswer
+    ensures before { take start out.new ≡ take start out.old }
+    ensures answers { IfHeld (S.tapped archive.old.listing.source).holds (λ bytes. (is : IsIndexed bytes archive.old) →
+        AnswersAt (contents is.listed.are.records) chosen start result (drop start out.new)) }
+    ensures room { length out.new ≡ length out.old }
+{
     let mut body = MemSink::new(Vec::new(alloc));
     match archive.replay_at(chosen, &mut body) {
-        Ok(answer) => put_body(answer, body.bytes(), start, out),
+        Ok(answer) => {
+            put(body.bytes(), start, out);
+            body_numbers(answer, start)
+        }
         Err(fault) => {
             let given = origin_of(archive, chosen);
-            let mut answer = put_reason(alloc, why(fault), start, out);
+            let outcome = end_at(alloc, Problem::of_body(fault), start, out);
+            let mut answer = without_body(outcome, start);
             answer.chosen = chosen as u64;
             answer.given = given;
             answer
@@ -150,7 +146,7 @@ fn answer_one<S: Source, A: Allocator + Copy>(
 ) -> PageAnswer {
     match asked(archive, texts, question) {
         Ok(chosen) => answer_at(alloc, archive, chosen, start, out),
-        Err(reason) => put_reason(alloc, reason, start, out),
+        Err(problem) => without_body(end_at(alloc, problem, start, out), start),
     }
 }
 
@@ -174,20 +170,6 @@ fn answer_all<S: Source, A: Allocator + Copy>(
     end
 }
 
-/// Says why the bytes are refused.
-fn tell_refusal<A: Allocator>(alloc: A, fault: Fault, out: &mut [u8], outcome: &mut PageOutcome) {
-    outcome.state = MEMORY;
-    outcome.length = 0;
-    if matches!(fault.kind, FaultKind::Memory) {
-        return;
-    }
-    if let Ok(text) = fault.to_string(alloc) {
-        put(text.as_bytes(), out, 0);
-        outcome.state = REFUSED;
-        outcome.length = text.as_bytes().len() as u64;
-    }
-}
-
 /// Opens an archive of these bytes once, and answers questions of it: what `warc replay` gives for a URI as of a date,
 /// and what `warc body` gives for a position. The bodies, or the reasons, are put into the buffer one after another, as
 /// far as there is room. The outcome's length is how many bytes they have.
@@ -207,8 +189,13 @@ pub extern "C" fn page_answers(
     let heap = Heap::new(memory, units);
     let mut archive = match Archive::open(&heap, SliceSource::new(bytes)) {
         Ok(archive) => archive,
-        Err((fault, _source)) => return tell_refusal(&heap, fault, out, outcome),
+        Err((fault, _source)) => {
+            *outcome = end_by(&heap, Problem::Fault(fault), out);
+            return;
+        }
     };
-    outcome.state = DONE;
-    outcome.length = answer_all(&heap, &mut archive, texts, questions, answers, out);
+    *outcome = PageOutcome {
+        state: DONE,
+        length: answer_all(&heap, &mut archive, texts, questions, answers, out),
+    };
 }

@@ -1,78 +1,56 @@
 //! The rows of the good front of an archive.
-ghost use Rattle.std.specs.Prelude.{◌≡◌, ◌≤◌};
+ghost use Rattle.std.specs.Prelude.{◌≡◌, ◌≤◌, length, map, set};
+ghost use Rattle.std.specs.List.{flat_map};
+ghost use Rattle.warc_frame.specs.Count.{capped};
+ghost use Rattle.warc_lent.specs.Buffers.{HoldsFront};
+ghost use Rattle.warc_lent.specs.Rows.{row_numbers, row_texts};
+ghost use Rattle.warc_page.specs.Shown.{EndsFront, PutsFront};
 
-use crate::shapes::{DONE, MEMORY, PageFront, PageRow, REFUSED};
-use crate::texts::put;
+use crate::ending::{end_by, ended};
+use crate::shapes::{DONE, PageFront, PageOutcome};
 use std::alloc::Allocator;
 use warc::{Front, Row, open_front};
-use warc_frame::{Fault, FaultKind, SliceSource, Source};
+use warc_frame::{Fault, SliceSource, Source};
 use warc_heap::{Heap, Memory};
-use warc_value::Verdict;
+use warc_lent::{Problem, RowNumbers, put_row_texts, row_numbers};
 
-/// The number of a verdict.
-fn verdict_number(verdict: Verdict) -> u32 {
-    match verdict {
-        Verdict::Good => 0,
-        Verdict::Bad => 1,
-        Verdict::Unchecked => 2,
+/// Puts a row at an index, if there is room for it.
+fn put_row(row: RowNumbers, index: usize, rows: &mut [RowNumbers])
+    ensures { rows.new ≡ set rows.old index row }
+{
+    if index < rows.len() {
+        rows[index] = row;
     }
 }
 
-/// How many bytes a text has. No head is longer than 65,536 bytes, so no text of a row is.
-fn short(text: &[u8]) -> u32 {
-    text.len().min(u32::MAX as usize) as u32
-}
-
-/// What the page sees of a row, but for its texts.
-fn numbers_of(row: &Row<'_>) -> PageRow {
-    PageRow {
-        offset: row.offset,
-        block_start: row.block_start,
-        block_length: row.block_len,
-        verdict: verdict_number(row.verdict),
-        truncated: row.is_truncated as u32,
-        kind: short(row.kind),
-        date: short(row.date),
-        id: short(row.id),
-        target: short(row.target),
-    }
-}
-
-/// Puts the four texts of a row into a buffer, from a place on, and answers where they end.
-fn put_texts(row: &Row<'_>, texts: &mut [u8], start: usize) -> usize {
-    let date = start.saturating_add(row.kind.len());
-    let id = date.saturating_add(row.date.len());
-    let target = id.saturating_add(row.id.len());
-    put(row.kind, texts, start);
-    put(row.date, texts, date);
-    put(row.id, texts, id);
-    put(row.target, texts, target);
-    target.saturating_add(row.target.len())
-}
-
-/// Puts the rows and their texts into the page's buffers, as far as there is room. Says how much room they take, and
-/// where the last record ends.
-fn put_rows<S: Source, A: Allocator>(
-    front: &Front<S, A>,
-    rows: &mut [PageRow],
-    texts: &mut [u8],
-    outcome: &mut PageFront,
-) {
-    let mut taken = 0;
+/// Puts the rows as numbers into the page's buffer, as far as there is room, and answers where the last record ends.
+fn put_rows<S: Source, A: Allocator>(front: &Front<S, A>, rows: &mut [RowNumbers]) -> u64
+    ensures rows { HoldsFront (map row_numbers front.now.listing.rows) rows.new }
+{
     let mut end = 0;
     'putting: for position in 0..front.count() {
         let Some(row) = front.row(position) else {
             unreachable!()
         };
-        if let Some(place) = rows.get_mut(position) {
-            *place = numbers_of(&row);
-        }
-        taken = put_texts(&row, texts, taken);
+        put_row(row_numbers(&row), position, rows);
         end = end_of(&row);
     }
-    outcome.records = front.count() as u64;
-    outcome.texts = taken as u64;
-    outcome.end = end;
+    end
+}
+
+/// Puts the texts of the rows into the page's buffer, as far as there is room, and answers their length.
+fn put_texts<S: Source, A: Allocator>(front: &Front<S, A>, texts: &mut [u8]) -> usize
+    ensures texts { HoldsFront (flat_map row_texts front.now.listing.rows) texts.new }
+    ensures whole { result ≡ capped (length (flat_map row_texts front.now.listing.rows)) }
+{
+    let mut taken = 0;
+    'putting: for position in 0..front.count() {
+        let Some(row) = front.row(position) else {
+            unreachable!()
+        };
+        taken = put_row_texts(&row, taken, texts);
+    }
+    taken
 }
 
 /// Where a record ends: after its block and CRLF CRLF.
@@ -82,36 +60,13 @@ fn end_of(row: &Row<'_>) -> u64 {
         .saturating_add(4)
 }
 
-/// Says which fault follows, and puts its text into a buffer.
-fn tell_fault<A: Allocator>(
-    alloc: A,
-    fault: Option<Fault>,
-    text: &mut [u8],
-    outcome: &mut PageFront,
-) {
-    let Some(fault) = fault else {
-        outcome.state = DONE;
-        outcome.length = 0;
-        return;
-    };
-    match fault.to_string(alloc) {
-        Ok(words) => {
-            put(words.as_bytes(), text, 0);
-            outcome.state = state_of(fault);
-            outcome.length = words.as_bytes().len() as u64;
-        }
-        Err(_) => {
-            outcome.state = MEMORY;
-            outcome.length = 0;
-        }
-    }
-}
-
-/// The state in which a fault leaves a call.
-fn state_of(fault: Fault) -> u64 {
-    match fault.kind {
-        FaultKind::Memory => MEMORY,
-        _ => REFUSED,
+/// Puts the text of the fault that follows, if one does, and says how the call ends.
+fn put_fault<A: Allocator>(alloc: A, fault: Option<Fault>, text: &mut [u8]) -> PageOutcome
+    ensures { EndsFront fault result.state result.length text.new }
+{
+    match fault {
+        Some(fault) => end_by(alloc, Problem::Fault(fault), text),
+        None => ended(DONE, 0),
     }
 }
 
@@ -123,15 +78,24 @@ pub extern "C" fn page_front(
     memory: Memory,
     units: usize,
     bytes: &[u8],
-    rows: &mut [PageRow],
+    rows: &mut [RowNumbers],
     texts: &mut [u8],
     fault: &mut [u8],
     outcome: &mut PageFront,
 )
     requires { memory.units ≡ units }
+    ensures { PutsFront bytes.now rows.new texts.new fault.new outcome.new }
 {
     let heap = Heap::new(memory, units);
     let front = open_front(&heap, SliceSource::new(bytes));
-    put_rows(&front, rows, texts, outcome);
-    tell_fault(&heap, front.fault(), fault, outcome);
+    let end = put_rows(&front, rows);
+    let length = put_texts(&front, texts);
+    let outcome_of_fault = put_fault(&heap, front.fault(), fault);
+    *outcome = PageFront {
+        records: front.count() as u64,
+        texts: length as u64,
+        end,
+        state: outcome_of_fault.state,
+        length: outcome_of_fault.length,
+    };
 }

@@ -5,12 +5,12 @@
 #![tactic(auto)]
 
 mod answers;
+mod ending;
 mod findings;
 mod front;
 mod shapes;
-mod texts;
 
 pub use answers::page_answers;
 pub use findings::page_findings;
 pub use front::page_front;
-pub use shapes::{PageAnswer, PageFront, PageOutcome, PageQuestion, PageRow};
+pub use shapes::{PageAnswer, PageFront, PageOutcome, PageQuestion};

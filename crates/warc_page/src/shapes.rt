@@ -17,22 +17,6 @@ pub struct PageOutcome {
     pub length: u64,
 }
 
-/// A record's place, how its block compares with its digest (0 good, 1 bad, 2 unchecked), whether it is marked as
-/// truncated, and how many bytes the texts of its type, date, id and target have.
-#[repr(C)]
-#[derive(Clone, Copy)]
-pub struct PageRow {
-    pub offset: u64,
-    pub block_start: u64,
-    pub block_length: u64,
-    pub verdict: u32,
-    pub truncated: u32,
-    pub kind: u32,
-    pub date: u32,
-    pub id: u32,
-    pub target: u32,
-}
-
 /// The good front of an archive: how many records it has, how many bytes their texts have, and where it ends. Whether a
 /// fault follows, and how many bytes its text has.
 #[repr(C)]

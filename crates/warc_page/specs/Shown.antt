@@ -1,0 +1,45 @@
+-- What a call puts into the page's buffers, and how it ends: in state 0, in state 1 where there is no result and a text
+-- says why, or in state 2 where memory doesn't suffice. This project's own notion.
+use Rattle.std.specs.Prelude.{◌≡◌, ◌⊎◌, ℕ, List, length, map, Option, Some, None}
+use Rattle.std.specs.List.{flat_map}
+use Rattle.warc_frame.specs.Count.{capped}
+use Rattle.warc_frame.specs.declared.fault.Fault.{Fault}
+use Rattle.warc_reading.specs.Row.{Row}
+use Rattle.warc.specs.Front.{AreRowsOfFront}
+use Rattle.warc_lent.specs.Buffers.{HoldsFront}
+use Rattle.warc_lent.specs.Problems.{problem_text}
+use Rattle.warc_lent.specs.Rows.{row_numbers, row_texts}
+use Rattle.warc_lent.specs.Texts.{AreFindingsOf, IsTextPut, IsRefusedFor, PutsSome}
+use Rattle.warc_lent.specs.declared.problem.Problem.{Problem}
+use Rattle.warc_lent.specs.declared.problem.Problem.TheVariants as problems
+use Rattle.warc_lent.specs.declared.rows.RowNumbers.{RowNumbers}
+use Rattle.warc_page.specs.declared.shapes.PageFront.{PageFront}
+use Rattle.warc_page.specs.declared.shapes.PageOutcome.{PageOutcome}
+
+-- there is no result, for the problem whose text is put, or memory doesn't suffice
+abbrev pub EndsBy : Problem → ℕ → ℕ → List ℕ → Type 0
+EndsBy problem state size text = (state ≡ 2) ⊎ ((state ≡ 1) × IsTextPut (problem_text problem) size text)
+
+-- the good front is the whole, or a fault ends it
+abbrev pub EndsFront : Option Fault → ℕ → ℕ → List ℕ → Type 0
+EndsFront None state size text = state ≡ 0
+EndsFront (Some fault) state size text = EndsBy (problems.Fault fault) state size text
+
+-- the rows of the longest good front of the bytes, and their texts, as far as there is room; how many they are; and the
+-- text of the first fault after them, if there is one
+pub record PutsFront (bytes : List ℕ) (rows : List RowNumbers) (texts fault : List ℕ) (outcome : PageFront)
+    : Type 0 where
+  pub kept : List Row
+  pub stop : Option Fault
+  pub are : AreRowsOfFront bytes stop kept
+  pub rows_are : HoldsFront (map row_numbers kept) rows
+  pub texts_are : HoldsFront (flat_map row_texts kept) texts
+  pub records_is : outcome.records ≡ length kept
+  pub texts_is : outcome.texts ≡ capped (length (flat_map row_texts kept))
+  pub ends : EndsFront stop outcome.state outcome.length fault
+
+-- the lines of all findings, or the problem for which the bytes are refused
+abbrev pub PutsFindingLines : List ℕ → PageOutcome → List ℕ → Type 0
+PutsFindingLines bytes outcome out =
+    ((outcome.state ≡ 0) × PutsSome (AreFindingsOf bytes) outcome.length out)
+    ⊎ ((problem : Problem) × IsRefusedFor bytes problem × EndsBy problem outcome.state outcome.length out)
