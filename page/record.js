@@ -321,6 +321,8 @@ async function openAsOf(uri, date, focus) {
     return;
   }
   room.visit += 1;
+  room.current = -1;
+  drawRows();
   const [meaning, hint] = inWords(answer.reason), panel = byId('record');
   byId('room').classList.add('has-record');
   panel.hidden = false;
