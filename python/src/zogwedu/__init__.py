@@ -25,7 +25,7 @@ which rule is broken, and at which byte:
     zogwedu.Refused: F10 End at 274
 
 `Archive` opens, lists, checks and replays; `Record` is one of its records; `Body` is what a replay gives. The exceptions
-are `Refused`, `NoBody`, `NoRecord` and `Closed`, all of them a `WarcError`.
+are `Refused`, `NoBody`, `NoRecord`, `Closed` and `ViewsAlive`, all of them a `WarcError`.
 
 What is proved is the library below this package. This package, the interpreter and the undoing of codings
 (`decoded=True`) are not.
