@@ -18,3 +18,4 @@ pub mod MigrationLemmas
 pub mod KeptLemmas
 pub mod LookLemmas
 pub mod CaptureLemmas
+pub mod HeadingLemmas

@@ -20,7 +20,7 @@ IsTaken found (Err Read) = IsSome found
 IsTaken found (Err Memory) = IsSome found
 
 -- the same as an output of which nothing goes out: there a missing record is no failure
-abbrev pub take_result : Result Record TakeFault → Result (Unit {0}) OutFault
+abbrev pub take_result : {X : Type 0} → Result X TakeFault → Result (Unit {0}) OutFault
 take_result (Ok r) = Ok tt
 take_result (Err NoRecord) = Ok tt
 take_result (Err Read) = Err (outs.Read 0)

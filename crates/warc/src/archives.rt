@@ -25,6 +25,7 @@ ghost use Rattle.warc.specs.Taking.{Takes};
 use crate::capture_line::list_outcomes;
 use crate::capturing::capture_positions;
 use crate::fault::{BodyFault, ExtractFault, TakeFault};
+use crate::iterating::RowIter;
 use crate::outcome::{Outcome, StoredAt};
 use crate::reader::Listing;
 use crate::replay::{path_from, path_in};
@@ -67,6 +68,13 @@ impl<S: Source, A: Allocator> Archive<S, A> {
         ensures { result ≡ slice_get self.now.listing.rows position }
     {
         self.listing.row(position)
+    }
+
+    /// What is kept of each record, in order.
+    pub fn rows(&self) -> RowIter<'_, A>
+        ensures { result ≡ self.now.listing.rows }
+    {
+        self.listing.rows()
     }
 
     /// Gives the source back.

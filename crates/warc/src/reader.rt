@@ -17,6 +17,7 @@ ghost use Rattle.warc_reading.specs.Growing.{Grows, grown, source_grown, without
 ghost use Rattle.warc_reading.specs.Opening.{Opens};
 ghost use Rattle.warc_reading.specs.Stream.{IsKeptOf};
 ghost use Rattle.warc.specs.Replaying.{Replays};
+ghost use Rattle.warc.specs.Heading.{TakesHead};
 ghost use Rattle.warc.specs.Taking.{Takes};
 
 use crate::anew::{Manner, write_rows};
@@ -25,6 +26,8 @@ use crate::bodies::give_body;
 use crate::capturing::judge_all;
 use crate::copying::Form;
 use crate::fault::{BodyFault, ExtractFault, TakeFault};
+use crate::heading::take_head;
+use crate::iterating::RowIter;
 use crate::locating::{locate_at, locate_for};
 use crate::outcome::{Outcome, StoredAt, judge_at, send_at};
 use crate::part::Part;
@@ -37,7 +40,7 @@ use std::mem;
 use warc_answer::{Answer, Located, ReplayFault};
 use warc_checking::check_rows;
 use warc_frame::laws::head_of_spelled;
-use warc_frame::{Fault, Framed, OutBuffer, OutFault, Sink, Source};
+use warc_frame::{Fault, Framed, Head, OutBuffer, OutFault, Sink, Source};
 use warc_reading::{Keep, Lookup, Nothing, Row, Rows, read_on};
 use warc_value::Moment;
 
@@ -69,6 +72,16 @@ impl<S: Source, A: Allocator> Listing<S, A> {
         ensures { result ≡ slice_get self.now.rows position }
     {
         self.rows.get(position)
+    }
+
+    /// What is kept of each record, in order.
+    pub fn rows(&self) -> RowIter<'_, A>
+        ensures { result ≡ self.now.rows }
+    {
+        RowIter {
+            rows: &self.rows,
+            position: 0,
+        }
     }
 
     /// Gives the source back.
@@ -177,6 +190,22 @@ impl<S: Source, A: Allocator + Copy> Listing<S, A> {
             return Err(TakeFault::NoRecord);
         };
         take_record(alloc, &mut self.source, &row)
+    }
+
+    /// The head of the record at a position, read again: its version, its fields, its length and that of its block. No
+    /// other byte is read. A read that fails, or a source that no longer gives what it gave at opening, is `Read`.
+    pub fn head(&mut self, position: usize) -> Result<Head<A>, TakeFault>
+        ensures takes { TakesHead self.old.rows position (S.tapped self.old.source) (S.tapped self.new.source) result }
+
+        // The rows stay.
+        ensures rows { self.new.rows ≡ self.old.rows }
+    {
+        head_of_spelled();
+        let alloc = self.rows.allocator();
+        let Some(row) = self.rows.get(position) else {
+            return Err(TakeFault::NoRecord);
+        };
+        take_head(alloc, &mut self.source, &row)
     }
 
     /// Writes a part of the record at a position, as the source has it, and answers its length. Where there is no

@@ -1,0 +1,72 @@
+-- A head that is read again is that of the record there.
+use Rattle.std.proofs.Common.{◌≡◌, ◌≢◌, ℕ, zero, suc, ◌+◌, ◌≤◌, min, length, drop, List, [], ◌∷◌, Option, Some, None, Result, Ok, Err, IfErr, refl, sym, ap, subst, ◌∙◌, arith}
+use Rattle.std.specs.List.{slice_get}
+use Rattle.std.proofs.lemmas.Option.{slice_get_within}
+use Rattle.std.specs.Option.{option_to_list}
+use Rattle.warc_frame.specs.Failing.{HasFailedBy, MayHaveFailedBy}
+use Rattle.warc_frame.specs.Seen.{Tapped}
+use Rattle.warc_frame.specs.declared.reading.Head.{Head}
+use Rattle.warc_checking.specs.Examining.{HasHead}
+use Rattle.warc_checking.specs.Heads.{ReadsHeads}
+use Rattle.warc_reading.specs.Row.{Placed, Row, row_of}
+use Rattle.warc.specs.Heading.{IsHeadTaken, TakesHead}
+use Rattle.warc.specs.Standing.{IsEnd}
+use Rattle.warc.specs.Taking.{take_result}
+use Rattle.warc.specs.declared.fault.TakeFault.{TakeFault}
+use Rattle.warc.specs.declared.fault.TakeFault.TheVariants.{NoRecord, Read, Memory}
+use Rattle.warc_checking.proofs.PlaceLemmas.{HeadsAreRead, checkable_archive}
+use Rattle.warc_checking.proofs.RecordsLemmas.{placed}
+use Rattle.warc.proofs.TakeLemmas.{absent}
+
+-- where there is no row there is no record, and nothing is read
+pub takes_no_head : {A : Type 0} (rows : List Row) (i : ℕ) (s : Tapped) → slice_get rows i ≡ None → TakesHead {A = A} rows i s s (Err NoRecord)
+takes_no_head rows i s none = record {
+  taken = λ bytes held is. absent is.are.records i (ap (λ l. slice_get l i) (sym is.are.rows_are) ∙ none);
+  failed = λ bytes held is. refl;
+  absent = (λ is. none, λ is. refl);
+  kept = refl;
+  may = refl;
+  reads = record { near = λ off. refl; bound = omega arith; watched = refl };
+}
+
+is_end : {A : Type 0} (r : Result (Head A) TakeFault) → IfErr r IsEnd → r ≢ Err NoRecord
+is_end (Ok x) is e = cc e
+is_end (Err NoRecord) is e = is
+is_end (Err Read) is e = cc e
+is_end (Err Memory) is e = cc e
+
+-- what giving the head of a row's record promises
+pub takes_head : {A : Type 0} → HeadsAreRead → (rows : List Row) (i : ℕ) (row : Row) (old new : Tapped) (r : Result (Head A) TakeFault) → slice_get rows i ≡ Some row
+    → ((bytes : List ℕ) (p : Placed) → old.holds ≡ Some bytes → HasHead bytes p → row ≡ row_of p → IsHeadTaken (Some p) r × HasFailedBy (take_result r) old.faults new.faults)
+    → IfErr r IsEnd → new.holds ≡ old.holds → MayHaveFailedBy (take_result r) old.faults new.faults → ReadsHeads (row ∷ []) old new → TakesHead rows i old new r
+takes_head law rows i row old new r at given end kept may reads = record {
+  taken = λ bytes held is.
+      let (p, there, same) = placed is.are.records i row (sym (ap (λ l. slice_get l i) is.are.rows_are) ∙ at) in
+      let has = (checkable_archive law bytes rows is rows refl).heads i p there in
+      subst (λ o. IsHeadTaken o r) (sym there) (given bytes p held has same).0;
+  failed = λ bytes held is.
+      let (p, there, same) = placed is.are.records i row (sym (ap (λ l. slice_get l i) is.are.rows_are) ∙ at) in
+      (given bytes p held ((checkable_archive law bytes rows is rows refl).heads i p there) same).1;
+  absent = (λ e. absurd (is_end r end e), λ none. let no : Some row ≡ None = sym at ∙ none in absurd (cc no));
+  kept = kept;
+  may = may;
+  reads = subst (λ o. ReadsHeads (option_to_list o) old new) (sym at) reads;
+}
+
+-- the rows that are left at a position
+pub none_left : {X : Type 0} (xs : List X) (i : ℕ) → slice_get xs i ≡ None → drop i xs ≡ []
+none_left [] zero is = refl
+none_left [] (suc i) is = refl
+none_left (x ∷ xs) zero is = absurd (cc is)
+none_left (x ∷ xs) (suc i) is = none_left xs i is
+
+one_left : {X : Type 0} (xs : List X) (i : ℕ) (x : X) → slice_get xs i ≡ Some x → drop i xs ≡ x ∷ drop (suc i) xs
+one_left [] i x is = absurd (cc is)
+one_left (y ∷ ys) zero x is = let same : y ≡ x = cc is in ap (λ z. z ∷ ys) same
+one_left (y ∷ ys) (suc i) x is = one_left ys i x is
+
+pub some_left : {X : Type 0} (xs : List X) (i n most : ℕ) (x : X) → slice_get xs i ≡ Some x → length xs ≤ most → n ≡ min (length xs) (min (i + 1) most) → drop i xs ≡ x ∷ drop n xs
+some_left xs i n most x is within next =
+    let inside = slice_get_within xs i x is in
+    let one : n ≡ suc i = omega (arith, inside, within, next) in
+    one_left xs i x is ∙ ap (λ k. x ∷ drop k xs) (sym one)

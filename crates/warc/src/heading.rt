@@ -1,0 +1,46 @@
+//! Heads of records, read again through the source.
+ghost use Rattle.std.specs.Prelude.{◌≡◌, ℕ, ◌∷◌, [], List, Some, IfErr};
+ghost use Rattle.warc_checking.specs.Examining.{HasHead};
+ghost use Rattle.warc_checking.specs.Heads.{ReadsHeads};
+ghost use Rattle.warc_frame.specs.Failing.{HasFailedBy, MayHaveFailedBy};
+ghost use Rattle.warc_reading.specs.Row.{Placed, row_of};
+ghost use Rattle.warc.specs.Heading.{IsHeadTaken};
+ghost use Rattle.warc.specs.Standing.{IsEnd};
+ghost use Rattle.warc.specs.Taking.{take_result};
+
+use crate::fault::TakeFault;
+use std::alloc::Allocator;
+use warc_checking::{Halt, head_buffer, reread_head};
+use warc_frame::{Head, Source};
+use warc_reading::Row;
+
+/// The head of the record of a row, read again.
+pub(crate) fn take_head<S: Source, A: Allocator + Copy>(
+    alloc: A,
+    source: &mut S,
+    row: &Row<'_>,
+) -> Result<Head<A>, TakeFault>
+    ensures taken { (bytes : List ℕ) (p : Placed) → (S.tapped source.old).holds ≡ Some bytes → HasHead bytes p → row.now
+        ≡ row_of p → IsHeadTaken (Some p) result }
+    ensures failed { (bytes : List ℕ) (p : Placed) → (S.tapped source.old).holds ≡ Some bytes → HasHead bytes p →
+        row.now ≡ row_of p → HasFailedBy (take_result result) (S.tapped source.old).faults
+        (S.tapped source.new).faults }
+    ensures is { IfErr result IsEnd }
+    ensures kept { (S.tapped source.new).holds ≡ (S.tapped source.old).holds }
+    ensures may { MayHaveFailedBy (take_result result) (S.tapped source.old).faults (S.tapped source.new).faults }
+    ensures reads { ReadsHeads (row.now ∷ []) (S.tapped source.old) (S.tapped source.new) }
+{
+    let Ok(mut buf) = head_buffer(alloc) else {
+        return Err(TakeFault::Memory);
+    };
+    match reread_head(alloc, source, row, &mut buf) {
+        Ok(head) => Ok(Head {
+            version: head.version,
+            fields: head.fields,
+            len: (row.block_start - row.offset) as usize,
+            block_len: row.block_len,
+        }),
+        Err(Halt::Read) => Err(TakeFault::Read),
+        Err(Halt::Memory) => Err(TakeFault::Memory),
+    }
+}
