@@ -9,6 +9,7 @@
 # make test-docs    runs the command lines of README.md and docs/PROGRAM.md, and compares what they write
 # make lint         checks the text of the tree: words, headers, widths, edits, numbers, and the pages
 # make lint-docs    compares README's code with the example crates, and looks for what the pages may not hold
+# make numbers      makes docs/NUMBERS.md from the table of numbers
 # make man          makes the manual pages and the completions under out/
 # make install      installs the program, the library, pages, completions, docs and examples; make uninstall removes them
 # make dist         makes dist/warc-VERSION-x86_64-linux.tar.gz, the source tarball, and their SHA-256
@@ -26,7 +27,7 @@ JOBS ?= $(shell nproc)
 VERSION := $(shell sed -n 's/^const VERSION: &str = "\(.*\)";$$/\1/p' crates/warc_commands/src/words.rt)
 
 .PHONY: all try test check lint test-docs lint-docs man install uninstall dist verify-dist test-package stress bench clean
-.PHONY: lib python rust test-callers page test-page
+.PHONY: lib python rust test-callers page test-page numbers
 
 all:
 	@python3 tools/build.py $(JOBS)
@@ -69,6 +70,9 @@ lint: lint-docs
 
 lint-docs:
 	@python3 tools/lint_docs.py
+
+numbers:
+	@python3 tools/make_numbers.py
 
 man: bin/warc
 	@python3 tools/make_man.py out/man

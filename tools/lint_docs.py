@@ -8,12 +8,14 @@
 - A link or a path that a page names is there.
 - README.md has at most 9 KB.
 - CHANGELOG.md has a section for the version.
+- docs/NUMBERS.md is what tools/make_numbers.py makes, and docs/FORMAT.md has the same numbers and names.
 """
 import glob
 import os
 import re
 import sys
 
+import make_numbers
 from shared import TOP, crates, read, version
 
 PAGES = ["README.md", "CONTRIBUTING.md", "CHANGELOG.md", "docs/*.md", "examples/README.md"]
@@ -64,7 +66,7 @@ def missing_paths(page):
 
 def main():
     found = [*code_elsewhere("README.md"), *code_elsewhere("docs/LIBRARY.md")]
-    found += [*crates_elsewhere(), *commands_elsewhere()]
+    found += [*crates_elsewhere(), *commands_elsewhere(), *make_numbers.wrong()]
     for pattern in PAGES:
         for path in sorted(glob.glob(f"{TOP}/{pattern}")):
             found += missing_paths(os.path.relpath(path, TOP))

@@ -5,3 +5,4 @@ pub mod ReadLemmas
 pub mod SalvageLemmas
 mod WorkedValues
 pub mod CaptureLemmas
+mod ExplainLemmas

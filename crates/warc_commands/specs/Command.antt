@@ -29,6 +29,7 @@ view_of (command.Block archive position) = (codes "block", archive.now ∷ posit
 view_of (command.Fixity archive) = (codes "fixity", archive.now ∷ [])
 view_of (command.Salvage archive) = (codes "salvage", archive.now ∷ [])
 view_of (command.Summary archive) = (codes "summary", archive.now ∷ [])
+view_of (command.Explain number) = (codes "explain", number.now ∷ [])
 
 -- whether each of its flags is given, in order; `--quiet`, which every command has, isn't one of them
 abbrev pub flags_of : Command → List Bool
@@ -46,7 +47,7 @@ pub record Asked : Type 0 where
 abbrev pub asked_by : Request → Asked
 asked_by r = record { command = view_of r.command; flags = flags_of r.command; quiet = r.quiet }
 
--- the path of the file that it reads
+-- the path of the file that it reads; empty if it reads none
 abbrev pub path_of : Command → Text
 path_of (command.List archive) = archive.now
 path_of (command.Check archive) = archive.now
@@ -63,6 +64,7 @@ path_of (command.Block archive position) = archive.now
 path_of (command.Fixity archive) = archive.now
 path_of (command.Salvage archive) = archive.now
 path_of (command.Summary archive) = archive.now
+path_of (command.Explain number) = []
 
 -- whether it asks for each offset once, in order
 abbrev pub reads_once : Command → Bool
@@ -71,3 +73,8 @@ reads_once (command.Check archive) = true
 reads_once (command.Fixity archive) = true
 reads_once (command.Summary archive) = true
 reads_once _ = false
+
+-- whether it opens no file and reads nothing
+abbrev pub opens_nothing : Command → Bool
+opens_nothing (command.Explain number) = true
+opens_nothing _ = false

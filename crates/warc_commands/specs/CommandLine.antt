@@ -80,6 +80,7 @@ other_layouts =
     ∷ layout (codes "fixity") (codes "archive" ∷ [])
     ∷ layout (codes "salvage") (codes "archive" ∷ [])
     ∷ layout (codes "summary") (codes "archive" ∷ [])
+    ∷ layout (codes "explain") (codes "number" ∷ [])
     ∷ []
 
 abbrev pub layouts : List Layout

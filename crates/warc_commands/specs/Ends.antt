@@ -6,6 +6,7 @@ use Rattle.warc.specs.declared.copying.Form.TheVariants.{Canonical, Converted}
 use Rattle.warc.specs.declared.part.Part.TheVariants.{Head, Block}
 use Rattle.warc_commands.specs.Bodies.{BodyEnds}
 use Rattle.warc_commands.specs.Devices.{Devices}
+use Rattle.warc_commands.specs.Explaining.{ExplainEnds, explained}
 use Rattle.warc_commands.specs.Fixity.{FixityEnds}
 use Rattle.warc_commands.specs.Parts.{PartEnds, position_of}
 use Rattle.warc_commands.specs.Program.{CheckEnds, ExtractEnds, ListEnds, MakeEnds, ReplayEnds, SplitEnds, WriteEnds, size_of}
@@ -37,6 +38,7 @@ Ends (command.Block archive position) old new status = PartEnds Block (position_
 Ends (command.Fixity archive) old new status = FixityEnds old new status
 Ends (command.Salvage archive) old new status = SalvageEnds old new status
 Ends (command.Summary archive) old new status = SummaryEnds old new status
+Ends (command.Explain number) old new status = ExplainEnds (explained number.now) old new status
 
 -- the exit statuses of a command
 abbrev pub IsStatusOf : Command → ℕ → Type 0
@@ -56,6 +58,7 @@ IsStatusOf (command.Fixity archive) status =
     (status ≡ 0) ⊎ ((status ≡ 1) ⊎ ((status ≡ 2) ⊎ ((status ≡ 3) ⊎ (status ≡ 4))))
 IsStatusOf (command.Salvage archive) status = (status ≡ 0) ⊎ ((status ≡ 2) ⊎ (status ≡ 3))
 IsStatusOf (command.Summary archive) status = (status ≡ 0) ⊎ ((status ≡ 2) ⊎ (status ≡ 3))
+IsStatusOf (command.Explain number) status = (status ≡ 0) ⊎ (status ≡ 3)
 
 -- whether a command writes what is good of an archive that it refuses: `salvage` alone does
 abbrev pub writes_front : Command → Bool

@@ -5,6 +5,7 @@ pub mod Command
 pub mod CommandLine
 pub mod Devices
 pub mod Ends
+pub mod Explaining
 pub mod Fixity
 pub mod Parts
 pub mod Program

@@ -41,3 +41,4 @@ CommandReads (command.Body archive position true) old new = ⊤
 CommandReads (command.Write draft file) old new = ReadsForRecord old new
 CommandReads (command.Captures archive uri hex) old new = ⊤
 CommandReads (command.Salvage archive) old new = ⊤
+CommandReads (command.Explain number) old new = new ≡ old

@@ -11,13 +11,13 @@ use Rattle.clap.specs.Walk.{Text}
 use Rattle.warc_frame.specs.FaultText.{out_fault_text}
 use Rattle.warc_frame.specs.Seen.{IfHeld, Seen, Tapped}
 use Rattle.warc_frame.specs.declared.fault.OutFault.TheVariants.{Memory}
-use Rattle.warc_commands.specs.Command.{asked_by, path_of, reads_once}
+use Rattle.warc_commands.specs.Command.{asked_by, opens_nothing, path_of, reads_once}
 use Rattle.warc_commands.specs.CommandLine.{IsToldBy, asked_of, warc_app}
 use Rattle.warc_commands.specs.Devices.{devices}
 use Rattle.warc_commands.specs.Ends.{Ends, IsStatusOf, writes_front}
 use Rattle.warc_commands.specs.Program.{FaultEnds, IsNotRead, Tells, told_line}
 use Rattle.warc_commands.specs.declared.running.Place.{Place}
-use Rattle.warc_commands.specs.declared.running.Place.TheVariants.{File, Memory as InMemory, Input}
+use Rattle.warc_commands.specs.declared.running.Place.TheVariants.{File, Memory as InMemory, Input, Nowhere}
 use Rattle.warc_commands.specs.declared.words.Command.{Command}
 use Rattle.warc_commands.specs.declared.words.CommandFault.{CommandFault}
 use Rattle.warc_commands.specs.declared.words.CommandFault.TheVariants.{Memory as NoMemory}
@@ -42,6 +42,10 @@ outputs out err = record { out = out; err = err }
 abbrev pub place_at : Text → Place
 place_at path =
     if bytes_eq path (codes "-") then Input else (if bytes_eq path (codes "/dev/stdin") then InMemory else File)
+
+-- where the bytes of a command are: nowhere, if it reads nothing
+abbrev pub command_place : Command → Place
+command_place command = if opens_nothing command then Nowhere else place_at (path_of command)
 
 -- the most bytes of standard input that are kept in memory
 abbrev pub max_input : ℕ
@@ -135,6 +139,7 @@ abbrev pub PlaceEnds : Place → (Offer → Type 0) → Command → Outputs → 
 PlaceEnds File gives command old new status = ReadsFile gives command old new status
 PlaceEnds InMemory gives command old new status = ReadsMemory gives (codes "read failed after 0") command old new status
 PlaceEnds Input gives command old new status = ReadsInput gives command old new status
+PlaceEnds Nowhere gives command old new status = IsRunOver command (in_memory []) old new status
 
 -- what words name, as `parse` answers it
 pub record IsParsed (words : List Text) (parsed : Result Request CommandFault) : Type 0 where
@@ -148,7 +153,7 @@ pub record WordsEnd (gives : Offer → Type 0) (words : List Text) (old new : Ou
   pub parsed : Result Request CommandFault
   pub is : IsParsed words parsed
   pub ends : MatchResult parsed
-      (λ request. PlaceEnds (place_at (path_of request.command)) gives request.command old new status)
+      (λ request. PlaceEnds (command_place request.command) gives request.command old new status)
       (λ fault. FaultEnds fault old.out new.out old.err new.err status)
 
 -- how a run ends

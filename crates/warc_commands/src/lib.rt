@@ -3,9 +3,11 @@
 
 mod bodies;
 mod captures;
+mod explaining;
 mod fixity;
 mod giving;
 mod making;
+mod numbers;
 mod parts;
 mod program;
 mod running;
@@ -16,6 +18,7 @@ mod summary;
 mod uris;
 mod words;
 
+pub use numbers::EXPLANATIONS;
 pub use program::{perform, refuse};
 pub use running::{System, run};
 pub use words::{Command, CommandFault, Draft, Request, parse};

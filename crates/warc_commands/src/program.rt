@@ -10,6 +10,7 @@ ghost use Rattle.warc.specs.Forms.{texts_as};
 
 use crate::bodies::body;
 use crate::captures::captures;
+use crate::explaining::explain;
 use crate::fixity::fixity;
 use crate::giving::extract;
 use crate::making::write;
@@ -43,9 +44,10 @@ pub(crate) const LINE: usize = 128;
 
 /// Does what a command says. The output goes to `out` and a line on what went wrong to `err`, where
 /// failures to write are ignored. The answer is the exit status, 0 done, 1 checked and something was
-/// found, or what was asked for isn't there, 2 the archive is refused, 3 a date, a size or a position that is none, a
-/// record that isn't made, or a read, a write or a growth of the memory failed, 4 some block can't be checked; and the
-/// source. A date, a size and a position are judged before the source is read.
+/// found, or what was asked for isn't there, 2 the archive is refused, 3 a date, a size, a position or a number that is
+/// none, a record that isn't made, or a read, a write or a growth of the memory failed, 4 some block can't be checked;
+/// and the source. A date, a size and a position are judged before the source is read, and a number is explained
+/// without it.
 pub fn perform<A, S, W, E>(
     alloc: A,
     command: &Command<'_>,
@@ -112,6 +114,7 @@ where
         Command::Fixity { archive: _ } => fixity(alloc, source, out, err),
         Command::Salvage { archive: _ } => salvage(alloc, source, out, err),
         Command::Summary { archive: _ } => summary(alloc, source, out, err),
+        Command::Explain { number } => explain(number, source, out, err),
     }
 }
 
@@ -285,7 +288,7 @@ pub fn refuse<W: Sink, E: Sink>(fault: &CommandFault, out: &mut W, err: &mut E) 
 }
 
 /// Writes a text that was asked for.
-fn show<W: Sink, E: Sink>(text: &str, out: &mut W, err: &mut E) -> u8
+pub(crate) fn show<W: Sink, E: Sink>(text: &str, out: &mut W, err: &mut E) -> u8
     ensures { IsShown text.now (W.seen out.old) (W.seen out.new) (E.seen err.old) (E.seen err.new) result }
 {
     match send_all(out, text.as_bytes()) {

@@ -1,12 +1,12 @@
 //! A run of the program: its words, what the system gives it, and how it ends.
 ghost use Rattle.std.specs.Option.{option_map};
-ghost use Rattle.std.specs.Prelude.{◌≡◌, ◌≤◌, length, map, nat_le, string_bytes};
+ghost use Rattle.std.specs.Prelude.{◌≡◌, ◌≤◌, [], length, map, nat_le, string_bytes};
 ghost use Rattle.std.specs.Result.{result_map_both};
 ghost use Rattle.std.specs.IoError.{error_kind};
 ghost use Rattle.warc_commands.specs.Program.{Tells, told_line};
 ghost use Rattle.warc_commands.specs.Running.{Offer, IsRunOver, MemoryEnds, PipeEnds, PlaceEnds, ReadsFile, ReadsInput, ReadsMemory, ReadsStream, RunEnds, WordsEnd};
-ghost use Rattle.warc_commands.specs.Running.{max_input, opened, outputs, place_at, redirected, stop_text, streamed};
-ghost use Rattle.warc_commands.specs.Command.{path_of, reads_once};
+ghost use Rattle.warc_commands.specs.Running.{command_place, in_memory, max_input, opened, outputs, place_at, redirected, stop_text, streamed};
+ghost use Rattle.warc_commands.specs.Command.{reads_once};
 
 use crate::making::read_front;
 use crate::program::{FAILED, line_of, perform, refuse, tell, tell_cut};
@@ -47,19 +47,21 @@ pub trait System {
         ensures { gives self.now (streamed (Self.Stream.tapped result)) };
 }
 
-/// Where the bytes of a command are: in the file at its path, in memory, into which standard input is read first, or in
-/// standard input.
+/// Where the bytes of a command are: in the file at its path; in memory, into which standard input is read first; in
+/// standard input; or nowhere, if it reads nothing.
 #[derive(Clone, Copy, Debug, PartialEq, Eq)]
 enum Place {
     File,
     Memory,
     Input,
+    Nowhere,
 }
 
 /// Does what words say, the program's name being the first: all of `main` but opening itself. The answer is the exit
 /// status. Words that aren't text and a file that doesn't open are told on `err`, with status 3. The path `-` is
 /// standard input: at any offset where it is a file, as it comes where the command asks for each offset once, in order,
-/// and else read into memory, at most 2^30 bytes of it. The path `/dev/stdin` is always read into memory.
+/// and else read into memory, at most 2^30 bytes of it. The path `/dev/stdin` is always read into memory. A command
+/// that reads nothing opens nothing.
 pub fn run<Y, W, E>(
     alloc: Global,
     system: &Y,
@@ -107,18 +109,49 @@ where
     Y: System,
     W: Sink,
     E: Sink,
-    ensures { PlaceEnds (place_at (path_of command.now)) (Y.gives system.now) command.now (outputs (W.seen out.old)
+    ensures { PlaceEnds (command_place command.now) (Y.gives system.now) command.now (outputs (W.seen out.old)
         (E.seen err.old)) (outputs (W.seen out.new) (E.seen err.new)) result }
 {
-    match place_of(command.path()) {
+    match place_of(command) {
         Place::File => run_file(alloc, system, command, out, err),
         Place::Memory => run_memory(alloc, system, command, READ_FAILED, out, err),
         Place::Input => run_input(alloc, system, command, out, err),
+        Place::Nowhere => run_over_nothing(alloc, command, out, err),
     }
 }
 
+/// Where the bytes of a command are.
+fn place_of(command: &Command<'_>) -> Place
+    ensures { result ≡ command_place command.now }
+{
+    if command.opens_nothing() {
+        Place::Nowhere
+    } else {
+        place_at(command.path())
+    }
+}
+
+/// Does what a command says that reads nothing.
+fn run_over_nothing<W: Sink, E: Sink>(
+    alloc: Global,
+    command: &Command<'_>,
+    out: &mut W,
+    err: &mut E,
+) -> u8
+    ensures { IsRunOver command.now (in_memory []) (outputs (W.seen out.old) (E.seen err.old)) (outputs
+        (W.seen out.new) (E.seen err.new)) result }
+{
+    run_over(
+        alloc,
+        command,
+        MemSource::new(Vec::new(alloc), usize::MAX),
+        out,
+        err,
+    )
+}
+
 /// Where the bytes at a path are.
-fn place_of(path: &str) -> Place
+fn place_at(path: &str) -> Place
     ensures { result ≡ place_at path.now }
 {
     match path {

@@ -7,7 +7,7 @@ ghost use Rattle.clap.specs.Takes.{takes};
 ghost use Rattle.clap.specs.Values.{kind_of};
 ghost use Rattle.clap.specs.Walk.{first_of, rows_of, rule_of};
 ghost use Rattle.clap.specs.declared.builder.command.Command.TheViews.{out-Command};
-ghost use Rattle.warc_commands.specs.Command.{asked_by, draft_texts, flags_of, path_of, reads_once, view_of};
+ghost use Rattle.warc_commands.specs.Command.{asked_by, draft_texts, flags_of, opens_nothing, path_of, reads_once, view_of};
 ghost use Rattle.warc_commands.specs.CommandLine.{IsToldBy, asked_in, bare_app, first_app, asked_of, command_fault_text, draft_words, flags_in, is_flagged};
 ghost use Rattle.warc_commands.specs.CommandLine.{layout_seen, named, rule_as, text_of, warc_app, with_layout, with_rules};
 
@@ -93,6 +93,10 @@ pub enum Command<'a> {
     Summary {
         archive: &'a str,
     },
+    /// What a number means that the program prints, and what to do.
+    Explain {
+        number: &'a str,
+    },
 }
 
 /// What `write` makes a record of, beside its block.
@@ -111,7 +115,7 @@ pub struct Draft<'a> {
 }
 
 impl<'a> Command<'a> {
-    /// The path of the file that the command reads.
+    /// The path of the file that the command reads; empty if it reads none.
     pub fn path(&self) -> &'a str
         ensures { result.now ≡ path_of self.now }
     {
@@ -150,6 +154,7 @@ impl<'a> Command<'a> {
             Command::Fixity { archive } => archive,
             Command::Salvage { archive } => archive,
             Command::Summary { archive } => archive,
+            Command::Explain { number: _ } => "",
         }
     }
 
@@ -162,6 +167,16 @@ impl<'a> Command<'a> {
             | Command::Check { archive: _ }
             | Command::Fixity { archive: _ }
             | Command::Summary { archive: _ } => true,
+            _ => false,
+        }
+    }
+
+    /// Whether the command opens no file and reads nothing.
+    pub fn opens_nothing(&self) -> bool
+        ensures { result ≡ opens_nothing self.now }
+    {
+        match self {
+            Command::Explain { number: _ } => true,
             _ => false,
         }
     }
@@ -388,6 +403,15 @@ status 1.
 
 Example: warc summary examples/crawl.warc";
 
+const EXPLAIN_NOTES: &str =
+    "The number is one that the program prints: F1 to F14, why an archive is refused; G1 to G6, why segments don't
+join; P1 to P10, why there is no body; M1 to M5 and S1 to S7, why a record isn't made or split; E1 and E2, what
+isn't there; N1 to N12, what 'warc check' finds. Its letter may be in lower case. Nothing is opened.
+
+Exit status: 0 written; 3 the number isn't one of these, or see 'warc --help'. There is no status 1 or 2.
+
+Example: warc explain F10";
+
 const ARCHIVE: Word = Word {
     name: "archive",
     help: "The path of the archive; '-' is standard input, also a pipe, as from 'gunzip -c a.warc.gz'",
@@ -421,6 +445,11 @@ const STORED: Word = Word {
 const POSITION: Word = Word {
     name: "position",
     help: "The position of the record, from 0, as 'warc list' shows it",
+};
+
+const NUMBER: Word = Word {
+    name: "number",
+    help: "The number, as F10",
 };
 
 const SIZE: Word = Word {
@@ -515,7 +544,7 @@ const FIRST_COMMANDS: [Entry; 6] = [
 ];
 
 /// The other commands, in that order. Two tables are cheaper to prove than one.
-const OTHER_COMMANDS: [Entry; 9] = [
+const OTHER_COMMANDS: [Entry; 10] = [
     Entry {
         name: "rewrite",
         about: "Writes the archive in canonical form",
@@ -585,6 +614,14 @@ const OTHER_COMMANDS: [Entry; 9] = [
         about: "Prints what the archive holds: records, bytes, types, captures, verdicts and dates",
         notes: SUMMARY_NOTES,
         words: &[ARCHIVE],
+        optional: &[],
+        flags: &[],
+    },
+    Entry {
+        name: "explain",
+        about: "Prints what a number means, as F10 or P4, and what to do",
+        notes: EXPLAIN_NOTES,
+        words: &[NUMBER],
         optional: &[],
         flags: &[],
     },
@@ -789,6 +826,9 @@ fn read_command<'a>(name: &str, texts: &ArgMatches<'a>) -> Command<'a>
         "fixity" => Command::Fixity { archive },
         "salvage" => Command::Salvage { archive },
         "summary" => Command::Summary { archive },
+        "explain" => Command::Explain {
+            number: text_at(texts, "number"),
+        },
         _ => Command::List { archive },
     }
 }
