@@ -37,7 +37,12 @@ fn tell_request(
 ) -> Result<(), AllocError> {
     let command = request.command;
     let manner = if request.quiet { " quietly" } else { "" };
-    let line = format!(in alloc; "{command:?} reads {}{manner}\n", command.path())?;
+    let path = if command.opens_nothing() {
+        "nothing"
+    } else {
+        command.path()
+    };
+    let line = format!(in alloc; "{command:?} reads {path}{manner}\n")?;
     answer.extend_from_slice(line.as_bytes())
 }
 

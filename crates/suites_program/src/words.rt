@@ -113,6 +113,9 @@ pub(crate) fn command_of<'a>(words: &'a [String], given: &'a [u8]) -> Option<Com
         "fixity" => Command::Fixity { archive },
         "salvage" => Command::Salvage { archive },
         "summary" => Command::Summary { archive },
+        "explain" => Command::Explain {
+            number: word(words, 1),
+        },
         _ => return None,
     })
 }
