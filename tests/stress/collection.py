@@ -382,6 +382,7 @@ class Host:
         self.addresses = "198.18.77.%d" % (4 * number + 1), "198.18.77.%d" % (4 * number + 2)
         self.link = "warcs%d" % number
         self.server = None
+        self.clear()
         ip("netns", "add", self.name)
         ip("link", "add", self.link, "type", "veth", "peer", "name", "inside", "netns", self.name)
         ip("addr", "add", self.addresses[0] + "/30", "dev", self.link)
@@ -389,6 +390,11 @@ class Host:
         self.inside("ip", "addr", "add", self.addresses[1] + "/30", "dev", "inside")
         self.inside("ip", "link", "set", "inside", "up")
         self.inside("ip", "link", "set", "lo", "up")
+
+    def clear(self):
+        """Removes what an earlier run left when it was killed."""
+        for words in (["netns", "del", self.name], ["link", "del", self.link]):
+            subprocess.run(["ip", *words], stderr=subprocess.DEVNULL, check=False)
 
     def inside(self, *words):
         subprocess.run(["ip", "netns", "exec", self.name, *words], check=True)
@@ -533,7 +539,8 @@ def main(program, count):
         on_two_hosts(trial, archives)
         lost_host(trial, small)
     finally:
-        shutil.rmtree(folder)
+        if "STRESS_KEEP" not in os.environ:
+            shutil.rmtree(folder)
     print("collection: %d parts, %d tried, %d surprises" % (
         len(trial.tried), sum(trial.tried.values()), trial.surprises))
     return 1 if trial.surprises else 0
