@@ -1,120 +1,158 @@
 #!/usr/bin/env python3
-"""Proves the crates of the program, several at a time, and builds bin/warc.
+"""Proves the crates of the program side by side, and builds bin/warc.
 
 Usage: build.py JOBS [FOLDER]
 
-The crates are copied to FOLDER (out/build if left out), with a crates.txt of their own, so that no suite or example is
-proved. What was proved there is kept, and a later run proves only what changed. A line is printed for each crate when it
-is done, with the seconds that its checks ran; the whole log is FOLDER/log.
+Each crate is proved in a tree of its own below FOLDER (out/build if left out), which has its sources, and the crates below
+it with their libraries: the toolchain lets one run at a time work in a tree. The processors are shared among the crates
+whose lower crates are done. What was proved is kept there, and a later run proves only what changed. A line is printed for
+each crate when it is done, with the seconds that it took; its log is FOLDER/NAME/log.
 """
 import os
 import re
 import shutil
 import subprocess
 import sys
-import threading
 import time
 
 from shared import TOP, below, crates, rows
 
 PROGRAM = "warc_tool"
+PARTS = ("src", "specs", "proofs")
+# A crate doesn't keep its processors busy all the time, so a few more jobs run than there are processors. Each job loads
+# the libraries below, so a small crate is done sooner with one.
+SPARE = 1.5
+LINES_OF_A_JOB = 500
+MEMORY_OF_A_JOB = 2_500_000_000
 
 
 def copy_crate(name, tree):
     """Copies the sources of a crate; what was proved there earlier, in its out/, stays."""
     to = f"{tree}/crates/{name}"
     os.makedirs(to, exist_ok=True)
-    for part in ("src", "specs", "proofs"):
+    for part in PARTS:
         shutil.rmtree(f"{to}/{part}", ignore_errors=True)
         if os.path.isdir(f"{TOP}/crates/{name}/{part}"):
             shutil.copytree(f"{TOP}/crates/{name}/{part}", f"{to}/{part}")
 
 
-def copy_tree(names, uses, tree):
-    """Copies the crates of these names, and makes their crates.txt."""
-    fronts = rows()
-    for name in names:
-        copy_crate(name, tree)
-    with open(f"{tree}/crates.txt", "w", encoding="utf-8") as out:
-        out.writelines(f"{fronts[name][0]}: {' '.join(uses[name])}\n" for name in names)
-    shutil.copy(f"{TOP}/HANDLES", f"{tree}/HANDLES")
+def link_library(name, tree, to):
+    """Puts a crate that is done into the tree of one above it, with its library, by links and not by copies."""
+    done = f"{tree}/{name}/crates/{name}"
+    shutil.rmtree(f"{to}/crates/{name}", ignore_errors=True)
+    for part in (*PARTS, "out/rlib"):
+        if os.path.isdir(f"{done}/{part}"):
+            shutil.copytree(f"{done}/{part}", f"{to}/crates/{name}/{part}", copy_function=os.link)
 
 
-def checked_now(tree):
-    """The names of the crates of the tree that some process checks at this moment."""
-    found = set()
-    for process in filter(str.isdigit, os.listdir("/proc")):
-        try:
-            with open(f"/proc/{process}/cmdline", "rb") as words:
-                line = words.read().decode(errors="replace").split("\0")
-            if "--crate-name" in line and os.readlink(f"/proc/{process}/cwd").startswith(f"{tree}/"):
-                found.add(line[line.index("--crate-name") + 1])
-        except OSError:
-            continue
+def make_tree(name, uses, tree):
+    """Makes the tree in which a crate is proved, once those below it are done, and returns the crate's folder there."""
+    to, fronts, names = f"{tree}/{name}", rows(), below(name, uses)
+    copy_crate(name, to)
+    for low in names[:-1]:
+        link_library(low, tree, to)
+    with open(f"{to}/crates.txt", "w", encoding="utf-8") as out:
+        out.writelines(f"{fronts[it][0]}: {' '.join(uses[it])}\n" for it in names)
+    shutil.copy(f"{TOP}/HANDLES", f"{to}/HANDLES")
+    return f"{to}/crates/{name}"
+
+
+def lines_of(name):
+    """How many lines of code and proofs a crate has, by which its time is reckoned."""
+    count = 0
+    for part in PARTS:
+        for at, _, names in os.walk(f"{TOP}/crates/{name}/{part}"):
+            for file in names:
+                with open(f"{at}/{file}", "rb") as text:
+                    count += text.read().count(b"\n")
+    return count
+
+
+def ways(names, uses):
+    """For each crate the lines of the longest chain from it to the top, itself among them."""
+    found = {}
+    for name in reversed(names):
+        found[name] = lines_of(name) + max([found[it] for it in names if name in uses[it]], default=0)
     return found
 
 
-def watch(tree, seconds, begun, ended):
-    """Adds up how long each crate was checked, from the end of the quick pass over the sources to that of the run."""
-    before = time.monotonic()
-    while not ended.wait(0.5):
-        now = time.monotonic()
-        for name in checked_now(tree) if begun.is_set() else ():
-            seconds[name] = seconds.get(name, 0) + now - before
-        before = now
+class Run:
+    """The check of one crate, with so many jobs."""
+
+    def __init__(self, name, folder, words, jobs):
+        self.name, self.jobs, self.begun = name, jobs, time.monotonic()
+        self.path = os.path.join(os.path.dirname(os.path.dirname(folder)), "log")
+        with open(self.path, "w", encoding="utf-8") as log:
+            line = ["rt", words[0], "--jobs", str(jobs), *words[1:]]
+            self.process = subprocess.Popen(line, cwd=folder, stdout=log, stderr=subprocess.STDOUT)
+
+    def report(self):
+        """Prints how long it took. Where it failed, this script ends."""
+        with open(self.path, encoding="utf-8", errors="replace") as log:
+            text = log.read()
+        if self.process.returncode:
+            sys.exit(f"{''.join(text.splitlines(True)[-20:])}{self.name} isn't proved: see {self.path}")
+        is_new = re.search(rf"^crate {self.name}: .* checked=[1-9]", text, re.MULTILINE)
+        took = f"{time.monotonic() - self.begun:5.0f} s" if is_new else "   kept from an earlier check"
+        print(f"{self.name:15} {took}", flush=True)
 
 
-def reported(lines, log, begun):
-    """The name of each crate as soon as its part of the log has ended; last `summary`, if all are proved."""
-    at, last = None, ""
-    for line in lines:
-        log.write(line)
-        if line.startswith(("only=0 ", "== ")):
-            begun.set()
-        is_title = line.startswith("== ")
-        if at and (is_title or line.startswith("logic=")):
-            yield at
-        at = line[3:].strip() if is_title else None if line.startswith("logic=") else at
-        last = line
-    if at == "summary" and re.fullmatch(r"(\d+) of \1 crates ok\n", last):
-        yield at
+def ended(running):
+    """Waits until one of the runs has ended, and takes it out of them."""
+    while True:
+        for run in running:
+            if run.process.poll() is not None:
+                running.remove(run)
+                return run
+        time.sleep(0.1)
 
 
-def prove(tree, jobs):
-    """Has all crates checked, and says of each how long that took; gives whether all are proved."""
-    seconds, begun, ended, done = {}, threading.Event(), threading.Event(), False
-    threading.Thread(target=watch, args=(os.path.realpath(tree), seconds, begun, ended), daemon=True).start()
-    words = ["rt", "all", "check", "--jobs", str(jobs)]
-    with open(f"{tree}/log", "w", encoding="utf-8") as log:
-        run = subprocess.Popen(words, cwd=tree, stdout=subprocess.PIPE, stderr=subprocess.STDOUT, text=True)
-        for name in reported(run.stdout, log, begun):
-            done = name == "summary"
-            if not done:
-                took = f"{seconds[name]:5.0f} s" if name in seconds else "   kept from an earlier check"
-                print(f"{name:15} {took}", flush=True)
-    ended.set()
-    return run.wait() == 0 and done
+def most_jobs(jobs):
+    """How many jobs run at a time, as many as the memory has room for."""
+    with open("/proc/meminfo", encoding="ascii") as info:
+        free = int(re.search(r"^MemAvailable: +(\d+) kB$", info.read(), re.MULTILINE)[1]) * 1024
+    return max(1, min(int(jobs * SPARE), free // MEMORY_OF_A_JOB))
 
 
-def failure(tree):
-    """What is said where not all crates are proved."""
-    with open(f"{tree}/log", encoding="utf-8") as log:
-        summary = log.read().partition("== summary\n")[2]
-    return f"{summary}not all crates are proved: see {tree}/log"
+def start_ready(ready, running, way, most, start):
+    """Starts the crates that are ready. The one with the longest way gets all free jobs, but for one of each other."""
+    ready.sort(key=way.get, reverse=True)
+    while ready:
+        free = most - sum(run.jobs for run in running)
+        if free < 1:
+            return
+        running.append(start(ready.pop(0), max(1, free - len(ready))))
+
+
+def prove(top, words, jobs, tree):
+    """Proves a crate by these words of `rt`, and before it the crates below it."""
+    uses, running, done = crates(), [], set()
+    names = below(top, uses)
+    way, most, waiting = ways(names, uses), most_jobs(jobs), list(names)
+
+    def start(name, share):
+        few = 1 + lines_of(name) // LINES_OF_A_JOB
+        return Run(name, make_tree(name, uses, tree), words if name == top else ["lib"], min(share, few, jobs))
+
+    try:
+        while len(done) < len(names):
+            ready = [it for it in waiting if all(low in done for low in below(it, uses)[:-1])]
+            waiting = [it for it in waiting if it not in ready]
+            start_ready(ready, running, way, most, start)
+            waiting += ready
+            run = ended(running)
+            run.report()
+            done.add(run.name)
+    finally:
+        for run in running:
+            run.process.terminate()
+    return f"{tree}/{top}/crates/{top}"
 
 
 def main():
-    jobs, tree = sys.argv[1], (sys.argv[2:] or [f"{TOP}/out/build"])[0]
+    jobs, tree = int(sys.argv[1]), (sys.argv[2:] or [f"{TOP}/out/build"])[0]
     begin = time.monotonic()
-    uses = crates()
-    names = below(PROGRAM, uses)
-    copy_tree(names, uses, tree)
-    if not prove(tree, jobs):
-        sys.exit(failure(tree))
-    folder = f"{tree}/crates/{PROGRAM}"
-    linked = subprocess.run(["rt", "run", "--", "--version"], cwd=folder, capture_output=True, text=True)
-    if linked.returncode != 0:
-        sys.exit(f"{linked.stderr}the program isn't built")
+    folder = prove(PROGRAM, ["run", "--", "--version"], jobs, tree)
     os.makedirs(f"{TOP}/bin", exist_ok=True)
     shutil.copy(f"{folder}/out/{PROGRAM}", f"{TOP}/bin/warc")
     print(f"bin/warc is built, {time.monotonic() - begin:.0f} s in all")

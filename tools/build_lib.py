@@ -3,7 +3,7 @@
 
 Usage: build_lib.py JOBS [FOLDER]
 
-The crates are copied to FOLDER (out/build_lib if left out) and proved there, as build.py proves those of the program. The
+The crates are proved below FOLDER (out/build_lib if left out), as build.py proves those of the program. The
 libraries are the proved functions, c/warc.c, and what the toolchain has of the C library's memory (liblibc_c.a).
 """
 import os
@@ -13,8 +13,8 @@ import sys
 import tempfile
 import time
 
-from build import copy_tree, failure, prove
-from shared import TOP, below, crates
+from build import prove
+from shared import TOP
 
 CRATE = "warc_c"
 OUT = f"{TOP}/out/lib"
@@ -31,15 +31,6 @@ def run(words, folder):
     """Runs a command, whose failure ends this script."""
     if subprocess.run(words, cwd=folder, check=False).returncode:
         sys.exit(f"failed: {' '.join(words)}")
-
-
-def proved_library(tree):
-    """The static library of the proved functions."""
-    folder = f"{tree}/crates/{CRATE}"
-    built = subprocess.run(["rt", "lib"], cwd=folder, capture_output=True, text=True, check=False)
-    if built.returncode:
-        sys.exit(f"{built.stdout}{built.stderr}the library isn't built")
-    return f"{folder}/out/lib{CRATE}.a"
 
 
 def link(proved, memory):
@@ -61,13 +52,10 @@ def link(proved, memory):
 
 def main():
     """Proves, builds and links."""
-    jobs, tree = sys.argv[1], (sys.argv[2:] or [f"{TOP}/out/build_lib"])[0]
+    jobs, tree = int(sys.argv[1]), (sys.argv[2:] or [f"{TOP}/out/build_lib"])[0]
     begin = time.monotonic()
-    uses = crates()
-    copy_tree(below(CRATE, uses), uses, tree)
-    if not prove(tree, jobs):
-        sys.exit(failure(tree))
-    link(proved_library(tree), f"{kit()}/c/liblibc_c.a")
+    folder = prove(CRATE, ["lib"], jobs, tree)
+    link(f"{folder}/out/lib{CRATE}.a", f"{kit()}/c/liblibc_c.a")
     print(f"out/lib has libwarc.a, libwarc.so and warc.h, {time.monotonic() - begin:.0f} s in all")
 
 
