@@ -7,7 +7,10 @@ use std::fs::{self, File};
 use std::io::{self, Read, Seek, SeekFrom, Stdin};
 use warc_commands::System;
 use warc_frame::FileSource;
-use warc_stream::{StreamSource, WatchedSource};
+use warc_stream::{StreamSource, WatchedSource, WindowSource};
+
+/// A file that is read through a window, which passes each read on to the progress.
+type WindowedFile<'a> = WindowSource<WatchedSource<'a, FileSource<Noted<'a, File>>, Progress<'a>>>;
 
 /// The path of standard input.
 const STANDARD_INPUT: &str = "/dev/stdin";
@@ -50,16 +53,13 @@ pub struct Host<'a> {
 }
 
 impl<'a> System for Host<'a> {
-    type File = WatchedSource<'a, FileSource<Noted<'a, File>>, Progress<'a>>;
+    type File = WindowedFile<'a>;
 
     type Stream = WatchedSource<'a, StreamSource<Noted<'a, Stdin>>, Progress<'a>>;
 
     ghost gives = { λ _ _. ⊤ };
 
-    fn open(
-        &self,
-        path: &str,
-    ) -> io::Result<WatchedSource<'a, FileSource<Noted<'a, File>>, Progress<'a>>> {
+    fn open(&self, path: &str) -> io::Result<WindowedFile<'a>> {
         let opened = File::open(self.rt, path);
         note(self.reason, &opened);
         let file = opened?;
@@ -70,10 +70,11 @@ impl<'a> System for Host<'a> {
             reader: file,
             reason: self.reason,
         };
-        Ok(WatchedSource::new(FileSource::new(reader), self.progress))
+        let source = WatchedSource::new(FileSource::new(reader), self.progress);
+        Ok(WindowSource::new(self.rt.alloc(), source))
     }
 
-    fn redirected(&self) -> Option<WatchedSource<'a, FileSource<Noted<'a, File>>, Progress<'a>>> {
+    fn redirected(&self) -> Option<WindowedFile<'a>> {
         match fs::metadata(self.rt, STANDARD_INPUT) {
             Ok(metadata) if metadata.is_file() => self.open(STANDARD_INPUT).ok(),
             _ => None,

@@ -1,8 +1,11 @@
-//! Sources over bytes that come once, in order, as those of a pipe, and sources whose reads are watched.
+//! Sources over bytes that come once, in order, as those of a pipe; sources whose reads are watched; and sources that
+//! are read through a window.
 #![tactic(auto)]
 
 mod stream;
 mod watched;
+mod window;
 
 pub use stream::StreamSource;
 pub use watched::{WatchedSource, Watcher};
+pub use window::WindowSource;
