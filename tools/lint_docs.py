@@ -9,12 +9,14 @@
 - README.md has at most 9 KB.
 - CHANGELOG.md has a section for the version.
 - docs/NUMBERS.md is what tools/make_numbers.py makes, and docs/FORMAT.md has the same numbers and names.
+- crates/warc/CALLING.md is what tools/make_calling.py makes.
 """
 import glob
 import os
 import re
 import sys
 
+import make_calling
 import make_numbers
 from shared import TOP, crates, read, version
 
@@ -74,6 +76,8 @@ def main():
         found.append(f"README.md: more than {MOST} bytes")
     if f"\n## {version()} (" not in read("CHANGELOG.md"):
         found.append(f"CHANGELOG.md: no section for {version()}")
+    if read(make_calling.PAGE) != make_calling.page():
+        found.append(f"{make_calling.PAGE}: run tools/make_calling.py")
     print("\n".join(found) or "the pages are as they must be")
     sys.exit(bool(found))
 

@@ -3,8 +3,7 @@
 
 use std::fs::File;
 use std::io;
-use warc::Listing;
-use warc_frame::FileSource;
+use warc::{FileSource, Listing};
 
 fn main(rt: HostRuntime) -> io::Result<()> {
     let file = File::open(&rt, "abc.warc")?;

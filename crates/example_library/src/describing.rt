@@ -2,8 +2,7 @@
 
 use anyhow::Result;
 use std::alloc::Global;
-use warc::Archive;
-use warc_frame::{MemSink, MemSource};
+use warc::{Archive, MemSink, MemSource};
 
 /// How many records an archive has, and what `warc list` and `warc check` write of it.
 pub fn describe(alloc: Global, bytes: Vec<u8>) -> Result<(usize, Vec<u8>, Vec<u8>)> {

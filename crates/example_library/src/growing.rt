@@ -1,8 +1,7 @@
 //! An archive that a service keeps open, and that grows.
 
 use std::alloc::Global;
-use warc::Archive;
-use warc_frame::{Fault, MemSink, MemSource};
+use warc::{Archive, Fault, MemSink, MemSource};
 
 /// The length of the block with an id in an archive, if there is one.
 fn length(alloc: Global, archive: &mut Archive<MemSource>, id: &[u8]) -> Option<u64> {

@@ -1,4 +1,4 @@
-//! What README.md shows of the library, over three small archives.
+//! What README.md and docs/LIBRARY.md show of the library, over small archives.
 #![tactic(auto)]
 
 mod describing;
@@ -7,9 +7,7 @@ mod pieces;
 mod replaying;
 
 use std::{fs, io};
-use warc::Archive;
-use warc_frame::MemSource;
-use warc_value::{Moment, read_date};
+use warc::{Archive, MemSource, Moment, read_date};
 
 /// Prints how many records an archive has, what is listed and found, or why it isn't described.
 fn tell_described(rt: &HostRuntime, bytes: Vec<u8>) -> io::Result<()> {

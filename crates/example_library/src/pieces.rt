@@ -1,7 +1,7 @@
 //! Bytes that come in pieces.
 
 use std::alloc::Global;
-use warc_frame::{Decoder, Event, Fault};
+use warc::{Decoder, Event, Fault};
 
 /// Adds to the count the bytes of blocks that a piece of an archive holds.
 fn count_in_piece(decoder: &mut Decoder, piece: &[u8], count: &mut u64) -> Result<(), Fault> {

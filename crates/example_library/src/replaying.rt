@@ -2,10 +2,7 @@
 
 use std::alloc::Global;
 use std::io;
-use warc::Archive;
-use warc_answer::ReplayFault;
-use warc_frame::{MemSink, MemSource};
-use warc_value::Moment;
+use warc::{Archive, MemSink, MemSource, Moment, ReplayFault};
 
 /// Prints the offset and the target of each record.
 pub fn print_rows(rt: &HostRuntime, archive: &Archive<MemSource>) -> io::Result<()> {

@@ -36,5 +36,15 @@ pub use outcome::{Outcome, StoredAt};
 pub use part::Part;
 pub use reader::Listing;
 pub use summary::{Summarized, Summary};
+
+// What the calls above take and give, so that a caller needs this crate alone.
+pub use warc_answer::{Answer, Located, Path, Reason, ReplayFault, Span, Stored};
 pub use warc_checking::Checked;
+pub use warc_frame::{
+    Decoder, Event, Fault, FaultKind, FileSource, Framed, Head, MemSink, MemSource, OutFault,
+    OutSink, ReadFault, Sink, SliceSource, Source, Version, WriteFault,
+};
+pub use warc_index::Unfound;
 pub use warc_reading::Row;
+pub use warc_segment::Gap;
+pub use warc_value::{Moment, Verdict, read_date};

@@ -1,0 +1,102 @@
+#!/usr/bin/env python3
+"""Makes crates/warc/CALLING.md: what the crate is, a whole proved caller, and the contract of each call.
+
+Usage: make_calling.py [--check]
+
+The caller is the code of crates/example_page, and the contracts are those of the sources, so that neither is written
+twice. With --check it compares, and the exit status is 1 where the page is another.
+"""
+import re
+import sys
+
+from shared import TOP, read
+
+PAGE = "crates/warc/CALLING.md"
+SOURCES = ("archives", "reader", "iterating", "fixity", "front", "summary")
+CALLER = (
+    ("rust", "crates/example_page/src/page.rt"),
+    ("antt", "crates/example_page/specs/Page.antt"),
+    ("antt", "crates/example_page/proofs/PageLemmas.antt"),
+    ("antt", "crates/example_page/proofs/page/opened/Answers.antt"),
+    ("antt", "crates/example_page/proofs/page/replayed/Answers.antt"),
+)
+FRONT = """\
+# Calling `warc`
+
+`warc` opens a WARC archive over any source of bytes, and lists, checks, replays and rewrites it without a block in memory.
+`Listing` keeps a row for each record, `Archive` an index as well; `Checked`, `Fixity` and `Summarized` judge while they read.
+A `Source` gives bytes at any offset (`FileSource`, `MemSource`, `SliceSource`), and a `Sink` takes them (`OutSink`, `MemSink`).
+Each call says in its contract what it gives, what it reads, what it writes, and what each refusal leaves.
+Everything that these calls take and give is exported here, so one line of `use` is enough.
+
+## A caller
+
+`page` gives the page that an archive in memory holds of a URI as of a moment. It promises that the page is the one that the
+definition of an answer names, and it proves that from the contracts of the three calls that it makes.
+"""
+CONTRACTS = """\
+## Contracts
+
+`self.old` is the value before a call and `self.new` the one after it. `S.tapped` is what contracts see of a source, and
+`W.seen` what they see of a sink. The words of clauses are defined in specs/ of the crates that the `ghost use` lines of each
+file name; docs/ARCHITECTURE.md has them in reading order, and docs/PROMISES.md says in plain words what each call promises.
+"""
+
+
+def blocks():
+    """The code of the caller, each file with its path."""
+    for language, path in CALLER:
+        yield f"`{path}`:\n\n```{language}\n{read(path)}```\n"
+
+
+def calls(text):
+    """Each public function of a source file, with the line of its `impl` (if it has one), comment and contract."""
+    kind, comment, taken = "", [], []
+    for line in text.splitlines():
+        if line.startswith("impl"):
+            kind = line
+        if line == "}":
+            kind = ""
+        if taken or re.match(r" *pub fn ", line):
+            taken.append(line)
+            if re.match(r" *(?:\{|.*[^ ] \{)$", line):
+                yield kind, comment + taken[:-1] if line.strip() == "{" else comment + taken
+                comment, taken = [], []
+        elif line.strip().startswith("///"):
+            comment.append(line)
+        else:
+            comment = []
+
+
+def contracts():
+    """A section for each file, with its calls by their type."""
+    for name in SOURCES:
+        text = read(f"crates/warc/src/{name}.rt")
+        title = re.match(r"//! (.*)", text)[1].rstrip(".")
+        yield f"### {title} (`{name}.rt`)\n"
+        last = None
+        lines = []
+        for kind, call in calls(text):
+            if kind != last:
+                lines += [kind] if kind else []
+            last = kind
+            lines += [*call, ""]
+        yield "```rust\n" + "\n".join(lines).rstrip() + "\n```\n"
+
+
+def page():
+    """The whole page."""
+    return "\n".join([FRONT, *blocks(), CONTRACTS, *contracts()])
+
+
+def main():
+    text = page()
+    if sys.argv[1:] != ["--check"]:
+        with open(f"{TOP}/{PAGE}", "w", encoding="utf-8") as out:
+            out.write(text)
+    elif read(PAGE) != text:
+        sys.exit(f"{PAGE}: run tools/make_calling.py")
+
+
+if __name__ == "__main__":
+    main()
