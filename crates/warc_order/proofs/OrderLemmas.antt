@@ -22,7 +22,7 @@ use Rattle.warc_order.specs.declared.mark.Mark.{Mark}
 use Rattle.warc_order.specs.declared.slot.Slot.{Slot}
 use Rattle.warc_order.specs.Heads.{head_of}
 use Rattle.warc_order.specs.Ranking.{IsRanked, IsStrict, IsFirstOf, IsLastOf}
-use Rattle.warc_order.specs.Entries.{Entry, no_entry, entry_at, mark_lt, comes_later, IsUpTo, IsFrom, IsAfter, IsBefore, IsFirst, IsLast, IsNone}
+use Rattle.warc_order.specs.Entries.{Entry, no_entry, entry_at, mark_lt, comes_later, IsUpTo, IsFrom, IsAfter, IsBefore, IsAt, IsFirst, IsLast, IsNone}
 use Rattle.warc_order.specs.Layout.{Key, mark_cmp, text_cmp, key_cmp, key_at, key_for, in_order, slot_for, slots_of, same_index, IsSlotOf, IsOrderOf, IsGrowing, IsOrdered, AreWaiting}
 
 pub mark_total : IsTotalOrder mark_cmp
@@ -239,6 +239,25 @@ by_index es P all q (k, lt, e) = subst P (get_or_default es k no_entry q lt ∙ 
 
 one_slot : (es : List Entry) (k : ℕ) → k < length es → IsSlotOf es (length es) (slot_for es k)
 one_slot es k lt = record { index = lt; slot = refl }
+
+-- no entry is at a position where the n-th isn't, those before it are below, and those from it on aren't
+pub none_at : (es : List Entry) (n position : ℕ) → IsGrowing es →
+    ((k : ℕ) → k < n → (entry_at es k).position < position) →
+    ((k : ℕ) → n ≤ k → k < length es → position ≤ (entry_at es k).position) →
+    (n < length es → (entry_at es n).position ≡ position → ⊥) → IsNone es (IsAt position)
+none_at es n position growing below above other = by_index es (λ q. IsAt position q → ⊥) (λ k lt is.
+    elim (cases_lt k n) [
+      | inl low ↦ let near : (entry_at es k).position < position = below k low in omega (arith, is.position_is)
+      | inr high ↦ elim (cases_lt n k) [
+        | inl far ↦
+            let least : position ≤ (entry_at es n).position = above n (omega arith) (omega arith) in
+            let rise : (entry_at es n).position < (entry_at es k).position = growing n k no_entry far lt in
+            omega (arith, is.position_is)
+        | inr tie ↦
+            let same : k ≡ n = omega arith in
+            other (omega arith) (sym (ap (λ m. (entry_at es m).position) same) ∙ is.position_is)
+      ]
+    ])
 
 -- ---- the look-ups
 

@@ -1,9 +1,9 @@
 //! Entries one after another, in the order in which they were added.
 
 ghost use Rattle.std.specs.Prelude.{◌≡◌, ℕ, ◌+◌, ◌<◌, ◌≤◌, [], ◌∷◌, ◌++◌, length, take, filter, nat_lt, slice_range};
-ghost use Rattle.std.specs.Prelude.{OnOk, OnErr};
+ghost use Rattle.std.specs.Prelude.{OnOk, OnErr, IfSome, IfNone};
 ghost use Rattle.std.specs.List.{concat, sum_by};
-ghost use Rattle.warc_order.specs.Entries.{entry_of, entry_at};
+ghost use Rattle.warc_order.specs.Entries.{entry_of, entry_at, IsAt, IsTextAt, IsNone};
 ghost use Rattle.warc_order.specs.Layout.{texts_of, IsGrowing};
 
 use crate::column::Column;
@@ -124,7 +124,9 @@ impl<A: Allocator + Copy> Entries<A> {
     /// How many entries at the front have positions below a number. The positions rise.
     pub(crate) fn count_below(&self, position: usize) -> usize
         requires { IsGrowing self.now }
-        ensures { take result self.now ≡ filter (λ e. nat_lt e.position position) self.now }
+        ensures front { take result self.now ≡ filter (λ e. nat_lt e.position position) self.now }
+        ensures below { (k : ℕ) → k < result → (entry_at self.now k).position < position }
+        ensures above { (k : ℕ) → result ≤ k → k < length self.now → position ≤ (entry_at self.now k).position }
     {
         let mut low = 0;
         let mut high = self.len();
@@ -137,6 +139,20 @@ impl<A: Allocator + Copy> Entries<A> {
             }
         }
         low
+    }
+
+    /// The text of the entry with a position, `None` where none has it. The positions rise.
+    pub(crate) fn text_at(&self, position: usize) -> Option<&[u8]>
+        requires { IsGrowing self.now }
+        ensures some { IfSome result (λ text. IsTextAt self.now position text.now) }
+        ensures none { IfNone result (IsNone self.now (IsAt position)) }
+    {
+        let index = self.count_below(position);
+        if index < self.len() && self.position(index) == position {
+            Some(self.text(index))
+        } else {
+            None
+        }
     }
 
     /// Adds an entry. `Err`: no memory for it; then nothing changes.

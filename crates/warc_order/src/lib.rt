@@ -3,7 +3,8 @@
 //! An [`Order`] holds entries. Each is a text (any bytes), a [`Mark`] of two numbers, and the position of what it
 //! stands for in some list of the caller's. Entries are added by rising positions, and `forget_after` drops those from
 //! a position on. Look-ups give the last entry of a text whose mark isn't above one, the first whose mark isn't below
-//! one, and from an entry the next and the one before of its text, by mark, then by position.
+//! one, and from an entry the next and the one before of its text, by mark, then by position. The text of an entry is
+//! also lent by its position.
 //!
 //! To a caller an `Order` is the plain list of its entries, in the order in which they were added: contracts speak of
 //! no other. Many entries at once are pushed to an [`Unordered`], which `into_order` puts in order: the value is the
@@ -21,7 +22,7 @@ ghost use Rattle.std.specs.Prelude.{◌≡◌, ℕ, ◌+◌, ◌<◌, [], ◌∷
 ghost use Rattle.std.specs.Prelude.{IfNone, All};
 ghost use Rattle.std.specs.List.{sum_by};
 ghost use Rattle.warc_order.specs.Entries.{entry_of, entry_at, IsUpTo, IsFrom, IsAfter, IsBefore, IsFirst, IsLast};
-ghost use Rattle.warc_order.specs.Entries.{IsNone};
+ghost use Rattle.warc_order.specs.Entries.{IsNone, IsAt, IsTextAt};
 
 mod block;
 mod column;
@@ -231,6 +232,14 @@ impl<A: Allocator + Copy> Order<A> {
         ensures { result.now ≡ (entry_at self.now found.index).text }
     {
         self.entries.text(found.index as usize)
+    }
+
+    /// The text of the entry with a position, `None` where none has it. It halves over the entries, and takes no memory.
+    pub fn text_at(&self, position: usize) -> Option<&[u8]>
+        ensures some { IfSome result (λ text. IsTextAt self.now position text.now) }
+        ensures none { IfNone result (IsNone self.now (IsAt position)) }
+    {
+        self.entries.text_at(position)
     }
 
     /// The mark of an entry.
