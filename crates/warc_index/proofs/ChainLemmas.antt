@@ -6,7 +6,7 @@ use Rattle.warc_record.specs.declared.types.Kind.TheVariants.{Warcinfo, Response
 use Rattle.warc_record.specs.Kinds.{is_revisit}
 use Rattle.warc_index.specs.declared.unfound.Unfound.{Unfound}
 use Rattle.warc_index.specs.declared.unfound.Unfound.TheVariants.{Loop}
-use Rattle.warc_index.specs.Captures.{Indexed}
+use Rattle.warc_index.specs.Captures.{Indexed, is_capture}
 use Rattle.warc_index.specs.Referents.{referent_of, referent_at, is_revisit_at, ok_then, origin_within}
 use Rattle.warc_index.specs.Links.{Link, link_at, ends_as}
 use Rattle.warc_index.specs.Linked.{revisit_link, kind_link, link_of}
@@ -34,7 +34,19 @@ revisit_is all p = by_place all p (slice_get all p) refl
 pub record IsRevisitAt (all : List Indexed) (p : ℕ) : Type 0 where
   pub it : Indexed
   pub stands : slice_get all p ≡ Some it
+  pub capture : is_capture it.kind ≡ true
   pub link : link_at (map link_of all) p ≡ revisit_link it.reference.known_profile it
+
+revisit_captures : (k : Kind) → is_revisit k ≡ true → is_capture k ≡ true
+revisit_captures Revisit h = refl
+revisit_captures Warcinfo h = h
+revisit_captures Response h = refl
+revisit_captures Resource h = refl
+revisit_captures Request h = h
+revisit_captures Metadata h = h
+revisit_captures Conversion h = h
+revisit_captures Continuation h = h
+revisit_captures Other h = h
 
 revisit_made : (k : Kind) (r : Indexed) → is_revisit k ≡ true → kind_link k r ≡ revisit_link
     r.reference.known_profile r
@@ -55,7 +67,12 @@ at_place all p None at h = absurd (true≢false (sym h ∙ ap (λ (o : Option In
 at_place all p (Some r) at h =
     let is : is_revisit r.kind ≡ true = sym (ap (λ (o : Option Indexed). option_map_or (λ (r : Indexed). is_revisit
     r.kind) o false) at) ∙ h in
-    record { it = r; stands = at; link = link_there all p r at ∙ revisit_made r.kind r is }
+    record {
+      it = r;
+      stands = at;
+      capture = revisit_captures r.kind is;
+      link = link_there all p r at ∙ revisit_made r.kind r is;
+    }
 
 pub revisit_at : (all : List Indexed) (p : ℕ) → is_revisit_at all p ≡ true → IsRevisitAt all p
 revisit_at all p h = at_place all p (slice_get all p) refl h

@@ -12,7 +12,7 @@ use Rattle.warc_record.specs.declared.types.Kind.TheVariants.{Warcinfo, Response
 use Rattle.warc_record.specs.Kinds.{is_revisit}
 use Rattle.warc_record.specs.Texts.{is_text, is_same_text}
 use Rattle.warc_order.specs.declared.mark.Mark.{Mark}
-use Rattle.warc_order.specs.Entries.{Entry, entry_at, entry_of, no_entry, mark_lt, comes_later, IsFrom, IsUpTo}
+use Rattle.warc_order.specs.Entries.{Entry, entry_at, entry_of, no_entry, mark_lt, comes_later, IsAt, IsFrom, IsNone, IsTextAt, IsUpTo}
 use Rattle.warc_index.specs.declared.link.Role.{Role}
 use Rattle.warc_index.specs.declared.link.Role.TheVariants.{Other as OtherRole, Payload, Digested, UnknownProfile, NamesId, NamesPair, NamesBoth, NamesNothing, LeadsNowhere}
 use Rattle.warc_index.specs.declared.unfound.Unfound.{Unfound}
@@ -23,7 +23,7 @@ use Rattle.warc_index.specs.Links.{is_same_mark, Link, link_at, bare_link, has_p
 use Rattle.warc_index.specs.Linked.{instant_mark, payload_link, revisit_link, named_link, unnamed_link, kind_link, link_of}
 use Rattle.warc_index.specs.Orders.{entries_from, capture_entry, ArePlacedOf}
 use Rattle.warc_index.proofs.ChoiceLemmas.{latest_is_last}
-use Rattle.warc_index.proofs.KeptLemmas.{IsEntryOf, entry_in, IsCaptureEntry, capture_is, HasCaptureEntry, capture_stands, text_is, by_mark, later_same, not_true, position_at, position_none}
+use Rattle.warc_index.proofs.KeptLemmas.{IsEntryOf, entry_in, IsCaptureEntry, capture_is, HasCaptureEntry, capture_stands, text_found, text_is, by_mark, later_same, not_true, position_at, position_none}
 use Rattle.warc_index.proofs.PassLemmas.{forward, back, IsReached, IsMissed, tested}
 
 -- ---- roles
@@ -32,15 +32,13 @@ use Rattle.warc_index.proofs.PassLemmas.{forward, back, IsReached, IsMissed, tes
 abbrev Leads : Link → Type 0
 Leads l = (has_payload_as l.role ≡ false) × (ends_as l.role ≡ false) × (states_as l.role ≡ false)
 
-unnamed_leads : (digest target : Option (List ℕ)) (instant : Option Instant) → Leads (unnamed_link digest target
-    instant)
-unnamed_leads None target instant = (refl, refl, refl)
-unnamed_leads (Some d) None instant = (refl, refl, refl)
-unnamed_leads (Some d) (Some t) None = (refl, refl, refl)
-unnamed_leads (Some d) (Some t) (Some i) = (refl, refl, refl)
+unnamed_leads : (digest : Option (List ℕ)) (instant : Option Instant) → Leads (unnamed_link digest instant)
+unnamed_leads None instant = (refl, refl, refl)
+unnamed_leads (Some d) None = (refl, refl, refl)
+unnamed_leads (Some d) (Some i) = (refl, refl, refl)
 
 named_leads : (id : Option (List ℕ)) (pair : Option (List ℕ × Instant)) (r : Indexed) → Leads (named_link id pair r)
-named_leads None None r = unnamed_leads r.payload_digest r.target r.instant
+named_leads None None r = unnamed_leads r.payload_digest r.instant
 named_leads (Some id) None r = (refl, refl, refl)
 named_leads None (Some pair) r = (refl, refl, refl)
 named_leads (Some id) (Some pair) r = (refl, refl, refl)
@@ -476,6 +474,30 @@ none_without_digest all revisit none = (latest_is_last (is_candidate revisit) al
     off true false d = refl
     off false b d = refl
 
+-- the target of the record at a position is the text of its entry
+pub target_there : (all : List Indexed) (es : List Entry) (links : List Link) (p : ℕ) (text : List ℕ) (r : Indexed) →
+    ArePlacedOf all es links → slice_get all p ≡ Some r → IsTextAt es p text → r.target ≡ Some text
+target_there all es links p text r placed at found =
+    let w : IsCaptureAt all text found.entry = capture_at all text found.entry (subst (λ us. Contains us found.entry)
+    placed.captures found.stands) found.text_is in
+    let one : Some w.it ≡ Some r = sym w.stands ∙ (ap (slice_get all) found.is_at.position_is ∙ at) in
+    let same : w.it ≡ r = (cc) in
+    ap (λ (x : Indexed). x.target) (sym same) ∙ text_found text w.it.target w.target
+
+-- a capture without an entry has no target, and so no payload
+pub none_without_entry : (all : List Indexed) (es : List Entry) (links : List Link) (p : ℕ) (r : Indexed) →
+    ArePlacedOf all es links → slice_get all p ≡ Some r → is_capture r.kind ≡ true → IsNone es (IsAt p) →
+    by_payload all r ≡ None
+none_without_entry all es links p r placed at kind none = none_without_target all r (by_target r.target refl)
+  where
+    by_target : (t : Option (List ℕ)) → r.target ≡ t → r.target ≡ None
+    by_target None e = e
+    by_target (Some t) e =
+        let h : HasCaptureEntry t all p r = capture_stands all t p r placed.timed at (and_from (is_capture r.kind)
+        (is_text t r.target) kind (text_is t r.target e)) in
+        let f : Entry = entry_of t (instant_mark h.instant) p in
+        absurd (none f (subst (λ us. Contains us f) (sym placed.captures) h.stands) (record { position_is = refl }))
+
 -- by the role of what is kept
 abbrev pub instant_in : Mark → Instant
 instant_in mark = (mark.major, mark.minor)
@@ -488,17 +510,13 @@ led_to all r NamesNothing l = ok_or (by_payload all r) NoReference
 led_to all r UnknownProfile l = Err IsUnknown
 led_to all r _ l = Err NoReference
 
-unnamed_leads_to : (all : List Indexed) (r : Indexed) (digest target : Option (List ℕ)) (instant : Option Instant) →
-    r.payload_digest ≡ digest → r.target ≡ target → r.instant ≡ instant → IsSome r.instant →
-    led_to all r (unnamed_link digest target instant).role (unnamed_link digest target instant)
-    ≡ ok_or (by_payload all r) NoReference
-unnamed_leads_to all r None target instant d t i some1 = ap (λ (o : Option ℕ). ok_or o NoReference) (sym
+unnamed_leads_to : (all : List Indexed) (r : Indexed) (digest : Option (List ℕ)) (instant : Option Instant) →
+    r.payload_digest ≡ digest → r.instant ≡ instant → IsSome r.instant →
+    led_to all r (unnamed_link digest instant).role (unnamed_link digest instant) ≡ ok_or (by_payload all r) NoReference
+unnamed_leads_to all r None instant d i some1 = ap (λ (o : Option ℕ). ok_or o NoReference) (sym
     (none_without_digest all r d))
-unnamed_leads_to all r (Some digest) None instant d t i some1 = ap (λ (o : Option ℕ). ok_or o NoReference) (sym
-    (none_without_target all r t))
-unnamed_leads_to all r (Some digest) (Some target) None d t i some1 =
-    absurd (true≢false (sym some1 ∙ ap is_some i))
-unnamed_leads_to all r (Some digest) (Some target) (Some instant) d t i some1 = refl
+unnamed_leads_to all r (Some digest) None d i some1 = absurd (true≢false (sym some1 ∙ ap is_some i))
+unnamed_leads_to all r (Some digest) (Some instant) d i some1 = refl
 
 or_none : (o : Option ℕ) → option_or o None ≡ o
 or_none None = refl
@@ -515,7 +533,7 @@ referent_by all r known id pair =
 named_leads_to : (all : List Indexed) (r : Indexed) → IsSome r.instant → (id : Option (List ℕ))
     (pair : Option (List ℕ × Instant)) → led_to all r (named_link id pair r).role (named_link id pair r)
     ≡ referent_by all r true id pair
-named_leads_to all r some1 None None = unnamed_leads_to all r r.payload_digest r.target r.instant refl refl refl some1
+named_leads_to all r some1 None None = unnamed_leads_to all r r.payload_digest r.instant refl refl some1
 named_leads_to all r some1 (Some id) None = ap (λ (o : Option ℕ). ok_or o Unresolved) (sym (or_none (by_key all id)))
 named_leads_to all r some1 None (Some pair) = refl
 named_leads_to all r some1 (Some id) (Some pair) = refl
@@ -534,27 +552,24 @@ led_to_referent all r l role some1 is e =
     ∙ leads_to all r some1 r.reference.known_profile refl)
 
 -- what a link says of a revisit that names nothing
-unnamed_parts : (digest target : Option (List ℕ)) (instant : Option Instant) (l : Link) →
-    l ≡ unnamed_link digest target instant → l.role ≡ NamesNothing →
-    (m : Instant) × (target ≡ Some l.second) × (digest ≡ Some l.first) × (instant ≡ Some m) × (l.mark ≡ instant_mark m)
-unnamed_parts None target instant l is e = let z : LeadsNowhere ≡ NamesNothing = sym (ap (λ (x : Link). x.role) is) ∙ e
+unnamed_parts : (digest : Option (List ℕ)) (instant : Option Instant) (l : Link) →
+    l ≡ unnamed_link digest instant → l.role ≡ NamesNothing →
+    (m : Instant) × (digest ≡ Some l.first) × (instant ≡ Some m) × (l.mark ≡ instant_mark m)
+unnamed_parts None instant l is e = let z : LeadsNowhere ≡ NamesNothing = sym (ap (λ (x : Link). x.role) is) ∙ e
     in absurd (cc)
-unnamed_parts (Some d) None instant l is e = let z : LeadsNowhere ≡ NamesNothing = sym (ap (λ (x : Link). x.role) is)
+unnamed_parts (Some d) None l is e = let z : LeadsNowhere ≡ NamesNothing = sym (ap (λ (x : Link). x.role) is)
     ∙ e in absurd (cc)
-unnamed_parts (Some d) (Some t) None l is e = let z : LeadsNowhere ≡ NamesNothing = sym (ap (λ (x : Link). x.role) is)
-    ∙ e in absurd (cc)
-unnamed_parts (Some d) (Some t) (Some m) l is e = (
+unnamed_parts (Some d) (Some m) l is e = (
   m,
-  ap (λ (x : Link). Some x.second) (sym is),
   ap (λ (x : Link). Some x.first) (sym is),
   refl,
   ap (λ (x : Link). x.mark) is,
 )
 
 named_parts : (id : Option (List ℕ)) (pair : Option (List ℕ × Instant)) (r : Indexed) (l : Link) →
-    l ≡ named_link id pair r → l.role ≡ NamesNothing → (m : Instant) × (r.target ≡ Some l.second)
-    × (r.payload_digest ≡ Some l.first) × (r.instant ≡ Some m) × (l.mark ≡ instant_mark m)
-named_parts None None r l is e = unnamed_parts r.payload_digest r.target r.instant l is e
+    l ≡ named_link id pair r → l.role ≡ NamesNothing →
+    (m : Instant) × (r.payload_digest ≡ Some l.first) × (r.instant ≡ Some m) × (l.mark ≡ instant_mark m)
+named_parts None None r l is e = unnamed_parts r.payload_digest r.instant l is e
 named_parts (Some id) None r l is e = let z : NamesId ≡ NamesNothing = sym (ap (λ (x : Link). x.role) is) ∙ e in
     absurd (cc)
 named_parts None (Some pair) r l is e = let z : NamesPair ≡ NamesNothing = sym (ap (λ (x : Link). x.role) is) ∙ e in
@@ -563,8 +578,7 @@ named_parts (Some id) (Some pair) r l is e = let z : NamesBoth ≡ NamesNothing 
     ∙ e in absurd (cc)
 
 pub nothing_parts : (known : Bool) (r : Indexed) (l : Link) → l ≡ revisit_link known r → l.role ≡ NamesNothing →
-    (m : Instant) × (r.target ≡ Some l.second) × (r.payload_digest ≡ Some l.first) × (r.instant ≡ Some m)
-    × (l.mark ≡ instant_mark m)
+    (m : Instant) × (r.payload_digest ≡ Some l.first) × (r.instant ≡ Some m) × (l.mark ≡ instant_mark m)
 nothing_parts false r l is e = let z : UnknownProfile ≡ NamesNothing = sym (ap (λ (x : Link). x.role) is) ∙ e in
     absurd (cc)
 nothing_parts true r l is e = named_parts r.reference.named_id r.reference.named_pair r l is e

@@ -1,5 +1,5 @@
 -- How many bytes of texts are kept of records.
-use Rattle.std.proofs.Common.{◌≡◌, ℕ, ◌+◌, Bool, true, false, List, [], ◌∷◌, ◌++◌, length, map, Option, Some, None, All, refl, sym, ap, ◌∙◌, arith, true≢false, if◌then◌else◌}
+use Rattle.std.proofs.Common.{◌≡◌, ℕ, ◌+◌, Bool, true, false, List, [], ◌∷◌, length, map, Option, Some, None, All, refl, sym, ap, arith, true≢false, if◌then◌else◌}
 use Rattle.std.specs.Prelude.{IsSome}
 use Rattle.std.specs.List.{sum_by}
 use Rattle.std.specs.Option.{option_to_list}
@@ -11,10 +11,10 @@ use Rattle.warc_record.specs.declared.types.Kind.TheVariants.{Response, Resource
 use Rattle.warc_order.specs.declared.mark.Mark.{Mark}
 use Rattle.warc_order.specs.Entries.{Entry, entry_of}
 use Rattle.warc_index.specs.Captures.{Indexed, is_capture}
-use Rattle.warc_index.specs.Links.{Link, link_bytes}
+use Rattle.warc_index.specs.Links.{link_bytes}
 use Rattle.warc_index.specs.Linked.{instant_mark, kind_link, link_of, named_link, payload_link, revisit_link, unnamed_link}
 use Rattle.warc_index.specs.Orders.{capture_entry, entries_from, id_entry, id_entry_of, kind_mark, target_entry}
-use Rattle.warc_index.specs.Texts.{KeepsTexts, chain_size, kept_size, named_size, text_size, unnamed_size}
+use Rattle.warc_index.specs.Texts.{KeepsTexts, chain_size, kept_size, named_size, text_size}
 
 abbrev entries_size : List Entry → ℕ
 entries_size es = sum_by (λ (e : Entry). length e.text) es
@@ -40,14 +40,13 @@ payload_size : (digest : Option (List ℕ)) → link_bytes (payload_link digest)
 payload_size None = refl
 payload_size (Some digest) = omega arith
 
-unnamed_is : (digest target : Option (List ℕ)) (instant : Option Instant) → IsSome instant → link_bytes (unnamed_link digest target instant) ≡ unnamed_size digest target
-unnamed_is None target instant timed = refl
-unnamed_is (Some digest) None instant timed = refl
-unnamed_is (Some digest) (Some target) None timed = absurd (true≢false (sym timed))
-unnamed_is (Some digest) (Some target) (Some instant) timed = refl
+unnamed_is : (digest : Option (List ℕ)) (instant : Option Instant) → IsSome instant → link_bytes (unnamed_link digest instant) ≡ text_size digest
+unnamed_is None instant timed = refl
+unnamed_is (Some digest) None timed = absurd (true≢false (sym timed))
+unnamed_is (Some digest) (Some instant) timed = omega arith
 
 named_is : (id : Option (List ℕ)) (pair : Option (List ℕ × Instant)) (r : Indexed) → IsSome r.instant → link_bytes (named_link id pair r) ≡ named_size id pair r
-named_is None None r timed = unnamed_is r.payload_digest r.target r.instant timed
+named_is None None r timed = unnamed_is r.payload_digest r.instant timed
 named_is (Some id) None r timed = omega arith
 named_is None (Some pair) r timed = omega arith
 named_is (Some id) (Some pair) r timed = refl

@@ -15,16 +15,15 @@ abbrev pub payload_link : Option (List ℕ) → Link
 payload_link None = bare_link Payload
 payload_link (Some digest) = link Digested digest [] first_mark
 
--- of a revisit that names nothing: by its payload digest, its target and its instant
-abbrev pub unnamed_link : Option (List ℕ) → Option (List ℕ) → Option Instant → Link
-unnamed_link None target instant = bare_link LeadsNowhere
-unnamed_link (Some digest) None instant = bare_link LeadsNowhere
-unnamed_link (Some digest) (Some target) None = bare_link LeadsNowhere
-unnamed_link (Some digest) (Some target) (Some instant) = link NamesNothing digest target (instant_mark instant)
+-- of a revisit that names nothing: its payload digest and its instant
+abbrev pub unnamed_link : Option (List ℕ) → Option Instant → Link
+unnamed_link None instant = bare_link LeadsNowhere
+unnamed_link (Some digest) None = bare_link LeadsNowhere
+unnamed_link (Some digest) (Some instant) = link NamesNothing digest [] (instant_mark instant)
 
 -- of a revisit, by the id and the pair that it names
 abbrev pub named_link : Option (List ℕ) → Option (List ℕ × Instant) → Indexed → Link
-named_link None None r = unnamed_link r.payload_digest r.target r.instant
+named_link None None r = unnamed_link r.payload_digest r.instant
 named_link (Some id) None r = link NamesId id [] first_mark
 named_link None (Some pair) r = link NamesPair [] pair.0 (instant_mark pair.1)
 named_link (Some id) (Some pair) r = link NamesBoth id pair.0 (instant_mark pair.1)

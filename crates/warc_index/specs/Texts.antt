@@ -12,14 +12,9 @@ use Rattle.warc_index.specs.Orders.{IsKeptOf, Kept, text_bytes}
 abbrev pub text_size : Option (List ℕ) → ℕ
 text_size text = option_map_or length text 0
 
--- of a revisit that names nothing, where it states both: its payload digest, and its target once more
-abbrev pub unnamed_size : Option (List ℕ) → Option (List ℕ) → ℕ
-unnamed_size (Some digest) (Some target) = length digest + length target
-unnamed_size _ _ = 0
-
--- of a revisit: the id and the target that it names, if it names any
+-- of a revisit: the id and the target that it names, or its payload digest where it names nothing
 abbrev pub named_size : Option (List ℕ) → Option (List ℕ × Instant) → Indexed → ℕ
-named_size None None r = unnamed_size r.payload_digest r.target
+named_size None None r = text_size r.payload_digest
 named_size (Some id) None r = length id
 named_size None (Some pair) r = length pair.0
 named_size (Some id) (Some pair) r = length id + length pair.0
@@ -37,6 +32,6 @@ chain_size _ r = 0
 abbrev pub kept_size : Indexed → ℕ
 kept_size r = text_size r.id + (if is_capture r.kind then text_size r.target else 0) + chain_size r.kind r
 
--- an index of records keeps this of each, and no more
+-- an index of records keeps this of each, and no more: no text of a record twice
 abbrev pub KeepsTexts : Type 0
 KeepsTexts = (all : List Indexed) (kept : Kept) → IsKeptOf all kept → text_bytes kept ≡ sum_by kept_size all

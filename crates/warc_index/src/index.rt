@@ -1,12 +1,13 @@
 //! The records of an archive, found by target and instant, and by id.
 
-ghost use Rattle.std.specs.Prelude.{◌≡◌, ◌<◌, [], ◌∷◌, ◌++◌, List, Some, not, length, min, take, ok_or};
-ghost use Rattle.std.specs.Prelude.{OnOk, OnErr, IfOk, All, IsSome};
+ghost use Rattle.std.specs.Prelude.{◌≡◌, ◌<◌, [], ◌∷◌, ◌++◌, List, Some, not, length, min, take, ok_or, true};
+ghost use Rattle.std.specs.Prelude.{slice_get};
+ghost use Rattle.std.specs.Prelude.{OnOk, OnErr, IfOk, All};
 ghost use Rattle.std.specs.Option.{option_to_list};
 ghost use Rattle.warc_value.specs.Dates.{Instant};
 ghost use Rattle.warc_record.specs.Seen.{said};
 ghost use Rattle.warc_index.specs.declared.unfound.Unfound.TheVariants.{NoReference, Unresolved};
-ghost use Rattle.warc_index.specs.Captures.{AreCapturesOf, Indexed, indexed_of, chosen_of};
+ghost use Rattle.warc_index.specs.Captures.{AreCapturesOf, Indexed, indexed_of, is_capture, chosen_of};
 ghost use Rattle.warc_index.specs.Referents.{by_key, by_pair, by_payload, first_with, is_revisit_at};
 ghost use Rattle.warc_index.specs.Referents.{referent_of, origin_of};
 ghost use Rattle.warc_index.specs.Links.{link_seen};
@@ -183,29 +184,28 @@ impl<A: Allocator + Copy> Index<A> {
         }
     }
 
-    /// The response or resource of the target and the payload digest that a link holds.
-    fn same_payload(&self, link: &Link<'_>) -> Result<usize, Unfound>
+    /// The response or resource of the target of the revisit at a position, and of the payload digest that its link holds.
+    fn same_payload(&self, position: usize, link: &Link<'_>) -> Result<usize, Unfound>
         ensures { (all : List Indexed) → IsKeptOf all self.now → (revisit : Indexed)
-            → revisit.target ≡ Some link.now.second.now → revisit.payload_digest ≡ Some link.now.first.now
-            → (instant : Instant) → revisit.instant ≡ Some instant → link.now.mark ≡ instant_mark instant
+            → slice_get all position ≡ Some revisit → is_capture revisit.kind ≡ true
+            → revisit.payload_digest ≡ Some link.now.first.now → (instant : Instant)
+            → revisit.instant ≡ Some instant → link.now.mark ≡ instant_mark instant
             → result ≡ ok_or (by_payload all revisit) NoReference }
     {
-        match latest_of_payload(
-            &self.by_target,
-            &self.links,
-            link.second,
-            link.first,
-            link.mark,
-        ) {
+        let Some(target) = self.by_target.text_at(position) else {
+            return Err(Unfound::NoReference);
+        };
+        match latest_of_payload(&self.by_target, &self.links, target, link.first, link.mark) {
             Some(position) => Ok(position),
             None => Err(Unfound::NoReference),
         }
     }
 
-    /// The record that a link leads to.
-    fn referent(&self, link: &Link<'_>) -> Result<usize, Unfound>
-        ensures { (all : List Indexed) → IsKeptOf all self.now → (r : Indexed) → IsSome r.instant
-            → link_seen link.now ≡ revisit_link r.reference.known_profile r → result ≡ referent_of all r }
+    /// The record that the revisit at a position leads to, by its link.
+    fn referent(&self, position: usize, link: &Link<'_>) -> Result<usize, Unfound>
+        ensures { (all : List Indexed) → IsKeptOf all self.now → (r : Indexed) → slice_get all position ≡ Some r
+            → is_capture r.kind ≡ true → link_seen link.now ≡ revisit_link r.reference.known_profile r
+            → result ≡ referent_of all r }
     {
         match link.role {
             Role::NamesId => match capture_with(&self.by_id, link.first) {
@@ -217,7 +217,7 @@ impl<A: Allocator + Copy> Index<A> {
                 Some(position) => Ok(position),
                 None => self.named_pair(link),
             },
-            Role::NamesNothing => self.same_payload(link),
+            Role::NamesNothing => self.same_payload(position, link),
             Role::UnknownProfile => Err(Unfound::UnknownProfile),
             _ => Err(Unfound::NoReference),
         }
@@ -237,7 +237,7 @@ impl<A: Allocator + Copy> Index<A> {
         if self.ends(position) {
             return Ok(None);
         }
-        match self.referent(&self.links.link(position)) {
+        match self.referent(position, &self.links.link(position)) {
             Ok(next) => Ok(Some(next)),
             Err(unfound) => Err(unfound),
         }

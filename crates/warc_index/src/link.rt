@@ -35,11 +35,11 @@ pub(crate) enum Role {
     /// A revisit that names both.
     NamesBoth,
 
-    /// A revisit that names nothing, with the payload digest in `first`, the target in `second` and the instant of the
-    /// mark.
+    /// A revisit that names nothing, with its payload digest in `first` and its instant as the mark. Its target is in the
+    /// order by target.
     NamesNothing,
 
-    /// A revisit that names nothing, without a target or without a payload digest.
+    /// A revisit that names nothing, without a payload digest.
     LeadsNowhere,
 }
 

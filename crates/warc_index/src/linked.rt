@@ -39,16 +39,16 @@ fn payload_link<A: Allocator>(typed: &Typed<A>) -> Link<'_>
 
 /// What is kept of a revisit that names nothing.
 fn unnamed_link<A: Allocator>(typed: &Typed<A>) -> Link<'_>
-    ensures { link_seen result ≡ unnamed_link typed.now.payload_digest typed.now.target (Some typed.now.moment) }
+    ensures { link_seen result ≡ unnamed_link typed.now.payload_digest (Some typed.now.moment) }
 {
-    match (&typed.payload_digest, &typed.target) {
-        (Some(digest), Some(target)) => Link {
+    match &typed.payload_digest {
+        Some(digest) => Link {
             role: Role::NamesNothing,
             first: digest.bytes(),
-            second: target.bytes(),
+            second: &[],
             mark: mark_at(&typed.moment),
         },
-        _ => bare(Role::LeadsNowhere),
+        None => bare(Role::LeadsNowhere),
     }
 }
 
