@@ -3,7 +3,7 @@
 use crate::heads::{Head, Records, Step};
 use std::alloc::{AllocError, Global};
 use suites_script::{Case, Refusal, Refusals};
-use warc_index::{Filling, Index, Unfound};
+use warc_index::{Index, Unfound, UnorderedIndex};
 use warc_record::{Typed, id_key};
 use warc_value::read_date;
 use warc_vectors::{Heap, RefusingAllocator};
@@ -122,7 +122,7 @@ fn add_all(alloc: Global, index: &mut Index<Heap<'_>>, records: &Records) -> Opt
     let mut again = 0u64;
     for step in records.steps() {
         match *step {
-            Step::Keep(count) => index.forget_after(count),
+            Step::Keep(count) => index.truncate(count),
             Step::Add(number) => {
                 if add_head(alloc, index, records.head(number)?)? {
                     again = again.saturating_add(1);
@@ -135,29 +135,29 @@ fn add_all(alloc: Global, index: &mut Index<Heap<'_>>, records: &Records) -> Opt
 
 /// Adds what a head says to those that wait to be put in order, again where it is refused. Whether it was; `None` where
 /// it is refused again.
-fn push_again(filling: &mut Filling<Heap<'_>>, typed: &Typed) -> Option<bool> {
-    if filling.push(typed).is_ok() {
+fn push_again(index: &mut UnorderedIndex<Heap<'_>>, typed: &Typed) -> Option<bool> {
+    if index.add(typed).is_ok() {
         return Some(false);
     }
-    filling.push(typed).is_ok().then_some(true)
+    index.add(typed).is_ok().then_some(true)
 }
 
 /// The same of a record.
-fn push_head(alloc: Global, filling: &mut Filling<Heap<'_>>, head: &Head) -> Option<bool> {
+fn push_head(alloc: Global, index: &mut UnorderedIndex<Heap<'_>>, head: &Head) -> Option<bool> {
     match head.typed(alloc) {
-        Ok(typed) => push_again(filling, &typed),
+        Ok(typed) => push_again(index, &typed),
         Err(_) => None,
     }
 }
 
 /// Lets happen what happens to an archive whose records wait to be put in order. How many were refused and then added.
-fn push_all(alloc: Global, filling: &mut Filling<Heap<'_>>, records: &Records) -> Option<u64> {
+fn push_all(alloc: Global, index: &mut UnorderedIndex<Heap<'_>>, records: &Records) -> Option<u64> {
     let mut again = 0u64;
     for step in records.steps() {
         match *step {
-            Step::Keep(count) => filling.forget_after(count),
+            Step::Keep(count) => index.truncate(count),
             Step::Add(number) => {
-                if push_head(alloc, filling, records.head(number)?)? {
+                if push_head(alloc, index, records.head(number)?)? {
                     again = again.saturating_add(1);
                 }
             }
@@ -185,9 +185,9 @@ fn added(alloc: Global, heap: Heap<'_>, records: &Records, case: &Case<'_>, from
 
 /// What an index answers that is filled with them at once.
 fn filled(alloc: Global, heap: Heap<'_>, records: &Records, case: &Case<'_>, from: usize) -> Asked {
-    let mut filling = Filling::new(heap);
-    let again = push_all(alloc, &mut filling, records);
-    let index = filling.into_index();
+    let mut waiting = UnorderedIndex::new(heap);
+    let again = push_all(alloc, &mut waiting, records);
+    let index = waiting.into_index();
     (asked(alloc, &index, case, from), again)
 }
 

@@ -49,14 +49,14 @@ impl<A: Allocator + Copy> Waiting<A> {
         let Some(next) = behind(row, self.next) else {
             return Err(AllocError);
         };
-        self.entries.push(row.text, row.mark, row.position)?;
+        self.entries.add(row.text, row.mark, row.position)?;
         self.next = next;
         Ok(())
     }
 
     /// Drops those whose positions are a number or above.
     pub(crate) fn forget_after(&mut self, position: usize) {
-        self.entries.forget_after(position);
+        self.entries.truncate(position);
         self.next = position;
     }
 
@@ -112,7 +112,7 @@ impl<A: Allocator + Copy> Rising<A> {
 
     /// Drops those whose positions are a number or above.
     pub(crate) fn forget_after(&mut self, position: usize) {
-        self.order.forget_after(position);
+        self.order.truncate(position);
         self.next = position;
     }
 }

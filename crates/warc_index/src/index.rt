@@ -15,7 +15,7 @@ ghost use Rattle.warc_index.specs.Linked.{instant_mark, revisit_link};
 ghost use Rattle.warc_index.specs.Orders.{IsKeptOf, IsBelow, id_entry, capture_entry, text_bytes};
 ghost use Rattle.warc_index.specs.Orders.{step_of};
 
-use crate::entering::{keep_first, put_record};
+use crate::adding::{add_record, truncate_all};
 use crate::key::OTHERS;
 use crate::link::{FIRST, Link, Links, Role};
 use crate::linked::mark_at;
@@ -23,68 +23,49 @@ use crate::lookup::{capture_with, captures_of, ends_chain, first_of_pair, latest
 use crate::unfound::Unfound;
 use std::alloc::{AllocError, Allocator, Global};
 use std::marker::Model;
-use warc_order::Order;
+use warc_order::{EntryList, HasEntries, Order, Unordered};
 use warc_record::{IdKey, Typed};
 use warc_value::Moment;
 
-/// Records by target and instant, and by id. To a caller it is what is kept of a list of records.
+/// What is kept of records: their entries in `O` by id, and by target and instant, and what leads from a revisit to
+/// another record. To a caller it is what is kept of a list of records.
 #[derive(Drop)]
-pub struct Index<A: Allocator = Global> {
+pub struct RecordIndex<O: HasEntries, A: Allocator = Global> {
     count: usize,
-    by_id: Order<A>,
-    by_target: Order<A>,
+    by_id: O,
+    by_target: O,
     links: Links<A>,
 }
 
-impl<A: Allocator> Model for Index<A> {
+/// An index whose records are in order, and are found.
+pub type Index<A = Global> = RecordIndex<Order<A>, A>;
+
+/// An index of records that come at once and wait to be put in order. To a caller it is the same as if they were added
+/// to an `Index` one by one.
+pub type UnorderedIndex<A = Global> = RecordIndex<Unordered<A>, A>;
+
+impl<O: HasEntries, A: Allocator> Model for RecordIndex<O, A> {
     ghost use Rattle.std.specs.Prelude.{◌≡◌, length};
     ghost use Rattle.warc_index.specs.Orders.{Kept, IsBelow};
 
     ghost Value = { Kept };
 
-    ghost view = { λ s. record { count = s.count; ids = s.by_id; captures = s.by_target; links = s.links } };
+    ghost view = { λ s. record {
+      count = s.count;
+      ids = O.entries s.by_id;
+      captures = O.entries s.by_target;
+      links = s.links;
+    } };
 
     ghost invariant = { λ s. record {
-      ids : IsBelow s.count s.by_id;
-      captures : IsBelow s.count s.by_target;
+      ids : IsBelow s.count (O.entries s.by_id);
+      captures : IsBelow s.count (O.entries s.by_target);
       links : length s.links ≡ s.count;
     } };
 }
 
-impl<A: Allocator + Copy> Index<A> {
-    /// No records.
-    pub fn new(alloc: A) -> Index<A>
-        ensures { IsKeptOf [] result }
-    {
-        Index {
-            count: 0,
-            by_id: Order::new(alloc),
-            by_target: Order::new(alloc),
-            links: Links::new(alloc),
-        }
-    }
-
-    /// An index of these parts.
-    pub(crate) fn of(
-        count: usize,
-        by_id: Order<A>,
-        by_target: Order<A>,
-        links: Links<A>,
-    ) -> Index<A>
-        requires ids { IsBelow count by_id }
-        requires captures { IsBelow count by_target }
-        requires links { length links ≡ count }
-        ensures { result ≡ record { count = count; ids = by_id; captures = by_target; links = links } }
-    {
-        Index {
-            count,
-            by_id,
-            by_target,
-            links,
-        }
-    }
-
-    /// Adds the next record. `Err`: no memory for it; then nothing changes.
+impl<O: EntryList, A: Allocator + Copy> RecordIndex<O, A> {
+    /// Adds the next record. `Err`: no memory for it, and for putting it in order if it waits; then nothing changes.
     pub fn add<B: Allocator>(&mut self, typed: &Typed<B>) -> Result<(), AllocError>
         ensures ok { (all : List Indexed) → IsKeptOf all self.old →
             OnOk result (IsKeptOf (all ++ indexed_of (said typed.now) ∷ []) self.new) }
@@ -94,7 +75,7 @@ impl<A: Allocator + Copy> Index<A> {
         let Some(count) = position.checked_add(1) else {
             return Err(AllocError);
         };
-        put_record(
+        add_record(
             &mut self.by_id,
             &mut self.by_target,
             &mut self.links,
@@ -105,13 +86,59 @@ impl<A: Allocator + Copy> Index<A> {
         Ok(())
     }
 
-    /// Keeps the first so many records. It takes no memory.
-    pub fn forget_after(&mut self, count: usize)
+    /// Keeps the first `count` records. It takes no memory.
+    pub fn truncate(&mut self, count: usize)
         ensures { (all : List Indexed) → IsKeptOf all self.old → IsKeptOf (take count all) self.new }
     {
         if count < self.count {
-            keep_first(&mut self.by_id, &mut self.by_target, &mut self.links, count);
+            truncate_all(&mut self.by_id, &mut self.by_target, &mut self.links, count);
             self.count = count;
+        }
+    }
+}
+
+impl<A: Allocator + Copy> RecordIndex<Unordered<A>, A> {
+    /// No records.
+    pub fn new(alloc: A) -> UnorderedIndex<A>
+        ensures { IsKeptOf [] result }
+    {
+        RecordIndex {
+            count: 0,
+            by_id: Unordered::new(alloc),
+            by_target: Unordered::new(alloc),
+            links: Links::new(alloc),
+        }
+    }
+
+    /// Puts all records in order. It takes no memory.
+    pub fn into_index(self) -> Index<A>
+        ensures { result ≡ self }
+    {
+        let RecordIndex {
+            count,
+            by_id,
+            by_target,
+            links,
+        } = self;
+        RecordIndex {
+            count,
+            by_id: by_id.into_order(),
+            by_target: by_target.into_order(),
+            links,
+        }
+    }
+}
+
+impl<A: Allocator + Copy> RecordIndex<Order<A>, A> {
+    /// No records.
+    pub fn new(alloc: A) -> Index<A>
+        ensures { IsKeptOf [] result }
+    {
+        RecordIndex {
+            count: 0,
+            by_id: Order::new(alloc),
+            by_target: Order::new(alloc),
+            links: Links::new(alloc),
         }
     }
 

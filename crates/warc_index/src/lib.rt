@@ -1,8 +1,7 @@
 //! Which capture of a target answers at a moment, and which record a revisit leads to.
 #![tactic(auto)]
 
-mod entering;
-mod filling;
+mod adding;
 mod index;
 mod key;
 pub mod laws;
@@ -11,6 +10,5 @@ mod linked;
 mod lookup;
 mod unfound;
 
-pub use filling::Filling;
-pub use index::Index;
+pub use index::{Index, RecordIndex, UnorderedIndex};
 pub use unfound::Unfound;

@@ -1,14 +1,15 @@
 //! Texts in order: entries of a text, a mark and a position, found by text and mark.
 //!
 //! An [`Order`] holds entries. Each is a text (any bytes), a [`Mark`] of two numbers, and the position of what it
-//! stands for in some list of the caller's. Entries are added by rising positions, and `forget_after` drops those from
-//! a position on. Look-ups give the last entry of a text whose mark isn't above one, the first whose mark isn't below
+//! stands for in some list of the caller's. Entries are added by rising positions, and `truncate` keeps those of the
+//! first positions. Look-ups give the last entry of a text whose mark isn't above one, the first whose mark isn't below
 //! one, and from an entry the next and the one before of its text, by mark, then by position. The text of an entry is
 //! also lent by its position.
 //!
 //! To a caller an `Order` is the plain list of its entries, in the order in which they were added: contracts speak of
-//! no other. Many entries at once are pushed to an [`Unordered`], which `into_order` puts in order: the value is the
-//! same as after adding them one by one, in about half the time or less. What that takes of memory each push reserves.
+//! no other. Many entries at once are added to an [`Unordered`], which `into_order` puts in order: the value is the same
+//! as after adding them to an order one by one, in about half the time or less. What that takes of memory each addition
+//! reserves.
 //!
 //! Each look-up halves, and takes no memory; a step from an entry to the next doesn't halve. An entry takes 8 bytes and
 //! its text, and 8 bytes of the order, also while it waits. A mark's two numbers take 4 and 8 bytes more, each from the
@@ -24,6 +25,7 @@ ghost use Rattle.std.specs.List.{sum_by};
 ghost use Rattle.warc_order.specs.Entries.{entry_of, entry_at, IsUpTo, IsFrom, IsAfter, IsBefore, IsFirst, IsLast};
 ghost use Rattle.warc_order.specs.Entries.{IsNone, IsAt, IsTextAt};
 
+mod adding;
 mod block;
 mod column;
 mod compare;
@@ -35,6 +37,7 @@ mod ranked;
 mod slot;
 mod waiting;
 
+pub use adding::{EntryList, HasEntries};
 pub use column::Column;
 pub use entries::Entries;
 pub use lookup::narrow;
@@ -84,7 +87,7 @@ impl<A: Allocator + Copy> Unordered<A> {
 
     /// Adds an entry. Its position is above all positions so far. `Err`: no memory for it and for putting it in order,
     /// or the position is 2^32 or more; then nothing changes.
-    pub fn push(&mut self, text: &[u8], mark: Mark, position: usize) -> Result<(), AllocError>
+    pub fn add(&mut self, text: &[u8], mark: Mark, position: usize) -> Result<(), AllocError>
         requires { All (λ e. e.position < position) self.old }
         ensures ok { OnOk result (self.new ≡ self.old ++ entry_of text.now mark position ∷ []) }
         ensures err { OnErr result (self.new ≡ self.old) }
@@ -98,13 +101,13 @@ impl<A: Allocator + Copy> Unordered<A> {
         Ok(())
     }
 
-    /// Drops all entries whose positions are `position` or above. It takes no memory.
-    pub fn forget_after(&mut self, position: usize)
-        ensures { self.new ≡ filter (λ e. nat_lt e.position position) self.old }
+    /// Keeps the entries of the first `count` positions: those whose positions are below it. It takes no memory.
+    pub fn truncate(&mut self, count: usize)
+        ensures { self.new ≡ filter (λ e. nat_lt e.position count) self.old }
     {
-        let kept = self.entries.count_below(position);
+        let kept = self.entries.count_below(count);
         self.entries.truncate(kept);
-        self.waiting.forget_after(kept);
+        self.waiting.keep_below(kept);
     }
 
     /// Puts the entries in order. It takes no memory.
@@ -176,13 +179,13 @@ impl<A: Allocator + Copy> Order<A> {
         Ok(())
     }
 
-    /// Drops all entries whose positions are `position` or above. It takes no memory.
-    pub fn forget_after(&mut self, position: usize)
-        ensures { self.new ≡ filter (λ e. nat_lt e.position position) self.old }
+    /// Keeps the entries of the first `count` positions: those whose positions are below it. It takes no memory.
+    pub fn truncate(&mut self, count: usize)
+        ensures { self.new ≡ filter (λ e. nat_lt e.position count) self.old }
     {
-        let count = self.entries.count_below(position);
-        self.entries.truncate(count);
-        self.ranked.forget_after(count);
+        let kept = self.entries.count_below(count);
+        self.entries.truncate(kept);
+        self.ranked.keep_below(kept);
     }
 
     /// The last entry of a text whose mark isn't above one.

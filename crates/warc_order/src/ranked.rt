@@ -559,7 +559,7 @@ impl<A: Allocator + Copy> Ranked<A> {
     }
 
     /// Drops the indices from a number on. It takes no memory.
-    pub fn forget_after(&mut self, count: usize)
+    pub fn keep_below(&mut self, count: usize)
         ensures { self.new.list ≡ filter (λ e. nat_lt e.index count) self.old.list }
     {
         keep_all_below(&mut self.blocks, count);

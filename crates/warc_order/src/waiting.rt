@@ -70,7 +70,7 @@ impl<A: Allocator + Copy> Waiting<A> {
     }
 
     /// Drops the slots from an index on. It takes no memory.
-    pub(crate) fn forget_after(&mut self, count: usize)
+    pub(crate) fn keep_below(&mut self, count: usize)
         ensures { self.new.list ≡ filter (λ e. nat_lt e.index count) self.old.list }
     {
         self.slots.retain(|slot| (slot.index as usize) < count);

@@ -1,7 +1,5 @@
 //! What is kept of records beside their rows: nothing in a listing; in an archive, what finds them and what joins them.
 ghost use Rattle.std.specs.Prelude.{◌≡◌, None, List, [], ◌∷◌, ◌++◌, length, take, OnErr, OnOk};
-ghost use Rattle.warc_index.specs.Captures.{Indexed, indexed_of};
-ghost use Rattle.warc_index.specs.Orders.{IsKeptOf};
 ghost use Rattle.warc_record.specs.Heads.{head_fault};
 ghost use Rattle.warc_record.specs.Readings.{reading_of};
 ghost use Rattle.warc_record.specs.Seen.{said};
@@ -10,7 +8,8 @@ ghost use Rattle.warc_reading.specs.Row.{Placed};
 
 use std::alloc::{AllocError, Allocator};
 use warc_field::Fields;
-use warc_index::{Filling, Index};
+use warc_index::{Index, RecordIndex, UnorderedIndex};
+use warc_order::EntryList;
 use warc_record::{Typed, type_head};
 use warc_segment::{Parts, Place};
 
@@ -59,86 +58,45 @@ impl<A: Allocator> Keep<A> for Nothing {
     fn forget_after(&mut self, _count: usize) {}
 }
 
-/// What takes records one after another: an index, or one that is still to be put in order.
-trait Indexing {
-    ghost use Rattle.warc_index.specs.Orders.{Kept};
-
-    ghost kept: { Self → Kept };
-
-    /// Adds the next record. `Err`: no memory for it; then nothing changes.
-    fn add_next<B: Allocator>(&mut self, typed: &Typed<B>) -> Result<(), AllocError>
-        ensures ok { (all : List Indexed) → IsKeptOf all (kept self.old) →
-            OnOk result (IsKeptOf (all ++ indexed_of (said typed.now) ∷ []) (kept self.new)) }
-        ensures err { OnErr result (kept self.new ≡ kept self.old) };
-
-    /// Keeps the first so many records. It takes no memory.
-    fn keep_first(&mut self, count: usize)
-        ensures { (all : List Indexed) → IsKeptOf all (kept self.old) → IsKeptOf (take count all) (kept self.new) };
-}
-
-impl<A: Allocator + Copy> Indexing for Index<A> {
-    ghost kept = { λ s. s };
-
-    fn add_next<B: Allocator>(&mut self, typed: &Typed<B>) -> Result<(), AllocError> {
-        self.add(typed)
-    }
-
-    fn keep_first(&mut self, count: usize) {
-        self.forget_after(count);
-    }
-}
-
-impl<A: Allocator + Copy> Indexing for Filling<A> {
-    ghost kept = { λ s. s };
-
-    fn add_next<B: Allocator>(&mut self, typed: &Typed<B>) -> Result<(), AllocError> {
-        self.push(typed)
-    }
-
-    fn keep_first(&mut self, count: usize) {
-        self.forget_after(count);
-    }
-}
-
 /// Keeps the next record, by its position, what its head says and where its block stands.
-fn add<I: Indexing, A: Allocator + Copy>(
-    index: &mut I,
+fn add<O: EntryList, A: Allocator + Copy>(
+    index: &mut RecordIndex<O, A>,
     parts: &mut Parts<A>,
     position: usize,
     typed: &Typed<A>,
     place: Place,
 ) -> Result<(), AllocError>
-    ensures ok { (records : List Placed) (p : Placed) → AreOf records (I.kept index.old) parts.old →
+    ensures ok { (records : List Placed) (p : Placed) → AreOf records index.old parts.old →
         said typed.now ≡ reading_of p.content.fields → place ≡ place_of p →
-        OnOk result (AreOf (records ++ p ∷ []) (I.kept index.new) parts.new) }
-    ensures err { (records : List Placed) → AreOf records (I.kept index.old) parts.old →
-        position ≡ length records → OnErr result (AreOf records (I.kept index.new) parts.new) }
+        OnOk result (AreOf (records ++ p ∷ []) index.new parts.new) }
+    ensures err { (records : List Placed) → AreOf records index.old parts.old →
+        position ≡ length records → OnErr result (AreOf records index.new parts.new) }
 {
-    index.add_next(typed)?;
+    index.add(typed)?;
     match parts.add(typed, place) {
         Ok(()) => Ok(()),
         Err(refused) => {
             // What was added is taken back, which takes no memory.
-            index.keep_first(position);
+            index.truncate(position);
             Err(refused)
         }
     }
 }
 
 /// Keeps the next record, by its position, the fields of its good head and where its block stands.
-fn add_head<I: Indexing, A: Allocator + Copy>(
+fn add_head<O: EntryList, A: Allocator + Copy>(
     alloc: A,
-    index: &mut I,
+    index: &mut RecordIndex<O, A>,
     parts: &mut Parts<A>,
     position: usize,
     fields: &Fields<A>,
     place: Place,
 ) -> Result<(), AllocError>
-    ensures ok { (records : List Placed) (p : Placed) → AreOf records (I.kept index.old) parts.old →
+    ensures ok { (records : List Placed) (p : Placed) → AreOf records index.old parts.old →
         position ≡ length records → fields.now ≡ p.content.fields → head_fault p.content.fields ≡ None →
-        place ≡ place_of p → OnOk result (AreOf (records ++ p ∷ []) (I.kept index.new) parts.new) }
-    ensures err { (records : List Placed) → AreOf records (I.kept index.old) parts.old →
-        position ≡ length records → OnErr result (AreOf records (I.kept index.new) parts.new) }
+        place ≡ place_of p → OnOk result (AreOf (records ++ p ∷ []) index.new parts.new) }
+    ensures err { (records : List Placed) → AreOf records index.old parts.old →
+        position ≡ length records → OnErr result (AreOf records index.new parts.new) }
 {
     // The head is good, so that nothing but memory fails.
     let Ok(typed) = type_head(alloc, fields) else {
@@ -148,11 +106,15 @@ fn add_head<I: Indexing, A: Allocator + Copy>(
 }
 
 /// Keeps the first so many records. It takes no memory.
-fn keep_first<I: Indexing, A: Allocator + Copy>(index: &mut I, parts: &mut Parts<A>, count: usize)
-    ensures { (records : List Placed) → AreOf records (I.kept index.old) parts.old →
-        AreOf (take count records) (I.kept index.new) parts.new }
+fn keep_first<O: EntryList, A: Allocator + Copy>(
+    index: &mut RecordIndex<O, A>,
+    parts: &mut Parts<A>,
+    count: usize,
+)
+    ensures { (records : List Placed) → AreOf records index.old parts.old →
+        AreOf (take count records) index.new parts.new }
 {
-    index.keep_first(count);
+    index.truncate(count);
     parts.forget_after(count);
 }
 
@@ -178,7 +140,7 @@ impl<A: Allocator + Copy> Lookup<A> {
 /// The same of records that come at once, which are put in order when all are there.
 #[derive(Drop)]
 pub struct Gathering<A: Allocator> {
-    pub filling: Filling<A>,
+    pub filling: UnorderedIndex<A>,
     pub parts: Parts<A>,
 }
 
@@ -188,7 +150,7 @@ impl<A: Allocator + Copy> Gathering<A> {
         ensures { AreOf [] result.filling result.parts }
     {
         Gathering {
-            filling: Filling::new(alloc),
+            filling: UnorderedIndex::new(alloc),
             parts: Parts::new(alloc),
         }
     }

@@ -105,7 +105,7 @@ impl<A: Allocator + Copy> Parts<A> {
         ensures { (all : List PlacedRecord) → self.old ≡ kept_in all → self.new ≡ kept_in (take count all) }
     {
         if count < self.count {
-            self.order.forget_after(count);
+            self.order.truncate(count);
             let len = self.order.len();
             self.facts.truncate(len);
             self.count = count;

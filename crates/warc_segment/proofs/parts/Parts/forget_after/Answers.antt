@@ -4,12 +4,12 @@ use Rattle.warc_segment.proofs.parts.Parts.forget_after.Goals as goal
 
 pub invariant_of-self : goal.invariant_of-self
 invariant_of-self g c =
-    held_front c.args.count c.self.inside.count c.self.inside.order c.forget_after.new.self c.self.inside.facts.items
-    c.truncate.new.self.items c.len-len.result c.self.invariant c.forget_after.ensures c.len-len.ensures
-    c.truncate.ensures.items
+    held_front c.args.count c.self.inside.count c.self.inside.order c.truncate.new.self c.self.inside.facts.items
+    c.truncate-then-count-self.new.self.items c.len-len.result c.self.invariant c.truncate.ensures c.len-len.ensures
+    c.truncate-then-count-self.ensures.items
 
 pub returns-then-count-self : goal.returns-then-count-self
 returns-then-count-self g c = λ all was.
-    kept_front c.args.count c.self.inside.count c.self.inside.order c.forget_after.new.self c.self.inside.facts.items
-    c.truncate.new.self.items c.len-len.result all c.self.invariant c.if-count-self.true c.forget_after.ensures
-    c.len-len.ensures c.truncate.ensures.items (c.self.view_is ∙ was)
+    kept_front c.args.count c.self.inside.count c.self.inside.order c.truncate.new.self c.self.inside.facts.items
+    c.truncate-then-count-self.new.self.items c.len-len.result all c.self.invariant c.if-count-self.true c.truncate.ensures
+    c.len-len.ensures c.truncate-then-count-self.ensures.items (c.self.view_is ∙ was)

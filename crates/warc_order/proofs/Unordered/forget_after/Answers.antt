@@ -1,6 +1,0 @@
-use Rattle.warc_order.proofs.OrderLemmas.{waiting_fewer}
-use Rattle.warc_order.proofs.Unordered.forget_after.Goals as goal
-
-pub invariant_of-self : goal.invariant_of-self
-invariant_of-self g c = waiting_fewer c.self.inside.entries _ c.self.inside.waiting.list _
-    c.count_below-kept.result c.self.invariant c.truncate.ensures c.forget_after.ensures
