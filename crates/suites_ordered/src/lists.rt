@@ -10,7 +10,7 @@ fn add(entries: &mut Entries<Global>, rows: &[Row<'_>], count: usize) -> Result<
     let held = entries.len();
     for row in front(rows, count).iter().skip(held) {
         let position = u32::try_from(row.position).unwrap_or(u32::MAX);
-        entries.push(row.text, row.mark, position)?;
+        entries.add(row.text, row.mark, position)?;
     }
     Ok(())
 }

@@ -10,7 +10,7 @@ use Rattle.warc_record.specs.Kinds.{kind_named}
 use Rattle.warc_record.specs.Readings.{kind_of}
 use Rattle.warc_record.specs.declared.types.Kind.TheVariants.{Other}
 use Rattle.warc_index.specs.Captures.{is_capture}
-use Rattle.warc_index.specs.Orders.{Kept as Indexes}
+use Rattle.warc_index.specs.Orders.{Indexes}
 use Rattle.warc_index.specs.declared.unfound.Unfound.{Unfound}
 use Rattle.warc_segment.specs.Kept.{Kept as Parts}
 use Rattle.warc_answer.specs.Answers.{path_at}

@@ -3,7 +3,7 @@ use Rattle.std.proofs.Common.{◌≡◌, ℕ, ◌+◌, ◌-◌, ◌*◌, ◌≤�
 use Rattle.warc_frame.specs.Failing.{HasFailedBy}
 use Rattle.warc_frame.specs.Seen.{Tapped}
 use Rattle.warc_frame.specs.declared.fault.OutFault.{OutFault}
-use Rattle.warc_index.specs.Orders.{Kept as Indexes}
+use Rattle.warc_index.specs.Orders.{Indexes}
 use Rattle.warc_index.specs.declared.unfound.Unfound.{Unfound}
 use Rattle.warc_segment.specs.Joined.{joined_places}
 use Rattle.warc_segment.specs.Kept.{Kept as Parts}

@@ -10,7 +10,7 @@ use Rattle.warc_frame.specs.Seen.{Seen, Tapped}
 use Rattle.warc_frame.specs.Send.{WentOut, sent_of}
 use Rattle.warc_frame.specs.declared.fault.OutFault.{OutFault}
 use Rattle.warc_frame.specs.declared.fault.OutFault.TheVariants as outs
-use Rattle.warc_index.specs.Orders.{Kept as Indexes}
+use Rattle.warc_index.specs.Orders.{Indexes}
 use Rattle.warc_index.specs.declared.unfound.Unfound.{Unfound}
 use Rattle.warc_segment.specs.Joined.{ArePlacesOf, ReadRecord, joined_records}
 use Rattle.warc_segment.specs.Kept.{Kept as Parts, kept_in}

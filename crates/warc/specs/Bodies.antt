@@ -6,7 +6,7 @@ use Rattle.warc_frame.specs.Seen.{AsksOnly, IfHeld, Seen, Tapped}
 use Rattle.warc_frame.specs.declared.fault.OutFault.{OutFault}
 use Rattle.warc_record.specs.Readings.{kind_of}
 use Rattle.warc_index.specs.Captures.{is_capture}
-use Rattle.warc_index.specs.Orders.{Kept as Indexes}
+use Rattle.warc_index.specs.Orders.{Indexes}
 use Rattle.warc_segment.specs.Kept.{Kept as Parts}
 use Rattle.warc_answer.specs.Answers.{path_at}
 use Rattle.warc_answer.specs.ReasonText.{replay_fault_text}

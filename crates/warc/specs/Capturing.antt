@@ -6,7 +6,7 @@ use Rattle.warc_frame.specs.Record.{Record}
 use Rattle.warc_frame.specs.Seen.{IfHeld, Tapped}
 use Rattle.warc_frame.specs.declared.fault.OutFault.{OutFault}
 use Rattle.std.specs.declared.vec.Vec.{Vec}
-use Rattle.warc_index.specs.Orders.{Kept as Indexes}
+use Rattle.warc_index.specs.Orders.{Indexes}
 use Rattle.warc_segment.specs.Kept.{Kept as Parts}
 use Rattle.warc_answer.specs.Stored.{IsStoredAt}
 use Rattle.warc_answer.specs.Seen.{IsEarly}

@@ -2,7 +2,7 @@
 use Rattle.std.specs.Prelude.{◌≡◌, ℕ, List, map, slice_get, Some, None, IsTrue, IsFalse}
 use Rattle.warc_record.specs.Kinds.{kind_named}
 use Rattle.warc_index.specs.Captures.{is_capture}
-use Rattle.warc_index.specs.Orders.{Kept as Indexes}
+use Rattle.warc_index.specs.Orders.{Indexes}
 use Rattle.warc_segment.specs.Kept.{Kept as Parts}
 use Rattle.warc_answer.specs.Answers.{path_from}
 use Rattle.warc_reading.specs.Indexed.{AreOf, indexed_record}

@@ -15,7 +15,7 @@ use Rattle.warc_answer.specs.Replays.{IsReplayOn, IsSilent, out_result}
 use Rattle.warc_answer.specs.declared.answer.Answer.{Answer}
 use Rattle.warc_answer.specs.declared.answer.Path.{Path}
 use Rattle.warc_answer.specs.declared.answer.ReplayFault.{ReplayFault}
-use Rattle.warc_index.specs.Orders.{Kept as Indexes}
+use Rattle.warc_index.specs.Orders.{Indexes}
 use Rattle.warc_segment.specs.Kept.{Kept as Parts}
 use Rattle.warc_reading.specs.Archive.{IsArchiveOf, contents}
 use Rattle.warc_reading.specs.Indexed.{AreOf, placed_record}

@@ -18,7 +18,7 @@ use Rattle.warc_index.specs.Captures.{Indexed, is_capture, is_capture_of, is_ear
 use Rattle.warc_index.specs.Referents.{has_key, by_key, first_with}
 use Rattle.warc_index.specs.Links.{Link}
 use Rattle.warc_index.specs.Linked.{instant_mark, link_of}
-use Rattle.warc_index.specs.Orders.{IsBelow, kind_mark, id_entry_of, id_entry, target_entry, capture_entry, entries_from, Kept, IsKeptOf, ArePlacedOf}
+use Rattle.warc_index.specs.Orders.{IsBelow, kind_mark, id_entry_of, id_entry, target_entry, capture_entry, entries_from, Indexes, IsIndexOf, ArePlacedOf}
 
 -- ---- entries and records
 
@@ -364,10 +364,10 @@ entries_take entry says p (suc n) (r ∷ all) =
     ∙ ap (λ us. option_to_list (entry p r) ++ us) (sym (entries_take entry says (p + 1) n all
     ∙ ap (λ m. filter (λ (e : Entry). nat_lt e.position m) (entries_from entry (p + 1) all)) z))))
 
-pub kept_more : (all : List Indexed) (kept more : Kept) (r : Indexed) → IsSome r.instant → IsKeptOf all kept →
+pub kept_more : (all : List Indexed) (kept more : Indexes) (r : Indexed) → IsSome r.instant → IsIndexOf all kept →
     more.count ≡ kept.count + 1 → more.ids ≡ kept.ids ++ option_to_list (id_entry kept.count r) →
     more.captures ≡ kept.captures ++ option_to_list (capture_entry kept.count r) →
-    more.links ≡ kept.links ++ link_of r ∷ [] → IsKeptOf (all ++ r ∷ []) more
+    more.links ≡ kept.links ++ link_of r ∷ [] → IsIndexOf (all ++ r ∷ []) more
 kept_more all kept more r timed it n i c l2 =
     let l : length (all ++ r ∷ []) ≡ length all + 1 = length-append all (r ∷ []) in
     let z : 0 + length all ≡ kept.count = omega (arith, it.count) in
@@ -383,10 +383,10 @@ kept_more all kept more r timed it n i c l2 =
       links = l2 ∙ (ap (λ ls. ls ++ link_of r ∷ []) it.links ∙ sym (map-append link_of all (r ∷ [])));
     }
 
-pub kept_fewer : (all : List Indexed) (kept less : Kept) (n : ℕ) → n < kept.count → IsKeptOf all kept →
+pub kept_fewer : (all : List Indexed) (kept less : Indexes) (n : ℕ) → n < kept.count → IsIndexOf all kept →
     less.count ≡ n → less.ids ≡ filter (λ e. nat_lt e.position n) kept.ids →
     less.captures ≡ filter (λ e. nat_lt e.position n) kept.captures → less.links ≡ take n kept.links →
-    IsKeptOf (take n all) less
+    IsIndexOf (take n all) less
 kept_fewer all kept less n lt it l i c l2 =
     let k : kept.count ≡ length all = it.count in
     let z : 0 + n ≡ n = omega arith in
@@ -402,8 +402,8 @@ kept_fewer all kept less n lt it l i c l2 =
       links = l2 ∙ (ap (take n) it.links ∙ take-map link_of n all);
     }
 
-pub kept_same : (all : List Indexed) (kept : Kept) (n : ℕ) → kept.count ≤ n → IsKeptOf all kept →
-    IsKeptOf (take n all) kept
+pub kept_same : (all : List Indexed) (kept : Indexes) (n : ℕ) → kept.count ≤ n → IsIndexOf all kept →
+    IsIndexOf (take n all) kept
 kept_same all kept n le it =
     let k : kept.count ≡ length all = it.count in
     rw (take_all n all (omega arith)) it
@@ -688,10 +688,10 @@ none_with all key none =
 
 -- ---- the captures and the links alone
 
-pub placed_of : (all : List Indexed) (count : ℕ) (ids es : List Entry) (ls : List Link) (kept : Kept) →
-    record { count = count; ids = ids; captures = es; links = ls } ≡ kept → IsKeptOf all kept → ArePlacedOf all es ls
+pub placed_of : (all : List Indexed) (count : ℕ) (ids es : List Entry) (ls : List Link) (kept : Indexes) →
+    record { count = count; ids = ids; captures = es; links = ls } ≡ kept → IsIndexOf all kept → ArePlacedOf all es ls
 placed_of all count ids es ls kept is it = record {
   timed = it.timed;
-  captures = ap (λ (k : Kept). k.captures) is ∙ it.captures;
-  links = ap (λ (k : Kept). k.links) is ∙ it.links;
+  captures = ap (λ (k : Indexes). k.captures) is ∙ it.captures;
+  links = ap (λ (k : Indexes). k.links) is ∙ it.links;
 }

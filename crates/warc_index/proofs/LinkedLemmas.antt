@@ -12,7 +12,7 @@ use Rattle.warc_record.specs.declared.types.Kind.TheVariants.{Warcinfo, Response
 use Rattle.warc_record.specs.Kinds.{is_revisit}
 use Rattle.warc_record.specs.Texts.{is_text, is_same_text}
 use Rattle.warc_order.specs.declared.mark.Mark.{Mark}
-use Rattle.warc_order.specs.Entries.{Entry, entry_at, entry_of, no_entry, mark_lt, comes_later, IsAt, IsFrom, IsNone, IsTextAt, IsUpTo}
+use Rattle.warc_order.specs.Entries.{Entry, entry_at, entry_of, no_entry, mark_lt, comes_later, HasPosition, IsFrom, IsNone, IsTextAt, IsUpTo}
 use Rattle.warc_index.specs.declared.link.Role.{Role}
 use Rattle.warc_index.specs.declared.link.Role.TheVariants.{Other as OtherRole, Payload, Digested, UnknownProfile, NamesId, NamesPair, NamesBoth, NamesNothing, LeadsNowhere}
 use Rattle.warc_index.specs.declared.unfound.Unfound.{Unfound}
@@ -480,13 +480,13 @@ pub target_there : (all : List Indexed) (es : List Entry) (links : List Link) (p
 target_there all es links p text r placed at found =
     let w : IsCaptureAt all text found.entry = capture_at all text found.entry (subst (λ us. Contains us found.entry)
     placed.captures found.stands) found.text_is in
-    let one : Some w.it ≡ Some r = sym w.stands ∙ (ap (slice_get all) found.is_at.position_is ∙ at) in
+    let one : Some w.it ≡ Some r = sym w.stands ∙ (ap (slice_get all) found.has_position.position_is ∙ at) in
     let same : w.it ≡ r = (cc) in
     ap (λ (x : Indexed). x.target) (sym same) ∙ text_found text w.it.target w.target
 
 -- a capture without an entry has no target, and so no payload
 pub none_without_entry : (all : List Indexed) (es : List Entry) (links : List Link) (p : ℕ) (r : Indexed) →
-    ArePlacedOf all es links → slice_get all p ≡ Some r → is_capture r.kind ≡ true → IsNone es (IsAt p) →
+    ArePlacedOf all es links → slice_get all p ≡ Some r → is_capture r.kind ≡ true → IsNone es (HasPosition p) →
     by_payload all r ≡ None
 none_without_entry all es links p r placed at kind none = none_without_target all r (by_target r.target refl)
   where

@@ -42,19 +42,19 @@ abbrev pub IsBelow : ℕ → List Entry → Type 0
 IsBelow n es = All (λ e. e.position < n) es
 
 -- how many records there are, the entries of both orders, and the links of all
-pub record Kept : Type 0 where
+pub record Indexes : Type 0 where
   pub count : ℕ
   pub ids : List Entry
   pub captures : List Entry
   pub links : List Link
 
 -- the bytes of their texts
-abbrev pub text_bytes : Kept → ℕ
+abbrev pub text_bytes : Indexes → ℕ
 text_bytes kept =
     sum_by (λ e. length e.text) kept.ids + sum_by (λ e. length e.text) kept.captures + sum_by link_bytes kept.links
 
 -- what is kept of these records, each with its instant
-pub record IsKeptOf (all : List Indexed) (kept : Kept) : Type 0 where
+pub record IsIndexOf (all : List Indexed) (kept : Indexes) : Type 0 where
   pub timed : All (λ r. IsSome r.instant) all
   pub count : kept.count ≡ length all
   pub ids : kept.ids ≡ entries_from id_entry 0 all

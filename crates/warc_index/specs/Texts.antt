@@ -6,7 +6,7 @@ use Rattle.warc_value.specs.Dates.{Instant}
 use Rattle.warc_record.specs.declared.types.Kind.{Kind}
 use Rattle.warc_record.specs.declared.types.Kind.TheVariants.{Response, Resource, Revisit}
 use Rattle.warc_index.specs.Captures.{Indexed, is_capture}
-use Rattle.warc_index.specs.Orders.{IsKeptOf, Kept, text_bytes}
+use Rattle.warc_index.specs.Orders.{IsIndexOf, Indexes, text_bytes}
 
 -- of a text that may be absent
 abbrev pub text_size : Option (List ℕ) → ℕ
@@ -34,4 +34,4 @@ kept_size r = text_size r.id + (if is_capture r.kind then text_size r.target els
 
 -- an index of records keeps this of each, and no more: no text of a record twice
 abbrev pub KeepsTexts : Type 0
-KeepsTexts = (all : List Indexed) (kept : Kept) → IsKeptOf all kept → text_bytes kept ≡ sum_by kept_size all
+KeepsTexts = (all : List Indexed) (kept : Indexes) → IsIndexOf all kept → text_bytes kept ≡ sum_by kept_size all

@@ -94,7 +94,7 @@ pub(crate) fn add_record<O: EntryList, A: Allocator + Copy, B: Allocator>(
     ensures err_captures { OnErr result (O.entries by_target.new ≡ O.entries by_target.old) }
     ensures err_links { OnErr result (links.new ≡ links.old) }
 {
-    links.push(&link_of(typed))?;
+    links.add(&link_of(typed))?;
     match add_entries(by_id, by_target, position, typed) {
         Ok(()) => Ok(()),
         Err(refused) => {

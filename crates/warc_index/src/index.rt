@@ -12,7 +12,7 @@ ghost use Rattle.warc_index.specs.Referents.{by_key, by_pair, by_payload, first_
 ghost use Rattle.warc_index.specs.Referents.{referent_of, origin_of};
 ghost use Rattle.warc_index.specs.Links.{link_seen};
 ghost use Rattle.warc_index.specs.Linked.{instant_mark, revisit_link};
-ghost use Rattle.warc_index.specs.Orders.{IsKeptOf, IsBelow, id_entry, capture_entry, text_bytes};
+ghost use Rattle.warc_index.specs.Orders.{IsIndexOf, IsBelow, id_entry, capture_entry, text_bytes};
 ghost use Rattle.warc_index.specs.Orders.{step_of};
 
 use crate::adding::{add_record, truncate_all};
@@ -46,9 +46,9 @@ pub type UnorderedIndex<A = Global> = RecordIndex<Unordered<A>, A>;
 
 impl<O: HasEntries, A: Allocator> Model for RecordIndex<O, A> {
     ghost use Rattle.std.specs.Prelude.{◌≡◌, length};
-    ghost use Rattle.warc_index.specs.Orders.{Kept, IsBelow};
+    ghost use Rattle.warc_index.specs.Orders.{Indexes, IsBelow};
 
-    ghost Value = { Kept };
+    ghost Value = { Indexes };
 
     ghost view = { λ s. record {
       count = s.count;
@@ -67,8 +67,8 @@ impl<O: HasEntries, A: Allocator> Model for RecordIndex<O, A> {
 impl<O: EntryList, A: Allocator + Copy> RecordIndex<O, A> {
     /// Adds the next record. `Err`: no memory for it, and for putting it in order if it waits; then nothing changes.
     pub fn add<B: Allocator>(&mut self, typed: &Typed<B>) -> Result<(), AllocError>
-        ensures ok { (all : List Indexed) → IsKeptOf all self.old →
-            OnOk result (IsKeptOf (all ++ indexed_of (said typed.now) ∷ []) self.new) }
+        ensures ok { (all : List Indexed) → IsIndexOf all self.old →
+            OnOk result (IsIndexOf (all ++ indexed_of (said typed.now) ∷ []) self.new) }
         ensures err { OnErr result (self.new ≡ self.old) }
     {
         let position = self.count;
@@ -88,7 +88,7 @@ impl<O: EntryList, A: Allocator + Copy> RecordIndex<O, A> {
 
     /// Keeps the first `count` records. It takes no memory.
     pub fn truncate(&mut self, count: usize)
-        ensures { (all : List Indexed) → IsKeptOf all self.old → IsKeptOf (take count all) self.new }
+        ensures { (all : List Indexed) → IsIndexOf all self.old → IsIndexOf (take count all) self.new }
     {
         if count < self.count {
             truncate_all(&mut self.by_id, &mut self.by_target, &mut self.links, count);
@@ -100,7 +100,7 @@ impl<O: EntryList, A: Allocator + Copy> RecordIndex<O, A> {
 impl<A: Allocator + Copy> RecordIndex<Unordered<A>, A> {
     /// No records.
     pub fn new(alloc: A) -> UnorderedIndex<A>
-        ensures { IsKeptOf [] result }
+        ensures { IsIndexOf [] result }
     {
         RecordIndex {
             count: 0,
@@ -132,7 +132,7 @@ impl<A: Allocator + Copy> RecordIndex<Unordered<A>, A> {
 impl<A: Allocator + Copy> RecordIndex<Order<A>, A> {
     /// No records.
     pub fn new(alloc: A) -> Index<A>
-        ensures { IsKeptOf [] result }
+        ensures { IsIndexOf [] result }
     {
         RecordIndex {
             count: 0,
@@ -153,7 +153,7 @@ impl<A: Allocator + Copy> RecordIndex<Order<A>, A> {
     /// The latest capture of a target that isn't after a moment, by its position. `Err`: P1 where no capture has the
     /// target, P2 where each that has is later.
     pub fn latest(&self, target: &[u8], moment: &Moment) -> Result<usize, Unfound>
-        ensures { (all : List Indexed) → IsKeptOf all self.now → result ≡ chosen_of all target.now moment.now }
+        ensures { (all : List Indexed) → IsIndexOf all self.now → result ≡ chosen_of all target.now moment.now }
     {
         match self.by_target.last_up_to(target, mark_at(moment)) {
             Some(found) => Ok(self.by_target.position(found)),
@@ -166,7 +166,7 @@ impl<A: Allocator + Copy> RecordIndex<Order<A>, A> {
 
     /// The positions of the captures of a target, each once: by instant, then by position. `Err`: no memory for them.
     pub fn captures_of(&self, alloc: A, target: &[u8]) -> Result<Vec<usize, A>, AllocError>
-        ensures { (all : List Indexed) → IsKeptOf all self.now →
+        ensures { (all : List Indexed) → IsIndexOf all self.now →
             IfOk result (λ positions. AreCapturesOf all target.now positions.items) }
     {
         captures_of(alloc, &self.by_target, target)
@@ -174,21 +174,21 @@ impl<A: Allocator + Copy> RecordIndex<Order<A>, A> {
 
     /// The first capture with an id, by its position.
     pub fn by_key<B: Allocator>(&self, key: &IdKey<B>) -> Option<usize>
-        ensures { (all : List Indexed) → IsKeptOf all self.now → result ≡ by_key all key.now }
+        ensures { (all : List Indexed) → IsIndexOf all self.now → result ≡ by_key all key.now }
     {
         capture_with(&self.by_id, key.bytes())
     }
 
     /// The first response or resource of a target and an instant, by its position.
     pub fn by_pair(&self, target: &[u8], moment: &Moment) -> Option<usize>
-        ensures { (all : List Indexed) → IsKeptOf all self.now → result ≡ by_pair all (target.now, moment.now) }
+        ensures { (all : List Indexed) → IsIndexOf all self.now → result ≡ by_pair all (target.now, moment.now) }
     {
         first_of_pair(&self.by_target, &self.links, target, mark_at(moment))
     }
 
     /// The first record of any kind with an id, by its position.
     pub fn first_with<B: Allocator>(&self, key: &IdKey<B>) -> Option<usize>
-        ensures { (all : List Indexed) → IsKeptOf all self.now → result ≡ first_with all key.now }
+        ensures { (all : List Indexed) → IsIndexOf all self.now → result ≡ first_with all key.now }
     {
         match self.by_id.first_from(key.bytes(), FIRST) {
             Some(first) => match self.by_id.first_from(key.bytes(), OTHERS) {
@@ -201,7 +201,7 @@ impl<A: Allocator + Copy> RecordIndex<Order<A>, A> {
 
     /// The first response or resource of the pair that a link names.
     fn named_pair(&self, link: &Link<'_>) -> Result<usize, Unfound>
-        ensures { (all : List Indexed) → IsKeptOf all self.now → (instant : Instant)
+        ensures { (all : List Indexed) → IsIndexOf all self.now → (instant : Instant)
             → link.now.mark ≡ instant_mark instant
             → result ≡ ok_or (by_pair all (link.now.second.now, instant)) Unresolved }
     {
@@ -211,9 +211,10 @@ impl<A: Allocator + Copy> RecordIndex<Order<A>, A> {
         }
     }
 
-    /// The response or resource of the target of the revisit at a position, and of the payload digest that its link holds.
+    /// The latest response or resource of the target of the revisit at a position that states the payload digest that
+    /// its link holds and isn't later.
     fn same_payload(&self, position: usize, link: &Link<'_>) -> Result<usize, Unfound>
-        ensures { (all : List Indexed) → IsKeptOf all self.now → (revisit : Indexed)
+        ensures { (all : List Indexed) → IsIndexOf all self.now → (revisit : Indexed)
             → slice_get all position ≡ Some revisit → is_capture revisit.kind ≡ true
             → revisit.payload_digest ≡ Some link.now.first.now → (instant : Instant)
             → revisit.instant ≡ Some instant → link.now.mark ≡ instant_mark instant
@@ -230,7 +231,7 @@ impl<A: Allocator + Copy> RecordIndex<Order<A>, A> {
 
     /// The record that the revisit at a position leads to, by its link.
     fn referent(&self, position: usize, link: &Link<'_>) -> Result<usize, Unfound>
-        ensures { (all : List Indexed) → IsKeptOf all self.now → (r : Indexed) → slice_get all position ≡ Some r
+        ensures { (all : List Indexed) → IsIndexOf all self.now → (r : Indexed) → slice_get all position ≡ Some r
             → is_capture r.kind ≡ true → link_seen link.now ≡ revisit_link r.reference.known_profile r
             → result ≡ referent_of all r }
     {
@@ -252,14 +253,14 @@ impl<A: Allocator + Copy> RecordIndex<Order<A>, A> {
 
     /// Whether a chain ends at a position: whether the record there is no revisit.
     fn ends(&self, position: usize) -> bool
-        ensures { (all : List Indexed) → IsKeptOf all self.now → result ≡ not (is_revisit_at all position) }
+        ensures { (all : List Indexed) → IsIndexOf all self.now → result ≡ not (is_revisit_at all position) }
     {
         ends_chain(&self.links, position)
     }
 
     /// The record that the one at a position refers to, `None` where it is no revisit.
     fn next(&self, position: usize) -> Result<Option<usize>, Unfound>
-        ensures { (all : List Indexed) → IsKeptOf all self.now → result ≡ step_of all position }
+        ensures { (all : List Indexed) → IsIndexOf all self.now → result ≡ step_of all position }
     {
         if self.ends(position) {
             return Ok(None);
@@ -275,7 +276,7 @@ impl<A: Allocator + Copy> RecordIndex<Order<A>, A> {
     /// instant has its digest; P5 where what one names isn't there; P6 where they lead back. It takes no memory, and
     /// as many look-ups as there are revisits on the way, never more than there are records.
     pub fn origin(&self, position: usize) -> Result<usize, Unfound>
-        ensures { (all : List Indexed) → IsKeptOf all self.now → result ≡ origin_of all position }
+        ensures { (all : List Indexed) → IsIndexOf all self.now → result ≡ origin_of all position }
     {
         let mut at = position;
         for _step in 0..self.count {

@@ -31,8 +31,8 @@ pub fn chain_loops()
 {}
 
 /// Of each record an index keeps the key of its id, of a capture its target, of a response or a resource its payload
-/// digest, and of a revisit what it names, or its payload digest where it names nothing. Each is kept once. So `kept` of
-/// an index is the sum of their lengths.
+/// digest, and of a revisit what it names, or its payload digest where it names nothing. Each is kept once. So `kept`
+/// of an index is the sum of their lengths.
 pub fn kept_texts_are_counted()
     ensures { KeepsTexts }
 {}

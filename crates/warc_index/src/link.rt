@@ -35,8 +35,8 @@ pub(crate) enum Role {
     /// A revisit that names both.
     NamesBoth,
 
-    /// A revisit that names nothing, with its payload digest in `first` and its instant as the mark. Its target is in the
-    /// order by target.
+    /// A revisit that names nothing, with its payload digest in `first` and the instant of the mark. Its target is in
+    /// the order by target.
     NamesNothing,
 
     /// A revisit that names nothing, without a payload digest.
@@ -80,9 +80,9 @@ pub(crate) struct Links<A: Allocator = Global> {
 impl<A: Allocator> Model for Links<A> {
     ghost use Rattle.std.specs.Prelude.{List};
     ghost use Rattle.warc_order.specs.Columns.{values};
-    ghost use Rattle.warc_index.specs.Links.{Link as Kept, AreAligned, at_start, links_in};
+    ghost use Rattle.warc_index.specs.Links.{Link as Held, AreAligned, at_start, links_in};
 
-    ghost Value = { List Kept };
+    ghost Value = { List Held };
 
     ghost view = { λ s. links_in s.roles.items (values at_start s.middles) s.texts };
 
@@ -148,7 +148,7 @@ impl<A: Allocator + Copy> Links<A> {
 
     /// Adds what is kept of the next record. `Err`: no memory for it, or 2^32 records or bytes of a text; then nothing
     /// changes.
-    pub(crate) fn push(&mut self, link: &Link) -> Result<(), AllocError>
+    pub(crate) fn add(&mut self, link: &Link) -> Result<(), AllocError>
         ensures ok { OnOk result (self.new ≡ self.old ++ link_seen link.now ∷ []) }
         ensures err { OnErr result (self.new ≡ self.old) }
     {
@@ -157,13 +157,13 @@ impl<A: Allocator + Copy> Links<A> {
         let text = joined(*self.roles.allocator(), link.first, link.second)?;
         self.roles.reserve(1)?;
         self.middles.reserve(middle == 0)?;
-        self.texts.push(&text, link.mark, position)?;
+        self.texts.add(&text, link.mark, position)?;
         self.roles.push_reserved(link.role);
         self.middles.push_reserved(middle, middle == 0);
         Ok(())
     }
 
-    /// Keeps the first so many records. It takes no memory.
+    /// Keeps the first `count` records. It takes no memory.
     pub(crate) fn truncate(&mut self, count: usize)
         ensures { self.new ≡ take count self.old }
     {

@@ -4,7 +4,7 @@ use Rattle.warc_value.specs.Dates.{Instant}
 use Rattle.warc_answer.specs.Answers.{index_of, path_at, path_for, path_from, path_of}
 use Rattle.warc_answer.specs.Payloads.{read_record}
 use Rattle.warc_reading.specs.Archive.{contents}
-use Rattle.warc_index.specs.Orders.{IsKeptOf, Kept as Indexes}
+use Rattle.warc_index.specs.Orders.{IsIndexOf, Indexes}
 use Rattle.warc_segment.specs.Kept.{Kept as Parts}
 use Rattle.warc_reading.specs.Indexed.{AreOf, indexed_record}
 use Rattle.warc_reading.specs.Row.{Placed}
@@ -24,6 +24,6 @@ same_path_at ps position = ap (λ all. path_from all position) (same_index ps)
 -- an index and parts that are the same as before
 pub kept_on : (ps : List Placed) (index now : Indexes) (parts kept : Parts) → now ≡ index → kept ≡ parts → AreOf ps index parts → AreOf ps now kept
 kept_on ps index now parts kept same still is = record {
-  index_is = subst (IsKeptOf (map indexed_record ps)) (sym same) is.index_is;
+  index_is = subst (IsIndexOf (map indexed_record ps)) (sym same) is.index_is;
   parts_are = still ∙ is.parts_are;
 }

@@ -8,7 +8,7 @@ use Rattle.std.proofs.lemmas.Bool.{cases_lt, cases_Bool}
 use Rattle.std.proofs.lemmas.Option.{slice_get_read, slice_get_past}
 use Rattle.std.specs.List.Sorted.{IsPartitionedBy, IsPartitionPoint}
 use Rattle.warc_order.specs.declared.slot.Slot.{Slot}
-use Rattle.warc_order.specs.Ranking.{Held, flattened, blank, lists_of, start_of, HoldsSome, IsBlock, IsWide}
+use Rattle.warc_order.specs.Ranking.{Held, flattened, blank, lists_of, start_of, HoldsSome, IsBlock, IsNarrow}
 
 -- ---- where a list begins
 
@@ -292,22 +292,22 @@ some_kept (b ∷ bs) p some = elim (cases_Bool (p b)) [
 ]
 
 pub blocks_kept : (limit : ℕ) (bs : List (Held)) (p : Held → Bool) → ((b : Held) → p b ≡ true → 0 < length b.list) →
-    All (IsWide limit) bs → All (IsBlock limit) (filter p bs)
+    All (IsNarrow limit) bs → All (IsBlock limit) (filter p bs)
 blocks_kept limit [] p some all = λ k d h. absurd (omega arith)
 blocks_kept limit (b ∷ bs) p some all = elim (cases_Bool (p b)) [
   | inl kept ↦
-      let wide : IsWide limit b = All-head (IsWide limit) b bs all in
+      let wide : IsNarrow limit b = All-head (IsNarrow limit) b bs all in
       rw kept (All-cons (IsBlock limit) b (filter p bs) record {
         some = some b kept;
         few = wide.few;
         room =
             wide.room;
-      } (blocks_kept limit bs p some (All-tail (IsWide limit) b bs all)))
-  | inr left ↦ rw left (blocks_kept limit bs p some (All-tail (IsWide limit) b bs all))
+      } (blocks_kept limit bs p some (All-tail (IsNarrow limit) b bs all)))
+  | inr left ↦ rw left (blocks_kept limit bs p some (All-tail (IsNarrow limit) b bs all))
 ]
 
-pub few_kept : (old new : Held) → IsWide 512 old → length new.list ≤ length old.list → new.room ≡ old.room →
-    IsWide 512 new
+pub few_kept : (old new : Held) → IsNarrow 512 old → length new.list ≤ length old.list → new.room ≡ old.room →
+    IsNarrow 512 new
 few_kept old new wide le same =
     let few : length old.list < 512 = wide.few in
     let room : 512 ≤ old.room = wide.room in

@@ -20,24 +20,24 @@ use Rattle.std.specs.declared.cmp.Ordering.{Ordering}
 use Rattle.std.specs.declared.cmp.Ordering.TheVariants.{Less, Equal, Greater}
 use Rattle.warc_order.specs.declared.mark.Mark.{Mark}
 use Rattle.warc_order.specs.declared.slot.Slot.{Slot}
-use Rattle.warc_order.specs.Heads.{head_of}
+use Rattle.warc_order.specs.Hashes.{hash_of}
 use Rattle.warc_order.specs.Ranking.{IsRanked, IsStrict, IsFirstOf, IsLastOf}
-use Rattle.warc_order.specs.Entries.{Entry, no_entry, entry_at, mark_lt, comes_later, IsUpTo, IsFrom, IsAfter, IsBefore, IsAt, IsFirst, IsLast, IsNone}
-use Rattle.warc_order.specs.Layout.{Key, mark_cmp, text_cmp, key_cmp, key_at, key_for, in_order, slot_for, slots_of, same_index, IsSlotOf, IsOrderOf, IsGrowing, IsOrdered, AreWaiting}
+use Rattle.warc_order.specs.Entries.{Entry, no_entry, entry_at, mark_lt, comes_later, IsUpTo, IsFrom, IsAfter, IsBefore, HasPosition, IsFirst, IsLast, IsNone}
+use Rattle.warc_order.specs.Layout.{Key, mark_cmp, text_cmp, key_cmp, key_at, key_for, slot_order, slot_for, slots_of, same_index, IsSlotOf, IsOrderOf, IsGrowing, IsOrdered, AreWaiting}
 
 pub mark_total : IsTotalOrder mark_cmp
 mark_total = then_total (on_total (λ (m : Mark). m.major) nat_cmp_total) (on_total (λ (m : Mark). m.minor)
     nat_cmp_total)
 
 pub text_total : IsTotalOrder text_cmp
-text_total = then_total (on_total (λ (k : Key). k.head) nat_cmp_total) (on_total (λ (k : Key). k.text)
+text_total = then_total (on_total (λ (k : Key). k.hash) nat_cmp_total) (on_total (λ (k : Key). k.text)
     nat_list_cmp_total)
 
 pub key_total : IsTotalOrder key_cmp
 key_total = then_total text_total (on_total (λ (k : Key). k.mark) mark_total)
 
-pub in_order_total : (es : List Entry) → IsTotalOrder (in_order es)
-in_order_total es = then_total (on_total (key_at es) key_total) (on_total (λ (s : Slot). s.index) nat_cmp_total)
+pub slot_order_total : (es : List Entry) → IsTotalOrder (slot_order es)
+slot_order_total es = then_total (on_total (key_at es) key_total) (on_total (λ (s : Slot). s.index) nat_cmp_total)
 
 -- ---- orderings
 
@@ -102,7 +102,7 @@ then_tie_left Greater p e = cc
 pub same_text : (a b : Key) → is_gt (text_cmp a b) ≡ false → is_gt (text_cmp b a) ≡ false → a.text ≡ b.text
 same_text a b up down =
     let tie : text_cmp a b ≡ Equal = tie_of (text_cmp a b) up (lt_is_gt text_cmp text_total a b ∙ down) in
-    let texts : slice_cmp nat_cmp a.text b.text ≡ Equal = then_tie_left (nat_cmp a.head b.head) (slice_cmp nat_cmp
+    let texts : slice_cmp nat_cmp a.text b.text ≡ Equal = then_tie_left (nat_cmp a.hash b.hash) (slice_cmp nat_cmp
     a.text b.text) tie in
     (bytes_eq-Decides a.text b.text).0 (sym (is_eq-slice_cmp a.text b.text) ∙ ap is_eq texts)
 
@@ -113,7 +113,7 @@ same_key_text text m w = tie_then (text_cmp (key_for text m) (key_for text w)) (
 
 -- ---- where a test of keys ends
 
-pub cut_le : (es : List Entry) (ss : List Slot) (k : Key) → IsRanked (in_order es) ss →
+pub cut_le : (es : List Entry) (ss : List Slot) (k : Key) → IsRanked (slot_order es) ss →
     IsPartitionedBy (λ s. is_le (key_cmp (key_at es s) k)) ss
 cut_le es ss k ranked i j d le lt hit = elim (cases_lt i j) [
   | inl low ↦
@@ -127,7 +127,7 @@ cut_le es ss k ranked i j d le lt hit = elim (cases_lt i j) [
       ap (λ n. is_le (key_cmp (key_at es (get_or ss n d)) k)) (sym e) ∙ hit
 ]
 
-pub cut_lt : (es : List Entry) (ss : List Slot) (k : Key) → IsRanked (in_order es) ss →
+pub cut_lt : (es : List Entry) (ss : List Slot) (k : Key) → IsRanked (slot_order es) ss →
     IsPartitionedBy (λ s. is_lt (key_cmp (key_at es s) k)) ss
 cut_lt es ss k ranked i j d le lt hit = elim (cases_lt i j) [
   | inl low ↦
@@ -153,11 +153,11 @@ cut_lt es ss k ranked i j d le lt hit = elim (cases_lt i j) [
 pub key_of_slot : (es : List Entry) (s : Slot) → s ≡ slot_for es s.index →
     key_at es s ≡ key_for (entry_at es s.index).text (entry_at es s.index).mark
 key_of_slot es s is = ap (λ h. record {
-  head = h;
+  hash = h;
   text = (entry_at es s.index).text;
   mark =
       (entry_at es s.index).mark;
-}) (ap (λ (f : Slot). f.head) is)
+}) (ap (λ (f : Slot). f.hash) is)
 
 -- a slot of the text has the text's key
 pub key_with : (es : List Entry) (s : Slot) (text : List ℕ) → s ≡ slot_for es s.index →
@@ -172,7 +172,7 @@ cmp_with es s text mark is same = ap (λ k. key_cmp k (key_for text mark)) (key_
 
 -- two slots of one text
 pub order_with : (es : List Entry) (s t : Slot) → s ≡ slot_for es s.index → t ≡ slot_for es t.index →
-    (entry_at es s.index).text ≡ (entry_at es t.index).text → in_order es s t ≡ ordering_then (mark_cmp (entry_at es
+    (entry_at es s.index).text ≡ (entry_at es t.index).text → slot_order es s t ≡ ordering_then (mark_cmp (entry_at es
     s.index).mark (entry_at es t.index).mark) (nat_cmp s.index t.index)
 order_with es s t is it same =
     ap (λ o. ordering_then o (nat_cmp s.index t.index))
@@ -214,7 +214,7 @@ positions_rise es i j growing h k = lt_rises i j (entry_at es i).position (entry
 
 -- the order of two slots of one text says which entry is later
 pub later_is : (es : List Entry) (s t : Slot) → IsGrowing es → IsSlotOf es (length es) s → IsSlotOf es (length es) t →
-    (entry_at es s.index).text ≡ (entry_at es t.index).text → is_gt (in_order es s t) ≡ comes_later (entry_at es s.index)
+    (entry_at es s.index).text ≡ (entry_at es t.index).text → is_gt (slot_order es s t) ≡ comes_later (entry_at es s.index)
     (entry_at es t.index)
 later_is es s t growing hs ht same =
     ap is_gt (order_with es s t hs.slot ht.slot same)
@@ -244,8 +244,8 @@ one_slot es k lt = record { index = lt; slot = refl }
 pub none_at : (es : List Entry) (n position : ℕ) → IsGrowing es →
     ((k : ℕ) → k < n → (entry_at es k).position < position) →
     ((k : ℕ) → n ≤ k → k < length es → position ≤ (entry_at es k).position) →
-    (n < length es → (entry_at es n).position ≡ position → ⊥) → IsNone es (IsAt position)
-none_at es n position growing below above other = by_index es (λ q. IsAt position q → ⊥) (λ k lt is.
+    (n < length es → (entry_at es n).position ≡ position → ⊥) → IsNone es (HasPosition position)
+none_at es n position growing below above other = by_index es (λ q. HasPosition position q → ⊥) (λ k lt is.
     elim (cases_lt k n) [
       | inl low ↦ let near : (entry_at es k).position < position = below k low in omega (arith, is.position_is)
       | inr high ↦ elim (cases_lt n k) [
@@ -262,7 +262,7 @@ none_at es n position growing below above other = by_index es (λ q. IsAt positi
 -- ---- the look-ups
 
 pub last_up_to : (es : List Entry) (ss : List Slot) (text : List ℕ) (mark : Mark) (s : Slot) → IsOrdered es ss →
-    IsLastOf (in_order es) (λ f. is_le (key_cmp (key_at es f) (key_for text mark))) ss s →
+    IsLastOf (slot_order es) (λ f. is_le (key_cmp (key_at es f) (key_for text mark))) ss s →
     (entry_at es s.index).text ≡ text → IsLast es (IsUpTo text mark) (entry_at es s.index)
 last_up_to es ss text mark s it last same =
     let here : IsSlotOf es (length es) s = slot_in_order es ss s it.order last.stands in
@@ -299,11 +299,11 @@ between es s a b same tie low high =
     same_text (key_at es s) b up down
 
 pub other_up_to : (es : List Entry) (ss : List Slot) (text : List ℕ) (mark : Mark) (s : Slot) → IsOrdered es ss →
-    IsLastOf (in_order es) (λ f. is_le (key_cmp (key_at es f) (key_for text mark))) ss s →
+    IsLastOf (slot_order es) (λ f. is_le (key_cmp (key_at es f) (key_for text mark))) ss s →
     ((entry_at es s.index).text ≡ text → ⊥) → IsNone es (IsUpTo text mark)
 other_up_to es ss text mark s it last other = by_index es (λ q. IsUpTo text mark q → ⊥) (λ k lt p.
     let f : Slot = slot_for es k in
-    let quiet : is_gt (in_order es f s) ≡ false = last.last f (it.order.all k lt) (ap is_le (cmp_with es f text mark
+    let quiet : is_gt (slot_order es f s) ≡ false = last.last f (it.order.all k lt) (ap is_le (cmp_with es f text mark
     refl p.text_is) ∙ (mark_le (entry_at es k).mark mark ∙ not_false _ p.up_to)) in
     let keys : is_gt (key_cmp (key_at es f) (key_at es s)) ≡ false =
     then_not_gt (key_cmp (key_at es f) (key_at es s)) (nat_cmp f.index s.index) quiet in
@@ -311,7 +311,7 @@ other_up_to es ss text mark s it last other = by_index es (λ q. IsUpTo text mar
     p.text_is) keys (le_not_gt _ last.passes)))
 
 pub first_from : (es : List Entry) (ss : List Slot) (text : List ℕ) (mark : Mark) (s : Slot) → IsOrdered es ss →
-    IsFirstOf (in_order es) (λ f. is_lt (key_cmp (key_at es f) (key_for text mark))) ss s →
+    IsFirstOf (slot_order es) (λ f. is_lt (key_cmp (key_at es f) (key_for text mark))) ss s →
     (entry_at es s.index).text ≡ text → IsFirst es (IsFrom text mark) (entry_at es s.index)
 first_from es ss text mark s it first same =
     let here : IsSlotOf es (length es) s = slot_in_order es ss s it.order first.stands in
@@ -337,11 +337,11 @@ none_from es ss text mark it all = by_index es (λ q. IsFrom text mark q → ⊥
     ∙ p.from))))
 
 pub other_from : (es : List Entry) (ss : List Slot) (text : List ℕ) (mark : Mark) (s : Slot) → IsOrdered es ss →
-    IsFirstOf (in_order es) (λ f. is_lt (key_cmp (key_at es f) (key_for text mark))) ss s →
+    IsFirstOf (slot_order es) (λ f. is_lt (key_cmp (key_at es f) (key_for text mark))) ss s →
     ((entry_at es s.index).text ≡ text → ⊥) → IsNone es (IsFrom text mark)
 other_from es ss text mark s it first other = by_index es (λ q. IsFrom text mark q → ⊥) (λ k lt p.
     let f : Slot = slot_for es k in
-    let quiet : is_gt (in_order es s f) ≡ false = first.first f (it.order.all k lt) (ap is_lt (cmp_with es f text mark
+    let quiet : is_gt (slot_order es s f) ≡ false = first.first f (it.order.all k lt) (ap is_lt (cmp_with es f text mark
     refl p.text_is) ∙ (mark_less (entry_at es k).mark mark ∙ p.from)) in
     let keys : is_gt (key_cmp (key_at es s) (key_at es f)) ≡ false =
     then_not_gt (key_cmp (key_at es s) (key_at es f)) (nat_cmp s.index f.index) quiet in
@@ -353,7 +353,7 @@ other_from es ss text mark s it first other = by_index es (λ q. IsFrom text mar
 -- ---- steps
 
 pub next_entry : (es : List Entry) (ss : List Slot) (i : ℕ) (s : Slot) → IsOrdered es ss → i < length es →
-    IsFirstOf (in_order es) (λ f. is_le (in_order es f (slot_for es i))) ss s →
+    IsFirstOf (slot_order es) (λ f. is_le (slot_order es f (slot_for es i))) ss s →
     (entry_at es s.index).text ≡ (entry_at es i).text → IsFirst es (IsAfter (entry_at es i)) (entry_at es s.index)
 next_entry es ss i s it h first same =
     let here : IsSlotOf es (length es) s = slot_in_order es ss s it.order first.stands in
@@ -371,24 +371,24 @@ next_entry es ss i s it h first same =
     }
 
 pub none_next : (es : List Entry) (ss : List Slot) (i : ℕ) → IsOrdered es ss → i < length es →
-    All (λ f. is_le (in_order es f (slot_for es i)) ≡ true) ss → IsNone es (IsAfter (entry_at es i))
+    All (λ f. is_le (slot_order es f (slot_for es i)) ≡ true) ss → IsNone es (IsAfter (entry_at es i))
 none_next es ss i it h all = by_index es (λ q. IsAfter (entry_at es i) q → ⊥) (λ k lt p.
-    true≢false (sym (All-contains (λ f. is_le (in_order es f (slot_for es i)) ≡ true) ss (slot_for es k) all
+    true≢false (sym (All-contains (λ f. is_le (slot_order es f (slot_for es i)) ≡ true) ss (slot_for es k) all
     (it.order.all k lt))
     ∙ gt_not_le _ (later_is es (slot_for es k) (slot_for es i) it.growing (one_slot es k lt) (one_slot es i h)
     p.text_is ∙ p.later)))
 
 pub other_next : (es : List Entry) (ss : List Slot) (i : ℕ) (s : Slot) → IsOrdered es ss → i < length es →
-    IsFirstOf (in_order es) (λ f. is_le (in_order es f (slot_for es i))) ss s →
+    IsFirstOf (slot_order es) (λ f. is_le (slot_order es f (slot_for es i))) ss s →
     ((entry_at es s.index).text ≡ (entry_at es i).text → ⊥) → IsNone es (IsAfter (entry_at es i))
 other_next es ss i s it h first other = by_index es (λ q. IsAfter (entry_at es i) q → ⊥) (λ k lt p.
     let f : Slot = slot_for es k in
     let a : Slot = slot_for es i in
-    let quiet : is_gt (in_order es s f) ≡ false = first.first f (it.order.all k lt) (gt_not_le _ (later_is es f a
+    let quiet : is_gt (slot_order es s f) ≡ false = first.first f (it.order.all k lt) (gt_not_le _ (later_is es f a
     it.growing (one_slot es k lt) (one_slot es i h) p.text_is ∙ p.later)) in
     let keys : is_gt (key_cmp (key_at es s) (key_at es f)) ≡ false =
     then_not_gt (key_cmp (key_at es s) (key_at es f)) (nat_cmp s.index f.index) quiet in
-    let past : is_gt (in_order es a s) ≡ false = lt_not_gt _ (lt_is_gt (in_order es) (in_order_total es) a s
+    let past : is_gt (slot_order es a s) ≡ false = lt_not_gt _ (lt_is_gt (slot_order es) (slot_order_total es) a s
     ∙ not_le_gt _ first.fails) in
     let low : is_gt (key_cmp (key_at es a) (key_at es s)) ≡ false =
     then_not_gt (key_cmp (key_at es a) (key_at es s)) (nat_cmp a.index s.index) past in
@@ -396,7 +396,7 @@ other_next es ss i s it h first other = by_index es (λ q. IsAfter (entry_at es 
     (key_at es s)) (sym p.text_is)) low keys ∙ p.text_is))
 
 pub previous_entry : (es : List Entry) (ss : List Slot) (i : ℕ) (s : Slot) → IsOrdered es ss → i < length es →
-    IsLastOf (in_order es) (λ f. is_lt (in_order es f (slot_for es i))) ss s →
+    IsLastOf (slot_order es) (λ f. is_lt (slot_order es f (slot_for es i))) ss s →
     (entry_at es s.index).text ≡ (entry_at es i).text → IsLast es (IsBefore (entry_at es i)) (entry_at es s.index)
 previous_entry es ss i s it h last same =
     let here : IsSlotOf es (length es) s = slot_in_order es ss s it.order last.stands in
@@ -405,35 +405,35 @@ previous_entry es ss i s it h last same =
       passes = record {
         text_is = same;
         later = sym (later_is es (slot_for es i) s it.growing (one_slot es i h) here
-            (sym same)) ∙ (sym (lt_is_gt (in_order es) (in_order_total es) s (slot_for es i)) ∙ last.passes);
+            (sym same)) ∙ (sym (lt_is_gt (slot_order es) (slot_order_total es) s (slot_for es i)) ∙ last.passes);
       };
       last = by_index es (λ q. IsBefore (entry_at es i) q → comes_later q (entry_at es s.index) ≡ false) (λ k lt p.
           sym (later_is es (slot_for es k) s it.growing (one_slot es k lt) here (p.text_is ∙ sym same))
-          ∙ last.last (slot_for es k) (it.order.all k lt) (lt_is_gt (in_order es) (in_order_total es) (slot_for es k)
+          ∙ last.last (slot_for es k) (it.order.all k lt) (lt_is_gt (slot_order es) (slot_order_total es) (slot_for es k)
           (slot_for es i) ∙ (later_is es (slot_for es i) (slot_for es k) it.growing (one_slot es i h) (one_slot es
           k lt) (sym p.text_is) ∙ p.later)));
     }
 
 pub none_previous : (es : List Entry) (ss : List Slot) (i : ℕ) → IsOrdered es ss → i < length es →
-    All (λ f. is_lt (in_order es f (slot_for es i)) ≡ false) ss → IsNone es (IsBefore (entry_at es i))
+    All (λ f. is_lt (slot_order es f (slot_for es i)) ≡ false) ss → IsNone es (IsBefore (entry_at es i))
 none_previous es ss i it h all = by_index es (λ q. IsBefore (entry_at es i) q → ⊥) (λ k lt p.
-    true≢false (sym (lt_is_gt (in_order es) (in_order_total es) (slot_for es k) (slot_for es i)
+    true≢false (sym (lt_is_gt (slot_order es) (slot_order_total es) (slot_for es k) (slot_for es i)
     ∙ (later_is es (slot_for es i) (slot_for es k) it.growing (one_slot es i h) (one_slot es k lt) (sym p.text_is)
     ∙ p.later))
-    ∙ All-contains (λ f. is_lt (in_order es f (slot_for es i)) ≡ false) ss (slot_for es k) all (it.order.all k lt)))
+    ∙ All-contains (λ f. is_lt (slot_order es f (slot_for es i)) ≡ false) ss (slot_for es k) all (it.order.all k lt)))
 
 pub other_previous : (es : List Entry) (ss : List Slot) (i : ℕ) (s : Slot) → IsOrdered es ss → i < length es →
-    IsLastOf (in_order es) (λ f. is_lt (in_order es f (slot_for es i))) ss s →
+    IsLastOf (slot_order es) (λ f. is_lt (slot_order es f (slot_for es i))) ss s →
     ((entry_at es s.index).text ≡ (entry_at es i).text → ⊥) → IsNone es (IsBefore (entry_at es i))
 other_previous es ss i s it h last other = by_index es (λ q. IsBefore (entry_at es i) q → ⊥) (λ k lt p.
     let f : Slot = slot_for es k in
     let a : Slot = slot_for es i in
-    let quiet : is_gt (in_order es f s) ≡ false = last.last f (it.order.all k lt) (lt_is_gt (in_order es)
-    (in_order_total es) f a ∙ (later_is es a f it.growing (one_slot es i h) (one_slot es k lt) (sym p.text_is)
+    let quiet : is_gt (slot_order es f s) ≡ false = last.last f (it.order.all k lt) (lt_is_gt (slot_order es)
+    (slot_order_total es) f a ∙ (later_is es a f it.growing (one_slot es i h) (one_slot es k lt) (sym p.text_is)
     ∙ p.later)) in
     let low : is_gt (key_cmp (key_at es f) (key_at es s)) ≡ false =
     then_not_gt (key_cmp (key_at es f) (key_at es s)) (nat_cmp f.index s.index) quiet in
-    let past : is_gt (in_order es s a) ≡ false = lt_not_gt _ last.passes in
+    let past : is_gt (slot_order es s a) ≡ false = lt_not_gt _ last.passes in
     let high : is_gt (key_cmp (key_at es s) (key_at es a)) ≡ false =
     then_not_gt (key_cmp (key_at es s) (key_at es a)) (nat_cmp s.index a.index) past in
     other (between es s (key_at es f) (key_at es a) p.text_is (ap (λ u. text_cmp (key_for u (entry_at es i).mark)
@@ -444,14 +444,14 @@ other_previous es ss i s it h last other = by_index es (λ q. IsBefore (entry_at
 tie_is_same : (i j : ℕ) → nat_cmp i j ≡ Equal → (i == j) ≡ true
 tie_is_same i j e = grind (arith, nat_tests)
 
-pub strict_order : (es : List Entry) (n : ℕ) (ss : List Slot) → IsOrderOf es n ss → IsStrict (in_order es) ss
+pub strict_order : (es : List Entry) (n : ℕ) (ss : List Slot) → IsOrderOf es n ss → IsStrict (slot_order es) ss
 strict_order es n ss it i j d h k =
     let a : Slot = get_or ss i d in
     let b : Slot = get_or ss j d in
-    elim (cases_Bool (is_lt (in_order es a b))) [
+    elim (cases_Bool (is_lt (slot_order es a b))) [
       | inl good ↦ good
       | inr bad ↦
-          let tie : in_order es a b ≡ Equal = tie_of (in_order es a b) (it.ranked i j d h k) bad in
+          let tie : slot_order es a b ≡ Equal = tie_of (slot_order es a b) (it.ranked i j d h k) bad in
           let indices : nat_cmp a.index b.index ≡ Equal = then_tie_left (key_cmp (key_at es a) (key_at es b)) (nat_cmp
           a.index b.index) tie in
           absurd (true≢false (sym (tie_is_same a.index b.index indices) ∙ it.distinct i j d h k))
@@ -489,13 +489,13 @@ carried es fs n ss same it = record {
       record {
         index = w.index;
         slot = w.slot ∙ ap (λ (e : Entry). record {
-          head = head_of e.text;
+          hash = hash_of e.text;
           index =
               (get_or ss i d).index;
         }) (sym (same (get_or ss i d).index w.index));
       };
   all = λ q h. subst (Contains ss) (ap (λ (e : Entry). record {
-    head = head_of e.text;
+    hash = hash_of e.text;
     index =
         q;
   }) (sym (same q h))) (it.all q h);
@@ -521,7 +521,7 @@ contains_tail : (x : Slot) (xs : List Slot) (q : Slot) → Contains xs q → Con
 contains_tail x xs q (k, lt, e) = (suc k, omega arith, e)
 
 -- with one more
-pub order_more : (es : List Entry) (n : ℕ) (ss ts : List Slot) → IsOrderOf es n ss → IsRanked (in_order es) ts →
+pub order_more : (es : List Entry) (n : ℕ) (ss ts : List Slot) → IsOrderOf es n ss → IsRanked (slot_order es) ts →
     IsPermutation (slot_for es n ∷ ss) ts → IsOrderOf es (n + 1) ts
 order_more es n ss ts it ranked moved = record {
   ranked = ranked;
@@ -559,7 +559,7 @@ holds_lt q m h = grind (arith, nat_tests)
 pub order_fewer : (es : List Entry) (n m : ℕ) (ss : List Slot) → IsOrderOf es n ss →
     IsOrderOf es (min m n) (filter (λ s. nat_lt s.index m) ss)
 order_fewer es n m ss it = record {
-  ranked = AllPairs-filter (λ a b. is_gt (in_order es a b) ≡ false) (λ s. nat_lt s.index m) ss it.ranked;
+  ranked = AllPairs-filter (λ a b. is_gt (slot_order es a b) ≡ false) (λ s. nat_lt s.index m) ss it.ranked;
   within = λ k d h.
       let w : IsSlotOf es n (get_or (filter (λ s. nat_lt s.index m) ss) k d) =
       All-filter (λ s. nat_lt s.index m) (IsSlotOf es n) ss it.within k d h in
@@ -655,7 +655,7 @@ slots_apart es n i j d h k =
     rw (slot_at es n i d (omega arith), slot_at es n j d (omega arith)) (same_index_flips (slot_for es i) (slot_for es
     j) ∙ lower_apart j i h)
 
-pub order_of_all : (es : List Entry) (ss : List Slot) → IsRanked (in_order es) ss →
+pub order_of_all : (es : List Entry) (ss : List Slot) → IsRanked (slot_order es) ss →
     IsPermutation (slots_of es (length es)) ss → IsOrderOf es (length es) ss
 order_of_all es ss ranked moved = record {
   ranked = ranked;
@@ -672,7 +672,7 @@ slots_same : (es fs : List Entry) (n : ℕ) → ((q : ℕ) → q < n → entry_a
 slots_same es fs zero h = refl
 slots_same es fs (suc n) h =
     ap (λ us. us ++ slot_for fs n ∷ []) (slots_same es fs n (λ q lt. h q (omega arith)))
-    ∙ ap (λ (e : Entry). slots_of es n ++ record { head = head_of e.text; index = n } ∷ []) (h n (omega arith))
+    ∙ ap (λ (e : Entry). slots_of es n ++ record { hash = hash_of e.text; index = n } ∷ []) (h n (omega arith))
 
 pub waiting_more : (es fs : List Entry) (ss ts : List Slot) (e : Entry) (n : ℕ) → AreWaiting es ss →
     fs ≡ es ++ e ∷ [] → n ≡ length es → All (λ f. f.position < e.position) es → ts ≡ ss ++ slot_for fs n ∷ [] →

@@ -58,14 +58,14 @@ pub record IsLast (es : List Entry) (Passes : Entry → Type 0) (e : Entry) : Ty
   pub last : (q : Entry) → Contains es q → Passes q → comes_later q e ≡ false
 
 -- entries of a position, of which an order has at most one
-pub record IsAt (position : ℕ) (e : Entry) : Type 0 where
+pub record HasPosition (position : ℕ) (e : Entry) : Type 0 where
   pub position_is : e.position ≡ position
 
 -- the text of an entry of a position
 pub record IsTextAt (es : List Entry) (position : ℕ) (text : List ℕ) : Type 0 where
   pub entry : Entry
   pub stands : Contains es entry
-  pub is_at : IsAt position entry
+  pub has_position : HasPosition position entry
   pub text_is : entry.text ≡ text
 
 -- no entry passes

@@ -6,7 +6,7 @@ use Rattle.std.specs.Ordering.{nat_cmp, ordering_then}
 use Rattle.std.specs.declared.cmp.Ordering.{Ordering}
 use Rattle.warc_order.specs.declared.mark.Mark.{Mark}
 use Rattle.warc_order.specs.declared.slot.Slot.{Slot}
-use Rattle.warc_order.specs.Heads.{head_of}
+use Rattle.warc_order.specs.Hashes.{hash_of}
 use Rattle.warc_order.specs.Ranking.{IsRanked}
 use Rattle.warc_order.specs.Entries.{Entry, entry_at, entry_of}
 use Rattle.warc_order.specs.Columns.{Sparse, values}
@@ -31,8 +31,8 @@ no_number i = 0
 abbrev pub own_index : ℕ → ℕ
 own_index i = i
 
-abbrev pub parts : List ℕ → List ℕ → Sparse ℕ → Sparse ℕ → Sparse ℕ → Parts
-parts ends bytes majors minors positions = record {
+abbrev pub parts_in : List ℕ → List ℕ → Sparse ℕ → Sparse ℕ → Sparse ℕ → Parts
+parts_in ends bytes majors minors positions = record {
   ends = ends;
   bytes = bytes;
   majors = values no_number majors;
@@ -74,34 +74,34 @@ IsFlat p es = p ≡ parts_of es
 abbrev pub mark_cmp : Mark → Mark → Ordering
 mark_cmp a b = ordering_then (nat_cmp a.major b.major) (nat_cmp a.minor b.minor)
 
--- a text, its head and a mark
+-- a text, its hash and a mark
 pub record Key : Type 0 where
-  pub head : ℕ
+  pub hash : ℕ
   pub text : List ℕ
   pub mark : Mark
 
--- by head, then by text
+-- by hash, then by text
 abbrev pub text_cmp : Key → Key → Ordering
-text_cmp a b = ordering_then (nat_cmp a.head b.head) (slice_cmp nat_cmp a.text b.text)
+text_cmp a b = ordering_then (nat_cmp a.hash b.hash) (slice_cmp nat_cmp a.text b.text)
 
 abbrev pub key_cmp : Key → Key → Ordering
 key_cmp a b = ordering_then (text_cmp a b) (mark_cmp a.mark b.mark)
 
 -- the key of a slot
 abbrev pub key_at : List Entry → Slot → Key
-key_at es s = record { head = s.head; text = (entry_at es s.index).text; mark = (entry_at es s.index).mark }
+key_at es s = record { hash = s.hash; text = (entry_at es s.index).text; mark = (entry_at es s.index).mark }
 
 -- the key of a text
 abbrev pub key_for : List ℕ → Mark → Key
-key_for text mark = record { head = head_of text; text = text; mark = mark }
+key_for text mark = record { hash = hash_of text; text = text; mark = mark }
 
 -- by key, then by index
-abbrev pub in_order : List Entry → Slot → Slot → Ordering
-in_order es a b = ordering_then (key_cmp (key_at es a) (key_at es b)) (nat_cmp a.index b.index)
+abbrev pub slot_order : List Entry → Slot → Slot → Ordering
+slot_order es a b = ordering_then (key_cmp (key_at es a) (key_at es b)) (nat_cmp a.index b.index)
 
 -- the slot of the i-th entry
 abbrev pub slot_for : List Entry → ℕ → Slot
-slot_for es i = record { head = head_of (entry_at es i).text; index = i }
+slot_for es i = record { hash = hash_of (entry_at es i).text; index = i }
 
 -- the slots of the first n entries, as they were added
 abbrev pub slots_of : List Entry → ℕ → List Slot
@@ -118,7 +118,7 @@ same_index a b = a.index == b.index
 
 -- the slots of the first n entries, in their order
 pub record IsOrderOf (es : List Entry) (n : ℕ) (ss : List Slot) : Type 0 where
-  pub ranked : IsRanked (in_order es) ss
+  pub ranked : IsRanked (slot_order es) ss
   pub within : All (IsSlotOf es n) ss
   pub all : (q : ℕ) → q < n → Contains ss (slot_for es q)
   pub distinct : AllPairs (λ a b. same_index a b ≡ false) ss

@@ -1,4 +1,4 @@
-pub mod Heads
+pub mod Hashes
 pub mod Ranking
 pub mod Entries
 pub mod Columns

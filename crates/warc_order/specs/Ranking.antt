@@ -8,7 +8,7 @@ use Rattle.warc_order.specs.declared.ranked.Standing.{Standing}
 
 -- what stands past the end of a list
 abbrev pub blank : Slot
-blank = record { head = 0; index = 0 }
+blank = record { hash = 0; index = 0 }
 
 -- a list of indices, and whether it takes one more without a growth
 pub record Ranking : Type 0 where
@@ -88,6 +88,6 @@ pub record IsBlock (limit : ℕ) (b : Held) : Type 0 where
   pub room : limit ≤ b.room
 
 -- a block that may hold none
-pub record IsWide (limit : ℕ) (b : Held) : Type 0 where
+pub record IsNarrow (limit : ℕ) (b : Held) : Type 0 where
   pub few : length b.list < limit
   pub room : limit ≤ b.room

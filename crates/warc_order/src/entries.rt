@@ -3,7 +3,7 @@
 ghost use Rattle.std.specs.Prelude.{◌≡◌, ℕ, ◌+◌, ◌<◌, ◌≤◌, [], ◌∷◌, ◌++◌, length, take, filter, nat_lt, slice_range};
 ghost use Rattle.std.specs.Prelude.{OnOk, OnErr, IfSome, IfNone};
 ghost use Rattle.std.specs.List.{concat, sum_by};
-ghost use Rattle.warc_order.specs.Entries.{entry_of, entry_at, IsAt, IsTextAt, IsNone};
+ghost use Rattle.warc_order.specs.Entries.{entry_of, entry_at, HasPosition, IsTextAt, IsNone};
 ghost use Rattle.warc_order.specs.Layout.{texts_of, IsGrowing};
 
 use crate::column::Column;
@@ -39,14 +39,14 @@ pub struct Entries<A: Allocator> {
 impl<A: Allocator> Model for Entries<A> {
     ghost use Rattle.std.specs.Prelude.{List};
     ghost use Rattle.warc_order.specs.Entries.{Entry};
-    ghost use Rattle.warc_order.specs.Layout.{parts, entries_of, IsFlat};
+    ghost use Rattle.warc_order.specs.Layout.{parts_in, entries_of, IsFlat};
 
     ghost Value = { List Entry };
 
-    ghost view = { λ s. entries_of (parts s.ends.items s.bytes.items s.majors s.minors s.positions) };
+    ghost view = { λ s. entries_of (parts_in s.ends.items s.bytes.items s.majors s.minors s.positions) };
 
-    ghost invariant = { λ s. IsFlat (parts s.ends.items s.bytes.items s.majors s.minors s.positions)
-        (entries_of (parts s.ends.items s.bytes.items s.majors s.minors s.positions)) };
+    ghost invariant = { λ s. IsFlat (parts_in s.ends.items s.bytes.items s.majors s.minors s.positions)
+        (entries_of (parts_in s.ends.items s.bytes.items s.majors s.minors s.positions)) };
 }
 
 impl<A: Allocator + Copy> Entries<A> {
@@ -145,7 +145,7 @@ impl<A: Allocator + Copy> Entries<A> {
     pub(crate) fn text_at(&self, position: usize) -> Option<&[u8]>
         requires { IsGrowing self.now }
         ensures some { IfSome result (λ text. IsTextAt self.now position text.now) }
-        ensures none { IfNone result (IsNone self.now (IsAt position)) }
+        ensures none { IfNone result (IsNone self.now (HasPosition position)) }
     {
         let index = self.count_below(position);
         if index < self.len() && self.position(index) == position {
@@ -156,7 +156,7 @@ impl<A: Allocator + Copy> Entries<A> {
     }
 
     /// Adds an entry. `Err`: no memory for it; then nothing changes.
-    pub fn push(&mut self, text: &[u8], mark: Mark, position: u32) -> Result<(), AllocError>
+    pub fn add(&mut self, text: &[u8], mark: Mark, position: u32) -> Result<(), AllocError>
         ensures ok { OnOk result (self.new ≡ self.old ++ entry_of text.now mark position ∷ []) }
         ensures err { OnErr result (self.new ≡ self.old) }
     {
@@ -173,7 +173,7 @@ impl<A: Allocator + Copy> Entries<A> {
         Ok(())
     }
 
-    /// Keeps the first so many entries. It takes no memory.
+    /// Keeps the first `count` entries. It takes no memory.
     pub fn truncate(&mut self, count: usize)
         ensures { self.new ≡ take count self.old }
     {

@@ -4,12 +4,12 @@
 //! stands for in some list of the caller's. Entries are added by rising positions, and `truncate` keeps those of the
 //! first positions. Look-ups give the last entry of a text whose mark isn't above one, the first whose mark isn't below
 //! one, and from an entry the next and the one before of its text, by mark, then by position. The text of an entry is
-//! also lent by its position.
+//! also found by its position.
 //!
 //! To a caller an `Order` is the plain list of its entries, in the order in which they were added: contracts speak of
-//! no other. Many entries at once are added to an [`Unordered`], which `into_order` puts in order: the value is the same
-//! as after adding them to an order one by one, in about half the time or less. What that takes of memory each addition
-//! reserves.
+//! no other. Many entries at once are added to an [`Unordered`], which `into_order` puts in order: the value is the
+//! same as after adding them to an order one by one, in about half the time or less. What that takes of memory each
+//! addition reserves.
 //!
 //! Each look-up halves, and takes no memory; a step from an entry to the next doesn't halve. An entry takes 8 bytes and
 //! its text, and 8 bytes of the order, also while it waits. A mark's two numbers take 4 and 8 bytes more, each from the
@@ -23,14 +23,14 @@ ghost use Rattle.std.specs.Prelude.{◌≡◌, ℕ, ◌+◌, ◌<◌, [], ◌∷
 ghost use Rattle.std.specs.Prelude.{IfNone, All};
 ghost use Rattle.std.specs.List.{sum_by};
 ghost use Rattle.warc_order.specs.Entries.{entry_of, entry_at, IsUpTo, IsFrom, IsAfter, IsBefore, IsFirst, IsLast};
-ghost use Rattle.warc_order.specs.Entries.{IsNone, IsAt, IsTextAt};
+ghost use Rattle.warc_order.specs.Entries.{IsNone, HasPosition, IsTextAt};
 
 mod adding;
 mod block;
 mod column;
 mod compare;
 mod entries;
-mod head;
+mod hash;
 mod lookup;
 mod mark;
 mod ranked;
@@ -95,7 +95,7 @@ impl<A: Allocator + Copy> Unordered<A> {
         let index = narrow(self.entries.len())?;
         let position = narrow(position)?;
         self.waiting.reserve()?;
-        self.entries.push(text, mark, position)?;
+        self.entries.add(text, mark, position)?;
         self.waiting
             .push_reserved(lookup::slot_of(&self.entries, index));
         Ok(())
@@ -174,7 +174,7 @@ impl<A: Allocator + Copy> Order<A> {
         let index = narrow(self.entries.len())?;
         let position = narrow(position)?;
         self.ranked.reserve()?;
-        self.entries.push(text, mark, position)?;
+        self.entries.add(text, mark, position)?;
         lookup::rank_one(&mut self.ranked, &self.entries, index);
         Ok(())
     }
@@ -237,10 +237,10 @@ impl<A: Allocator + Copy> Order<A> {
         self.entries.text(found.index as usize)
     }
 
-    /// The text of the entry with a position, `None` where none has it. It halves over the entries, and takes no memory.
+    /// The text of the entry with a position, `None` where none has it. It halves, and takes no memory.
     pub fn text_at(&self, position: usize) -> Option<&[u8]>
         ensures some { IfSome result (λ text. IsTextAt self.now position text.now) }
-        ensures none { IfNone result (IsNone self.now (IsAt position)) }
+        ensures none { IfNone result (IsNone self.now (HasPosition position)) }
     {
         self.entries.text_at(position)
     }

@@ -5,12 +5,12 @@ ghost use Rattle.std.specs.Prelude.{IfNone, IsTrue, min};
 ghost use Rattle.std.specs.List.Sorted.{IsPermutation};
 ghost use Rattle.warc_order.specs.Ranking.{IsRanked};
 ghost use Rattle.warc_order.specs.Entries.{entry_at, IsUpTo, IsFrom, IsAfter, IsBefore, IsFirst, IsLast, IsNone};
-ghost use Rattle.warc_order.specs.Layout.{in_order, slot_for, slots_of, IsOrderOf, IsOrdered};
+ghost use Rattle.warc_order.specs.Layout.{slot_order, slot_for, slots_of, IsOrderOf, IsOrdered};
 
 use crate::Found;
 use crate::compare::{Below, ByText, NotAbove};
 use crate::entries::Entries;
-use crate::head::head_of;
+use crate::hash::hash_of;
 use crate::mark::Mark;
 use crate::ranked::{Place, Ranked, Standing};
 use crate::slot::Slot;
@@ -34,7 +34,7 @@ pub(crate) fn slot_of<A: Allocator + Copy>(entries: &Entries<A>, index: u32) -> 
     ensures { result ≡ slot_for entries.now index }
 {
     Slot {
-        head: head_of(entries.text(index as usize)),
+        hash: hash_of(entries.text(index as usize)),
         index,
     }
 }
@@ -87,7 +87,7 @@ pub(crate) fn last_up_to<A: Allocator + Copy>(
 {
     let test = NotAbove {
         order: ByText { entries },
-        head: head_of(text),
+        hash: hash_of(text),
         text,
         mark,
     };
@@ -112,7 +112,7 @@ pub(crate) fn first_from<A: Allocator + Copy>(
 {
     let test = Below {
         order: ByText { entries },
-        head: head_of(text),
+        hash: hash_of(text),
         text,
         mark,
     };

@@ -8,7 +8,7 @@ ghost use Rattle.std.specs.Ordering.{is_lt, is_gt, is_le};
 ghost use Rattle.std.specs.declared.cmp.Ordering.{Ordering};
 ghost use Rattle.warc_order.specs.Ranking.{flattened, blank, IsRanked, IsFirstOf, IsLastOf, IsStrict, placed};
 ghost use Rattle.warc_order.specs.Ranking.{find_last, before_in, slot_in, lists_of, start_of, HoldsSome, IsBlock};
-ghost use Rattle.warc_order.specs.Ranking.{IsWide};
+ghost use Rattle.warc_order.specs.Ranking.{IsNarrow};
 
 use crate::block::Block;
 use crate::slot::{Slot, SlotOrder, SlotTest};
@@ -281,7 +281,7 @@ fn middle_of(last: bool, offset: usize) -> usize
 }
 
 /// Puts an index at a place. A block that is full then is cut in two.
-fn put<A: Allocator + Copy>(
+fn insert_at<A: Allocator + Copy>(
     blocks: &mut Vec<Block<A>, A>,
     place: Place,
     slot: Slot,
@@ -329,7 +329,7 @@ fn place_for<O: SlotOrder, A: Allocator>(blocks: &[Block<A>], order: &O, slot: S
 }
 
 /// Adds the first index.
-fn put_first<A: Allocator + Copy>(blocks: &mut Vec<Block<A>, A>, slot: Slot, spare: &mut Block<A>)
+fn add_first<A: Allocator + Copy>(blocks: &mut Vec<Block<A>, A>, slot: Slot, spare: &mut Block<A>)
     requires none { blocks.old.items ≡ [] }
     requires room { vec_len blocks.old < vec_capacity blocks.old }
     requires spare { spare.old.list ≡ [] }
@@ -362,10 +362,10 @@ fn add_in<O: SlotOrder, A: Allocator + Copy>(
         placed (O.compare order.now) (flattened (lists_of blocks.old.items)) slot }
 {
     if blocks.is_empty() {
-        put_first(blocks, slot, spare);
+        add_first(blocks, slot, spare);
     } else {
         let place = place_for(blocks, order, slot);
-        put(blocks, place, slot, spare);
+        insert_at(blocks, place, slot, spare);
     }
 }
 
@@ -419,7 +419,7 @@ fn make_even<A: Allocator + Copy>(blocks: &mut Vec<Block<A>, A>) -> Result<(), A
 fn keep_all_below<A: Allocator>(blocks: &mut Vec<Block<A>, A>, count: usize)
     ensures lists { lists_of blocks.new.items ≡ map (λ ps. filter (λ e. nat_lt e.index count) ps)
         (lists_of blocks.old.items) }
-    ensures few { All (IsWide LIMIT) blocks.old.items → All (IsWide LIMIT) blocks.new.items }
+    ensures few { All (IsNarrow LIMIT) blocks.old.items → All (IsNarrow LIMIT) blocks.new.items }
 {
     for i in 0..blocks.len() {
         let block = &mut blocks[i];
@@ -431,7 +431,7 @@ fn keep_all_below<A: Allocator>(blocks: &mut Vec<Block<A>, A>, count: usize)
 fn drop_empty<A: Allocator>(blocks: &mut Vec<Block<A>, A>)
     ensures list { flattened (lists_of blocks.new.items) ≡ flattened (lists_of blocks.old.items) }
     ensures some { All HoldsSome blocks.new.items }
-    ensures few { All (IsWide LIMIT) blocks.old.items → All (IsBlock LIMIT) blocks.new.items }
+    ensures few { All (IsNarrow LIMIT) blocks.old.items → All (IsBlock LIMIT) blocks.new.items }
 {
     blocks.retain(|b| b.len() > 0);
 }

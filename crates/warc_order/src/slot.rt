@@ -6,10 +6,10 @@ ghost use Rattle.std.specs.declared.cmp.Ordering.{Ordering};
 
 use std::cmp::Ordering;
 
-/// A index and the head of its key, a number by which most keys differ.
+/// A index and the hash of its key, a number by which most keys differ.
 #[derive(Clone, Copy, PartialEq, Eq, Debug)]
 pub struct Slot {
-    pub head: u32,
+    pub hash: u32,
     pub index: u32,
 }
 

@@ -6,7 +6,7 @@ use Rattle.warc_frame.specs.declared.fault.Fault.{Fault}
 use Rattle.warc_frame.specs.Seen.{Tapped}
 use Rattle.warc_record.specs.Readings.{Reading, reading_of}
 use Rattle.warc_index.specs.Captures.{Indexed, indexed_of}
-use Rattle.warc_index.specs.Orders.{IsKeptOf, Kept as Indexes}
+use Rattle.warc_index.specs.Orders.{IsIndexOf, Indexes}
 use Rattle.warc_segment.specs.Kept.{Kept as Parts, kept_in}
 use Rattle.warc_segment.specs.declared.place.Place.{Place}
 use Rattle.warc_reading.specs.Indexed.{AreOf, indexed_record, place_of, placed_record}
@@ -14,12 +14,12 @@ use Rattle.warc_reading.specs.Opening.{OpensFrom}
 use Rattle.warc_reading.specs.Row.{Placed}
 
 -- one more record
-index_more : (records : List Placed) (p : Placed) (index : Indexes) (head : Reading) → head ≡ reading_of p.content.fields → IsKeptOf (map indexed_record records ++ indexed_of head ∷ []) index
-    → IsKeptOf (map indexed_record (records ++ p ∷ [])) index
+index_more : (records : List Placed) (p : Placed) (index : Indexes) (head : Reading) → head ≡ reading_of p.content.fields → IsIndexOf (map indexed_record records ++ indexed_of head ∷ []) index
+    → IsIndexOf (map indexed_record (records ++ p ∷ [])) index
 index_more records p index head is kept =
     let whole : map indexed_record records ++ indexed_of head ∷ [] ≡ map indexed_record (records ++ p ∷ []) =
     ap (λ h. map indexed_record records ++ indexed_of h ∷ []) is ∙ sym (map-append indexed_record records (p ∷ [])) in
-    subst (λ l. IsKeptOf l index) whole kept
+    subst (λ l. IsIndexOf l index) whole kept
 
 parts_more : (records : List Placed) (p : Placed) (parts : Parts) (head : Reading) (place : Place) → head ≡ reading_of p.content.fields → place ≡ place_of p
     → parts ≡ kept_in (map placed_record records ++ record { head = head; place = place } ∷ []) → parts ≡ kept_in (map placed_record (records ++ p ∷ []))
@@ -29,7 +29,7 @@ parts_more records p parts head place is at kept =
     ∙ ap kept_in (sym (map-append placed_record records (p ∷ [])))
 
 pub kept_more : (records : List Placed) (p : Placed) (index : Indexes) (parts : Parts) (head : Reading) (place : Place) → head ≡ reading_of p.content.fields → place ≡ place_of p
-    → IsKeptOf (map indexed_record records ++ indexed_of head ∷ []) index → parts ≡ kept_in (map placed_record records ++ record { head = head; place = place } ∷ [])
+    → IsIndexOf (map indexed_record records ++ indexed_of head ∷ []) index → parts ≡ kept_in (map placed_record records ++ record { head = head; place = place } ∷ [])
     → AreOf (records ++ p ∷ []) index parts
 kept_more records p index parts head place is at indexed joined =
     record { index_is = index_more records p index head is indexed; parts_are = parts_more records p parts head place is at joined }
@@ -71,17 +71,17 @@ refuses_with f opens = record {
 }
 
 -- the last record is forgotten
-pub index_back : (records : List Placed) (index : Indexes) (x : Indexed) (n : ℕ) → n ≡ length records → IsKeptOf (take n (map indexed_record records ++ x ∷ [])) index → IsKeptOf (map indexed_record records) index
+pub index_back : (records : List Placed) (index : Indexes) (x : Indexed) (n : ℕ) → n ≡ length records → IsIndexOf (take n (map indexed_record records ++ x ∷ [])) index → IsIndexOf (map indexed_record records) index
 index_back records index x n size kept =
     let front : take n (map indexed_record records ++ x ∷ []) ≡ map indexed_record records =
     ap (λ k. take k (map indexed_record records ++ x ∷ [])) (size ∙ sym (length-map records indexed_record)) ∙ take-append_seam (map indexed_record records) (x ∷ []) in
-    subst (λ l. IsKeptOf l index) front kept
+    subst (λ l. IsIndexOf l index) front kept
 
 -- all but the first records are forgotten
-pub forgotten : (records : List Placed) (n : ℕ) (index : Indexes) (parts : Parts) → IsKeptOf (take n (map indexed_record records)) index → parts ≡ kept_in (take n (map placed_record records))
+pub forgotten : (records : List Placed) (n : ℕ) (index : Indexes) (parts : Parts) → IsIndexOf (take n (map indexed_record records)) index → parts ≡ kept_in (take n (map placed_record records))
     → AreOf (take n records) index parts
 forgotten records n index parts kept joined =
-    record { index_is = subst (λ l. IsKeptOf l index) (take-map indexed_record n records) kept; parts_are = joined ∙ ap kept_in (take-map placed_record n records) }
+    record { index_is = subst (λ l. IsIndexOf l index) (take-map indexed_record n records) kept; parts_are = joined ∙ ap kept_in (take-map placed_record n records) }
 
 pub are_of_same : (records : List Placed) (index now : Indexes) (parts here : Parts) → now ≡ index → here ≡ parts → AreOf records index parts → AreOf records now here
 are_of_same records index now parts here same also are =

@@ -5,7 +5,7 @@ use Rattle.warc_value.specs.Digests.{verdict_of}
 use Rattle.warc_frame.specs.declared.fault.Fault.{Fault}
 use Rattle.warc_record.specs.Readings.{Reading, reading_of}
 use Rattle.warc_index.specs.Captures.{Indexed, indexed_of}
-use Rattle.warc_index.specs.Orders.{IsKeptOf, Kept as Indexes}
+use Rattle.warc_index.specs.Orders.{IsIndexOf, Indexes}
 use Rattle.warc_segment.specs.Joined.{PlacedRecord}
 use Rattle.warc_segment.specs.Kept.{Kept as Parts, kept_in}
 use Rattle.warc_segment.specs.declared.place.Place.{Place}
@@ -34,7 +34,7 @@ indexed_record p = indexed_of (reading_of p.content.fields)
 
 -- the index and the parts are those of these records
 pub record AreOf (records : List Placed) (index : Indexes) (parts : Parts) : Type 0 where
-  pub index_is : IsKeptOf (map indexed_record records) index
+  pub index_is : IsIndexOf (map indexed_record records) index
   pub parts_are : parts ≡ kept_in (map placed_record records)
 
 -- a listing, and beside it an index and parts

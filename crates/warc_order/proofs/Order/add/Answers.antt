@@ -10,7 +10,7 @@ rank_one-requires-clause-order g c =
           c.args.mark;
       position = c.in_ok-position.position;
     }) _ c.self.invariant
-    c.in_ok-push.ensures.ok
+    c.in_ok-add.ensures.ok
     c.reserve.ensures.list
     (c.in_ok-index.ensures.same ∙ c.len.ensures)
 
@@ -22,7 +22,7 @@ invariant_of-self-2 g c =
           c.args.mark;
       position = c.in_ok-position.position;
     }) c.in_ok-index.index c.self.invariant
-    c.in_ok-push.ensures.ok
+    c.in_ok-add.ensures.ok
     (c.in_ok-index.ensures.same ∙ c.len.ensures)
     (rw (c.self.view_is, c.in_ok-position.ensures.same) c.requires)
     c.rank_one.ensures

@@ -1,11 +1,11 @@
 use Rattle.std.proofs.Common.{sym, subst, ◌∙◌, ◌≡◌, true≢false, true, All}
 use Rattle.std.proofs.lemmas.Slice.Eq.{bytes_eq-Decides}
 use Rattle.std.specs.Ordering.{is_lt}
-use Rattle.warc_order.specs.Heads.{head_of}
+use Rattle.warc_order.specs.Hashes.{hash_of}
 use Rattle.warc_order.specs.Ranking.{IsFirstOf}
 use Rattle.warc_order.specs.Entries.{entry_at}
-use Rattle.warc_order.specs.Layout.{key_cmp, key_at, in_order}
-use Rattle.warc_order.proofs.OrderLemmas.{cut_lt, in_order_total, slot_in_order, first_from, other_from, none_from}
+use Rattle.warc_order.specs.Layout.{key_cmp, key_at, slot_order}
+use Rattle.warc_order.proofs.OrderLemmas.{cut_lt, slot_order_total, slot_in_order, first_from, other_from, none_from}
 use Rattle.warc_order.proofs.lookup.first_from.Goals as goal
 
 pub first_failing-requires : goal.first_failing-requires
@@ -13,34 +13,34 @@ first_failing-requires g c = cut_lt c.args.entries.now c.args.ranked.now.list _ 
 
 pub returns-in-Some-clause-within : goal.returns-in-Some-clause-within
 returns-in-Some-clause-within g c =
-    let found : IsFirstOf (in_order c.args.entries.now) (λ f. is_lt (key_cmp (key_at c.args.entries.now f)
+    let found : IsFirstOf (slot_order c.args.entries.now) (λ f. is_lt (key_cmp (key_at c.args.entries.now f)
     (record {
-      head = head_of c.args.text.now;
+      hash = hash_of c.args.text.now;
       text = c.args.text.now;
       mark =
           c.args.mark;
     }))) c.args.ranked.now.list c.in-Some.s.slot =
-    subst (λ h. IsFirstOf (in_order c.args.entries.now) (λ f. is_lt (key_cmp (key_at c.args.entries.now f)
-    (record { head = h; text = c.args.text.now; mark = c.args.mark }))) c.args.ranked.now.list c.in-Some.s.slot)
-    c.head_of.ensures
-    (c.in-Some.ensures.some (in_order c.args.entries.now) (in_order_total c.args.entries.now)
+    subst (λ h. IsFirstOf (slot_order c.args.entries.now) (λ f. is_lt (key_cmp (key_at c.args.entries.now f)
+    (record { hash = h; text = c.args.text.now; mark = c.args.mark }))) c.args.ranked.now.list c.in-Some.s.slot)
+    c.hash_of.ensures
+    (c.in-Some.ensures.some (slot_order c.args.entries.now) (slot_order_total c.args.entries.now)
     c.requires.order.ranked) in
     rw c.found_at.ensures (slot_in_order c.args.entries.now c.args.ranked.now.list c.in-Some.s.slot
     c.requires.order found.stands).index
 
 pub returns-in-Some-clause-some : goal.returns-in-Some-clause-some
 returns-in-Some-clause-some g c =
-    let found : IsFirstOf (in_order c.args.entries.now) (λ f. is_lt (key_cmp (key_at c.args.entries.now f)
+    let found : IsFirstOf (slot_order c.args.entries.now) (λ f. is_lt (key_cmp (key_at c.args.entries.now f)
     (record {
-      head = head_of c.args.text.now;
+      hash = hash_of c.args.text.now;
       text = c.args.text.now;
       mark =
           c.args.mark;
     }))) c.args.ranked.now.list c.in-Some.s.slot =
-    subst (λ h. IsFirstOf (in_order c.args.entries.now) (λ f. is_lt (key_cmp (key_at c.args.entries.now f)
-    (record { head = h; text = c.args.text.now; mark = c.args.mark }))) c.args.ranked.now.list c.in-Some.s.slot)
-    c.head_of.ensures
-    (c.in-Some.ensures.some (in_order c.args.entries.now) (in_order_total c.args.entries.now)
+    subst (λ h. IsFirstOf (slot_order c.args.entries.now) (λ f. is_lt (key_cmp (key_at c.args.entries.now f)
+    (record { hash = h; text = c.args.text.now; mark = c.args.mark }))) c.args.ranked.now.list c.in-Some.s.slot)
+    c.hash_of.ensures
+    (c.in-Some.ensures.some (slot_order c.args.entries.now) (slot_order_total c.args.entries.now)
     c.requires.order.ranked) in
     let same : (entry_at c.args.entries.now c.in-Some.s.slot.index).text ≡ c.args.text.now = sym c.text.ensures
     ∙ (bytes_eq-Decides c.text.result.now c.args.text.now).0 (sym c.eq.ensures ∙ c.if-eq.true) in
@@ -49,17 +49,17 @@ returns-in-Some-clause-some g c =
 
 pub returns-in_default-clause-none : goal.returns-in_default-clause-none
 returns-in_default-clause-none g c =
-    let found : IsFirstOf (in_order c.args.entries.now) (λ f. is_lt (key_cmp (key_at c.args.entries.now f)
+    let found : IsFirstOf (slot_order c.args.entries.now) (λ f. is_lt (key_cmp (key_at c.args.entries.now f)
     (record {
-      head = head_of c.args.text.now;
+      hash = hash_of c.args.text.now;
       text = c.args.text.now;
       mark =
           c.args.mark;
     }))) c.args.ranked.now.list c.in-Some.s.slot =
-    subst (λ h. IsFirstOf (in_order c.args.entries.now) (λ f. is_lt (key_cmp (key_at c.args.entries.now f)
-    (record { head = h; text = c.args.text.now; mark = c.args.mark }))) c.args.ranked.now.list c.in-Some.s.slot)
-    c.head_of.ensures
-    (c.in-Some.ensures.some (in_order c.args.entries.now) (in_order_total c.args.entries.now)
+    subst (λ h. IsFirstOf (slot_order c.args.entries.now) (λ f. is_lt (key_cmp (key_at c.args.entries.now f)
+    (record { hash = h; text = c.args.text.now; mark = c.args.mark }))) c.args.ranked.now.list c.in-Some.s.slot)
+    c.hash_of.ensures
+    (c.in-Some.ensures.some (slot_order c.args.entries.now) (slot_order_total c.args.entries.now)
     c.requires.order.ranked) in
     other_from c.args.entries.now c.args.ranked.now.list c.args.text.now c.args.mark c.in-Some.s.slot c.requires
     found
@@ -70,9 +70,9 @@ pub returns-in_default-2-clause-none : goal.returns-in_default-2-clause-none
 returns-in_default-2-clause-none g c =
     none_from c.args.entries.now c.args.ranked.now.list c.args.text.now c.args.mark c.requires
     (subst (λ h. All (λ f. is_lt (key_cmp (key_at c.args.entries.now f) (record {
-      head = h;
+      hash = h;
       text =
           c.args.text.now;
       mark = c.args.mark;
-    })) ≡ true) c.args.ranked.now.list) c.head_of.ensures
+    })) ≡ true) c.args.ranked.now.list) c.hash_of.ensures
     c.in_default.ensures.none)

@@ -3,7 +3,7 @@ use Rattle.std.proofs.lemmas.Slice.Eq.{bytes_eq-Decides}
 use Rattle.std.specs.Ordering.{is_lt}
 use Rattle.warc_order.specs.Ranking.{IsLastOf}
 use Rattle.warc_order.specs.Entries.{entry_at}
-use Rattle.warc_order.specs.Layout.{in_order, slot_for}
+use Rattle.warc_order.specs.Layout.{slot_order, slot_for}
 use Rattle.warc_order.proofs.OrderLemmas.{strict_order, slot_in_order, previous_entry, other_previous, none_previous}
 use Rattle.warc_order.proofs.lookup.previous.Goals as goal
 
@@ -12,18 +12,18 @@ last_before-requires g c = strict_order c.args.entries.now _ c.args.ranked.now.l
 
 pub returns-in-Some-clause-within : goal.returns-in-Some-clause-within
 returns-in-Some-clause-within g c =
-    let found : IsLastOf (in_order c.args.entries.now) (λ f. is_lt (in_order c.args.entries.now f (slot_for
+    let found : IsLastOf (slot_order c.args.entries.now) (λ f. is_lt (slot_order c.args.entries.now f (slot_for
     c.args.entries.now c.args.index))) c.args.ranked.now.list c.in-Some.s.slot =
-    subst (λ s. IsLastOf (in_order c.args.entries.now) (λ f. is_lt (in_order c.args.entries.now f s))
+    subst (λ s. IsLastOf (slot_order c.args.entries.now) (λ f. is_lt (slot_order c.args.entries.now f s))
     c.args.ranked.now.list c.in-Some.s.slot) c.slot_of.ensures c.in-Some.ensures.some in
     rw c.found_at.ensures (slot_in_order c.args.entries.now c.args.ranked.now.list c.in-Some.s.slot
     c.requires.order.order found.stands).index
 
 pub returns-in-Some-clause-some : goal.returns-in-Some-clause-some
 returns-in-Some-clause-some g c =
-    let found : IsLastOf (in_order c.args.entries.now) (λ f. is_lt (in_order c.args.entries.now f (slot_for
+    let found : IsLastOf (slot_order c.args.entries.now) (λ f. is_lt (slot_order c.args.entries.now f (slot_for
     c.args.entries.now c.args.index))) c.args.ranked.now.list c.in-Some.s.slot =
-    subst (λ s. IsLastOf (in_order c.args.entries.now) (λ f. is_lt (in_order c.args.entries.now f s))
+    subst (λ s. IsLastOf (slot_order c.args.entries.now) (λ f. is_lt (slot_order c.args.entries.now f s))
     c.args.ranked.now.list c.in-Some.s.slot) c.slot_of.ensures c.in-Some.ensures.some in
     let same : (entry_at c.args.entries.now c.in-Some.s.slot.index).text ≡ (entry_at c.args.entries.now
     c.args.index).text = sym c.text.ensures ∙ ((bytes_eq-Decides c.text.result.now c.text-text.result.now).0 (sym
@@ -33,9 +33,9 @@ returns-in-Some-clause-some g c =
 
 pub returns-in_default-clause-none : goal.returns-in_default-clause-none
 returns-in_default-clause-none g c =
-    let found : IsLastOf (in_order c.args.entries.now) (λ f. is_lt (in_order c.args.entries.now f (slot_for
+    let found : IsLastOf (slot_order c.args.entries.now) (λ f. is_lt (slot_order c.args.entries.now f (slot_for
     c.args.entries.now c.args.index))) c.args.ranked.now.list c.in-Some.s.slot =
-    subst (λ s. IsLastOf (in_order c.args.entries.now) (λ f. is_lt (in_order c.args.entries.now f s))
+    subst (λ s. IsLastOf (slot_order c.args.entries.now) (λ f. is_lt (slot_order c.args.entries.now f s))
     c.args.ranked.now.list c.in-Some.s.slot) c.slot_of.ensures c.in-Some.ensures.some in
     other_previous c.args.entries.now c.args.ranked.now.list c.args.index c.in-Some.s.slot c.requires.order
     c.requires.index found
@@ -45,5 +45,5 @@ returns-in_default-clause-none g c =
 pub returns-in_default-2-clause-none : goal.returns-in_default-2-clause-none
 returns-in_default-2-clause-none g c =
     none_previous c.args.entries.now c.args.ranked.now.list c.args.index c.requires.order c.requires.index
-    (subst (λ s. All (λ f. is_lt (in_order c.args.entries.now f s) ≡ false) c.args.ranked.now.list)
+    (subst (λ s. All (λ f. is_lt (slot_order c.args.entries.now f s) ≡ false) c.args.ranked.now.list)
     c.slot_of.ensures c.in_default.ensures.none)

@@ -1,6 +1,6 @@
 use Rattle.std.proofs.Common.{◌∙◌, ap, sym, subst, refl, length, arith}
 use Rattle.std.proofs.lemmas.List.{length-take-le}
-use Rattle.warc_index.specs.Orders.{IsKeptOf, IsBelow}
+use Rattle.warc_index.specs.Orders.{IsIndexOf, IsBelow}
 use Rattle.warc_index.proofs.KeptLemmas.{kept_fewer, below_kept}
 use Rattle.warc_index.proofs.index.RecordIndex.truncate.Goals as goal
 
@@ -22,5 +22,5 @@ returns-then-count-self g c all kept =
       captures = g.O.HasEntries.entries c.self.inside.by_target;
       links = c.self.inside.links;
     }) _
-    c.args.count c.if-count-self.true (subst (IsKeptOf all) (sym c.self.view_is) kept) refl c.truncate_all.ensures.ids
+    c.args.count c.if-count-self.true (subst (IsIndexOf all) (sym c.self.view_is) kept) refl c.truncate_all.ensures.ids
     c.truncate_all.ensures.captures c.truncate_all.ensures.links

@@ -2,7 +2,7 @@ use Rattle.std.proofs.Common.{arith, ap, ◌∙◌, subst, sym, ◌≡◌, lengt
 use Rattle.std.proofs.lemmas.List.Elements.{All-set, All-same}
 use Rattle.warc_order.specs.Ranking.{flattened, lists_of, IsBlock}
 use Rattle.warc_order.proofs.BlockLemmas.{put_list, put_list-halved, All-insert, halves_are_blocks}
-use Rattle.warc_order.proofs.ranked.put.Goals as goal
+use Rattle.warc_order.proofs.ranked.insert_at.Goals as goal
 
 pub returns-in-Ok-clause-blocks : goal.returns-in-Ok-clause-blocks
 returns-in-Ok-clause-blocks g c =

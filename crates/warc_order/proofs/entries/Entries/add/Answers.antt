@@ -2,7 +2,7 @@ use Rattle.std.proofs.Common.{length, ap, ◌∙◌, ◌≡◌, ◌++◌, ◌∷
 use Rattle.std.proofs.lemmas.Bool.Decides.{nat_tests}
 use Rattle.warc_order.specs.Layout.{own_index, no_number}
 use Rattle.warc_order.proofs.EntryLemmas.{held, IsFlat-push, IsFlat-seen, length_positions, seen}
-use Rattle.warc_order.proofs.entries.Entries.push.Goals as goal
+use Rattle.warc_order.proofs.entries.Entries.add.Goals as goal
 
 pub invariant_of-self-2 : goal.invariant_of-self-2
 invariant_of-self-2 g c = IsFlat-seen _ _ (IsFlat-push _ _ c.args.self.now c.args.text.now c.args.mark c.args.position _
