@@ -67,26 +67,25 @@ payload_len : (digest : Option (List ℕ)) → link_bytes (payload_link digest) 
 payload_len None = omega arith
 payload_len (Some digest) = omega arith
 
-unnamed_len : (digest target : Option (List ℕ)) (instant : Option Instant)
-    → link_bytes (unnamed_link digest target instant) ≤ text_len digest + text_len target
-unnamed_len None target instant = omega arith
-unnamed_len (Some digest) None instant = omega arith
-unnamed_len (Some digest) (Some target) None = omega arith
-unnamed_len (Some digest) (Some target) (Some instant) = omega arith
+unnamed_len : (digest : Option (List ℕ)) (instant : Option Instant)
+    → link_bytes (unnamed_link digest instant) ≤ text_len digest
+unnamed_len None instant = omega arith
+unnamed_len (Some digest) None = omega arith
+unnamed_len (Some digest) (Some instant) = omega arith
 
 abbrev pair_len : Option (List ℕ × Instant) → ℕ
 pair_len pair = text_len (option_map (λ (p : List ℕ × Instant). p.0) pair)
 
 named_link_len : (id : Option (List ℕ)) (pair : Option (List ℕ × Instant)) (r : Indexed)
-    → link_bytes (named_link id pair r) ≤ text_len r.payload_digest + text_len r.target + text_len id + pair_len pair
-named_link_len None None r = omega (arith, unnamed_len r.payload_digest r.target r.instant)
+    → link_bytes (named_link id pair r) ≤ text_len r.payload_digest + text_len id + pair_len pair
+named_link_len None None r = omega (arith, unnamed_len r.payload_digest r.instant)
 named_link_len (Some id) None r = omega arith
 named_link_len None (Some pair) r = omega arith
 named_link_len (Some id) (Some pair) r = omega arith
 
 abbrev most_linked : Indexed → ℕ
 most_linked r =
-    text_len r.payload_digest + text_len r.target + text_len r.reference.named_id + pair_len r.reference.named_pair
+    text_len r.payload_digest + text_len r.reference.named_id + pair_len r.reference.named_pair
 
 revisit_len : (known : Bool) (r : Indexed) → link_bytes (revisit_link known r) ≤ most_linked r
 revisit_len false r = omega arith
