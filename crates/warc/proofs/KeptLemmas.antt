@@ -1,4 +1,4 @@
--- How much is kept of an archive: at most three times its heads.
+-- How much is kept of an archive: at most twice its heads.
 use Rattle.std.proofs.Common.{◌≡◌, ℕ, ◌+◌, ◌*◌, ◌≤◌, Bool, true, false, List, [], ◌∷◌, length, map, codes, Option, None, Some, if◌then◌else◌, length-append, refl, ◌∙◌, ap, arith}
 use Rattle.std.specs.Prelude.{option_and_then, option_map, min, nat_le}
 use Rattle.std.specs.List.{cons_option, enumerate_from, filter_map, sum_by}
@@ -150,7 +150,7 @@ record_len n p =
     + entries_len (option_to_list (capture_entry n (indexed_record p))) + link_bytes (link_of (indexed_record p))
     + member_len (kept_of (n, placed_record p))
 
-record_short : (n : ℕ) (p : Placed) → record_len n p ≤ 3 * named_len kept_names p.content.fields
+record_short : (n : ℕ) (p : Placed) → record_len n p ≤ 2 * named_len kept_names p.content.fields
 record_short n p =
     let fields = p.content.fields in
     let r = indexed_record p in
@@ -221,7 +221,7 @@ kept_more n p ps =
     )
 
 all_short : (n q : ℕ) (ps : List Placed) (text : List ℕ) → SpellsFrom q ps text
-    → (kept_len n ps ≤ 3 * sum_by head_length (map row_of ps)) × (sum_by head_length (map row_of ps) ≤ length text)
+    → (kept_len n ps ≤ 2 * sum_by head_length (map row_of ps)) × (sum_by head_length (map row_of ps) ≤ length text)
 all_short n q [] text is = (omega arith, omega arith)
 all_short n q (p ∷ ps) text (front, rest, one, at, behind, whole, more) =
     let head = head_spelled q p front one at behind in

@@ -1,4 +1,4 @@
--- How much may be kept of an archive: the texts of a head may be kept for several ends, but none more than three times.
+-- How much may be kept of an archive: the texts of a head may be kept for two ends, and none more than twice.
 use Rattle.std.specs.Prelude.{◌≡◌, ℕ, ◌*◌, ◌-◌, ◌≤◌}
 use Rattle.std.specs.List.{sum_by}
 use Rattle.warc_reading.specs.Indexed.{Archived}
@@ -9,9 +9,9 @@ use Rattle.warc_reading.specs.Row.{Row}
 abbrev pub head_length : Row → ℕ
 head_length row = row.block_start - row.offset
 
--- so many bytes of texts are kept of an archive: no fewer than those of the texts that are listed, and at most three
--- times as many as its heads have
+-- n bytes of texts are kept of an archive: no fewer than those of the texts that are listed, and at most twice as many
+-- as its heads have
 pub record IsKeptCount {S : Type 0} (archive : Archived S) (n : ℕ) : Type 0 where
   pub exact : n ≡ kept_bytes archive
   pub least : sum_by texts_len archive.listing.rows ≤ n
-  pub most : n ≤ 3 * sum_by head_length archive.listing.rows
+  pub most : n ≤ 2 * sum_by head_length archive.listing.rows

@@ -134,7 +134,7 @@ impl<S: Source, A: Allocator + Copy> Archive<S, A> {
     }
 
     /// How many bytes of texts are kept of the records: those that `list` writes, those by which records are found, and
-    /// the keys of the records that segments are of. They are at most three times as many as the bytes of the heads.
+    /// the keys of the records that segments are of. They are at most twice as many as the bytes of the heads.
     pub fn kept(&self) -> u64
         ensures sum { result ≡ min (kept_bytes self.now) 18446744073709551615 }
         ensures bounds { (bytes : List ℕ) → IsIndexed bytes self.now → IsKeptCount self.now result }
