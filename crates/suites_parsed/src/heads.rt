@@ -115,8 +115,8 @@ fn tell_findings(alloc: Global, answer: &mut Vec<u8>, found: &[Finding]) -> Resu
         return tell_line(alloc, answer, &"none");
     }
     for finding in found {
-        let number = format!(in alloc; "N{} ", finding.number)?;
-        let field = finding.field.unwrap_or(b"-");
+        let number = format!(in alloc; "N{} ", finding.number())?;
+        let field = finding.field().unwrap_or(b"-");
         tell_parts(answer, &[number.as_bytes(), field, b"\n"])?;
     }
     Ok(())

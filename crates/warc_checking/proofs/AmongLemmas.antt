@@ -6,7 +6,7 @@ use Rattle.std.specs.List.{filter}
 use Rattle.warc_field.specs.Area.{Pair}
 use Rattle.warc_record.specs.Readings.{Reading, reading_of}
 use Rattle.warc_record.specs.Table.{Rule}
-use Rattle.warc_record.specs.Findings.{Found, about, findings_by, findings_of, once}
+use Rattle.warc_record.specs.Findings.{Found, Digest, SegmentNumber, IdUsed, NoContentType, Profile, NotUtf8, BareId, NoOrigin, Absent, Forbidden, Repeated, findings_by, findings_of, once}
 use Rattle.warc_checking.specs.Noted.{is_late, with_used}
 
 all_told : {X : Type 0} (test : Found → Bool) (f : X → Found) (xs : List X) → ((x : X) → test (f x) ≡ true) → filter test (map f xs) ≡ map f xs
@@ -17,15 +17,15 @@ none_told : {X : Type 0} (test : Found → Bool) (f : X → Found) (xs : List X)
 none_told test f [] is = refl
 none_told test f (x ∷ xs) is = rw (is x) (none_told test f xs is)
 
-once_before : (n : ℕ) (b : Bool) → is_late false (record { number = n; field = None }) ≡ true → filter (is_late false) (once n b) ≡ once n b
+once_before : (n : Found) (b : Bool) → is_late false n ≡ true → filter (is_late false) (once n b) ≡ once n b
 once_before n true is = rw is refl
 once_before n false is = refl
 
-once_behind : (n : ℕ) (b : Bool) → is_late true (record { number = n; field = None }) ≡ true → filter (is_late true) (once n b) ≡ once n b
+once_behind : (n : Found) (b : Bool) → is_late true n ≡ true → filter (is_late true) (once n b) ≡ once n b
 once_behind n true is = rw is refl
 once_behind n false is = refl
 
-once_not : (late : Bool) (n : ℕ) (b : Bool) → is_late late (record { number = n; field = None }) ≡ false → filter (is_late late) (once n b) ≡ []
+once_not : (late : Bool) (n : Found) (b : Bool) → is_late late n ≡ false → filter (is_late late) (once n b) ≡ []
 once_not late n true is = rw is refl
 once_not late n false is = refl
 
@@ -42,12 +42,17 @@ five_last : (test : Found → Bool) (a b c d e f g h i j k : List Found) → fil
     → filter test g ≡ g → filter test h ≡ h → filter test i ≡ i → filter test j ≡ j → filter test k ≡ k → filter test (a ++ b ++ c ++ d ++ e ++ f ++ g ++ h ++ i ++ j ++ k) ≡ g ++ h ++ i ++ j ++ k
 five_last test a b c d e f g h i j k na nb nc nd ne nf ig ih ii ij ik = eleven test a b c d e f g h i j k ∙ rw (na, nb, nc, nd, ne, nf, ig, ih, ii, ij, ik) refl
 
--- N1 to N3 by the table
-abbrev about_rule : ℕ → Rule → Found
-about_rule n rule = about n rule.name
+abbrev absent : Rule → Found
+absent = λ rule. Absent rule.name
+
+abbrev forbidden : Rule → Found
+forbidden = λ rule. Forbidden rule.name
+
+abbrev repeated : Rule → Found
+repeated = λ rule. Repeated rule.name
 
 abbrev about_field : Pair → Found
-about_field field = about 9 field.0
+about_field field = NotUtf8 field.0
 
 parted : (a b c d e f g h i j k : List Found) → (a ++ b ++ c ++ d ++ e) ++ f ++ (g ++ h ++ i ++ j ++ k) ≡ a ++ b ++ c ++ d ++ e ++ f ++ g ++ h ++ i ++ j ++ k
 parted a b c d e f g h i j k = simp append_assoc
@@ -55,32 +60,32 @@ parted a b c d e f g h i j k = simp append_assoc
 -- what is about a field by the table, the other numbers with N6 or without it, and the fields whose values aren't UTF-8
 module _ (ls fs rs : List Rule) (b4 b5 b7 b8 b10 b11 : Bool) (names : List Pair) (used : Bool) where
   abbrev all_by : List Found → List Found
-  all_by n = map (about_rule 1) ls ++ map (about_rule 2) fs ++ map (about_rule 3) rs ++ once 4 b4 ++ once 5 b5 ++ n ++ once 7 b7 ++ once 8 b8 ++ map about_field names ++ once 10 b10 ++ once 11 b11
+  all_by n = map absent ls ++ map forbidden fs ++ map repeated rs ++ once Digest b4 ++ once SegmentNumber b5 ++ n ++ once NoContentType b7 ++ once Profile b8 ++ map about_field names ++ once BareId b10 ++ once NoOrigin b11
 
-  among : filter (is_late false) (all_by []) ++ once 6 used ++ filter (is_late true) (all_by []) ≡ all_by (once 6 used)
+  among : filter (is_late false) (all_by []) ++ once IdUsed used ++ filter (is_late true) (all_by []) ≡ all_by (once IdUsed used)
   among =
       let E = is_late false in
       let L = is_late true in
-      let l = map (about_rule 1) ls in
-      let f = map (about_rule 2) fs in
-      let r = map (about_rule 3) rs in
+      let l = map absent ls in
+      let f = map forbidden fs in
+      let r = map repeated rs in
       let u = map about_field names in
-      let front = five_first E l f r (once 4 b4) (once 5 b5) [] (once 7 b7) (once 8 b8) u (once 10 b10) (once 11 b11)
-      (all_told E (about_rule 1) ls (λ x. refl)) (all_told E (about_rule 2) fs (λ x. refl)) (all_told E (about_rule 3) rs (λ x. refl))
-      (once_before 4 b4 refl) (once_before 5 b5 refl) refl (once_not false 7 b7 refl) (once_not false 8 b8 refl) (none_told E about_field names (λ x. refl))
-      (once_not false 10 b10 refl) (once_not false 11 b11 refl) in
-      let back = five_last L l f r (once 4 b4) (once 5 b5) [] (once 7 b7) (once 8 b8) u (once 10 b10) (once 11 b11)
-      (none_told L (about_rule 1) ls (λ x. refl)) (none_told L (about_rule 2) fs (λ x. refl)) (none_told L (about_rule 3) rs (λ x. refl))
-      (once_not true 4 b4 refl) (once_not true 5 b5 refl) refl (once_behind 7 b7 refl) (once_behind 8 b8 refl) (all_told L about_field names (λ x. refl))
-      (once_behind 10 b10 refl) (once_behind 11 b11 refl) in
-      ap (λ x. x ++ once 6 used ++ filter L (all_by [])) front
-      ∙ ap (λ x. (l ++ f ++ r ++ once 4 b4 ++ once 5 b5) ++ once 6 used ++ x) back
-      ∙ parted l f r (once 4 b4) (once 5 b5) (once 6 used) (once 7 b7) (once 8 b8) u (once 10 b10) (once 11 b11)
+      let front = five_first E l f r (once Digest b4) (once SegmentNumber b5) [] (once NoContentType b7) (once Profile b8) u (once BareId b10) (once NoOrigin b11)
+      (all_told E absent ls (λ x. refl)) (all_told E forbidden fs (λ x. refl)) (all_told E repeated rs (λ x. refl))
+      (once_before Digest b4 refl) (once_before SegmentNumber b5 refl) refl (once_not false NoContentType b7 refl) (once_not false Profile b8 refl) (none_told E about_field names (λ x. refl))
+      (once_not false BareId b10 refl) (once_not false NoOrigin b11 refl) in
+      let back = five_last L l f r (once Digest b4) (once SegmentNumber b5) [] (once NoContentType b7) (once Profile b8) u (once BareId b10) (once NoOrigin b11)
+      (none_told L absent ls (λ x. refl)) (none_told L forbidden fs (λ x. refl)) (none_told L repeated rs (λ x. refl))
+      (once_not true Digest b4 refl) (once_not true SegmentNumber b5 refl) refl (once_behind NoContentType b7 refl) (once_behind Profile b8 refl) (all_told L about_field names (λ x. refl))
+      (once_behind BareId b10 refl) (once_behind NoOrigin b11 refl) in
+      ap (λ x. x ++ once IdUsed used ++ filter L (all_by [])) front
+      ∙ ap (λ x. (l ++ f ++ r ++ once Digest b4 ++ once SegmentNumber b5) ++ once IdUsed used ++ x) back
+      ∙ parted l f r (once Digest b4) (once SegmentNumber b5) (once IdUsed used) (once NoContentType b7) (once Profile b8) u (once BareId b10) (once NoOrigin b11)
 
 eleven_len : (a b c d e f g h i j k : List Found) (n : ℕ) → length f ≡ n → length (a ++ b ++ c ++ d ++ e ++ [] ++ g ++ h ++ i ++ j ++ k) + n ≡ length (a ++ b ++ c ++ d ++ e ++ f ++ g ++ h ++ i ++ j ++ k)
 eleven_len a b c d e f g h i j k n is = simp length-append (omega (arith, is))
 
-once_len : (b : Bool) → length (once 6 b) ≡ (if b then 1 else 0)
+once_len : (b : Bool) → length (once IdUsed b) ≡ (if b then 1 else 0)
 once_len true = refl
 once_len false = refl
 

@@ -6,11 +6,11 @@ use Rattle.std.proofs.lemmas.List.Elements.{filter-append}
 use Rattle.std.specs.List.{AllByRecursion, filter}
 use Rattle.warc_reading.specs.Archive.{contents}
 use Rattle.warc_reading.specs.Row.{Placed}
-use Rattle.warc_record.specs.Findings.{Found, once}
-use Rattle.warc_checking.specs.Checking.{line_text, numbered_line}
+use Rattle.warc_record.specs.Findings.{Found, Absent, Forbidden, Repeated, Digest, SegmentNumber, IdUsed, NoContentType, Profile, NotUtf8, BareId, NoOrigin, Empty, finding_field, finding_number, once}
+use Rattle.warc_checking.specs.Checking.{about_record, line_text}
 use Rattle.warc_checking.specs.Examining.{record_text}
 use Rattle.warc_checking.specs.Found.{own_findings}
-use Rattle.warc_checking.specs.Noted.{AreNamed, AreParts, IsNamed, IsPart, all_found, found_by_part, found_in, name_in, notes_of}
+use Rattle.warc_checking.specs.Noted.{AreNamed, AreParts, IsNamed, IsPart, all_found, found_by_part, found_in, notes_of, finding_by_number}
 use Rattle.warc_checking.specs.declared.noting.Note.{Note}
 use Rattle.warc_checking.specs.declared.noting.Part.{Part}
 use Rattle.warc_checking.proofs.CheckLemmas.{text_append}
@@ -52,14 +52,39 @@ module _ {X : Type 0} (P : X → Type 0) where
   all_at (x ∷ xs) zero d (here, all) lt = here
   all_at (x ∷ xs) (suc i) d (here, all) lt = all_at xs i d all (omega (arith, lt))
 
--- names
-name_stays : (names more : List ℕ) (n : Note) → IsNamed (length names) n → name_in (names ++ more) n ≡ name_in names n
-name_stays names more n is = ap (λ t. if n.has_name then Some t else None) (slice_front n.start n.end names more is.order is.end)
+-- a finding has its number, and the name of its field if it is about one
+pub numbered_named : (f : Found) (name : List ℕ) → finding_field f ≡ Some name → finding_by_number (finding_number f) name ≡ f
+numbered_named (Absent name) other is = let same : name ≡ other = cc in rw same refl
+numbered_named (Forbidden name) other is = let same : name ≡ other = cc in rw same refl
+numbered_named (Repeated name) other is = let same : name ≡ other = cc in rw same refl
+numbered_named (NotUtf8 name) other is = let same : name ≡ other = cc in rw same refl
+numbered_named Digest other is = refl
+numbered_named SegmentNumber other is = refl
+numbered_named IdUsed other is = refl
+numbered_named NoContentType other is = refl
+numbered_named Profile other is = refl
+numbered_named BareId other is = refl
+numbered_named NoOrigin other is = refl
+numbered_named Empty other is = refl
+
+pub numbered_bare : (f : Found) (name : List ℕ) → finding_field f ≡ None → finding_by_number (finding_number f) name ≡ f
+numbered_bare (Absent name) other is = absurd cc
+numbered_bare (Forbidden name) other is = absurd cc
+numbered_bare (Repeated name) other is = absurd cc
+numbered_bare (NotUtf8 name) other is = absurd cc
+numbered_bare Digest other is = refl
+numbered_bare SegmentNumber other is = refl
+numbered_bare IdUsed other is = refl
+numbered_bare NoContentType other is = refl
+numbered_bare Profile other is = refl
+numbered_bare BareId other is = refl
+numbered_bare NoOrigin other is = refl
+numbered_bare Empty other is = refl
 
 found_stays : (names more : List ℕ) (ns : List Note) → AreNamed (length names) ns → all_found (names ++ more) ns ≡ all_found names ns
 found_stays names more [] all = refl
 found_stays names more (n ∷ ns) (here, all) =
-    ap (λ f. f ∷ all_found (names ++ more) ns) (ap (λ name. record { number = n.number; field = name }) (name_stays names more n here))
+    ap (λ f. f ∷ all_found (names ++ more) ns) (ap (finding_by_number n.number) (slice_front n.start n.end names more here.order here.end))
     ∙ ap (λ l. found_in names n ∷ l) (found_stays names more ns all)
 
 named_longer : (a b : ℕ) (ns : List Note) → a ≤ b → AreNamed a ns → AreNamed b ns
@@ -162,9 +187,8 @@ pub part_len : (notes : List Found) (p : Part) → IsPart (length notes) p → p
 part_len notes p is = sym (length-take-le (p.end - p.start) (drop p.start notes) (omega (arith, length-drop p.start notes, is.order, is.end)))
 
 -- the line of N6, if it holds
-pub used_line : (position : ℕ) (used : Bool) → used ≡ true → numbered_line (decimal position) 6 ([] ++ []) ≡ record_text position (once 6 used)
-unfolding line_text
-used_line position true is = sym (append-nil (numbered_line (decimal position) 6 []))
+pub used_line : (position : ℕ) (used : Bool) → used ≡ true → line_text (about_record position IdUsed) ≡ record_text position (once IdUsed used)
+used_line position true is = sym (append-nil (line_text (about_record position IdUsed)))
 used_line position false is = absurd (cc is)
 
 -- a part that lies within, whatever the parts are called

@@ -14,7 +14,7 @@ use Rattle.warc_frame.specs.declared.version.Version.{Version}
 use Rattle.warc_frame.specs.declared.version.Version.TheVariants.{V1_0, V1_1}
 use Rattle.warc_record.specs.Blocks.{has_bad_digest}
 use Rattle.warc_record.specs.FindingLaws.{FindingsAreFew, FindingsAreShort, told_len}
-use Rattle.warc_record.specs.Findings.{Found}
+use Rattle.warc_record.specs.Findings.{Found, finding_field, finding_number}
 use Rattle.warc_reading.specs.Archive.{AreGood}
 use Rattle.warc_checking.specs.Checking.{about_record, field_text, findings_at, findings_behind, check_text, is_used, record_key, line_text}
 
@@ -62,7 +62,7 @@ line_short : (position : ℕ) (found : Found) → position < 2 ^ 64 → length (
 unfolding line_text
 line_short position found low =
     let size : (a b c : List ℕ) → length (a ++ codes " N" ++ b ++ c ++ codes "\n") ≡ length a + length b + length c + 3 = λ a b c. simp length-append (omega arith) in
-    omega (arith, digits position low, field_len found.field, size (decimal position) (decimal found.number) (field_text found.field))
+    omega (arith, digits position low, field_len (finding_field found), size (decimal position) (decimal (finding_number found)) (field_text (finding_field found)))
 
 lines_short : (position : ℕ) (founds : List Found) → position < 2 ^ 64
     → length (flat_map line_text (map (about_record position) founds)) ≤ sum_by told_len founds + 24 * length founds

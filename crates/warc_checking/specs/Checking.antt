@@ -3,7 +3,7 @@
 use Rattle.std.specs.Prelude.{ℕ, Bool, List, [], ◌∷◌, ◌++◌, length, map, take, codes, decimal, Option, Some, None}
 use Rattle.std.specs.List.{enumerate_from, flat_map, list_any}
 use Rattle.warc_frame.specs.Record.{Record}
-use Rattle.warc_record.specs.Findings.{Found, findings_of}
+use Rattle.warc_record.specs.Findings.{Found, Empty, finding_field, findings_of, finding_number}
 use Rattle.warc_record.specs.Blocks.{has_bad_digest}
 use Rattle.warc_record.specs.Readings.{reading_of}
 use Rattle.warc_record.specs.Texts.{is_same_text}
@@ -38,7 +38,7 @@ findings_of_records records = flat_map (λ p. findings_at records p.0 p.1) (enum
 
 -- the finding where there is no record: N12
 abbrev pub no_records : Line
-no_records = record { position = None; found = record { number = 12; field = None } }
+no_records = record { position = None; found = Empty }
 
 -- the findings of an archive of these records
 abbrev pub findings_of_archive : List Record → List Line
@@ -61,7 +61,7 @@ numbered_line position number field = position ++ codes " N" ++ decimal number +
 
 -- a finding's line
 unfoldable pub line_text : Line → List ℕ
-line_text l = numbered_line (position_text l.position) l.found.number (field_text l.found.field)
+line_text l = numbered_line (position_text l.position) (finding_number l.found) (field_text (finding_field l.found))
 
 -- all lines
 unfoldable pub check_text : List Record → List ℕ

@@ -1,8 +1,8 @@
 -- How findings are kept in flat lists, and how those of a record are told with N6 among them. States of the code: no
 -- public clause cites them.
-use Rattle.std.specs.Prelude.{◌≡◌, ℕ, ◌≤◌, Bool, true, false, nat_lt, List, [], ◌++◌, map, slice_range, unwrap_or, Option, Some, None, if◌then◌else◌}
+use Rattle.std.specs.Prelude.{◌≡◌, ℕ, ◌≤◌, Bool, true, false, nat_lt, List, [], ◌++◌, map, ◌==◌, slice_range, unwrap_or, None, if◌then◌else◌}
 use Rattle.std.specs.List.{AllByRecursion, filter, slice_get}
-use Rattle.warc_record.specs.Findings.{Found, once}
+use Rattle.warc_record.specs.Findings.{Found, Absent, Forbidden, Repeated, Digest, SegmentNumber, IdUsed, NoContentType, Profile, NotUtf8, BareId, NoOrigin, Empty, finding_number, once}
 use Rattle.warc_frame.specs.Record.{Record}
 use Rattle.warc_reading.specs.Archive.{contents}
 use Rattle.warc_reading.specs.Row.{Placed, Row, row_of}
@@ -14,18 +14,30 @@ use Rattle.warc_checking.specs.Used.{HasMet, Ids, IsAlone}
 use Rattle.warc_checking.specs.declared.noting.Note.{Note}
 use Rattle.warc_checking.specs.declared.noting.Part.{Part}
 
--- the name that stands among the bytes, or none
-abbrev pub name_in : List ℕ → Note → Option (List ℕ)
-name_in names n = if n.has_name then Some (slice_range names n.start n.end) else None
+-- the finding of a number, with the name of a field if it is about one
+abbrev pub finding_by_number : ℕ → List ℕ → Found
+finding_by_number number name =
+    if number == 1 then Absent name
+    else if number == 2 then Forbidden name
+    else if number == 3 then Repeated name
+    else if number == 4 then Digest
+    else if number == 5 then SegmentNumber
+    else if number == 6 then IdUsed
+    else if number == 7 then NoContentType
+    else if number == 8 then Profile
+    else if number == 9 then NotUtf8 name
+    else if number == 10 then BareId
+    else if number == 11 then NoOrigin
+    else Empty
 
--- the finding that is noted
+-- the finding that is packed, its name among the bytes
 abbrev pub found_in : List ℕ → Note → Found
-found_in names n = record { number = n.number; field = name_in names n }
+found_in names n = finding_by_number n.number (slice_range names n.start n.end)
 
 abbrev pub all_found : List ℕ → List Note → List Found
 all_found names notes = map (found_in names) notes
 
--- its name stands among so many bytes
+-- its name is within the first bytes, as many as this
 pub record IsNamed (count : ℕ) (n : Note) : Type 0 where
   pub order : n.start ≤ n.end
   pub end : n.end ≤ count
@@ -52,14 +64,14 @@ found_by_part notes parts = map (notes_of notes) parts
 abbrev pub found_at : List (List Found) → ℕ → List Found
 found_at found position = unwrap_or (slice_get found position) []
 
--- whether a finding stands behind N6, or else before it
+-- whether a finding comes after N6, or else before it
 abbrev pub is_late : Bool → Found → Bool
-is_late true f = nat_lt 6 f.number
-is_late false f = nat_lt f.number 6
+is_late true f = nat_lt (finding_number IdUsed) (finding_number f)
+is_late false f = nat_lt (finding_number f) (finding_number IdUsed)
 
 -- findings with N6 among them, where it holds
 abbrev pub with_used : List Found → Bool → List Found
-with_used found used = filter (is_late false) found ++ once 6 used ++ filter (is_late true) found
+with_used found used = filter (is_late false) found ++ once IdUsed used ++ filter (is_late true) found
 
 -- what is known of a record that is told next: its row, its findings, and the ids that were met before it
 pub record IsDue (before : List Record) (p : Placed) (row : Row) (found : List Found) (met : Ids) : Type 0 where

@@ -80,7 +80,7 @@ fn examine<S: Source, A: Allocator + Copy>(
 
 /// Adds a finding's line to the output, by the position of its record, its number, and a field's name
 /// with what stands before it.
-pub(crate) fn put_parts<'a, W: Sink>(
+fn put_parts<'a, W: Sink>(
     position: u64,
     number: u8,
     space: &'a [u8],
@@ -114,9 +114,9 @@ pub(crate) fn put_finding<W: Sink>(
     ensures { Puts (W.seen out.old) (W.seen out.new) buffer.old buffer.new result (line_text (about_record position
         (finding_seen finding.now))) }
 {
-    match finding.field {
-        Some(name) => put_parts(position, finding.number, b" ", name, buffer, out),
-        None => put_parts(position, finding.number, b"", b"", buffer, out),
+    match finding.field() {
+        Some(name) => put_parts(position, finding.number(), b" ", name, buffer, out),
+        None => put_parts(position, finding.number(), b"", b"", buffer, out),
     }
 }
 

@@ -1,17 +1,16 @@
 //! The findings that records alone tell, kept in flat lists as the records are read.
-ghost use Rattle.std.specs.Prelude.{◌≡◌, ℕ, ◌+◌, false, Option, Some, None, List, [], ◌∷◌, ◌++◌, length, map, OnErr, OnOk, IfOk, if◌then◌else◌};
+ghost use Rattle.std.specs.Prelude.{◌≡◌, ℕ, ◌+◌, false, List, [], ◌∷◌, ◌++◌, length, map, OnErr, OnOk, IfOk, if◌then◌else◌};
 ghost use Rattle.std.specs.List.{filter};
-ghost use Rattle.std.specs.Option.{option_copied};
 ghost use Rattle.warc_frame.specs.Count.{capped};
 ghost use Rattle.warc_frame.specs.Putting.{Puts};
 ghost use Rattle.warc_reading.specs.Archive.{contents};
-ghost use Rattle.warc_record.specs.Findings.{Found, finding_seen, findings_of, once};
+ghost use Rattle.warc_record.specs.Findings.{Found, IdUsed, finding_seen, findings_of, once};
 ghost use Rattle.warc_checking.specs.Examining.{record_text};
 ghost use Rattle.warc_checking.specs.Found.{own_findings};
-ghost use Rattle.warc_checking.specs.Noted.{AreNamed, AreParts, IsNamed, IsPart, all_found, found_at, found_by_part, found_in, is_late, name_in, notes_of, with_used};
+ghost use Rattle.warc_checking.specs.Noted.{AreNamed, AreParts, IsNamed, IsPart, all_found, found_at, found_by_part, found_in, is_late, notes_of, finding_by_number, with_used};
 ghost use Rattle.warc_value.specs.Digests.{is_bad};
 
-use crate::check::{put_finding, put_parts};
+use crate::check::put_finding;
 use std::alloc::{AllocError, Allocator};
 use std::marker::Model;
 use warc_field::Fields;
@@ -21,35 +20,56 @@ use warc_reading::Keep;
 use warc_record::{ArchiveFacts, Finding, all_findings};
 use warc_segment::Place;
 
-/// A finding: its number, and where the name of its field stands in a list of bytes, if it is about a field.
+/// A finding in 24 bytes: its number, and where the name of its field is in a list of bytes, an empty part if it is
+/// about none.
 #[derive(Clone, Copy)]
 struct Note {
     number: u8,
-    has_name: bool,
     start: usize,
     end: usize,
 }
 
-/// The name that a note tells.
-fn name_in<'a>(names: &'a [u8], note: &Note) -> Option<&'a [u8]>
-    requires { IsNamed (length names.now) note.now }
-    ensures { option_copied result ≡ name_in names.now note.now }
+/// The finding of a number, with the name of a field if it is about one.
+fn finding_by_number(number: u8, name: &[u8]) -> Finding<'_>
+    ensures { finding_seen result ≡ finding_by_number number name.now }
 {
-    if note.has_name {
-        Some(&names[note.start..note.end])
-    } else {
-        None
+    match number {
+        1 => Finding::Absent(name),
+        2 => Finding::Forbidden(name),
+        3 => Finding::Repeated(name),
+        4 => Finding::Digest,
+        5 => Finding::SegmentNumber,
+        6 => Finding::IdUsed,
+        7 => Finding::NoContentType,
+        8 => Finding::Profile,
+        9 => Finding::NotUtf8(name),
+        10 => Finding::BareId,
+        11 => Finding::NoOrigin,
+        _ => Finding::Empty,
     }
 }
 
-/// Whether a finding of a number stands behind N6, or else before it.
-fn is_late(number: u8, late: bool) -> bool
-    ensures { (field : Option (List ℕ)) → result ≡ is_late late (record { number = number; field = field }) }
+/// The finding that is packed.
+fn found_in<'a>(names: &'a [u8], note: &Note) -> Finding<'a>
+    requires { IsNamed (length names.now) note.now }
+    ensures { finding_seen result ≡ found_in names.now note.now }
 {
-    if late { number > 6 } else { number < 6 }
+    finding_by_number(note.number, &names[note.start..note.end])
 }
 
-/// Adds the line of a finding to the output, by the position of its record, if it stands behind N6, or else before it.
+/// Whether a finding comes after N6, or else before it.
+fn is_late(finding: Finding<'_>, late: bool) -> bool
+    ensures { result ≡ is_late late (finding_seen finding.entry) }
+{
+    let used = Finding::IdUsed.number();
+    if late {
+        finding.number() > used
+    } else {
+        finding.number() < used
+    }
+}
+
+/// Adds the line of a finding to the output, by the position of its record, if it comes after N6, or else before it.
 fn put_note<W: Sink>(
     position: u64,
     names: &[u8],
@@ -62,17 +82,14 @@ fn put_note<W: Sink>(
     ensures { Puts (W.seen out.old) (W.seen out.new) buffer.old buffer.new result (record_text position
         (filter (is_late late) (found_in names.now note.now ∷ []))) }
 {
-    if !is_late(note.number, late) {
+    let finding = found_in(names, note);
+    if !is_late(finding, late) {
         return Ok(());
     }
-    let finding = Finding {
-        number: note.number,
-        field: name_in(names, note),
-    };
     put_finding(position, &finding, buffer, out)
 }
 
-/// Adds the lines of those findings that stand behind N6, or else of those before it.
+/// Adds the lines of those findings that come after N6, or else of those before it.
 fn put_notes<W: Sink>(
     position: u64,
     names: &[u8],
@@ -100,12 +117,12 @@ fn put_used<W: Sink>(
     out: &mut W,
 ) -> Result<(), SendFault>
     ensures { Puts (W.seen out.old) (W.seen out.new) buffer.old buffer.new result (record_text position
-        (once 6 used)) }
+        (once IdUsed used)) }
 {
     if !used {
         return Ok(());
     }
-    put_parts(position, 6, b"", b"", buffer, out)
+    put_finding(position, &Finding::IdUsed, buffer, out)
 }
 
 /// How many lines tell N6.
@@ -134,19 +151,17 @@ fn put_found<W: Sink>(
     put_notes(position, names, notes, true, buffer, out)
 }
 
-/// Adds a finding of a number behind the others, about the field of a name, if it has one. Where memory is refused none
-/// is added.
-fn add_named<A: Allocator>(
+/// Adds the finding of a number after the others, with the name of its field. Where memory is refused none is added.
+fn add_numbered<A: Allocator>(
     names: &mut Vec<u8, A>,
     notes: &mut Vec<Note, A>,
     number: u8,
-    has_name: bool,
     name: &[u8],
 ) -> Result<(), AllocError>
     requires { AreNamed (length names.old.items) notes.old.items }
     ensures named { AreNamed (length names.new.items) notes.new.items }
     ensures ok { OnOk result (all_found names.new.items notes.new.items ≡ all_found names.old.items notes.old.items
-        ++ record { number = number; field = if has_name then Some name.now else None } ∷ []) }
+        ++ finding_by_number number name.now ∷ []) }
     ensures err { OnErr result (all_found names.new.items notes.new.items
         ≡ all_found names.old.items notes.old.items) }
 {
@@ -155,14 +170,14 @@ fn add_named<A: Allocator>(
     names.extend_from_slice(name)?;
     notes.push_reserved(Note {
         number,
-        has_name,
         start,
         end: names.len(),
     });
     Ok(())
 }
 
-/// Adds a finding behind the others. Where memory is refused none is added.
+/// Adds a finding after the others. Where memory is refused none is added.
+#[tactic(auto, using(crate::proofs::NotingLemmas::numbered_named, crate::proofs::NotingLemmas::numbered_bare))]
 fn add_note<A: Allocator>(
     names: &mut Vec<u8, A>,
     notes: &mut Vec<Note, A>,
@@ -175,9 +190,9 @@ fn add_note<A: Allocator>(
     ensures err { OnErr result (all_found names.new.items notes.new.items
         ≡ all_found names.old.items notes.old.items) }
 {
-    match finding.field {
-        Some(name) => add_named(names, notes, finding.number, true, name),
-        None => add_named(names, notes, finding.number, false, b""),
+    match finding.field() {
+        Some(name) => add_numbered(names, notes, finding.number(), name),
+        None => add_numbered(names, notes, finding.number(), b""),
     }
 }
 

@@ -13,7 +13,7 @@ use Rattle.warc_record.specs.declared.checks.TableCheck.TheVariants.{Lacks, HasF
 use Rattle.warc_record.specs.Readings.{Reading, reading_of}
 use Rattle.warc_record.specs.Table.{Rule, rules}
 use Rattle.warc_record.specs.FindingLaws.{FindingsAreFew, FindingsAreShort, told_len}
-use Rattle.warc_record.specs.Findings.{Found, about, by_table, findings_by, findings_of, is_broken, is_not_utf8, not_utf8, check_number, has_bad_segment, has_bare_id, has_unknown_profile, lacks_content_type, lacks_origin, once}
+use Rattle.warc_record.specs.Findings.{Found, NotUtf8, Digest, SegmentNumber, IdUsed, NoContentType, Profile, BareId, NoOrigin, broken_rule, finding_number, by_table, findings_by, findings_of, is_broken, is_not_utf8, not_utf8, has_bad_segment, has_bare_id, has_unknown_profile, lacks_content_type, lacks_origin, once}
 use Rattle.warc_record.specs.Kinds.{is_known}
 
 few_of : {X : Type 0} (f : X → Found) (p : X → Bool) (xs : List X) → length (map f (filter p xs)) ≤ length xs
@@ -23,11 +23,11 @@ table_few : (check : TableCheck) (kind : Kind) (fields : List Pair) → length (
 unfolding rules
 table_few check kind fields =
     let size : length rules ≡ 17 = refl in
-    omega (arith, size, few_of (λ (rule : Rule). about (check_number check) rule.name) (is_broken check kind fields) rules)
+    omega (arith, size, few_of (broken_rule check) (is_broken check kind fields) rules)
 
-once_few : (number : ℕ) (holds : Bool) → length (once number holds) ≤ 1
-once_few number true = omega arith
-once_few number false = omega arith
+once_few : (found : Found) (holds : Bool) → length (once found holds) ≤ 1
+once_few found true = omega arith
+once_few found false = omega arith
 
 eleven : (a b c d e f g h i j k : List Found) (n : ℕ) → length a ≤ 17 → length b ≤ 17 → length c ≤ 17 → length d ≤ 1 → length e ≤ 1 → length f ≤ 1 → length g ≤ 1 → length h ≤ 1
     → length i ≤ n → length j ≤ 1 → length k ≤ 1 → length (a ++ b ++ c ++ d ++ e ++ f ++ g ++ h ++ i ++ j ++ k) ≤ n + 58
@@ -37,7 +37,7 @@ few_by : (reading : Reading) (fields : List Pair) (size : ℕ) (bad_digest used_
 unfolding findings_by
 few_by reading fields size bad_digest used_id =
     eleven _ _ _ _ _ _ _ _ _ _ _ (length fields) (table_few Lacks reading.kind fields) (table_few HasForbidden reading.kind fields) (table_few Repeats reading.kind fields)
-    (once_few 4 _) (once_few 5 _) (once_few 6 _) (once_few 7 _) (once_few 8 _) (few_of (λ (field : Pair). about 9 field.0) is_not_utf8 fields) (once_few 10 _) (once_few 11 _)
+    (once_few Digest _) (once_few SegmentNumber _) (once_few IdUsed _) (once_few NoContentType _) (once_few Profile _) (few_of (λ (field : Pair). NotUtf8 field.0) is_not_utf8 fields) (once_few BareId _) (once_few NoOrigin _)
 
 pub findings_are_few : FindingsAreFew
 unfolding findings_of
@@ -52,28 +52,32 @@ told_some : {X : Type 0} (f : X → Found) (p : X → Bool) (xs : List X) → su
 told_some f p xs =
     omega (arith, told_map f (filter p xs), sum_by-filter_both p (λ x. not (p x)) (λ x. refl) (λ x. told_len (f x)) xs)
 
-one_digit : (check : TableCheck) → length (decimal (check_number check)) ≤ 1
-one_digit Lacks = length-decimal-le 1 1 (omega arith) (omega arith) (omega arith)
-one_digit HasForbidden = length-decimal-le 1 2 (omega arith) (omega arith) (omega arith)
-one_digit Repeats = length-decimal-le 1 3 (omega arith) (omega arith) (omega arith)
+one_digit : (check : TableCheck) (rule : Rule) → told_len (broken_rule check rule) ≤ 1 + length rule.name
+one_digit Lacks rule = omega (arith, length-decimal-le 1 1 (omega arith) (omega arith) (omega arith))
+one_digit HasForbidden rule = omega (arith, length-decimal-le 1 2 (omega arith) (omega arith) (omega arith))
+one_digit Repeats rule = omega (arith, length-decimal-le 1 3 (omega arith) (omega arith) (omega arith))
 
-table_names : (check : TableCheck) → sum_by (λ (rule : Rule). told_len (about (check_number check) rule.name)) rules ≤ 320
+table_names : (check : TableCheck) → sum_by (λ (rule : Rule). told_len (broken_rule check rule)) rules ≤ 320
 unfolding rules
 table_names check =
     let names : sum_by (λ (rule : Rule). 1 + length rule.name) rules ≡ 320 = refl in
-    let more = sum_by-le-sum_by (λ (rule : Rule). told_len (about (check_number check) rule.name)) (λ (rule : Rule). 1 + length rule.name) rules
-    (λ rule. omega (arith, one_digit check)) in
+    let more = sum_by-le-sum_by (λ (rule : Rule). told_len (broken_rule check rule)) (λ (rule : Rule). 1 + length rule.name) rules
+    (one_digit check) in
     omega (arith, names, more)
 
 table_short : (check : TableCheck) (kind : Kind) (fields : List Pair) → sum_by told_len (by_table check kind fields) ≤ 320
 table_short check kind fields =
-    omega (arith, table_names check, told_some (λ (rule : Rule). about (check_number check) rule.name) (is_broken check kind fields) rules)
+    omega (arith, table_names check, told_some (broken_rule check) (is_broken check kind fields) rules)
 
-once_short : (number : ℕ) (holds : Bool) → number < 100 → sum_by told_len (once number holds) ≤ 2
-once_short number true low = omega (arith, length-decimal-le 2 number (omega arith) (omega (arith, low)) (omega (arith, low)))
-once_short number false low = omega arith
+once_short : (found : Found) (holds : Bool) → told_len found ≤ 2 → sum_by told_len (once found holds) ≤ 2
+once_short found true short = omega (arith, short)
+once_short found false short = omega arith
 
-names_short : (fields : List Pair) → sum_by (λ (field : Pair). told_len (about 9 field.0)) fields ≤ length (canonical_fields fields)
+-- a number below 100 has at most two digits
+two_digits : (number : ℕ) → number < 100 → length (decimal number) + 0 ≤ 2
+two_digits number low = omega (arith, length-decimal-le 2 number (omega arith) (omega (arith, low)) (omega (arith, low)))
+
+names_short : (fields : List Pair) → sum_by (λ (field : Pair). told_len (NotUtf8 field.0)) fields ≤ length (canonical_fields fields)
 names_short [] = omega arith
 names_short (f ∷ fs) =
     let line : length (canonical_line f) ≡ length f.0 + length f.1 + 4 = simp length-append (omega arith) in
@@ -82,12 +86,12 @@ names_short (f ∷ fs) =
       line,
       names_short fs,
       length-append (canonical_line f) (canonical_fields fs),
-      sum_by-cons (λ (field : Pair). told_len (about 9 field.0)) f fs,
+      sum_by-cons (λ (field : Pair). told_len (NotUtf8 field.0)) f fs,
       length-decimal-le 1 9 (omega arith) (omega arith) (omega arith),
     )
 
 utf8_short : (fields : List Pair) → sum_by told_len (not_utf8 fields) ≤ length (canonical_fields fields)
-utf8_short fields = omega (arith, told_some (λ (field : Pair). about 9 field.0) is_not_utf8 fields, names_short fields)
+utf8_short fields = omega (arith, told_some (λ (field : Pair). NotUtf8 field.0) is_not_utf8 fields, names_short fields)
 
 eleven_sums : (w : Found → ℕ) (a b c d e f g h i j k : List Found) (n : ℕ) → sum_by w a ≤ 320 → sum_by w b ≤ 320 → sum_by w c ≤ 320 → sum_by w d ≤ 2 → sum_by w e ≤ 2 → sum_by w f ≤ 2
     → sum_by w g ≤ 2 → sum_by w h ≤ 2 → sum_by w i ≤ n → sum_by w j ≤ 2 → sum_by w k ≤ 2 → sum_by w (a ++ b ++ c ++ d ++ e ++ f ++ g ++ h ++ i ++ j ++ k) ≤ n + 1000
@@ -98,14 +102,14 @@ short_by : (reading : Reading) (fields : List Pair) (size : ℕ) (bad_digest use
 unfolding findings_by
 short_by reading fields size bad_digest used_id =
     eleven_sums told_len (by_table Lacks reading.kind fields) (by_table HasForbidden reading.kind fields) (by_table Repeats reading.kind fields)
-    (once 4 (is_known reading.kind && bad_digest)) (once 5 (has_bad_segment reading fields)) (once 6 used_id)
-    (once 7 (lacks_content_type reading.kind fields size)) (once 8 (has_unknown_profile reading fields)) (not_utf8 fields)
-    (once 10 (has_bare_id reading)) (once 11 (lacks_origin reading fields)) (length (canonical_fields fields))
+    (once Digest (is_known reading.kind && bad_digest)) (once SegmentNumber (has_bad_segment reading fields)) (once IdUsed used_id)
+    (once NoContentType (lacks_content_type reading.kind fields size)) (once Profile (has_unknown_profile reading fields)) (not_utf8 fields)
+    (once BareId (has_bare_id reading)) (once NoOrigin (lacks_origin reading fields)) (length (canonical_fields fields))
     (table_short Lacks reading.kind fields) (table_short HasForbidden reading.kind fields) (table_short Repeats reading.kind fields)
-    (once_short 4 (is_known reading.kind && bad_digest) (omega arith)) (once_short 5 (has_bad_segment reading fields) (omega arith))
-    (once_short 6 used_id (omega arith)) (once_short 7 (lacks_content_type reading.kind fields size) (omega arith))
-    (once_short 8 (has_unknown_profile reading fields) (omega arith)) (utf8_short fields)
-    (once_short 10 (has_bare_id reading) (omega arith)) (once_short 11 (lacks_origin reading fields) (omega arith))
+    (once_short Digest (is_known reading.kind && bad_digest) (two_digits 4 (omega arith))) (once_short SegmentNumber (has_bad_segment reading fields) (two_digits 5 (omega arith)))
+    (once_short IdUsed used_id (two_digits 6 (omega arith))) (once_short NoContentType (lacks_content_type reading.kind fields size) (two_digits 7 (omega arith)))
+    (once_short Profile (has_unknown_profile reading fields) (two_digits 8 (omega arith))) (utf8_short fields)
+    (once_short BareId (has_bare_id reading) (two_digits 10 (omega arith))) (once_short NoOrigin (lacks_origin reading fields) (two_digits 11 (omega arith)))
 
 pub findings_are_short : FindingsAreShort
 unfolding findings_of

@@ -7,7 +7,7 @@ use Rattle.warc_field.specs.Area.{Pair}
 use Rattle.warc_record.specs.declared.checks.TableCheck.TheVariants.{Lacks, HasForbidden, Repeats}
 use Rattle.warc_record.specs.Kinds.{is_known}
 use Rattle.warc_record.specs.Readings.{Reading}
-use Rattle.warc_record.specs.Findings.{Found, by_table, once, not_utf8, has_bad_segment, lacks_content_type, has_unknown_profile, has_bare_id, lacks_origin, findings_by}
+use Rattle.warc_record.specs.Findings.{Found, Digest, SegmentNumber, IdUsed, NoContentType, Profile, BareId, NoOrigin, by_table, once, not_utf8, has_bad_segment, lacks_content_type, has_unknown_profile, has_bare_id, lacks_origin, findings_by}
 
 pub utf8_is : (bytes : List ℕ) → IsUtf8 bytes → true ≡ is_utf8 bytes
 utf8_is bytes is = sym (is_utf8-from_IsUtf8 bytes is)
@@ -43,9 +43,9 @@ select_push test told (y ∷ ys) x = more (test y) (select_push test told ys x)
 pub assembled : (reading : Reading) (fields : List Pair) (size : ℕ) (bad used : Bool)
     (z a b c four d six e f g h i : List Found) (bad-4 five seven eight ten eleven : Bool)
     → z ≡ [] → a ≡ z ++ by_table Lacks reading.kind fields → b ≡ a ++ by_table HasForbidden reading.kind fields
-    → c ≡ b ++ by_table Repeats reading.kind fields → four ≡ c ++ once 4 bad-4
-    → d ≡ four ++ once 5 five → six ≡ d ++ once 6 used → e ≡ six ++ once 7 seven → f ≡ e ++ once 8 eight
-    → g ≡ f ++ not_utf8 fields → h ≡ g ++ once 10 ten → i ≡ h ++ once 11 eleven
+    → c ≡ b ++ by_table Repeats reading.kind fields → four ≡ c ++ once Digest bad-4
+    → d ≡ four ++ once SegmentNumber five → six ≡ d ++ once IdUsed used → e ≡ six ++ once NoContentType seven → f ≡ e ++ once Profile eight
+    → g ≡ f ++ not_utf8 fields → h ≡ g ++ once BareId ten → i ≡ h ++ once NoOrigin eleven
     → bad-4 ≡ (is_known reading.kind && bad) → five ≡ has_bad_segment reading fields → seven ≡ lacks_content_type reading.kind fields size
     → eight ≡ has_unknown_profile reading fields → ten ≡ has_bare_id reading → eleven ≡ lacks_origin reading fields
     → i ≡ findings_by reading fields size bad used
@@ -54,11 +54,11 @@ assembled reading fields size bad used z a b c four d six e f g h i bad-4 five s
     let after-a : a ≡ by_table Lacks reading.kind fields = a-is ∙ ap (λ x. x ++ by_table Lacks reading.kind fields) z-is in
     let after-b = b-is ∙ ap (λ x. x ++ by_table HasForbidden reading.kind fields) after-a in
     let after-c = c-is ∙ ap (λ x. x ++ by_table Repeats reading.kind fields) after-b in
-    let after-four = four-is ∙ ap₂ (λ x y. x ++ once 4 y) after-c is-4 in
-    let after-d = d-is ∙ ap₂ (λ x y. x ++ once 5 y) after-four is-5 in
-    let after-six = six-is ∙ ap (λ x. x ++ once 6 used) after-d in
-    let after-e = e-is ∙ ap₂ (λ x y. x ++ once 7 y) after-six is-7 in
-    let after-f = f-is ∙ ap₂ (λ x y. x ++ once 8 y) after-e is-8 in
+    let after-four = four-is ∙ ap₂ (λ x y. x ++ once Digest y) after-c is-4 in
+    let after-d = d-is ∙ ap₂ (λ x y. x ++ once SegmentNumber y) after-four is-5 in
+    let after-six = six-is ∙ ap (λ x. x ++ once IdUsed used) after-d in
+    let after-e = e-is ∙ ap₂ (λ x y. x ++ once NoContentType y) after-six is-7 in
+    let after-f = f-is ∙ ap₂ (λ x y. x ++ once Profile y) after-e is-8 in
     let after-g = g-is ∙ ap (λ x. x ++ not_utf8 fields) after-f in
-    let after-h = h-is ∙ ap₂ (λ x y. x ++ once 10 y) after-g is-10 in
-    i-is ∙ ap₂ (λ x y. x ++ once 11 y) after-h is-11
+    let after-h = h-is ∙ ap₂ (λ x y. x ++ once BareId y) after-g is-10 in
+    i-is ∙ ap₂ (λ x y. x ++ once NoOrigin y) after-h is-11

@@ -16,7 +16,7 @@ use Rattle.warc_record.specs.Ids.{bare_text, is_bare_id, id_key}
 use Rattle.warc_record.specs.Readings.{target_of, is_known_profile, segment_number}
 use Rattle.warc_record.specs.Heads.{head_fault}
 use Rattle.warc_record.specs.Table.{rules}
-use Rattle.warc_record.specs.Findings.{about, once, findings_by, findings_of}
+use Rattle.warc_record.specs.Findings.{Forbidden, NotUtf8, IdUsed, NoContentType, BareId, once, findings_by, findings_of}
 
 type_in_capitals : kind_named (codes "REVISIT") ≡ Revisit
 type_in_capitals = refl
@@ -117,16 +117,16 @@ no_date : head_fault ((codes "WARC-Type", codes "metadata") ∷ (codes "WARC-Rec
 unfolding bare_text trimmed is_blank is_name is_name_byte is_bare_id
 no_date = refl
 
-first_warcinfo : findings_of warcinfo 3 false false ≡ about 2 (codes "WARC-Target-URI") ∷ once 7 true
+first_warcinfo : findings_of warcinfo 3 false false ≡ Forbidden (codes "WARC-Target-URI") ∷ once NoContentType true
 unfolding findings_of findings_by rules bare_text trimmed is_blank is_utf8 chars encode
 first_warcinfo = refl
 
-second_warcinfo : findings_of warcinfo 3 false true ≡ about 2 (codes "WARC-Target-URI") ∷ once 6 true ++ once 7 true
+second_warcinfo : findings_of warcinfo 3 false true ≡ Forbidden (codes "WARC-Target-URI") ∷ once IdUsed true ++ once NoContentType true
 unfolding findings_of findings_by rules bare_text trimmed is_blank is_utf8 chars encode
 second_warcinfo = refl
 
 -- a record of an unknown kind: its digest and its number don't matter
 unknown_kind : findings_of ((codes "WARC-Type", codes "screenshot") ∷ (codes "WARC-Record-ID", codes "a") ∷ (codes "X", 255 ∷ []) ∷ (codes "WARC-Segment-Number", codes "x") ∷ []) 3 true false
-    ≡ about 9 (codes "X") ∷ once 10 true
+    ≡ NotUtf8 (codes "X") ∷ once BareId true
 unfolding findings_of findings_by rules bare_text trimmed is_blank is_utf8 chars encode
 unknown_kind = refl

@@ -1,6 +1,6 @@
 -- What the findings of a record are, one by one: a finding is listed exactly where the sentence of its number holds,
 -- and the numbers never fall. Findings are this project's own notion.
-use Rattle.std.specs.Prelude.{◌≡◌, ◌⊎◌, ◌↔◌, ℕ, ◌+◌, ◌≤◌, Bool, false, ◌&&◌, List, [], ◌∷◌, length, IsTrue, None, decimal, unwrap_or}
+use Rattle.std.specs.Prelude.{◌≡◌, ◌⊎◌, ◌↔◌, ℕ, ◌+◌, ◌≤◌, Bool, false, ◌&&◌, List, [], ◌∷◌, length, IsTrue, decimal, unwrap_or}
 use Rattle.std.specs.List.{AllPairs, Contains, sum_by}
 use Rattle.std.specs.Str.{is_utf8}
 use Rattle.warc_field.specs.Area.{Pair, canonical_fields}
@@ -9,41 +9,41 @@ use Rattle.warc_record.specs.declared.checks.TableCheck.{TableCheck}
 use Rattle.warc_record.specs.Kinds.{is_known}
 use Rattle.warc_record.specs.Readings.{Reading}
 use Rattle.warc_record.specs.Table.{Rule, rules}
-use Rattle.warc_record.specs.Findings.{Found, about, is_broken, check_number, has_bad_segment, lacks_content_type, has_unknown_profile, has_bare_id, lacks_origin, findings_by, findings_of}
+use Rattle.warc_record.specs.Findings.{Found, Digest, SegmentNumber, IdUsed, NoContentType, Profile, NotUtf8, BareId, NoOrigin, finding_number, finding_field, is_broken, broken_rule, has_bad_segment, lacks_content_type, has_unknown_profile, has_bare_id, lacks_origin, findings_by, findings_of}
 
 -- it is about the field of a rule of the table, which is absent, forbidden or repeated
 abbrev pub IsByTable : TableCheck → Kind → List Pair → Found → Type 0
 IsByTable check kind fields found =
     (rule : Rule) × Contains rules rule × IsTrue (is_broken check kind fields rule)
-    × (found ≡ about (check_number check) rule.name)
+    × (found ≡ broken_rule check rule)
 
 -- it is about a field of the record whose value isn't UTF-8
 abbrev pub IsNotUtf8 : List Pair → Found → Type 0
 IsNotUtf8 fields found =
-    (field : Pair) × Contains fields field × (is_utf8 field.1 ≡ false) × (found ≡ about 9 field.0)
+    (field : Pair) × Contains fields field × (is_utf8 field.1 ≡ false) × (found ≡ NotUtf8 field.0)
 
--- the numbers that are about no field, each with whether what it stands for holds
-abbrev pub sentences : Reading → List Pair → ℕ → Bool → Bool → List (ℕ × Bool)
+-- the findings that are about no field, each with whether what it says holds
+abbrev pub sentences : Reading → List Pair → ℕ → Bool → Bool → List (Found × Bool)
 sentences reading fields size bad_digest used_id =
-    (4, is_known reading.kind && bad_digest)
-    ∷ (5, has_bad_segment reading fields)
-    ∷ (6, used_id)
-    ∷ (7, lacks_content_type reading.kind fields size)
-    ∷ (8, has_unknown_profile reading fields)
-    ∷ (10, has_bare_id reading)
-    ∷ (11, lacks_origin reading fields)
+    (Digest, is_known reading.kind && bad_digest)
+    ∷ (SegmentNumber, has_bad_segment reading fields)
+    ∷ (IdUsed, used_id)
+    ∷ (NoContentType, lacks_content_type reading.kind fields size)
+    ∷ (Profile, has_unknown_profile reading fields)
+    ∷ (BareId, has_bare_id reading)
+    ∷ (NoOrigin, lacks_origin reading fields)
     ∷ []
 
--- it has the number of a sentence, is about no field, and the sentence holds
-abbrev pub IsOnce : ℕ × Bool → Found → Type 0
-IsOnce sentence found = IsTrue sentence.1 × (found ≡ record { number = sentence.0; field = None })
+-- it is the finding of a sentence, and the sentence holds
+abbrev pub IsOnce : Found × Bool → Found → Type 0
+IsOnce sentence found = IsTrue sentence.1 × (found ≡ sentence.0)
 
--- it is a finding of N1 to N3 by the field table, of N9, or of another number
+-- it is one by the field table, of a value that isn't UTF-8, or about no field
 abbrev pub IsFinding : Reading → List Pair → ℕ → Bool → Bool → Found → Type 0
 IsFinding reading fields size bad_digest used_id found =
     ((check : TableCheck) × IsByTable check reading.kind fields found)
     ⊎ (IsNotUtf8 fields found
-    ⊎ ((sentence : ℕ × Bool) × Contains (sentences reading fields size bad_digest used_id) sentence
+    ⊎ ((sentence : Found × Bool) × Contains (sentences reading fields size bad_digest used_id) sentence
     × IsOnce sentence found))
 
 -- a finding is listed exactly where its sentence holds
@@ -57,7 +57,7 @@ ListedWhereTheyHold =
 abbrev pub NumbersNeverFall : Type 0
 NumbersNeverFall =
     (reading : Reading) (fields : List Pair) (size : ℕ) (bad_digest used_id : Bool)
-    → AllPairs (λ a b. a.number ≤ b.number) (findings_by reading fields size bad_digest used_id)
+    → AllPairs (λ a b. finding_number a ≤ finding_number b) (findings_by reading fields size bad_digest used_id)
 
 -- a record has at most 58 findings and one for each of its fields
 abbrev pub FindingsAreFew : Type 0
@@ -66,7 +66,7 @@ FindingsAreFew = (fields : List Pair) (size : ℕ) (bad_digest used_id : Bool)
 
 -- how many bytes a finding tells: the digits of its number, and its field's name
 abbrev pub told_len : Found → ℕ
-told_len found = length (decimal found.number) + length (unwrap_or found.field [])
+told_len found = length (decimal (finding_number found)) + length (unwrap_or (finding_field found) [])
 
 -- what the findings of a record tell is at most 1,000 bytes longer than its fields
 abbrev pub FindingsAreShort : Type 0

@@ -2,29 +2,59 @@
 -- fields go by the order of the table, for N9 by their order in the record. Findings are this project's own notion: it
 -- measures records by ISO 28500:2017, 5 to 7, and by its own field table.
 use Rattle.std.specs.Prelude.{ℕ, ◌-◌, Bool, true, false, not, ◌&&◌, ◌||◌, ◌==◌, nat_lt, List, [], ◌∷◌, ◌++◌, length, map, filter, codes, is_some, is_none, Option, Some, None, slice_index, if◌then◌else◌}
-use Rattle.std.specs.Option.{option_map_or, option_copied}
+use Rattle.std.specs.Option.{option_map_or}
 use Rattle.std.specs.Str.{is_utf8, str_eq_ignore_ascii_case}
 use Rattle.warc_field.specs.Area.{Pair, count_of}
 use Rattle.warc_record.specs.declared.types.Kind.{Kind}
-use Rattle.warc_record.specs.declared.readings.SegmentNumber.{SegmentNumber}
-use Rattle.warc_record.specs.declared.readings.SegmentNumber.TheVariants.{Absent, Number, Bad}
+use Rattle.warc_record.specs.declared.readings.SegmentNumber.{SegmentNumber as NumberStated}
+use Rattle.warc_record.specs.declared.readings.SegmentNumber.TheVariants as stated
 use Rattle.warc_record.specs.declared.checks.TableCheck.{TableCheck}
 use Rattle.warc_record.specs.declared.checks.TableCheck.TheVariants.{Lacks, HasForbidden, Repeats}
 use Rattle.warc_record.specs.declared.checks.Finding.{Finding}
+use Rattle.warc_record.specs.declared.checks.Finding.TheVariants as seen
 use Rattle.warc_record.specs.Kinds.{is_known, is_revisit, is_continuation}
 use Rattle.warc_record.specs.Readings.{present_value, present_bare, Reading, reading_of}
 use Rattle.warc_record.specs.Table.{Rule, rules, is_among}
 
--- a finding: its number, and the name of the field that it is about, if any
-pub record Found : Type 0 where
-  pub number : ℕ
-  pub field : Option (List ℕ)
+-- a finding, N1 to N12, some with the name of the field that it is about
+pub data Found : Type 0 where
+  Absent : List ℕ → Found
+  Forbidden : List ℕ → Found
+  Repeated : List ℕ → Found
+  Digest : Found
+  SegmentNumber : Found
+  IdUsed : Found
+  NoContentType : Found
+  Profile : Found
+  NotUtf8 : List ℕ → Found
+  BareId : Found
+  NoOrigin : Found
+  Empty : Found
 
-abbrev pub about : ℕ → List ℕ → Found
-about number name = record { number = number; field = Some name }
+abbrev pub finding_number : Found → ℕ
+finding_number (Absent name) = 1
+finding_number (Forbidden name) = 2
+finding_number (Repeated name) = 3
+finding_number Digest = 4
+finding_number SegmentNumber = 5
+finding_number IdUsed = 6
+finding_number NoContentType = 7
+finding_number Profile = 8
+finding_number (NotUtf8 name) = 9
+finding_number BareId = 10
+finding_number NoOrigin = 11
+finding_number Empty = 12
 
-abbrev pub once : ℕ → Bool → List Found
-once number holds = if holds then record { number = number; field = None } ∷ [] else []
+-- the name of the field that it is about, if any
+abbrev pub finding_field : Found → Option (List ℕ)
+finding_field (Absent name) = Some name
+finding_field (Forbidden name) = Some name
+finding_field (Repeated name) = Some name
+finding_field (NotUtf8 name) = Some name
+finding_field found = None
+
+abbrev pub once : Found → Bool → List Found
+once found holds = if holds then found ∷ [] else []
 
 -- the field isn't absent: a target is absent where its bare text is empty, any other field where its value is
 abbrev pub stands : List ℕ → List Pair → Bool
@@ -38,21 +68,20 @@ is_broken Lacks kind fields rule = is_among kind rule.required && not (stands ru
 is_broken HasForbidden kind fields rule = is_among kind rule.forbidden && stands rule.name fields
 is_broken Repeats kind fields rule = is_known kind && not rule.repeats && nat_lt 1 (count_of rule.name fields)
 
-abbrev pub check_number : TableCheck → ℕ
-check_number Lacks = 1
-check_number HasForbidden = 2
-check_number Repeats = 3
+abbrev pub broken_rule : TableCheck → Rule → Found
+broken_rule Lacks rule = Absent rule.name
+broken_rule HasForbidden rule = Forbidden rule.name
+broken_rule Repeats rule = Repeated rule.name
 
 abbrev pub by_table : TableCheck → Kind → List Pair → List Found
-by_table check kind fields =
-    map (λ (rule : Rule). about (check_number check) rule.name) (filter (is_broken check kind fields) rules)
+by_table check kind fields = map (broken_rule check) (filter (is_broken check kind fields) rules)
 
 -- N5: a segment number that is none, or is less than 2 in a continuation, or isn't 1 in another kind; or, in a
 -- continuation, a total that is no number
-abbrev pub is_bad_number : Kind → SegmentNumber → Bool
-is_bad_number kind Absent = false
-is_bad_number kind Bad = true
-is_bad_number kind (Number number) = if is_continuation kind then nat_lt number 2 else not (number == 1)
+abbrev pub is_bad_number : Kind → NumberStated → Bool
+is_bad_number kind stated.Absent = false
+is_bad_number kind stated.Bad = true
+is_bad_number kind (stated.Number number) = if is_continuation kind then nat_lt number 2 else not (number == 1)
 
 abbrev pub is_bad_total : Reading → List Pair → Bool
 is_bad_total reading fields =
@@ -80,7 +109,7 @@ abbrev pub is_not_utf8 : Pair → Bool
 is_not_utf8 field = not (is_utf8 field.1)
 
 abbrev pub not_utf8 : List Pair → List Found
-not_utf8 fields = map (λ (field : Pair). about 9 field.0) (filter is_not_utf8 fields)
+not_utf8 fields = map (λ (field : Pair). NotUtf8 field.0) (filter is_not_utf8 fields)
 
 -- N10: the value of the id doesn't stand between < and >
 abbrev pub stands_in_brackets : List ℕ → Bool
@@ -101,18 +130,29 @@ findings_by reading fields size bad_digest used_id =
     by_table Lacks reading.kind fields
     ++ by_table HasForbidden reading.kind fields
     ++ by_table Repeats reading.kind fields
-    ++ once 4 (is_known reading.kind && bad_digest)
-    ++ once 5 (has_bad_segment reading fields)
-    ++ once 6 used_id
-    ++ once 7 (lacks_content_type reading.kind fields size)
-    ++ once 8 (has_unknown_profile reading fields)
+    ++ once Digest (is_known reading.kind && bad_digest)
+    ++ once SegmentNumber (has_bad_segment reading fields)
+    ++ once IdUsed used_id
+    ++ once NoContentType (lacks_content_type reading.kind fields size)
+    ++ once Profile (has_unknown_profile reading fields)
     ++ not_utf8 fields
-    ++ once 10 (has_bare_id reading)
-    ++ once 11 (lacks_origin reading fields)
+    ++ once BareId (has_bare_id reading)
+    ++ once NoOrigin (lacks_origin reading fields)
 
 unfoldable pub findings_of : List Pair → ℕ → Bool → Bool → List Found
 findings_of fields size bad_digest used_id = findings_by (reading_of fields) fields size bad_digest used_id
 
 -- a finding of the code
 abbrev pub finding_seen : Finding → Found
-finding_seen finding = record { number = finding.number; field = option_copied finding.field }
+finding_seen (seen.Absent name) = Absent name.now
+finding_seen (seen.Forbidden name) = Forbidden name.now
+finding_seen (seen.Repeated name) = Repeated name.now
+finding_seen seen.Digest = Digest
+finding_seen seen.SegmentNumber = SegmentNumber
+finding_seen seen.IdUsed = IdUsed
+finding_seen seen.NoContentType = NoContentType
+finding_seen seen.Profile = Profile
+finding_seen (seen.NotUtf8 name) = NotUtf8 name.now
+finding_seen seen.BareId = BareId
+finding_seen seen.NoOrigin = NoOrigin
+finding_seen seen.Empty = Empty

@@ -1,11 +1,12 @@
 ghost use Rattle.std.specs.Prelude.{◌≡◌, ◌++◌, ◌&&◌, not, nat_lt, OnOk, IfOk, map, false};
 ghost use Rattle.warc_field.specs.Area.{count_of};
+ghost use Rattle.std.specs.Option.{option_copied};
 ghost use Rattle.std.specs.Str.{is_utf8};
 ghost use Rattle.warc_record.specs.Kinds.{is_known};
 ghost use Rattle.warc_record.specs.Readings.{kind_of, reading_of};
 ghost use Rattle.warc_record.specs.Known.{known_name};
 ghost use Rattle.warc_record.specs.Table.{rule_seen};
-ghost use Rattle.warc_record.specs.Findings.{stands, is_broken, check_number, by_table, once, finding_seen, is_bad_number, has_bad_segment, lacks_content_type, has_unknown_profile, lacks_origin, has_bare_id, stands_in_brackets, not_utf8, findings_of};
+ghost use Rattle.warc_record.specs.Findings.{stands, broken_rule, is_broken, by_table, once, finding_seen, finding_number, finding_field, is_bad_number, has_bad_segment, lacks_content_type, has_unknown_profile, lacks_origin, has_bare_id, stands_in_brackets, not_utf8, findings_of};
 
 use crate::ids::bare;
 use crate::known::{ByName, Known};
@@ -17,14 +18,86 @@ use crate::types::Kind;
 use std::alloc::{AllocError, Allocator};
 use warc_field::Fields;
 
-/// What is found wrong with a record, beside what refuses it.
+/// What is wrong with a record that can be read, or with an archive: N1 to N12. Some hold the name of a field.
 #[derive(Clone, Copy, Debug, PartialEq, Eq)]
-pub struct Finding<'a> {
+pub enum Finding<'a> {
+    /// A field that the table requires is absent.
+    Absent(&'a [u8]),
+
+    /// A field that the table forbids isn't absent.
+    Forbidden(&'a [u8]),
+
+    /// A field that may not be repeated is.
+    Repeated(&'a [u8]),
+
+    /// The block's digest is checked and differs.
+    Digest,
+
+    /// The segment number or the total length is bad.
+    SegmentNumber,
+
+    /// An earlier record has the same id.
+    IdUsed,
+
+    /// A block that isn't empty has no type of its content.
+    NoContentType,
+
+    /// A revisit's profile isn't known.
+    Profile,
+
+    /// The value of a field isn't UTF-8. The name is as it is written.
+    NotUtf8(&'a [u8]),
+
+    /// The value of the id isn't in brackets.
+    BareId,
+
+    /// A continuation's origin holds no id.
+    NoOrigin,
+
+    /// The archive has no records.
+    Empty,
+}
+
+impl<'a> Finding<'a> {
     /// 1 to 12, for N1 to N12.
-    pub number: u8,
+    pub fn number(self) -> u8
+        ensures { result ≡ finding_number (finding_seen self.entry) }
+    {
+        match self {
+            Finding::Absent(_) => 1,
+            Finding::Forbidden(_) => 2,
+            Finding::Repeated(_) => 3,
+            Finding::Digest => 4,
+            Finding::SegmentNumber => 5,
+            Finding::IdUsed => 6,
+            Finding::NoContentType => 7,
+            Finding::Profile => 8,
+            Finding::NotUtf8(_) => 9,
+            Finding::BareId => 10,
+            Finding::NoOrigin => 11,
+            Finding::Empty => 12,
+        }
+    }
 
     /// The name of the field that it is about, if it is about one.
-    pub field: Option<&'a [u8]>,
+    pub fn field(self) -> Option<&'a [u8]>
+        ensures { option_copied result ≡ finding_field (finding_seen self.entry) }
+    {
+        match self {
+            Finding::Absent(name)
+            | Finding::Forbidden(name)
+            | Finding::Repeated(name)
+            | Finding::NotUtf8(name) => Some(name),
+            Finding::Digest
+            | Finding::SegmentNumber
+            | Finding::IdUsed
+            | Finding::NoContentType
+            | Finding::Profile
+            | Finding::BareId
+            | Finding::NoOrigin
+            | Finding::Empty => None,
+        }
+    }
 }
 
 /// What the field table is asked: N1, N2 or N3.
@@ -36,13 +109,15 @@ enum TableCheck {
 }
 
 impl TableCheck {
-    fn number(self) -> u8
-        ensures { result ≡ check_number self }
+    /// The finding that the rule of a field is broken.
+    fn finding(self, rule: &FieldRule) -> Finding<'static>
+        ensures { finding_seen result ≡ broken_rule self (rule_seen rule.now) }
     {
+        let name = rule.name.as_bytes();
         match self {
-            TableCheck::Lacks => 1,
-            TableCheck::HasForbidden => 2,
-            TableCheck::Repeats => 3,
+            TableCheck::Lacks => Finding::Absent(name),
+            TableCheck::HasForbidden => Finding::Forbidden(name),
+            TableCheck::Repeats => Finding::Repeated(name),
         }
     }
 }
@@ -82,7 +157,7 @@ fn is_broken<A: Allocator>(
     }
 }
 
-/// Adds the findings of one number by the field table.
+/// Adds the findings of one check by the field table.
 fn add_by_table<'a, A: Allocator>(
     found: &mut Vec<Finding<'a>, A>,
     check: TableCheck,
@@ -94,29 +169,24 @@ fn add_by_table<'a, A: Allocator>(
 {
     for rule in rows() {
         if is_broken(check, kind, fields, rule) {
-            found.push(Finding {
-                number: check.number(),
-                field: Some(rule.name.as_bytes()),
-            })?;
+            found.push(check.finding(rule))?;
         }
     }
     Ok(())
 }
 
-/// Adds a finding about no field, where it holds.
+/// Adds a finding, where it holds.
 fn add_once<'a, A: Allocator>(
     found: &mut Vec<Finding<'a>, A>,
-    number: u8,
+    finding: Finding<'a>,
     holds: bool,
 ) -> Result<(), AllocError>
     ensures { OnOk result
-        (map finding_seen found.new.items ≡ map finding_seen found.old.items ++ once number holds) }
+        (map finding_seen found.new.items ≡ map finding_seen found.old.items
+        ++ once (finding_seen finding.entry) holds) }
 {
     if holds {
-        found.push(Finding {
-            number,
-            field: None,
-        })?;
+        found.push(finding)?;
     }
     Ok(())
 }
@@ -142,10 +212,7 @@ fn add_not_utf8<'a, A: Allocator>(
 {
     for (name, value) in fields.as_slice() {
         if !is_utf8(value.bytes()) {
-            found.push(Finding {
-                number: 9,
-                field: Some(name.bytes()),
-            })?;
+            found.push(Finding::NotUtf8(name.bytes()))?;
         }
     }
     Ok(())
@@ -272,14 +339,30 @@ fn findings_in<'a, A: Allocator + Copy>(
     add_by_table(&mut found, TableCheck::Lacks, kind, fields)?;
     add_by_table(&mut found, TableCheck::HasForbidden, kind, fields)?;
     add_by_table(&mut found, TableCheck::Repeats, kind, fields)?;
-    add_once(&mut found, 4, has_bad_digest(kind, facts))?;
-    add_once(&mut found, 5, has_bad_segment(kind, fields))?;
-    add_once(&mut found, 6, facts.used_id)?;
-    add_once(&mut found, 7, lacks_content_type(kind, fields, block_len))?;
-    add_once(&mut found, 8, has_unknown_profile(kind, fields))?;
+    add_once(&mut found, Finding::Digest, has_bad_digest(kind, facts))?;
+    add_once(
+        &mut found,
+        Finding::SegmentNumber,
+        has_bad_segment(kind, fields),
+    )?;
+    add_once(&mut found, Finding::IdUsed, facts.used_id)?;
+    add_once(
+        &mut found,
+        Finding::NoContentType,
+        lacks_content_type(kind, fields, block_len),
+    )?;
+    add_once(
+        &mut found,
+        Finding::Profile,
+        has_unknown_profile(kind, fields),
+    )?;
     add_not_utf8(&mut found, fields)?;
-    add_once(&mut found, 10, has_bare_id(fields))?;
-    add_once(&mut found, 11, lacks_origin(alloc, kind, fields)?)?;
+    add_once(&mut found, Finding::BareId, has_bare_id(fields))?;
+    add_once(
+        &mut found,
+        Finding::NoOrigin,
+        lacks_origin(alloc, kind, fields)?,
+    )?;
     Ok(found)
 }
 

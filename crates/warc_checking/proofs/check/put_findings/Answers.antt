@@ -1,9 +1,14 @@
-use Rattle.std.proofs.Common.{rules, ◌+◌, None, drop, map, ◌∙◌, ap, ◌++◌}
+use Rattle.std.proofs.Common.{rules, [], ◌+◌, drop, map, ◌∙◌, ap, ◌++◌}
 use Rattle.warc_record.specs.Findings.{finding_seen}
+use Rattle.warc_record.specs.declared.checks.Finding.{Finding}
+use Rattle.warc_record.specs.declared.checks.Finding.TheVariants as seen
 use Rattle.warc_checking.specs.Examining.{record_text}
 use Rattle.warc_checking.proofs.CheckLemmas.{findings_more, findings_rest}
 use Rattle.warc_frame.proofs.LawLemmas.{same_out, same_staged}
 use Rattle.warc_checking.proofs.check.put_findings.Goals as goal
+
+abbrev any : Finding
+any = seen.Absent (record { ref_ptr = (0, 0); now = [] })
 
 pub returns-in_err-put_finding : goal.returns-in_err-put_finding
 returns-in_err-put_finding g c = record {
@@ -13,7 +18,7 @@ returns-in_err-put_finding g c = record {
       let i = c.putting.finding-index in
       let rest = record_text c.args.position (map finding_seen (drop (i + 1) found)) in
       let cut = c.went_out_of_longer.ensures start _ _ rest _ (c.in_err-put_finding.ensures.cut start _ (c.putting.invariant.staged start output is)) in
-      let more = findings_more finding_seen c.args.position found i (record { number = 0; field = None }) output c.putting-test.true in
+      let more = findings_more finding_seen c.args.position found i any output c.putting-test.true in
       let whole = same_out (ap (λ l. l ++ rest) more ∙ findings_rest finding_seen c.args.position found (i + 1) output) cut in
       search rules;
   cause = search rules;
@@ -23,7 +28,7 @@ returns-in_err-put_finding g c = record {
 pub putting-preserved : goal.putting-preserved
 putting-preserved g c = record {
   staged = λ start output is.
-      same_staged (findings_more finding_seen c.args.position c.args.found.now c.putting.finding-index (record { number = 0; field = None }) output c.putting-test.true)
+      same_staged (findings_more finding_seen c.args.position c.args.found.now c.putting.finding-index any output c.putting-test.true)
       (c.in_ok-put_finding.ensures.out start _ (c.putting.invariant.staged start output is));
   sound = search rules;
 }

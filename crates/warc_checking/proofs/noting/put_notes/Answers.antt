@@ -1,4 +1,4 @@
-use Rattle.std.proofs.Common.{rules, false, ◌+◌, drop, map, ◌∙◌, ap, ◌++◌}
+use Rattle.std.proofs.Common.{rules, ◌+◌, drop, map, ◌∙◌, ap, ◌++◌}
 use Rattle.std.specs.List.{filter}
 use Rattle.warc_checking.specs.Examining.{record_text}
 use Rattle.warc_checking.specs.Noted.{found_in, is_late}
@@ -8,7 +8,7 @@ use Rattle.warc_checking.proofs.NotingLemmas.{told_more, told_rest}
 use Rattle.warc_checking.proofs.noting.put_notes.Goals as goal
 
 abbrev any : Note
-any = record { number = 0; has_name = false; start = 0; end = 0 }
+any = record { number = 0; start = 0; end = 0 }
 
 pub returns-in_err-put_note : goal.returns-in_err-put_note
 returns-in_err-put_note g c = record {
