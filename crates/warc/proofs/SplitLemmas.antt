@@ -24,7 +24,7 @@ use Rattle.warc.specs.Forms.{IsInBlock, ReadsOnly, split_text}
 use Rattle.warc.specs.Segments.{AreSegmentTexts, IsCutOf, IsSegmentText}
 use Rattle.warc.specs.declared.copying.Copied.{Copied}
 use Rattle.warc.specs.declared.segments.Cut.{Cut}
-use Rattle.warc_checking.specs.Examining.{IsHeadOf}
+use Rattle.warc_checking.specs.Examining.{IsHeadReadOf}
 use Rattle.warc.proofs.EmitLemmas.{Begins, InTurn, reads_both, reads_within}
 use Rattle.warc.proofs.WholeLemmas.{copy_of}
 
@@ -119,7 +119,7 @@ segments_none {A} cut bytes text (r, is, text_is) = text_is
 
 -- ---- a row's record
 
-parts_of : {A : Type 0} (row : Row) (head : Head A) (p : Placed) → IsHeadOf p.content head → row ≡ row_of p
+parts_of : {A : Type 0} (row : Row) (head : Head A) (p : Placed) → IsHeadReadOf p.content head → row ≡ row_of p
     → HasParts head.version head.fields row.block_len (is_bad row.verdict) p.content
 parts_of {A} row head p is row_is = record {
   version_is = sym is.version;

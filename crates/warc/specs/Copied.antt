@@ -7,7 +7,7 @@ use Rattle.warc_frame.specs.Copying.{HasRange}
 use Rattle.warc_frame.specs.Record.{Record, head_text}
 use Rattle.warc_frame.specs.declared.reading.Head.{Head}
 use Rattle.warc_reading.specs.Archive.{contents}
-use Rattle.warc_checking.specs.Examining.{HasHead, IsHeadOf}
+use Rattle.warc_checking.specs.Examining.{HasHead, IsHeadReadOf}
 use Rattle.warc.specs.Forms.{read_len, split_len, split_text, text_as}
 use Rattle.warc_reading.specs.Row.{Placed, Row, row_of}
 use Rattle.warc.specs.declared.copying.Copied.{Copied}
@@ -48,7 +48,7 @@ pub record AreTextsOf (text_of : Record → List ℕ) (rows : List Row) (bytes t
 
 -- what is written of a row's record, whose head this is
 abbrev pub IsTextWith : {A : Type 0} → (Record → List ℕ) → Row → Head A → List ℕ → List ℕ → Type 0
-IsTextWith text_of row head bytes text = (is : IsTextOf text_of row bytes text) × IsHeadOf is.placed.content head
+IsTextWith text_of row head bytes text = (is : IsTextOf text_of row bytes text) × IsHeadReadOf is.placed.content head
 
 -- what is written of a record in a manner, and how many bytes are read for it
 abbrev pub text_by : Manner → Record → List ℕ

@@ -2,7 +2,7 @@
 ghost use Rattle.std.specs.Prelude.{◌≡◌, ◌<◌, IfOk, length};
 ghost use Rattle.warc.specs.Copied.{IsCopiedOf, IsCopy, IsTextWith};
 ghost use Rattle.warc.specs.Emitting.{Emits};
-ghost use Rattle.warc_checking.specs.Examining.{IsHeadOf};
+ghost use Rattle.warc_checking.specs.Examining.{IsHeadReadOf};
 ghost use Rattle.warc.specs.Forms.{IsInBlock, ReadsOnly, text_as};
 ghost use Rattle.warc_reading.specs.Row.{Placed, row_of};
 
@@ -67,7 +67,7 @@ fn copy_as<A: Allocator + Copy>(
     row: &Row<'_>,
     head: Head<A>,
 ) -> Result<Copied<A>, AllocError>
-    ensures copied { (p : Placed) → IsHeadOf p.content head → row.now ≡ row_of p →
+    ensures copied { (p : Placed) → IsHeadReadOf p.content head → row.now ≡ row_of p →
         IfOk result (IsCopiedOf (text_as form) p) }
     ensures place { IfOk result (λ c. (c.block_start ≡ row.now.block_start) × (c.block_len ≡ row.now.block_len)) }
 {

@@ -13,8 +13,8 @@ use Rattle.warc_record.specs.Good.{GoodHeadsRead}
 use Rattle.warc_record.specs.Ids.{id_key}
 use Rattle.warc_record.specs.declared.checks.ArchiveFacts.{ArchiveFacts}
 use Rattle.warc_checking.specs.Checking.{findings_behind, is_used, record_key}
-use Rattle.warc_checking.specs.Examining.{findings_of_first, first_text, record_text}
-use Rattle.warc_checking.specs.Found.{IsFound, Judged, own_findings}
+use Rattle.warc_checking.specs.Examining.{findings_of_first, first_text, record_lines}
+use Rattle.warc_checking.specs.Found.{IsJudgedOf, Judged, own_findings}
 use Rattle.warc_checking.specs.Noted.{AreNoted, IsDue, found_at, with_used}
 use Rattle.warc_checking.specs.Used.{HasMet, Ids, IsTally}
 use Rattle.warc_checking.proofs.AmongLemmas.{used_among, used_count}
@@ -67,7 +67,7 @@ facts_of before r = record { bad_digest = has_bad_digest r; used_id = is_used be
 
 -- the lines of one more record, and their number
 pub next_text : (records : List Placed) (i : ℕ) (p : Placed) (output : List ℕ) → slice_get records i ≡ Some p
-    → (output ++ first_text i (contents records)) ++ record_text i (findings_behind (take i (contents records)) p.content) ≡ output ++ first_text (i + 1) (contents records)
+    → (output ++ first_text i (contents records)) ++ record_lines i (findings_behind (take i (contents records)) p.content) ≡ output ++ first_text (i + 1) (contents records)
 next_text records i p output at =
     let before = take i (contents records) in
     text_more records i p p.content.fields (length p.content.block) (facts_of before p.content) output at (record { fields_are = refl; bad_digest = refl; used_id = refl }) refl
@@ -83,7 +83,7 @@ next_number records i p at =
     ∙ number_more records i p p.content.fields (length p.content.block) (facts_of before p.content) at (record { fields_are = refl; bad_digest = refl; used_id = refl }) refl
 
 -- what is kept of an archive, whatever it is called
-pub noted_by : {S : Type 0} → HeadsAreRead → (bytes : List ℕ) (judged : Judged S) (is : IsFound bytes judged) (rows : List Row) (found : List (List Found)) → rows ≡ judged.listing.rows → found ≡ judged.found
+pub noted_by : {S : Type 0} → HeadsAreRead → (bytes : List ℕ) (judged : Judged S) (is : IsJudgedOf bytes judged) (rows : List Row) (found : List (List Found)) → rows ≡ judged.listing.rows → found ≡ judged.found
     → AreNoted bytes is.listed.are.records rows found
 noted_by law bytes judged is rows found same also =
     record { can = checkable_archive law bytes judged.listing.rows is.listed rows same; found_is = also ∙ is.found_is }

@@ -8,7 +8,7 @@ use Rattle.warc_reading.specs.Archive.{contents}
 use Rattle.warc_reading.specs.Row.{Placed}
 use Rattle.warc_record.specs.Findings.{Found, Absent, Forbidden, Repeated, Digest, SegmentNumber, IdUsed, NoContentType, Profile, NotUtf8, BareId, NoOrigin, Empty, finding_field, finding_number, once}
 use Rattle.warc_checking.specs.Checking.{about_record, line_text}
-use Rattle.warc_checking.specs.Examining.{record_text}
+use Rattle.warc_checking.specs.Examining.{record_lines}
 use Rattle.warc_checking.specs.Found.{own_findings}
 use Rattle.warc_checking.specs.Noted.{AreNamed, AreParts, IsNamed, IsPart, all_found, found_by_part, found_in, notes_of, finding_by_number}
 use Rattle.warc_checking.specs.declared.noting.Note.{Note}
@@ -149,34 +149,34 @@ own_first n records = take-map own_findings n (contents records) ∙ ap (map own
 module _ {X : Type 0} (seen : X → Found) (test : Found → Bool) where
   -- the lines of one more finding, if it is told
   pub told_more : (position : ℕ) (xs : List X) (i : ℕ) (d : X) (output : List ℕ) → i < length xs
-      → (output ++ record_text position (filter test (map seen (take i xs)))) ++ record_text position (filter test (seen (get_or xs i d) ∷ []))
-      ≡ output ++ record_text position (filter test (map seen (take (i + 1) xs)))
+      → (output ++ record_lines position (filter test (map seen (take i xs)))) ++ record_lines position (filter test (seen (get_or xs i d) ∷ []))
+      ≡ output ++ record_lines position (filter test (map seen (take (i + 1) xs)))
   told_more position xs i d output lt =
       let so_far = filter test (map seen (take i xs)) in
       let one = filter test (seen (get_or xs i d) ∷ []) in
       let more : filter test (map seen (take (i + 1) xs)) ≡ so_far ++ one = ap (filter test) (map_more seen xs i d lt) ∙ filter-append test (map seen (take i xs)) (seen (get_or xs i d) ∷ []) in
-      append_assoc output (record_text position so_far) (record_text position one)
-      ∙ ap (λ l. output ++ l) (sym (text_append position so_far one) ∙ ap (record_text position) (sym more))
+      append_assoc output (record_lines position so_far) (record_lines position one)
+      ∙ ap (λ l. output ++ l) (sym (text_append position so_far one) ∙ ap (record_lines position) (sym more))
 
   -- the lines so far, and the others
   pub told_rest : (position : ℕ) (xs : List X) (i : ℕ) (output : List ℕ)
-      → (output ++ record_text position (filter test (map seen (take i xs)))) ++ record_text position (filter test (map seen (drop i xs))) ≡ output ++ record_text position (filter test (map seen xs))
+      → (output ++ record_lines position (filter test (map seen (take i xs)))) ++ record_lines position (filter test (map seen (drop i xs))) ≡ output ++ record_lines position (filter test (map seen xs))
   told_rest position xs i output =
       let so_far = filter test (map seen (take i xs)) in
       let rest = filter test (map seen (drop i xs)) in
-      append_assoc output (record_text position so_far) (record_text position rest)
+      append_assoc output (record_lines position so_far) (record_lines position rest)
       ∙ ap (λ l. output ++ l) (sym (text_append position so_far rest)
-      ∙ ap (record_text position) (sym (filter-append test (map seen (take i xs)) (map seen (drop i xs))) ∙ ap (filter test) (sym (map-append seen (take i xs) (drop i xs)) ∙ ap (map seen) (take-append-drop i xs))))
+      ∙ ap (record_lines position) (sym (filter-append test (map seen (take i xs)) (map seen (drop i xs))) ∙ ap (filter test) (sym (map-append seen (take i xs) (drop i xs)) ∙ ap (map seen) (take-append-drop i xs))))
 
 -- three texts of a record, one behind another
-pub two_texts : (position : ℕ) (a b : List Found) (output : List ℕ) → (output ++ record_text position a) ++ record_text position b ≡ output ++ record_text position (a ++ b)
-two_texts position a b output = append_assoc output (record_text position a) (record_text position b) ∙ ap (λ l. output ++ l) (sym (text_append position a b))
+pub two_texts : (position : ℕ) (a b : List Found) (output : List ℕ) → (output ++ record_lines position a) ++ record_lines position b ≡ output ++ record_lines position (a ++ b)
+two_texts position a b output = append_assoc output (record_lines position a) (record_lines position b) ∙ ap (λ l. output ++ l) (sym (text_append position a b))
 
-pub three_texts : (position : ℕ) (a b c : List Found) (output : List ℕ) → ((output ++ record_text position a) ++ record_text position b) ++ record_text position c ≡ output ++ record_text position (a ++ b ++ c)
-three_texts position a b c output = ap (λ l. l ++ record_text position c) (two_texts position a b output) ∙ two_texts position (a ++ b) c output
+pub three_texts : (position : ℕ) (a b c : List Found) (output : List ℕ) → ((output ++ record_lines position a) ++ record_lines position b) ++ record_lines position c ≡ output ++ record_lines position (a ++ b ++ c)
+three_texts position a b c output = ap (λ l. l ++ record_lines position c) (two_texts position a b output) ∙ two_texts position (a ++ b) c output
 
-pub last_texts : (position : ℕ) (a b c : List Found) (output : List ℕ) → (output ++ record_text position a) ++ record_text position (b ++ c) ≡ output ++ record_text position (a ++ b ++ c)
-last_texts position a b c output = two_texts position a (b ++ c) output ∙ ap (λ l. output ++ record_text position l) (sym (append_assoc a b c))
+pub last_texts : (position : ℕ) (a b c : List Found) (output : List ℕ) → (output ++ record_lines position a) ++ record_lines position (b ++ c) ≡ output ++ record_lines position (a ++ b ++ c)
+last_texts position a b c output = two_texts position a (b ++ c) output ∙ ap (λ l. output ++ record_lines position l) (sym (append_assoc a b c))
 
 -- the findings of some notes
 pub part_found : (names : List ℕ) (notes : List Note) (p : Part) → all_found names (slice_range notes p.start p.end) ≡ notes_of (all_found names notes) p
@@ -187,7 +187,7 @@ pub part_len : (notes : List Found) (p : Part) → IsPart (length notes) p → p
 part_len notes p is = sym (length-take-le (p.end - p.start) (drop p.start notes) (omega (arith, length-drop p.start notes, is.order, is.end)))
 
 -- the line of N6, if it holds
-pub used_line : (position : ℕ) (used : Bool) → used ≡ true → line_text (about_record position IdUsed) ≡ record_text position (once IdUsed used)
+pub used_line : (position : ℕ) (used : Bool) → used ≡ true → line_text (about_record position IdUsed) ≡ record_lines position (once IdUsed used)
 used_line position true is = sym (append-nil (line_text (about_record position IdUsed)))
 used_line position false is = absurd (cc is)
 

@@ -13,7 +13,7 @@ use Rattle.warc_frame.specs.Record.{Record}
 use Rattle.warc_record.specs.declared.checks.ArchiveFacts.{ArchiveFacts}
 use Rattle.warc_reading.specs.Archive.{contents}
 use Rattle.warc_checking.specs.Checking.{Line, findings_at, findings_behind, findings_of_records, line_text}
-use Rattle.warc_checking.specs.Examining.{AreCheckable, HasFailed, HasHead, IsExamined, findings_of_first, first_text, found_by, halted, record_text, records_text}
+use Rattle.warc_checking.specs.Examining.{AreCheckable, HasFailed, HasHead, IsExamined, findings_of_first, first_text, found_by, halted, record_lines, records_text}
 use Rattle.warc_frame.specs.Failing.{HasFailedBy, MayHaveFailedBy, is_read}
 use Rattle.warc_checking.specs.declared.heads.Halt.{Halt}
 use Rattle.warc_checking.specs.declared.heads.Halt.TheVariants.{Read, Memory}
@@ -74,13 +74,13 @@ found_is before r fields block_len facts is len = rw (is.fields_are, len, is.bad
 
 pub text_more : (records : List Placed) (i : ℕ) (p : Placed) (fields : List Pair) (block_len : ℕ) (facts : ArchiveFacts) (output : List ℕ) → slice_get records i ≡ Some p
     → IsExamined (take i (contents records)) p.content fields facts → block_len ≡ length p.content.block
-    → (output ++ first_text i (contents records)) ++ record_text i (found_by fields block_len facts) ≡ output ++ first_text (i + 1) (contents records)
+    → (output ++ first_text i (contents records)) ++ record_lines i (found_by fields block_len facts) ≡ output ++ first_text (i + 1) (contents records)
 text_more records i p fields block_len facts output at is len =
     let rs = contents records in
     let found = found_is (take i rs) p.content fields block_len facts is len in
     let more = ap (flat_map line_text) (first_more rs i p.content (content_at records i p at)) ∙ flat_map-append line_text (findings_of_first i rs) (findings_at rs i p.content) in
-    append_assoc output (first_text i rs) (record_text i (found_by fields block_len facts))
-    ∙ ap (λ l. output ++ l) (ap (λ l. first_text i rs ++ record_text i l) found ∙ sym more)
+    append_assoc output (first_text i rs) (record_lines i (found_by fields block_len facts))
+    ∙ ap (λ l. output ++ l) (ap (λ l. first_text i rs ++ record_lines i l) found ∙ sym more)
 
 saturated : (a b m : ℕ) → min (min a m + b) m ≡ min (a + b) m
 saturated a b m = omega arith

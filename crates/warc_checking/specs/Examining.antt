@@ -38,7 +38,7 @@ pub record HasHead (bytes : List ℕ) (p : Placed) : Type 0 where
   pub good : head_fault p.content.fields ≡ None
 
 -- a head that was read is this record's
-pub record IsHeadOf {A : Type 0} (r : Record) (h : Head A) : Type 0 where
+pub record IsHeadReadOf {A : Type 0} (r : Record) (h : Head A) : Type 0 where
   pub version : h.version ≡ r.version
   pub fields : h.fields ≡ r.fields
 
@@ -68,8 +68,8 @@ abbrev pub found_by : List Pair → ℕ → ArchiveFacts → List Found
 found_by fields block_len facts = findings_of fields block_len facts.bad_digest facts.used_id
 
 -- the lines of the findings of the record at a position
-abbrev pub record_text : ℕ → List Found → List ℕ
-record_text position found = flat_map line_text (map (about_record position) found)
+abbrev pub record_lines : ℕ → List Found → List ℕ
+record_lines position found = flat_map line_text (map (about_record position) found)
 
 -- the lines of all findings of records
 abbrev pub records_text : List Record → List ℕ

@@ -17,7 +17,7 @@ pub record Judged (S : Type 0) : Type 0 where
   pub found : List (List Found)
 
 -- they are those of the good records that these bytes spell
-pub record IsFound {S : Type 0} (bytes : List ℕ) (judged : Judged S) : Type 0 where
+pub record IsJudgedOf {S : Type 0} (bytes : List ℕ) (judged : Judged S) : Type 0 where
   pub listed : IsArchiveOf bytes judged.listing.rows
   pub found_is : judged.found ≡ map own_findings (contents listed.are.records)
 

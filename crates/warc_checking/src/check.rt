@@ -10,7 +10,7 @@ ghost use Rattle.warc_reading.specs.Row.{Placed, row_of};
 ghost use Rattle.warc_checking.specs.Checks.{AreCutOff, AreTold, Checks};
 ghost use Rattle.warc_checking.specs.Checking.{about_record, check_text, findings_of_archive, findings_of_records, line_text, numbered_line};
 ghost use Rattle.warc_checking.specs.Examining.{AreCheckable, HasFailed, HasHead, IsExamined, MayHaveFailed, PutsCheck, PutsFound, PutsLines};
-ghost use Rattle.warc_checking.specs.Examining.{found_by, record_text};
+ghost use Rattle.warc_checking.specs.Examining.{found_by, record_lines};
 ghost use Rattle.warc_checking.specs.Heads.{ReadsHeads};
 ghost use Rattle.warc_checking.specs.Used.{HasMet, IsAlone, IsTally};
 ghost use Rattle.warc_record.specs.Ids.{id_key};
@@ -127,7 +127,7 @@ fn put_findings<W: Sink>(
     buffer: &mut OutBuffer,
     out: &mut W,
 ) -> Result<(), SendFault>
-    ensures { Puts (W.seen out.old) (W.seen out.new) buffer.old buffer.new result (record_text position
+    ensures { Puts (W.seen out.old) (W.seen out.new) buffer.old buffer.new result (record_lines position
         (map finding_seen found.now)) }
 {
     went_out_of_longer();
@@ -147,10 +147,10 @@ fn put_examined<A: Allocator + Copy, W: Sink>(
     out: &mut W,
 ) -> Result<usize, OutFault>
     ensures out { (start : Option (List ℕ)) (output : List ℕ) → IsStaged start output (W.seen out.old).tells buffer.old
-        → OnOk result (IsStaged start (output ++ record_text position (found_by examined.fields block_len
+        → OnOk result (IsStaged start (output ++ record_lines position (found_by examined.fields block_len
         examined.facts)) (W.seen out.new).tells buffer.new) }
     ensures cut { (start : Option (List ℕ)) (output : List ℕ) → IsStaged start output (W.seen out.old).tells buffer.old
-        → IfErr result (λ e. WentOut start (output ++ record_text position (found_by examined.fields block_len
+        → IfErr result (λ e. WentOut start (output ++ record_lines position (found_by examined.fields block_len
         examined.facts)) (W.seen out.new).tells (sent_of e)) }
     ensures number { IfOk result (λ n. n ≡ length (found_by examined.fields block_len examined.facts)) }
     ensures cause { (W.seen out.new).faults ≡ failed_by result (W.seen out.old).faults }

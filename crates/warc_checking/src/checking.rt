@@ -10,8 +10,8 @@ ghost use Rattle.warc_reading.specs.Opening.{Opens};
 ghost use Rattle.warc_reading.specs.Row.{Placed};
 ghost use Rattle.warc_checking.specs.Checking.{check_text, findings_behind, findings_of_archive, findings_of_records};
 ghost use Rattle.warc_checking.specs.Checks.{AreCutOff, AreTold, TellsFound};
-ghost use Rattle.warc_checking.specs.Examining.{PutsCheck, PutsFound, record_text};
-ghost use Rattle.warc_checking.specs.Found.{IsFound, judged_of, source_judged};
+ghost use Rattle.warc_checking.specs.Examining.{PutsCheck, PutsFound, record_lines};
+ghost use Rattle.warc_checking.specs.Found.{IsJudgedOf, judged_of, source_judged};
 ghost use Rattle.warc_checking.specs.Noted.{AreNoted, IsDue, found_at};
 ghost use Rattle.warc_checking.specs.Used.{HasMet, IsTally};
 ghost use Rattle.std.specs.Io.KnownBytes.{append_known};
@@ -39,11 +39,11 @@ fn put_next<A: Allocator + Copy, W: Sink>(
 ) -> Result<usize, OutFault>
     ensures out { (before : List Record) (p : Placed) (start : Option (List ℕ)) (output : List ℕ) →
         IsDue before p row.now (found_at noted.now position) met.old → IsStaged start output (W.seen out.old).tells
-        buffer.old → OnOk result (IsStaged start (output ++ record_text position (findings_behind before p.content))
+        buffer.old → OnOk result (IsStaged start (output ++ record_lines position (findings_behind before p.content))
         (W.seen out.new).tells buffer.new) }
     ensures cut { (before : List Record) (p : Placed) (start : Option (List ℕ)) (output : List ℕ) →
         IsDue before p row.now (found_at noted.now position) met.old → IsStaged start output (W.seen out.old).tells
-        buffer.old → IfErr result (λ e. WentOut start (output ++ record_text position
+        buffer.old → IfErr result (λ e. WentOut start (output ++ record_lines position
         (findings_behind before p.content)) (W.seen out.new).tells (sent_of e)) }
     ensures number { (before : List Record) (p : Placed) → IsDue before p row.now (found_at noted.now position) met.old
         → IfOk result (λ n. n ≡ capped (length (findings_behind before p.content))) }
@@ -180,7 +180,7 @@ impl<S: Source, A: Allocator + Copy> Checked<S, A> {
     /// Reads the source as a listing is read, and keeps beside each row what its record has wrong: 16 bytes for each
     /// record, and for each finding 24 bytes and its field's name.
     pub fn open(alloc: A, source: S) -> Result<Checked<S, A>, (Fault, S)>
-        ensures { Opens IsFound (S.tapped source) (S.tapped (source_judged result)) (judged_of result) }
+        ensures { Opens IsJudgedOf (S.tapped source) (S.tapped (source_judged result)) (judged_of result) }
     {
         let mut source = source;
         let noted = Noted::new(alloc);
@@ -199,7 +199,7 @@ impl<S: Source, A: Allocator + Copy> Checked<S, A> {
     /// nothing: what ends it early is a write that fails, `Write`, or a refused growth of the memory, `Memory`. Each
     /// tells how many bytes went out, which are the first of the output.
     pub fn check<W: Sink>(&self, out: &mut W) -> Result<usize, OutFault>
-        ensures tells { (bytes : List ℕ) (is : IsFound bytes self.now) → TellsFound (contents is.listed.are.records)
+        ensures tells { (bytes : List ℕ) (is : IsJudgedOf bytes self.now) → TellsFound (contents is.listed.are.records)
             (W.seen out.old) (W.seen out.new) result }
         ensures cause { (W.seen out.new).faults ≡ failed_by result (W.seen out.old).faults }
 

@@ -8,7 +8,7 @@ ghost use Rattle.warc_record.specs.Readings.{reading_of};
 ghost use Rattle.warc_record.specs.Seen.{said};
 ghost use Rattle.warc_checking.specs.Heads.{IsHeadBy, ReadsHeads};
 ghost use Rattle.warc_reading.specs.Row.{Placed, row_of};
-ghost use Rattle.warc_checking.specs.Examining.{HasFailed, HasHead, IsHeadOf, MayHaveFailed, halt_of, halted};
+ghost use Rattle.warc_checking.specs.Examining.{HasFailed, HasHead, IsHeadReadOf, MayHaveFailed, halt_of, halted};
 
 use std::alloc::{AllocError, Allocator};
 use warc_field::Fields;
@@ -58,7 +58,7 @@ fn halt_of(kind: FaultKind) -> Halt
 fn head_in<A: Allocator + Copy>(alloc: A, text: &[u8], block_len: u64) -> Result<Head<A>, Halt>
     ensures is { (r : Record) → head_of any_fields text.now
         ≡ Ok (record { version = r.version; fields = r.fields; len = length text.now; block_len = block_len })
-        → MatchResult result (IsHeadOf r) (λ halt. halt ≡ Halt.Memory) }
+        → MatchResult result (IsHeadReadOf r) (λ halt. halt ≡ Halt.Memory) }
     ensures whole { IfOk result (λ h. head_of any_fields text.now
         ≡ Ok (record { version = h.version; fields = h.fields; len = length text.now; block_len = block_len })) }
 {
@@ -116,7 +116,7 @@ pub fn reread_head<S: Source, A: Allocator + Copy>(
 ) -> Result<Head<A>, Halt>
     requires { max_head ≤ length buf.old }
     ensures read { (bytes : List ℕ) (p : Placed) → (S.tapped source.old).holds ≡ Some bytes → HasHead bytes p → row.now
-        ≡ row_of p → IfOk result (IsHeadOf p.content) }
+        ≡ row_of p → IfOk result (IsHeadReadOf p.content) }
     ensures whole { IfOk result (λ h. IsHeadBy row.now h.fields) }
     ensures order { OnOk result (row.now.offset ≤ row.now.block_start) }
     ensures kept { (S.tapped source.new).holds ≡ (S.tapped source.old).holds }

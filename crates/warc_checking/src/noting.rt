@@ -5,7 +5,7 @@ ghost use Rattle.warc_frame.specs.Count.{capped};
 ghost use Rattle.warc_frame.specs.Putting.{Puts};
 ghost use Rattle.warc_reading.specs.Archive.{contents};
 ghost use Rattle.warc_record.specs.Findings.{Found, IdUsed, finding_seen, findings_of, once};
-ghost use Rattle.warc_checking.specs.Examining.{record_text};
+ghost use Rattle.warc_checking.specs.Examining.{record_lines};
 ghost use Rattle.warc_checking.specs.Found.{own_findings};
 ghost use Rattle.warc_checking.specs.Noted.{AreNamed, AreParts, IsNamed, IsPart, all_found, found_at, found_by_part, found_in, is_late, notes_of, finding_by_number, with_used};
 ghost use Rattle.warc_value.specs.Digests.{is_bad};
@@ -79,7 +79,7 @@ fn put_note<W: Sink>(
     out: &mut W,
 ) -> Result<(), SendFault>
     requires { IsNamed (length names.now) note.now }
-    ensures { Puts (W.seen out.old) (W.seen out.new) buffer.old buffer.new result (record_text position
+    ensures { Puts (W.seen out.old) (W.seen out.new) buffer.old buffer.new result (record_lines position
         (filter (is_late late) (found_in names.now note.now ∷ []))) }
 {
     let finding = found_in(names, note);
@@ -99,7 +99,7 @@ fn put_notes<W: Sink>(
     out: &mut W,
 ) -> Result<(), SendFault>
     requires { AreNamed (length names.now) notes.now }
-    ensures { Puts (W.seen out.old) (W.seen out.new) buffer.old buffer.new result (record_text position
+    ensures { Puts (W.seen out.old) (W.seen out.new) buffer.old buffer.new result (record_lines position
         (filter (is_late late) (all_found names.now notes.now))) }
 {
     went_out_of_longer();
@@ -116,7 +116,7 @@ fn put_used<W: Sink>(
     buffer: &mut OutBuffer,
     out: &mut W,
 ) -> Result<(), SendFault>
-    ensures { Puts (W.seen out.old) (W.seen out.new) buffer.old buffer.new result (record_text position
+    ensures { Puts (W.seen out.old) (W.seen out.new) buffer.old buffer.new result (record_lines position
         (once IdUsed used)) }
 {
     if !used {
@@ -142,7 +142,7 @@ fn put_found<W: Sink>(
     out: &mut W,
 ) -> Result<(), SendFault>
     requires { AreNamed (length names.now) notes.now }
-    ensures { Puts (W.seen out.old) (W.seen out.new) buffer.old buffer.new result (record_text position
+    ensures { Puts (W.seen out.old) (W.seen out.new) buffer.old buffer.new result (record_lines position
         (with_used (all_found names.now notes.now) used)) }
 {
     went_out_of_longer();
@@ -253,7 +253,7 @@ impl<A: Allocator> Notes<A> {
         out: &mut W,
     ) -> Result<(), SendFault>
         requires { IsPart (length self.now) part }
-        ensures { Puts (W.seen out.old) (W.seen out.new) buffer.old buffer.new result (record_text position
+        ensures { Puts (W.seen out.old) (W.seen out.new) buffer.old buffer.new result (record_lines position
             (with_used (notes_of self.now part) used)) }
     {
         put_part(
@@ -280,7 +280,7 @@ fn put_part<W: Sink>(
 ) -> Result<(), SendFault>
     requires named { AreNamed (length names.now) notes.now }
     requires within { IsPart (length notes.now) part }
-    ensures { Puts (W.seen out.old) (W.seen out.new) buffer.old buffer.new result (record_text position
+    ensures { Puts (W.seen out.old) (W.seen out.new) buffer.old buffer.new result (record_lines position
         (with_used (notes_of (all_found names.now notes.now) part) used)) }
 {
     put_found(
@@ -408,7 +408,7 @@ impl<A: Allocator + Copy> Noted<A> {
         buffer: &mut OutBuffer,
         out: &mut W,
     ) -> Result<usize, SendFault>
-        ensures puts { Puts (W.seen out.old) (W.seen out.new) buffer.old buffer.new result (record_text position
+        ensures puts { Puts (W.seen out.old) (W.seen out.new) buffer.old buffer.new result (record_lines position
             (with_used (found_at self.now position) used)) }
         ensures number { IfOk result (λ n. n ≡ capped (length (found_at self.now position)
             + (if used then 1 else 0))) }

@@ -1,13 +1,13 @@
 use Rattle.std.proofs.Common.{◌≡◌, ◌++◌, ℕ, List, Option, map, take}
 use Rattle.warc_frame.specs.Send.{IsStaged}
 use Rattle.warc_record.specs.Findings.{finding_seen}
-use Rattle.warc_checking.specs.Examining.{record_text}
+use Rattle.warc_checking.specs.Examining.{record_lines}
 use Rattle.warc_checking.proofs.check.put_findings.Given as goal
 
 -- the lines of the findings so far are staged, and no write has failed
 abbrev pub invariant-putting : goal.invariant-putting
 invariant-putting g l = record {
   staged : (start : Option (List ℕ)) (output : List ℕ) → IsStaged start output ((g.W.Sink.seen l.fn.out).tells) l.fn.buffer
-      → IsStaged start (output ++ record_text l.position (map finding_seen (take l.finding-index l.found))) ((g.W.Sink.seen l.out).tells) l.buffer;
+      → IsStaged start (output ++ record_lines l.position (map finding_seen (take l.finding-index l.found))) ((g.W.Sink.seen l.out).tells) l.buffer;
   sound : (g.W.Sink.seen l.out).faults ≡ (g.W.Sink.seen l.fn.out).faults;
 }

@@ -4,7 +4,7 @@ use Rattle.warc_frame.specs.Count.{capped}
 use Rattle.warc_reading.specs.Row.{Row}
 use Rattle.warc_record.specs.Ids.{id_key}
 use Rattle.warc_checking.specs.Checking.{is_used}
-use Rattle.warc_checking.specs.Examining.{record_text}
+use Rattle.warc_checking.specs.Examining.{record_lines}
 use Rattle.warc_checking.proofs.NextLemmas.{next_count, next_found}
 use Rattle.warc_checking.proofs.checking.put_next.Goals as goal
 
@@ -13,7 +13,7 @@ returns-in-Ok-put-clause-out g c = λ before p start output next is.
     let id = ap (λ (r : Row). id_key r.id) c.row.view_is in
     let used = c.in-Ok.ensures.used before next.has (rw id next.lone) ∙ ap (is_used before) id in
     let found = next_found c.good_heads_read.ensures before p _ _ _ next c.in-Ok.used used in
-    same_staged (ap (λ l. output ++ record_text c.args.position l) found) (c.in-Ok-put.ensures.puts.out start output is)
+    same_staged (ap (λ l. output ++ record_lines c.args.position l) found) (c.in-Ok-put.ensures.puts.out start output is)
 
 pub returns-in-Ok-put-clause-number : goal.returns-in-Ok-put-clause-number
 returns-in-Ok-put-clause-number g c = λ before p next.
@@ -26,4 +26,4 @@ returns-in-Err-clause-cut g c = λ before p start output next is.
     let id = ap (λ (r : Row). id_key r.id) c.row.view_is in
     let used = c.in-Ok.ensures.used before next.has (rw id next.lone) ∙ ap (is_used before) id in
     let found = next_found c.good_heads_read.ensures before p _ _ _ next c.in-Ok.used used in
-    same_out (ap (λ l. output ++ record_text c.args.position l) found) (c.in-Err.ensures.puts.cut start output is)
+    same_out (ap (λ l. output ++ record_lines c.args.position l) found) (c.in-Err.ensures.puts.cut start output is)

@@ -3,7 +3,7 @@ use Rattle.std.proofs.lemmas.Result.{IfErr-weaker, on_ok_weaker}
 use Rattle.std.specs.List.{filter}
 use Rattle.warc_frame.proofs.LawLemmas.{same_out, same_staged}
 use Rattle.warc_record.specs.Findings.{IdUsed, once}
-use Rattle.warc_checking.specs.Examining.{record_text}
+use Rattle.warc_checking.specs.Examining.{record_lines}
 use Rattle.warc_checking.specs.Noted.{all_found, is_late}
 use Rattle.warc_checking.proofs.NotingLemmas.{last_texts, three_texts}
 use Rattle.warc_checking.proofs.noting.put_found.Goals as goal
@@ -16,7 +16,7 @@ returns-in_err-put_notes g c = record {
       let early = filter (is_late false) found in
       let late = filter (is_late true) found in
       let used = once IdUsed c.args.used in
-      let cut = c.went_out_of_longer.ensures start _ _ (record_text c.args.position (used ++ late)) _ (c.in_err-put_notes.ensures.cut start output is) in
+      let cut = c.went_out_of_longer.ensures start _ _ (record_lines c.args.position (used ++ late)) _ (c.in_err-put_notes.ensures.cut start output is) in
       let whole = same_out (last_texts c.args.position early used late output) cut in
       search rules;
   cause = search rules;
@@ -32,7 +32,7 @@ returns-in_err-put_used g c = record {
       let late = filter (is_late true) found in
       let used = once IdUsed c.args.used in
       let first = c.in_ok-put_notes.ensures.out start output is in
-      let cut = c.went_out_of_longer.ensures start _ _ (record_text c.args.position late) _ (c.in_err-put_used.ensures.cut start _ first) in
+      let cut = c.went_out_of_longer.ensures start _ _ (record_lines c.args.position late) _ (c.in_err-put_used.ensures.cut start _ first) in
       let whole = same_out (three_texts c.args.position early used late output) cut in
       search rules;
   cause = search rules;

@@ -1,6 +1,6 @@
 use Rattle.std.proofs.Common.{rules, ◌+◌, drop, map, ◌∙◌, ap, ◌++◌}
 use Rattle.std.specs.List.{filter}
-use Rattle.warc_checking.specs.Examining.{record_text}
+use Rattle.warc_checking.specs.Examining.{record_lines}
 use Rattle.warc_checking.specs.Noted.{found_in, is_late}
 use Rattle.warc_checking.specs.declared.noting.Note.{Note}
 use Rattle.warc_frame.proofs.LawLemmas.{same_out, same_staged}
@@ -18,7 +18,7 @@ returns-in_err-put_note g c = record {
       let test = is_late c.args.late in
       let notes = c.args.notes.now in
       let i = c.putting.note-index in
-      let rest = record_text c.args.position (filter test (map seen (drop (i + 1) notes))) in
+      let rest = record_lines c.args.position (filter test (map seen (drop (i + 1) notes))) in
       let cut = c.went_out_of_longer.ensures start _ _ rest _ (c.in_err-put_note.ensures.cut start _ (c.putting.invariant.staged start output is)) in
       let more = told_more seen test c.args.position notes i any output c.putting-test.true in
       let whole = same_out (ap (λ l. l ++ rest) more ∙ told_rest seen test c.args.position notes (i + 1) output) cut in

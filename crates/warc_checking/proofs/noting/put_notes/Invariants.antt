@@ -1,7 +1,7 @@
 use Rattle.std.proofs.Common.{◌≡◌, ◌++◌, ℕ, List, Option, map, take}
 use Rattle.std.specs.List.{filter}
 use Rattle.warc_frame.specs.Send.{IsStaged}
-use Rattle.warc_checking.specs.Examining.{record_text}
+use Rattle.warc_checking.specs.Examining.{record_lines}
 use Rattle.warc_checking.specs.Noted.{found_in, is_late}
 use Rattle.warc_checking.proofs.noting.put_notes.Given as goal
 
@@ -9,6 +9,6 @@ use Rattle.warc_checking.proofs.noting.put_notes.Given as goal
 abbrev pub invariant-putting : goal.invariant-putting
 invariant-putting g l = record {
   staged : (start : Option (List ℕ)) (output : List ℕ) → IsStaged start output ((g.W.Sink.seen l.fn.out).tells) l.fn.buffer
-      → IsStaged start (output ++ record_text l.position (filter (is_late l.late) (map (found_in l.names) (take l.note-index l.notes)))) ((g.W.Sink.seen l.out).tells) l.buffer;
+      → IsStaged start (output ++ record_lines l.position (filter (is_late l.late) (map (found_in l.names) (take l.note-index l.notes)))) ((g.W.Sink.seen l.out).tells) l.buffer;
   sound : (g.W.Sink.seen l.out).faults ≡ (g.W.Sink.seen l.fn.out).faults;
 }
