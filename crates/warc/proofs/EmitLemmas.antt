@@ -14,9 +14,9 @@ use Rattle.warc_frame.specs.declared.send.SendFault.{SendFault}
 use Rattle.warc_frame.proofs.LawLemmas.{same_out, same_staged, staged_went_out, went_out_of_longer}
 use Rattle.warc.specs.Emitting.{Emits}
 use Rattle.warc.specs.Forms.{ReadsOnly}
-use Rattle.warc_checking.specs.Examining.{HasFailed, MayHaveFailed, halted}
-use Rattle.warc_checking.specs.declared.heads.Halt.{Halt}
-use Rattle.warc_checking.specs.declared.heads.Halt.TheVariants.{Read as NotRead, Memory as NoMemory}
+use Rattle.warc_checking.specs.Examining.{HasFailed, MayHaveFailed, ended_by}
+use Rattle.warc_checking.specs.declared.heads.RereadFault.{RereadFault}
+use Rattle.warc_checking.specs.declared.heads.RereadFault.TheVariants.{Read as NotRead, Memory as NoMemory}
 
 -- what the bytes of a source have to give
 abbrev pub Giving : Type 1
@@ -163,35 +163,35 @@ of_read {X} {x} kept sound = record {
 }
 
 -- an end before the text, for a head that isn't read again
-halted_may : (X : Type 0) (halt : Halt) (e : OutFault) (sent old new : ℕ) → e ≡ halted halt sent → MayHaveFailed halt old new → MayHaveFailedBy {X = X} (Err e) old new
-halted_may X NotRead e sent old new is may = let P : OutFault → Type 0 = λ f. MayHaveFailedBy {X = X} (Err f) old new in subst P (sym is) may
-halted_may X NoMemory e sent old new is may = let P : OutFault → Type 0 = λ f. MayHaveFailedBy {X = X} (Err f) old new in subst P (sym is) may
+ended_may : (X : Type 0) (fault : RereadFault) (e : OutFault) (sent old new : ℕ) → e ≡ ended_by fault sent → MayHaveFailed fault old new → MayHaveFailedBy {X = X} (Err e) old new
+ended_may X NotRead e sent old new is may = let P : OutFault → Type 0 = λ f. MayHaveFailedBy {X = X} (Err f) old new in subst P (sym is) may
+ended_may X NoMemory e sent old new is may = let P : OutFault → Type 0 = λ f. MayHaveFailedBy {X = X} (Err f) old new in subst P (sym is) may
 
-halted_has : (X : Type 0) (halt : Halt) (e : OutFault) (sent old new : ℕ) → e ≡ halted halt sent → HasFailed halt old new → HasFailedBy {X = X} (Err e) old new
-halted_has X NotRead e sent old new is has = let P : OutFault → Type 0 = λ f. HasFailedBy {X = X} (Err f) old new in subst P (sym is) has
-halted_has X NoMemory e sent old new is has = let P : OutFault → Type 0 = λ f. HasFailedBy {X = X} (Err f) old new in subst P (sym is) has
+ended_has : (X : Type 0) (fault : RereadFault) (e : OutFault) (sent old new : ℕ) → e ≡ ended_by fault sent → HasFailed fault old new → HasFailedBy {X = X} (Err e) old new
+ended_has X NotRead e sent old new is has = let P : OutFault → Type 0 = λ f. HasFailedBy {X = X} (Err f) old new in subst P (sym is) has
+ended_has X NoMemory e sent old new is has = let P : OutFault → Type 0 = λ f. HasFailedBy {X = X} (Err f) old new in subst P (sym is) has
 
-halted_sent : (halt : Halt) (e : OutFault) (sent : ℕ) → e ≡ halted halt sent → sent_of e ≡ sent
-halted_sent NotRead e sent is = ap sent_of is
-halted_sent NoMemory e sent is = ap sent_of is
+ended_sent : (fault : RereadFault) (e : OutFault) (sent : ℕ) → e ≡ ended_by fault sent → sent_of e ≡ sent
+ended_sent NotRead e sent is = ap sent_of is
+ended_sent NoMemory e sent is = ap sent_of is
 
-halted_sound : (X : Type 0) (halt : Halt) (e : OutFault) (sent n : ℕ) → e ≡ halted halt sent → n ≡ failed_by {X = X} (Err e) n
-halted_sound X NotRead e sent n is = ap (λ f. failed_by {X = X} (Err f) n) (sym is)
-halted_sound X NoMemory e sent n is = ap (λ f. failed_by {X = X} (Err f) n) (sym is)
+ended_sound : (X : Type 0) (fault : RereadFault) (e : OutFault) (sent n : ℕ) → e ≡ ended_by fault sent → n ≡ failed_by {X = X} (Err e) n
+ended_sound X NotRead e sent n is = ap (λ f. failed_by {X = X} (Err f) n) (sym is)
+ended_sound X NoMemory e sent n is = ap (λ f. failed_by {X = X} (Err f) n) (sym is)
 
-pub of_halt : {X : Type 0} {All : Giving} {from last : Tapped} {to : Seen} {waits : Staged} (halt : Halt) (e : OutFault) (sent : ℕ) → e ≡ halted halt sent → sent ≡ waits.sent
-    → last.holds ≡ from.holds → MayHaveFailed halt from.faults last.faults
-    → ((bytes text : List ℕ) → from.holds ≡ Some bytes → All bytes text → HasFailed halt from.faults last.faults)
+pub of_fault : {X : Type 0} {All : Giving} {from last : Tapped} {to : Seen} {waits : Staged} (fault : RereadFault) (e : OutFault) (sent : ℕ) → e ≡ ended_by fault sent → sent ≡ waits.sent
+    → last.holds ≡ from.holds → MayHaveFailed fault from.faults last.faults
+    → ((bytes text : List ℕ) → from.holds ≡ Some bytes → All bytes text → HasFailed fault from.faults last.faults)
     → Emits {X = X} All from last to to waits waits (Err e)
-of_halt {X} {All} {from} {last} {to} {waits} halt e sent is is_sent kept may failed = record {
+of_fault {X} {All} {from} {last} {to} {waits} fault e sent is is_sent kept may failed = record {
   out = λ bytes text held says start output is. tt;
   cut = λ bytes text held says start output staged.
       let out = went_out_of_longer start _ output text waits.sent (staged_went_out start _ output waits staged) in
-      (let P : ℕ → Type 0 = λ n. WentOut start (output ++ text) to.tells n in subst P (sym (halted_sent halt e sent is ∙ is_sent)) out);
-  cause = halted_sound X halt e sent to.faults is;
+      (let P : ℕ → Type 0 = λ n. WentOut start (output ++ text) to.tells n in subst P (sym (ended_sent fault e sent is ∙ is_sent)) out);
+  cause = ended_sound X fault e sent to.faults is;
   kept = kept;
-  may = halted_may X halt e sent from.faults last.faults is may;
-  failed = λ bytes text held says. halted_has X halt e sent from.faults last.faults is (failed bytes text held says);
+  may = ended_may X fault e sent from.faults last.faults is may;
+  failed = λ bytes text held says. ended_has X fault e sent from.faults last.faults is (failed bytes text held says);
 }
 
 -- ---- which offsets are asked for, and how often

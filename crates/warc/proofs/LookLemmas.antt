@@ -31,9 +31,9 @@ use Rattle.warc_answer.specs.declared.answer.ReplayFault.{ReplayFault}
 use Rattle.warc_answer.specs.declared.answer.ReplayFault.TheVariants.{Reason, Out}
 use Rattle.warc_answer.specs.declared.stored.Stored.{Stored}
 use Rattle.warc_answer.proofs.GiveLemmas.{places_lie, places_text}
-use Rattle.warc_checking.specs.Examining.{halted}
-use Rattle.warc_checking.specs.declared.heads.Halt.{Halt}
-use Rattle.warc_checking.specs.declared.heads.Halt.TheVariants.{Read, Memory}
+use Rattle.warc_checking.specs.Examining.{ended_by}
+use Rattle.warc_checking.specs.declared.heads.RereadFault.{RereadFault}
+use Rattle.warc_checking.specs.declared.heads.RereadFault.TheVariants.{Read, Memory}
 use Rattle.warc_reading.specs.Archive.{IsArchiveOf, contents}
 use Rattle.warc_reading.specs.Indexed.{AreOf, placed_record}
 use Rattle.warc_reading.specs.Row.{Placed, Row}
@@ -116,9 +116,9 @@ early_sound (Out (outs.Read sent)) n is = refl
 early_sound (Out (outs.Write sent)) n is = absurd is
 early_sound (Out (outs.Memory sent)) n is = refl
 
-pub halted_early : (halt : Halt) → IsEarly (Out (halted halt 0))
-halted_early Read = refl
-halted_early Memory = refl
+pub ended_early : (fault : RereadFault) → IsEarly (Out (ended_by fault 0))
+ended_early Read = refl
+ended_early Memory = refl
 
 -- ---- by a position
 

@@ -29,11 +29,11 @@ use Rattle.warc_reading.specs.Archive.{SpellsFrom, contents}
 use Rattle.warc_checking.specs.Heads.{IsInHead, ReadsHeads, heads_len}
 use Rattle.warc_reading.specs.Indexed.{indexed_record, place_of, placed_record}
 use Rattle.warc.specs.Replaying.{IsJoined, IsOfOrigin, IsOnPath, joined_len, origin_reads, path_reads}
-use Rattle.warc_checking.specs.Examining.{HasFailed, MayHaveFailed, halted}
+use Rattle.warc_checking.specs.Examining.{HasFailed, MayHaveFailed, ended_by}
 use Rattle.warc_reading.specs.Row.{Placed, Row, row_of}
 use Rattle.warc.specs.Standing.{IsOrigin, IsWritten}
-use Rattle.warc_checking.specs.declared.heads.Halt.{Halt}
-use Rattle.warc_checking.specs.declared.heads.Halt.TheVariants.{Read, Memory}
+use Rattle.warc_checking.specs.declared.heads.RereadFault.{RereadFault}
+use Rattle.warc_checking.specs.declared.heads.RereadFault.TheVariants.{Read, Memory}
 use Rattle.warc_checking.proofs.ReadLemmas.{one_row}
 use Rattle.warc.proofs.StandLemmas.{written}
 
@@ -109,17 +109,17 @@ pub place_by_row : (p : Placed) (row : Row) → row ≡ row_of p → ◌≡◌ {
 place_by_row p row same = ap (λ (r : Row). let x : Place = record { start = r.block_start; len = r.block_len; verdict = r.verdict; truncated = r.is_truncated } in x) same
 
 -- a head that isn't read again, as the end of an output
-pub halted_sent : (halt : Halt) → sent_of (halted halt 0) ≡ 0
-halted_sent Read = refl
-halted_sent Memory = refl
+pub ended_sent : (fault : RereadFault) → sent_of (ended_by fault 0) ≡ 0
+ended_sent Read = refl
+ended_sent Memory = refl
 
-pub halted_failed : (halt : Halt) (old new : ℕ) → HasFailed halt old new → HasFailedBy {X = Unit {0}} (Err (halted halt 0)) old new
-halted_failed Read old new is = is
-halted_failed Memory old new is = is
+pub ended_failed : (fault : RereadFault) (old new : ℕ) → HasFailed fault old new → HasFailedBy {X = Unit {0}} (Err (ended_by fault 0)) old new
+ended_failed Read old new is = is
+ended_failed Memory old new is = is
 
-pub halted_may : (halt : Halt) (old new : ℕ) → MayHaveFailed halt old new → MayHaveFailedBy {X = Unit {0}} (Err (halted halt 0)) old new
-halted_may Read old new is = is
-halted_may Memory old new is = is
+pub ended_may : (fault : RereadFault) (old new : ℕ) → MayHaveFailed fault old new → MayHaveFailedBy {X = Unit {0}} (Err (ended_by fault 0)) old new
+ended_may Read old new is = is
+ended_may Memory old new is = is
 
 -- the reads of a head, and of what is joined
 pub row_reads : (p : Placed) (row : Row) (old mid new n : ℕ) → row ≡ row_of p → mid ≤ old + heads_len (row ∷ []) → new ≤ mid + 2 * n → new ≤ old + (p.block_start - p.offset + 2 * n)

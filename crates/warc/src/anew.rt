@@ -44,7 +44,7 @@ fn put_record<S: Source, A: Allocator + Copy, W: Sink>(
 {
     let head = match reread_head(alloc, source, row, scratch) {
         Ok(head) => head,
-        Err(halt) => return Err(halt.after(buffer.sent())),
+        Err(fault) => return Err(fault.after(buffer.sent())),
     };
     match manner {
         Manner::As(form) => put_as(alloc, form, row, head, source, scratch, buffer, out),

@@ -10,7 +10,7 @@ ghost use Rattle.warc.specs.Taking.{take_result};
 
 use crate::fault::TakeFault;
 use std::alloc::Allocator;
-use warc_checking::{Halt, head_buffer, reread_head};
+use warc_checking::{RereadFault, head_buffer, reread_head};
 use warc_frame::{Head, Source};
 use warc_reading::Row;
 
@@ -40,7 +40,7 @@ pub(crate) fn take_head<S: Source, A: Allocator + Copy>(
             len: (row.block_start - row.offset) as usize,
             block_len: row.block_len,
         }),
-        Err(Halt::Read) => Err(TakeFault::Read),
-        Err(Halt::Memory) => Err(TakeFault::Memory),
+        Err(RereadFault::Read) => Err(TakeFault::Read),
+        Err(RereadFault::Memory) => Err(TakeFault::Memory),
     }
 }

@@ -85,7 +85,7 @@ fn locate_row<S: Source, A: Allocator + Copy>(
     fails_before_all();
     let origin = match read_again(alloc, source, row, buf) {
         Ok(origin) => origin,
-        Err(halt) => return Err(ReplayFault::Out(halt.after(0))),
+        Err(fault) => return Err(ReplayFault::Out(fault.after(0))),
     };
     let place = Place {
         start: row.block_start,

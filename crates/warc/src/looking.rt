@@ -97,7 +97,7 @@ fn look_row<S: Source, A: Allocator + Copy>(
 {
     let origin = match read_again(alloc, source, row, buf) {
         Ok(origin) => origin,
-        Err(halt) => return Err(ReplayFault::Out(halt.after(0))),
+        Err(fault) => return Err(ReplayFault::Out(fault.after(0))),
     };
     let place = Place {
         start: row.block_start,

@@ -150,7 +150,7 @@ fn replay_row<S: Source, W: Sink, A: Allocator + Copy>(
     fails_before_all();
     let origin = match read_again(alloc, source, row, buf) {
         Ok(origin) => origin,
-        Err(halt) => return Err(ReplayFault::Out(halt.after(0))),
+        Err(fault) => return Err(ReplayFault::Out(fault.after(0))),
     };
     let place = Place {
         start: row.block_start,

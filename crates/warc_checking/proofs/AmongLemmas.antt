@@ -7,7 +7,7 @@ use Rattle.warc_field.specs.Area.{Pair}
 use Rattle.warc_record.specs.Readings.{Reading, reading_of}
 use Rattle.warc_record.specs.Table.{Rule}
 use Rattle.warc_record.specs.Findings.{Found, Digest, SegmentNumber, IdUsed, NoContentType, Profile, NotUtf8, BareId, NoOrigin, Absent, Forbidden, Repeated, findings_by, findings_of, once}
-use Rattle.warc_checking.specs.Noted.{is_late, with_used}
+use Rattle.warc_checking.specs.OwnFindings.{is_late, with_used}
 
 all_told : {X : Type 0} (test : Found → Bool) (f : X → Found) (xs : List X) → ((x : X) → test (f x) ≡ true) → filter test (map f xs) ≡ map f xs
 all_told test f [] is = refl

@@ -7,7 +7,7 @@ use Rattle.warc_frame.specs.Seen.{Seen}
 use Rattle.warc_frame.specs.declared.fault.OutFault.{OutFault}
 use Rattle.warc_reading.specs.Archive.{contents}
 use Rattle.warc_checking.specs.Checking.{check_text, findings_of_archive, findings_of_records, line_text, no_records}
-use Rattle.warc_checking.specs.Examining.{AreCheckable, PutsCheck, PutsFound, PutsLines, records_text}
+use Rattle.warc_checking.specs.Examining.{AreCheckable, PutsCheck, PutsFindingsOf, PutsLines, records_text}
 use Rattle.warc_reading.specs.Row.{Placed, Row, row_of}
 
 none_line : line_text no_records ≡ codes "- N12\n"
@@ -59,7 +59,7 @@ puts_none {old} {new} {waits} {waiting} {answer} bytes records rows can none put
 
 -- the lines of findings are what it tells of some
 pub puts_some : {old new : Seen} {waits waiting : Staged} {answer : Result ℕ OutFault} (bytes : List ℕ) (records : List Placed) (rows : List Row)
-    → AreCheckable bytes records rows → 0 < length rows → PutsFound (contents records) old new waits waiting answer
+    → AreCheckable bytes records rows → 0 < length rows → PutsFindingsOf (contents records) old new waits waiting answer
     → PutsCheck (contents records) old new waits waiting answer
 puts_some {old} {new} {waits} {waiting} {answer} bytes records rows can some puts =
     let P : List ℕ → ℕ → Type 0 = λ text count. PutsLines text count old new waits waiting answer in

@@ -7,8 +7,8 @@ use Rattle.warc_checking.specs.Heads.{IsHeadBy}
 use Rattle.warc_field.specs.Area.{Pair}
 use Rattle.warc_frame.specs.declared.version.Version.{Version}
 use Rattle.warc_reading.specs.Row.{Placed, Row, row_of}
-use Rattle.warc_checking.specs.declared.heads.Halt.{Halt}
-use Rattle.warc_checking.specs.declared.heads.Halt.TheVariants.{Memory}
+use Rattle.warc_checking.specs.declared.heads.RereadFault.{RereadFault}
+use Rattle.warc_checking.specs.declared.heads.RereadFault.TheVariants.{Memory}
 
 -- how long the head is, by the row
 pub len_by_row : (bytes : List ℕ) (p : Placed) (row : Row) (has : HasHead bytes p) → row ≡ row_of p → row.block_start ≡ row.offset + has.len
@@ -38,13 +38,13 @@ pub of_ok : {X E : Type 0} (r : Result X E) {P : Type 0} → is_ok r ≡ true �
 of_ok (Ok x) is p = p
 of_ok (Err e) is p = absurd (true≢false (sym is))
 
-pub read_or_memory : {X : Type 0} (r : Result X Halt) (P : X → Type 0) → MatchResult r P (λ halt. halt ≡ Memory) → IfOk r P
+pub read_or_memory : {X : Type 0} (r : Result X RereadFault) (P : X → Type 0) → MatchResult r P (λ fault. fault ≡ Memory) → IfOk r P
 read_or_memory (Ok x) P is = is
 read_or_memory (Err e) P is = tt
 
 -- want of memory isn't a failure of the source
-pub only_memory : {X : Type 0} (r : Result X Halt) (P : X → Type 0) (old new : ℕ) → MatchResult r P (λ halt. halt ≡ Memory) → new ≡ old
-    → IfErr r (λ halt. HasFailed halt old new)
+pub only_memory : {X : Type 0} (r : Result X RereadFault) (P : X → Type 0) (old new : ℕ) → MatchResult r P (λ fault. fault ≡ Memory) → new ≡ old
+    → IfErr r (λ fault. HasFailed fault old new)
 only_memory (Ok x) P old new is same = tt
 only_memory (Err e) P old new is same = rw is same
 

@@ -3,9 +3,9 @@ pub mod ArchiveTextLemmas
 pub mod CheckLemmas
 pub mod CountLemmas
 pub mod HeadLemmas
-pub mod MetLemmas
+pub mod UsedIdLemmas
 pub mod NextLemmas
-pub mod NotingLemmas
+pub mod OwnFindingLemmas
 pub mod PlaceLemmas
 pub mod ReadLemmas
 pub mod RecordsLemmas

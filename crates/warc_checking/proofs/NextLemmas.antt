@@ -14,9 +14,9 @@ use Rattle.warc_record.specs.Ids.{id_key}
 use Rattle.warc_record.specs.declared.checks.ArchiveFacts.{ArchiveFacts}
 use Rattle.warc_checking.specs.Checking.{findings_behind, is_used, record_key}
 use Rattle.warc_checking.specs.Examining.{findings_of_first, first_text, record_lines}
-use Rattle.warc_checking.specs.Found.{IsJudgedOf, Judged, own_findings}
-use Rattle.warc_checking.specs.Noted.{AreNoted, IsDue, found_at, with_used}
-use Rattle.warc_checking.specs.Used.{HasMet, Ids, IsTally}
+use Rattle.warc_checking.specs.Judged.{IsJudgedOf, Judged, own_findings}
+use Rattle.warc_checking.specs.OwnFindings.{AreJudged, IsDue, found_at, with_used}
+use Rattle.warc_checking.specs.UsedIds.{HoldsIdsOf, Ids, IsTally}
 use Rattle.warc_checking.proofs.AmongLemmas.{used_among, used_count}
 use Rattle.warc_checking.proofs.CheckLemmas.{key_by_row}
 use Rattle.warc_checking.proofs.PlaceLemmas.{HeadsAreRead, checkable_archive}
@@ -27,25 +27,25 @@ found_there : (records : List Placed) (i : ℕ) (p : Placed) → slice_get recor
 found_there records i p at =
     ap (λ o. unwrap_or o []) (slice_get-map own_findings (contents records) i ∙ ap (option_map own_findings) (content_at records i p at))
 
--- the record at a place, where the ids of those before it were met
-pub next_at : (bytes : List ℕ) (records : List Placed) (rows : List Row) (found : List (List Found)) (i : ℕ) (row : Row) (met : Ids) → GoodHeadsRead → AreNoted bytes records rows found
-    → IsTally (length rows) rows met.counts → slice_get rows i ≡ Some row → HasMet (take i (contents records)) met
-    → (p : Placed) × (slice_get records i ≡ Some p) × IsDue (take i (contents records)) p row (found_at found i) met
-next_at bytes records rows found i row met law noted tally is has =
-    let (p, at, row_is, head) = record_at bytes records rows i row noted.can is in (
+-- the record at a place, where the ids of those before it are held
+pub next_at : (bytes : List ℕ) (records : List Placed) (rows : List Row) (found : List (List Found)) (i : ℕ) (row : Row) (ids : Ids) → GoodHeadsRead → AreJudged bytes records rows found
+    → IsTally (length rows) rows ids.counts → slice_get rows i ≡ Some row → HoldsIdsOf (take i (contents records)) ids
+    → (p : Placed) × (slice_get records i ≡ Some p) × IsDue (take i (contents records)) p row (found_at found i) ids
+next_at bytes records rows found i row ids law findings tally is has =
+    let (p, at, row_is, head) = record_at bytes records rows i row findings.can is in (
       p,
       at,
       record {
         row_is = row_is;
         good = head.good;
-        found_is = ap (λ l. found_at l i) noted.found_is ∙ found_there records i p at;
+        found_is = ap (λ l. found_at l i) findings.found_is ∙ found_there records i p at;
         has = has;
-        lone = alone bytes records rows i row met law noted.can tally is;
+        lone = alone bytes records rows i row ids law findings.can tally is;
       },
     )
 
 -- the findings of the next record, whose id is used or isn't
-module _ (law : GoodHeadsRead) (before : List Record) (p : Placed) (row : Row) (found : List Found) (met : Ids) (next : IsDue before p row found met) (used : Bool)
+module _ (law : GoodHeadsRead) (before : List Record) (p : Placed) (row : Row) (found : List Found) (ids : Ids) (next : IsDue before p row found ids) (used : Bool)
     (is : used ≡ is_used before (id_key row.id)) where
   used_is : used ≡ is_used before (record_key p.content)
   used_is = is ∙ ap (is_used before) (sym (key_by_row p row next.row_is (law p.content.fields next.good)))
@@ -83,7 +83,7 @@ next_number records i p at =
     ∙ number_more records i p p.content.fields (length p.content.block) (facts_of before p.content) at (record { fields_are = refl; bad_digest = refl; used_id = refl }) refl
 
 -- what is kept of an archive, whatever it is called
-pub noted_by : {S : Type 0} → HeadsAreRead → (bytes : List ℕ) (judged : Judged S) (is : IsJudgedOf bytes judged) (rows : List Row) (found : List (List Found)) → rows ≡ judged.listing.rows → found ≡ judged.found
-    → AreNoted bytes is.listed.are.records rows found
-noted_by law bytes judged is rows found same also =
+pub judged_by : {S : Type 0} → HeadsAreRead → (bytes : List ℕ) (judged : Judged S) (is : IsJudgedOf bytes judged) (rows : List Row) (found : List (List Found)) → rows ≡ judged.listing.rows → found ≡ judged.findings
+    → AreJudged bytes is.listed.are.records rows found
+judged_by law bytes judged is rows found same also =
     record { can = checkable_archive law bytes judged.listing.rows is.listed rows same; found_is = also ∙ is.found_is }

@@ -13,12 +13,12 @@ use Rattle.warc_frame.specs.Record.{Record}
 use Rattle.warc_record.specs.declared.checks.ArchiveFacts.{ArchiveFacts}
 use Rattle.warc_reading.specs.Archive.{contents}
 use Rattle.warc_checking.specs.Checking.{Line, findings_at, findings_behind, findings_of_records, line_text}
-use Rattle.warc_checking.specs.Examining.{AreCheckable, HasFailed, HasHead, IsExamined, findings_of_first, first_text, found_by, halted, record_lines, records_text}
+use Rattle.warc_checking.specs.Examining.{AreCheckable, HasFailed, HasHead, IsExamined, findings_of_first, first_text, findings_by_facts, ended_by, record_lines, records_text}
 use Rattle.warc_frame.specs.Failing.{HasFailedBy, MayHaveFailedBy, is_read}
-use Rattle.warc_checking.specs.declared.heads.Halt.{Halt}
-use Rattle.warc_checking.specs.declared.heads.Halt.TheVariants.{Read, Memory}
+use Rattle.warc_checking.specs.declared.heads.RereadFault.{RereadFault}
+use Rattle.warc_checking.specs.declared.heads.RereadFault.TheVariants.{Read, Memory}
 use Rattle.warc_reading.specs.Row.{Placed, Row, row_of}
-use Rattle.warc_checking.specs.Used.{HasMet, Ids}
+use Rattle.warc_checking.specs.UsedIds.{HoldsIdsOf, Ids}
 
 -- the record of a row
 pub placed : (records : List Placed) (i : ℕ) (row : Row) → slice_get (map row_of records) i ≡ Some row → (p : Placed) × (slice_get records i ≡ Some p) × (row ≡ row_of p)
@@ -69,17 +69,17 @@ first_more rs i r is =
 
 -- what was found of an examined record
 found_is : (before : List Record) (r : Record) (fields : List Pair) (block_len : ℕ) (facts : ArchiveFacts) → IsExamined before r fields facts → block_len ≡ length r.block
-    → found_by fields block_len facts ≡ findings_behind before r
+    → findings_by_facts fields block_len facts ≡ findings_behind before r
 found_is before r fields block_len facts is len = rw (is.fields_are, len, is.bad_digest, is.used_id) refl
 
 pub text_more : (records : List Placed) (i : ℕ) (p : Placed) (fields : List Pair) (block_len : ℕ) (facts : ArchiveFacts) (output : List ℕ) → slice_get records i ≡ Some p
     → IsExamined (take i (contents records)) p.content fields facts → block_len ≡ length p.content.block
-    → (output ++ first_text i (contents records)) ++ record_lines i (found_by fields block_len facts) ≡ output ++ first_text (i + 1) (contents records)
+    → (output ++ first_text i (contents records)) ++ record_lines i (findings_by_facts fields block_len facts) ≡ output ++ first_text (i + 1) (contents records)
 text_more records i p fields block_len facts output at is len =
     let rs = contents records in
     let found = found_is (take i rs) p.content fields block_len facts is len in
     let more = ap (flat_map line_text) (first_more rs i p.content (content_at records i p at)) ∙ flat_map-append line_text (findings_of_first i rs) (findings_at rs i p.content) in
-    append_assoc output (first_text i rs) (record_lines i (found_by fields block_len facts))
+    append_assoc output (first_text i rs) (record_lines i (findings_by_facts fields block_len facts))
     ∙ ap (λ l. output ++ l) (ap (λ l. first_text i rs ++ record_lines i l) found ∙ sym more)
 
 saturated : (a b m : ℕ) → min (min a m + b) m ≡ min (a + b) m
@@ -87,20 +87,20 @@ saturated a b m = omega arith
 
 pub number_more : (records : List Placed) (i : ℕ) (p : Placed) (fields : List Pair) (block_len : ℕ) (facts : ArchiveFacts) → slice_get records i ≡ Some p
     → IsExamined (take i (contents records)) p.content fields facts → block_len ≡ length p.content.block
-    → capped (capped (length (findings_of_first i (contents records))) + length (found_by fields block_len facts)) ≡ capped (length (findings_of_first (i + 1) (contents records)))
+    → capped (capped (length (findings_of_first i (contents records))) + length (findings_by_facts fields block_len facts)) ≡ capped (length (findings_of_first (i + 1) (contents records)))
 number_more records i p fields block_len facts at is len =
     let rs = contents records in
     let found = found_is (take i rs) p.content fields block_len facts is len in
-    let size : length (findings_at rs i p.content) ≡ length (found_by fields block_len facts) = length-map (findings_behind (take i rs) p.content) _ ∙ ap length (sym found) in
-    let more : length (findings_of_first (i + 1) rs) ≡ length (findings_of_first i rs) + length (found_by fields block_len facts) =
+    let size : length (findings_at rs i p.content) ≡ length (findings_by_facts fields block_len facts) = length-map (findings_behind (take i rs) p.content) _ ∙ ap length (sym found) in
+    let more : length (findings_of_first (i + 1) rs) ≡ length (findings_of_first i rs) + length (findings_by_facts fields block_len facts) =
     ap length (first_more rs i p.content (content_at records i p at)) ∙ length-append (findings_of_first i rs) (findings_at rs i p.content) ∙ ap (λ n. length (findings_of_first i rs) + n) size in
-    saturated (length (findings_of_first i rs)) (length (found_by fields block_len facts)) (2 ^ 64 - 1) ∙ ap capped (sym more)
+    saturated (length (findings_of_first i rs)) (length (findings_by_facts fields block_len facts)) (2 ^ 64 - 1) ∙ ap capped (sym more)
 
 -- the ids of one more record
-pub met_one : (records : List Placed) (i : ℕ) (p : Placed) (met : Ids) → slice_get records i ≡ Some p → HasMet (take i (contents records) ++ p.content ∷ []) met
-    → HasMet (take (i + 1) (contents records)) met
-met_one records i p met at has =
-    let P : List Record → Type 0 = λ rs. HasMet rs met in
+pub ids_one : (records : List Placed) (i : ℕ) (p : Placed) (ids : Ids) → slice_get records i ≡ Some p → HoldsIdsOf (take i (contents records) ++ p.content ∷ []) ids
+    → HoldsIdsOf (take (i + 1) (contents records)) ids
+ids_one records i p ids at has =
+    let P : List Record → Type 0 = λ rs. HoldsIdsOf rs ids in
     subst P (sym (take_one (contents records) i p.content (content_at records i p at))) has
 
 -- the lines of the others
@@ -125,13 +125,13 @@ first_all bytes records rows n can past =
     ap (λ l. flat_map (λ p. findings_at (contents records) p.0 p.1) (enumerate_from 0 l)) (take_all n (contents records) size)
 
 -- an output that ends at a record, after so many bytes
-pub sent_halted : (halt : Halt) (e : OutFault) (n m : ℕ) → e ≡ halted halt n → n ≡ m → m ≡ sent_of e
-sent_halted Read e n m is same = sym (ap sent_of is ∙ same)
-sent_halted Memory e n m is same = sym (ap sent_of is ∙ same)
+pub sent_ended : (fault : RereadFault) (e : OutFault) (n m : ℕ) → e ≡ ended_by fault n → n ≡ m → m ≡ sent_of e
+sent_ended Read e n m is same = sym (ap sent_of is ∙ same)
+sent_ended Memory e n m is same = sym (ap sent_of is ∙ same)
 
-pub failed_halted : (X : Type 0) (halt : Halt) (e : OutFault) (n old before new : ℕ) → e ≡ halted halt n → before ≡ old → HasFailed halt before new → HasFailedBy {X = X} (Err e) old new
-failed_halted X Read e n old before new is same has = let P : OutFault → Type 0 = λ f. HasFailedBy {X = X} (Err f) old new in subst P (sym is) (has ∙ ap raised same)
-failed_halted X Memory e n old before new is same has = let P : OutFault → Type 0 = λ f. HasFailedBy {X = X} (Err f) old new in subst P (sym is) (has ∙ same)
+pub failed_ended : (X : Type 0) (fault : RereadFault) (e : OutFault) (n old before new : ℕ) → e ≡ ended_by fault n → before ≡ old → HasFailed fault before new → HasFailedBy {X = X} (Err e) old new
+failed_ended X Read e n old before new is same has = let P : OutFault → Type 0 = λ f. HasFailedBy {X = X} (Err f) old new in subst P (sym is) (has ∙ ap raised same)
+failed_ended X Memory e n old before new is same has = let P : OutFault → Type 0 = λ f. HasFailedBy {X = X} (Err f) old new in subst P (sym is) (has ∙ same)
 
 -- an output that ended by no read over a source that hasn't failed
 -- the source has failed as often as before by an end that tells no read

@@ -13,9 +13,9 @@ use Rattle.warc_reading.specs.Archive.{contents}
 use Rattle.warc_checking.specs.Checking.{is_used, record_key}
 use Rattle.warc_checking.specs.Examining.{AreCheckable}
 use Rattle.warc_reading.specs.Row.{Placed, Row, row_of}
-use Rattle.warc_checking.specs.Used.{HasMet, Ids, IsAlone, IsTally, level}
+use Rattle.warc_checking.specs.UsedIds.{HoldsIdsOf, Ids, IsAlone, IsTally, level}
 use Rattle.warc_checking.proofs.CheckLemmas.{key_by_row}
-use Rattle.warc_checking.proofs.MetLemmas.{or_nothing, used_more}
+use Rattle.warc_checking.proofs.UsedIdLemmas.{or_nothing, used_more}
 
 below_or_at : (i n : ℕ) → i < n + 1 → (i < n) ⊎ (i ≡ n)
 below_or_at zero zero lt = inr refl
@@ -77,23 +77,23 @@ placed_at (p ∷ ps) zero r is = (p, refl, cc is, refl)
 placed_at (p ∷ ps) (suc j) r is = placed_at ps j r is
 
 -- an id that is alone in its bucket stands in no record before
-pub alone : (bytes : List ℕ) (records : List Placed) (rows : List Row) (i : ℕ) (row : Row) (met : Ids) → GoodHeadsRead → AreCheckable bytes records rows
-    → IsTally (length rows) rows met.counts → slice_get rows i ≡ Some row → IsAlone (take i (contents records)) met (id_key row.id)
-alone bytes records rows i row met law can tally row_is = λ key key_is low.
+pub alone : (bytes : List ℕ) (records : List Placed) (rows : List Row) (i : ℕ) (row : Row) (ids : Ids) → GoodHeadsRead → AreCheckable bytes records rows
+    → IsTally (length rows) rows ids.counts → slice_get rows i ≡ Some row → IsAlone (take i (contents records)) ids (id_key row.id)
+alone bytes records rows i row ids law can tally row_is = λ key key_is low.
     none_used (take i (contents records)) key (λ j r at r_key.
     let (lt, content) = taken (contents records) i j r at in
     let (p, p_is, same, of_p) = placed_at records j r content in
     let by_row : record_key p.content ≡ id_key (row_of p).id = key_by_row p (row_of p) refl (law p.content.fields (can.heads j p p_is).good) in
     let p_key : id_key (row_of p).id ≡ Some key = sym by_row ∙ ap record_key same ∙ r_key in
     let at_row : slice_get rows j ≡ Some (row_of p) = ap (λ l. slice_get l j) can.rows_are ∙ of_p in
-    let shared : 1 < level met.counts key = tally.twice j i (row_of p) row key lt (slice_get_within rows i row row_is) at_row row_is p_key key_is in
+    let shared : 1 < level ids.counts key = tally.twice j i (row_of p) row key lt (slice_get_within rows i row row_is) at_row row_is p_key key_is in
     absurd (omega (arith, shared, low)))
 
 -- a record whose id is alone in its bucket adds no key
-pub met_alone : (before : List Record) (r : Record) (key : List ℕ) (met : Ids) → HasMet before met → record_key r ≡ Some key → level met.counts key ≤ 1
-    → HasMet (before ++ r ∷ []) met
-met_alone before r key met has key_is low = λ q shared.
-    let other : record_key r ≡ Some q → ⊥ = λ is. let same : key ≡ q = cc in absurd (omega (arith, shared, ap (level met.counts) same, low)) in
+pub ids_alone : (before : List Record) (r : Record) (key : List ℕ) (ids : Ids) → HoldsIdsOf before ids → record_key r ≡ Some key → level ids.counts key ≤ 1
+    → HoldsIdsOf (before ++ r ∷ []) ids
+ids_alone before r key ids has key_is low = λ q shared.
+    let other : record_key r ≡ Some q → ⊥ = λ is. let same : key ≡ q = cc in absurd (omega (arith, shared, ap (level ids.counts) same, low)) in
     has q shared ∙ or_nothing (is_used before (Some q)) ∙ ap (λ b. is_used before (Some q) || (b || false)) (sym (other_key (record_key r) q other))
     ∙ sym (used_more before r (Some q))
 

@@ -11,7 +11,7 @@ use Rattle.warc_record.specs.Texts.{is_same_text}
 -- a finding, and the position of the record that it is about, if it is about one
 pub record Line : Type 0 where
   pub position : Option ℕ
-  pub found : Found
+  pub finding : Found
 
 -- the key of a record's id
 abbrev pub record_key : Record → Option (List ℕ)
@@ -26,7 +26,7 @@ abbrev pub findings_behind : List Record → Record → List Found
 findings_behind before r = findings_of r.fields (length r.block) (has_bad_digest r) (is_used before (record_key r))
 
 abbrev pub about_record : ℕ → Found → Line
-about_record position found = record { position = Some position; found = found }
+about_record position found = record { position = Some position; finding = found }
 
 -- the findings of the record at a position
 abbrev pub findings_at : List Record → ℕ → Record → List Line
@@ -38,7 +38,7 @@ findings_of_records records = flat_map (λ p. findings_at records p.0 p.1) (enum
 
 -- the finding where there is no record: N12
 abbrev pub no_records : Line
-no_records = record { position = None; found = Empty }
+no_records = record { position = None; finding = Empty }
 
 -- the findings of an archive of these records
 abbrev pub findings_of_archive : List Record → List Line
@@ -61,7 +61,7 @@ numbered_line position number field = position ++ codes " N" ++ decimal number +
 
 -- a finding's line
 unfoldable pub line_text : Line → List ℕ
-line_text l = numbered_line (position_text l.position) (finding_number l.found) (field_text (finding_field l.found))
+line_text l = numbered_line (position_text l.position) (finding_number l.finding) (field_text (finding_field l.finding))
 
 -- all lines
 unfoldable pub check_text : List Record → List ℕ

@@ -42,7 +42,7 @@ pub record Checks (rows : List Row) (old new : Tapped) (before after : Seen) (an
 
 -- telling what was found of records as they were read: a line is written for each finding, and counted, or a front of
 -- the lines is
-pub record TellsFound (records : List Record) (before after : Seen) (answer : Result ℕ OutFault) : Type 0 where
+pub record WritesFindings (records : List Record) (before after : Seen) (answer : Result ℕ OutFault) : Type 0 where
   pub told : AreTold records answer before after
   pub number : AreCounted records answer
   pub cut : AreCutOff records answer before after

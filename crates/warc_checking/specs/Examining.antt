@@ -19,8 +19,8 @@ use Rattle.warc_record.specs.declared.checks.ArchiveFacts.{ArchiveFacts}
 use Rattle.warc_field.specs.Area.{Pair}
 use Rattle.warc_reading.specs.Row.{Placed, Row, row_of}
 use Rattle.warc_checking.specs.Checking.{Line, about_record, check_text, findings_at, findings_of_archive, findings_of_records, is_used, record_key, line_text}
-use Rattle.warc_checking.specs.declared.heads.Halt.{Halt}
-use Rattle.warc_checking.specs.declared.heads.Halt.TheVariants.{Read, Memory}
+use Rattle.warc_checking.specs.declared.heads.RereadFault.{RereadFault}
+use Rattle.warc_checking.specs.declared.heads.RereadFault.TheVariants.{Read, Memory}
 
 -- the record's head stands among the bytes where its place says, and it is good
 pub record HasHead (bytes : List ℕ) (p : Placed) : Type 0 where
@@ -44,12 +44,12 @@ pub record IsHeadReadOf {A : Type 0} (r : Record) (h : Head A) : Type 0 where
 
 -- how often a source has failed after a call: once more, or else the call isn't told apart from a source that
 -- gives too little
-abbrev pub MayHaveFailed : Halt → ℕ → ℕ → Type 0
+abbrev pub MayHaveFailed : RereadFault → ℕ → ℕ → Type 0
 MayHaveFailed Read old new = (new ≡ old) ⊎ (new ≡ raised old)
 MayHaveFailed Memory old new = new ≡ old
 
 -- how often a source that holds bytes has failed after a call
-abbrev pub HasFailed : Halt → ℕ → ℕ → Type 0
+abbrev pub HasFailed : RereadFault → ℕ → ℕ → Type 0
 HasFailed Read old new = new ≡ raised old
 HasFailed Memory old new = new ≡ old
 
@@ -64,8 +64,8 @@ pub record IsExamined (before : List Record) (r : Record) (fields : List Pair) (
   pub used_id : facts.used_id ≡ is_used before (record_key r)
 
 -- the findings of a record of these fields, by the length of its block and what the archive tells of it
-abbrev pub found_by : List Pair → ℕ → ArchiveFacts → List Found
-found_by fields block_len facts = findings_of fields block_len facts.bad_digest facts.used_id
+abbrev pub findings_by_facts : List Pair → ℕ → ArchiveFacts → List Found
+findings_by_facts fields block_len facts = findings_of fields block_len facts.bad_digest facts.used_id
 
 -- the lines of the findings of the record at a position
 abbrev pub record_lines : ℕ → List Found → List ℕ
@@ -88,14 +88,14 @@ pub record AreCheckable (bytes : List ℕ) (records : List Placed) (rows : List 
   pub rows_are : rows ≡ map row_of records
 
 -- an output that ends so, after so many bytes
-abbrev pub halted : Halt → ℕ → OutFault
-halted Read sent = ReadFailed sent
-halted Memory sent = OutOfMemory sent
+abbrev pub ended_by : RereadFault → ℕ → OutFault
+ended_by Read sent = ReadFailed sent
+ended_by Memory sent = OutOfMemory sent
 
 -- why a head isn't read again, from what reading it answered
-abbrev pub halt_of : FaultKind → Halt
-halt_of NoMemory = Memory
-halt_of kind = Read
+abbrev pub reread_fault_of : FaultKind → RereadFault
+reread_fault_of NoMemory = Memory
+reread_fault_of kind = Read
 
 -- lines are put behind what waits for an output, and counted, up to 2^64 - 1: they wait or went out behind it, or a
 -- front of it all went out
@@ -108,8 +108,8 @@ pub record PutsLines (text : List ℕ) (count : ℕ) (old new : Seen) (waits wai
   pub number : IfOk answer (λ n. n ≡ capped count)
 
 -- the lines of the findings of records, and how many they are
-abbrev pub PutsFound : List Record → Seen → Seen → Staged → Staged → Result ℕ OutFault → Type 0
-PutsFound records old new waits waiting answer =
+abbrev pub PutsFindingsOf : List Record → Seen → Seen → Staged → Staged → Result ℕ OutFault → Type 0
+PutsFindingsOf records old new waits waiting answer =
     PutsLines (records_text records) (length (findings_of_records records)) old new waits waiting answer
 
 -- the same, or the line that there is no record

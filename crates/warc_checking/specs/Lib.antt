@@ -1,7 +1,7 @@
 pub mod Checking
 pub mod Checks
 pub mod Examining
-pub mod Found
+pub mod Judged
 pub mod Heads
-pub mod Noted
-pub mod Used
+pub mod OwnFindings
+pub mod UsedIds

@@ -9,17 +9,17 @@ ghost use Rattle.warc_reading.specs.Archive.{contents};
 ghost use Rattle.warc_reading.specs.Row.{Placed, row_of};
 ghost use Rattle.warc_checking.specs.Checks.{AreCutOff, AreTold, Checks};
 ghost use Rattle.warc_checking.specs.Checking.{about_record, check_text, findings_of_archive, findings_of_records, line_text, numbered_line};
-ghost use Rattle.warc_checking.specs.Examining.{AreCheckable, HasFailed, HasHead, IsExamined, MayHaveFailed, PutsCheck, PutsFound, PutsLines};
-ghost use Rattle.warc_checking.specs.Examining.{found_by, record_lines};
+ghost use Rattle.warc_checking.specs.Examining.{AreCheckable, HasFailed, HasHead, IsExamined, MayHaveFailed, PutsCheck, PutsFindingsOf, PutsLines};
+ghost use Rattle.warc_checking.specs.Examining.{findings_by_facts, record_lines};
 ghost use Rattle.warc_checking.specs.Heads.{ReadsHeads};
-ghost use Rattle.warc_checking.specs.Used.{HasMet, IsAlone, IsTally};
+ghost use Rattle.warc_checking.specs.UsedIds.{HoldsIdsOf, IsAlone, IsTally};
 ghost use Rattle.warc_record.specs.Ids.{id_key};
 ghost use Rattle.warc_frame.specs.Putting.{Puts};
 ghost use Rattle.warc_frame.specs.Seen.{IfHeld};
 ghost use Rattle.warc_frame.specs.Failing.{HasFailedBy, MayHaveFailedBy, failed_by, is_read};
 
-use crate::heads::{Halt, head_buffer, read_again};
-use crate::used::Met;
+use crate::heads::{RereadFault, head_buffer, read_again};
+use crate::used_ids::UsedIds;
 use itoa::Buffer;
 use std::alloc::Allocator;
 use warc_field::Fields;
@@ -36,37 +36,37 @@ struct Examined<A: Allocator> {
     facts: ArchiveFacts,
 }
 
-/// Reads a record again, and adds its id to those that were met.
+/// Reads a record again, and adds its id to those of the records before it.
 fn examine<S: Source, A: Allocator + Copy>(
     alloc: A,
     source: &mut S,
     row: &Row<'_>,
-    met: &mut Met<A>,
+    ids: &mut UsedIds<A>,
     buf: &mut [u8],
-) -> Result<Examined<A>, Halt>
+) -> Result<Examined<A>, RereadFault>
     requires { max_head ≤ length buf.old }
     ensures read { (bytes : List ℕ) (p : Placed) (before : List Record) → (S.tapped source.old).holds ≡ Some bytes →
-        HasHead bytes p → row.now ≡ row_of p → HasMet before met.old → IsAlone before met.old (id_key row.now.id) → IfOk
-        result (λ x. IsExamined before p.content x.fields x.facts) }
-    ensures met { (bytes : List ℕ) (p : Placed) (before : List Record) → (S.tapped source.old).holds ≡ Some bytes →
-        HasHead bytes p → row.now ≡ row_of p → HasMet before met.old → OnOk result (HasMet (before ++ p.content ∷ [])
-        met.new) }
-    ensures counts { met.new.counts ≡ met.old.counts }
+        HasHead bytes p → row.now ≡ row_of p → HoldsIdsOf before ids.old → IsAlone before ids.old (id_key row.now.id) →
+        IfOk result (λ x. IsExamined before p.content x.fields x.facts) }
+    ensures ids { (bytes : List ℕ) (p : Placed) (before : List Record) → (S.tapped source.old).holds ≡ Some bytes →
+        HasHead bytes p → row.now ≡ row_of p → HoldsIdsOf before ids.old →
+        OnOk result (HoldsIdsOf (before ++ p.content ∷ []) ids.new) }
+    ensures counts { ids.new.counts ≡ ids.old.counts }
     ensures kept { (S.tapped source.new).holds ≡ (S.tapped source.old).holds }
     ensures sound { OnOk result ((S.tapped source.new).faults ≡ (S.tapped source.old).faults) }
     ensures heads { ReadsHeads (row.now ∷ []) (S.tapped source.old) (S.tapped source.new) }
-    ensures may { IfErr result (λ halt. MayHaveFailed halt (S.tapped source.old).faults (S.tapped source.new).faults) }
+    ensures may { IfErr result (λ e. MayHaveFailed e (S.tapped source.old).faults (S.tapped source.new).faults) }
     ensures failed { (bytes : List ℕ) (p : Placed) → (S.tapped source.old).holds ≡ Some bytes → HasHead bytes p →
-        row.now ≡ row_of p → IfErr result (λ halt. HasFailed halt (S.tapped source.old).faults
+        row.now ≡ row_of p → IfErr result (λ e. HasFailed e (S.tapped source.old).faults
         (S.tapped source.new).faults) }
 {
     good_heads_read();
     let reread = match read_again(alloc, source, row, buf) {
         Ok(reread) => reread,
-        Err(halt) => return Err(halt),
+        Err(fault) => return Err(fault),
     };
-    let Ok(used_id) = met.meet(alloc, row.id) else {
-        return Err(Halt::Memory);
+    let Ok(used_id) = ids.add(alloc, row.id) else {
+        return Err(RereadFault::Memory);
     };
     let bad_digest = row.verdict.is_bad();
     Ok(Examined {
@@ -147,12 +147,12 @@ fn put_examined<A: Allocator + Copy, W: Sink>(
     out: &mut W,
 ) -> Result<usize, OutFault>
     ensures out { (start : Option (List ℕ)) (output : List ℕ) → IsStaged start output (W.seen out.old).tells buffer.old
-        → OnOk result (IsStaged start (output ++ record_lines position (found_by examined.fields block_len
+        → OnOk result (IsStaged start (output ++ record_lines position (findings_by_facts examined.fields block_len
         examined.facts)) (W.seen out.new).tells buffer.new) }
     ensures cut { (start : Option (List ℕ)) (output : List ℕ) → IsStaged start output (W.seen out.old).tells buffer.old
-        → IfErr result (λ e. WentOut start (output ++ record_lines position (found_by examined.fields block_len
+        → IfErr result (λ e. WentOut start (output ++ record_lines position (findings_by_facts examined.fields block_len
         examined.facts)) (W.seen out.new).tells (sent_of e)) }
-    ensures number { IfOk result (λ n. n ≡ length (found_by examined.fields block_len examined.facts)) }
+    ensures number { IfOk result (λ n. n ≡ length (findings_by_facts examined.fields block_len examined.facts)) }
     ensures cause { (W.seen out.new).faults ≡ failed_by result (W.seen out.old).faults }
     ensures unread { IfErr result (λ e. is_read e ≡ false) }
 {
@@ -173,17 +173,17 @@ fn put_records<S: Source, A: Allocator + Copy, W: Sink>(
     alloc: A,
     source: &mut S,
     rows: &Rows<A>,
-    met: &mut Met<A>,
+    ids: &mut UsedIds<A>,
     head: &mut [u8],
     buffer: &mut OutBuffer,
     out: &mut W,
 ) -> Result<usize, OutFault>
     requires head { max_head ≤ length head.old }
-    requires tally { IsTally (length rows.now) rows.now met.old.counts }
-    requires met { HasMet [] met.old }
+    requires tally { IsTally (length rows.now) rows.now ids.old.counts }
+    requires ids { HoldsIdsOf [] ids.old }
     ensures puts { IfHeld (S.tapped source.old).holds (λ bytes. (records : List Placed)
         → AreCheckable bytes records rows.now
-        → PutsFound (contents records) (W.seen out.old) (W.seen out.new) buffer.old buffer.new result) }
+        → PutsFindingsOf (contents records) (W.seen out.old) (W.seen out.new) buffer.old buffer.new result) }
     ensures kept { (S.tapped source.new).holds ≡ (S.tapped source.old).holds }
     ensures cause { (W.seen out.new).faults ≡ failed_by result (W.seen out.old).faults }
     ensures heads { ReadsHeads rows.now (S.tapped source.old) (S.tapped source.new) }
@@ -199,9 +199,9 @@ fn put_records<S: Source, A: Allocator + Copy, W: Sink>(
         let Some(row) = rows.get(position) else {
             unreachable!()
         };
-        let examined = match examine(alloc, source, &row, met, head) {
+        let examined = match examine(alloc, source, &row, ids, head) {
             Ok(examined) => examined,
-            Err(halt) => return Err(halt.after(buffer.sent())),
+            Err(fault) => return Err(fault.after(buffer.sent())),
         };
         let number = put_examined(alloc, examined, position as u64, row.block_len, buffer, out)?;
         count = count.saturating_add(number);
@@ -247,10 +247,10 @@ fn put_archive<S: Source, A: Allocator + Copy, W: Sink>(
     let Ok(mut head) = head_buffer(alloc) else {
         return Err(OutFault::Memory(buffer.sent()));
     };
-    let Ok(mut met) = Met::new(alloc, rows) else {
+    let Ok(mut ids) = UsedIds::new(alloc, rows) else {
         return Err(OutFault::Memory(buffer.sent()));
     };
-    put_records(alloc, source, rows, &mut met, &mut head, buffer, out)
+    put_records(alloc, source, rows, &mut ids, &mut head, buffer, out)
 }
 
 /// Writes a line for each finding of the records, in their order, or that there is no record. The

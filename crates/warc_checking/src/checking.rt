@@ -9,16 +9,16 @@ ghost use Rattle.warc_reading.specs.Archive.{contents};
 ghost use Rattle.warc_reading.specs.Opening.{Opens};
 ghost use Rattle.warc_reading.specs.Row.{Placed};
 ghost use Rattle.warc_checking.specs.Checking.{check_text, findings_behind, findings_of_archive, findings_of_records};
-ghost use Rattle.warc_checking.specs.Checks.{AreCutOff, AreTold, TellsFound};
-ghost use Rattle.warc_checking.specs.Examining.{PutsCheck, PutsFound, record_lines};
-ghost use Rattle.warc_checking.specs.Found.{IsJudgedOf, judged_of, source_judged};
-ghost use Rattle.warc_checking.specs.Noted.{AreNoted, IsDue, found_at};
-ghost use Rattle.warc_checking.specs.Used.{HasMet, IsTally};
+ghost use Rattle.warc_checking.specs.Checks.{AreCutOff, AreTold, WritesFindings};
+ghost use Rattle.warc_checking.specs.Examining.{PutsCheck, PutsFindingsOf, record_lines};
+ghost use Rattle.warc_checking.specs.Judged.{IsJudgedOf, judged_of, source_judged};
+ghost use Rattle.warc_checking.specs.OwnFindings.{AreJudged, IsDue, found_at};
+ghost use Rattle.warc_checking.specs.UsedIds.{HoldsIdsOf, IsTally};
 ghost use Rattle.std.specs.Io.KnownBytes.{append_known};
 
 use crate::check::put_none;
-use crate::noting::Noted;
-use crate::used::Met;
+use crate::own_findings::OwnFindings;
+use crate::used_ids::UsedIds;
 use std::alloc::{Allocator, Global};
 use std::marker::Model;
 use warc_frame::laws::{head_of_spelled, staged_went_out, went_out_of_longer};
@@ -27,39 +27,41 @@ use warc_reading::{Row, Rows, read_on};
 use warc_record::laws::good_heads_read;
 
 /// Adds the lines of a record's findings to the output, and answers their number, up to 2^64 - 1. Its id is added to
-/// those that were met.
+/// those of the records before it.
 fn put_next<A: Allocator + Copy, W: Sink>(
     alloc: A,
     position: usize,
     row: &Row<'_>,
-    noted: &Noted<A>,
-    met: &mut Met<A>,
+    findings: &OwnFindings<A>,
+    ids: &mut UsedIds<A>,
     buffer: &mut OutBuffer,
     out: &mut W,
 ) -> Result<usize, OutFault>
     ensures out { (before : List Record) (p : Placed) (start : Option (List ℕ)) (output : List ℕ) →
-        IsDue before p row.now (found_at noted.now position) met.old → IsStaged start output (W.seen out.old).tells
+        IsDue before p row.now (found_at findings.now position) ids.old → IsStaged start output (W.seen out.old).tells
         buffer.old → OnOk result (IsStaged start (output ++ record_lines position (findings_behind before p.content))
         (W.seen out.new).tells buffer.new) }
     ensures cut { (before : List Record) (p : Placed) (start : Option (List ℕ)) (output : List ℕ) →
-        IsDue before p row.now (found_at noted.now position) met.old → IsStaged start output (W.seen out.old).tells
+        IsDue before p row.now (found_at findings.now position) ids.old → IsStaged start output (W.seen out.old).tells
         buffer.old → IfErr result (λ e. WentOut start (output ++ record_lines position
         (findings_behind before p.content)) (W.seen out.new).tells (sent_of e)) }
-    ensures number { (before : List Record) (p : Placed) → IsDue before p row.now (found_at noted.now position) met.old
-        → IfOk result (λ n. n ≡ capped (length (findings_behind before p.content))) }
-    ensures met { (before : List Record) (p : Placed) → IsDue before p row.now (found_at noted.now position) met.old →
-        OnOk result (HasMet (before ++ p.content ∷ []) met.new) }
-    ensures counts { met.new.counts ≡ met.old.counts }
+    ensures number { (before : List Record) (p : Placed) →
+        IsDue before p row.now (found_at findings.now position) ids.old →
+        IfOk result (λ n. n ≡ capped (length (findings_behind before p.content))) }
+    ensures ids { (before : List Record) (p : Placed) →
+        IsDue before p row.now (found_at findings.now position) ids.old →
+        OnOk result (HoldsIdsOf (before ++ p.content ∷ []) ids.new) }
+    ensures counts { ids.new.counts ≡ ids.old.counts }
     ensures cause { (W.seen out.new).faults ≡ failed_by result (W.seen out.old).faults }
     ensures unread { IfErr result (λ e. is_read e ≡ false) }
 {
     good_heads_read();
     staged_went_out();
     went_out_of_longer();
-    let Ok(used) = met.meet(alloc, row.id) else {
+    let Ok(used) = ids.add(alloc, row.id) else {
         return Err(OutFault::Memory(buffer.sent()));
     };
-    match noted.put(position, used, buffer, out) {
+    match findings.put(position, used, buffer, out) {
         Ok(number) => Ok(number),
         Err(fault) => Err(OutFault::Write(fault.sent)),
     }
@@ -69,15 +71,15 @@ fn put_next<A: Allocator + Copy, W: Sink>(
 fn put_each<A: Allocator + Copy, W: Sink>(
     alloc: A,
     rows: &Rows<A>,
-    noted: &Noted<A>,
-    met: &mut Met<A>,
+    findings: &OwnFindings<A>,
+    ids: &mut UsedIds<A>,
     buffer: &mut OutBuffer,
     out: &mut W,
 ) -> Result<usize, OutFault>
-    requires tally { IsTally (length rows.now) rows.now met.old.counts }
-    requires met { HasMet [] met.old }
-    ensures puts { (bytes : List ℕ) (records : List Placed) → AreNoted bytes records rows.now noted.now →
-        PutsFound (contents records) (W.seen out.old) (W.seen out.new) buffer.old buffer.new result }
+    requires tally { IsTally (length rows.now) rows.now ids.old.counts }
+    requires ids { HoldsIdsOf [] ids.old }
+    ensures puts { (bytes : List ℕ) (records : List Placed) → AreJudged bytes records rows.now findings.now →
+        PutsFindingsOf (contents records) (W.seen out.old) (W.seen out.new) buffer.old buffer.new result }
     ensures cause { (W.seen out.new).faults ≡ failed_by result (W.seen out.old).faults }
     ensures unread { IfErr result (λ e. is_read e ≡ false) }
 {
@@ -88,7 +90,7 @@ fn put_each<A: Allocator + Copy, W: Sink>(
         let Some(row) = rows.get(position) else {
             unreachable!()
         };
-        let number = put_next(alloc, position, &row, noted, met, buffer, out)?;
+        let number = put_next(alloc, position, &row, findings, ids, buffer, out)?;
         count = count.saturating_add(number);
     }
     Ok(count)
@@ -98,11 +100,11 @@ fn put_each<A: Allocator + Copy, W: Sink>(
 fn put_rows<A: Allocator + Copy, W: Sink>(
     alloc: A,
     rows: &Rows<A>,
-    noted: &Noted<A>,
+    findings: &OwnFindings<A>,
     buffer: &mut OutBuffer,
     out: &mut W,
 ) -> Result<usize, OutFault>
-    ensures puts { (bytes : List ℕ) (records : List Placed) → AreNoted bytes records rows.now noted.now →
+    ensures puts { (bytes : List ℕ) (records : List Placed) → AreJudged bytes records rows.now findings.now →
         PutsCheck (contents records) (W.seen out.old) (W.seen out.new) buffer.old buffer.new result }
     ensures cause { (W.seen out.new).faults ≡ failed_by result (W.seen out.old).faults }
     ensures unread { IfErr result (λ e. is_read e ≡ false) }
@@ -112,10 +114,10 @@ fn put_rows<A: Allocator + Copy, W: Sink>(
     if rows.len() == 0 {
         return put_none(buffer, out);
     }
-    let Ok(mut met) = Met::new(alloc, rows) else {
+    let Ok(mut ids) = UsedIds::new(alloc, rows) else {
         return Err(OutFault::Memory(buffer.sent()));
     };
-    put_each(alloc, rows, noted, &mut met, buffer, out)
+    put_each(alloc, rows, findings, &mut ids, buffer, out)
 }
 
 /// Writes a line for each finding of the records, in their order, or that there is no record. The answer is the number
@@ -123,20 +125,20 @@ fn put_rows<A: Allocator + Copy, W: Sink>(
 fn tell_rows<A: Allocator + Copy, W: Sink>(
     alloc: A,
     rows: &Rows<A>,
-    noted: &Noted<A>,
+    findings: &OwnFindings<A>,
     out: &mut W,
 ) -> Result<usize, OutFault>
-    ensures told { (bytes : List ℕ) (records : List Placed) → AreNoted bytes records rows.now noted.now →
+    ensures told { (bytes : List ℕ) (records : List Placed) → AreJudged bytes records rows.now findings.now →
         AreTold (contents records) result (W.seen out.old) (W.seen out.new) }
-    ensures number { (bytes : List ℕ) (records : List Placed) → AreNoted bytes records rows.now noted.now →
+    ensures number { (bytes : List ℕ) (records : List Placed) → AreJudged bytes records rows.now findings.now →
         IfOk result (λ n. n ≡ capped (length (findings_of_archive (contents records)))) }
-    ensures cut { (bytes : List ℕ) (records : List Placed) → AreNoted bytes records rows.now noted.now →
+    ensures cut { (bytes : List ℕ) (records : List Placed) → AreJudged bytes records rows.now findings.now →
         AreCutOff (contents records) result (W.seen out.old) (W.seen out.new) }
     ensures cause { (W.seen out.new).faults ≡ failed_by result (W.seen out.old).faults }
     ensures unread { IfErr result (λ e. is_read e ≡ false) }
 {
     let mut buffer = OutBuffer::new();
-    let number = put_rows(alloc, rows, noted, &mut buffer, out)?;
+    let number = put_rows(alloc, rows, findings, &mut buffer, out)?;
     match buffer.flush(out) {
         Ok(()) => Ok(number),
         Err(fault) => Err(OutFault::Write(fault.sent)),
@@ -149,15 +151,15 @@ fn tell_rows<A: Allocator + Copy, W: Sink>(
 pub struct Checked<S: Source, A: Allocator = Global> {
     source: S,
     rows: Rows<A>,
-    noted: Noted<A>,
+    findings: OwnFindings<A>,
 }
 
 impl<S: Source, A: Allocator> Model for Checked<S, A> {
-    ghost use Rattle.warc_checking.specs.Found.{Judged};
+    ghost use Rattle.warc_checking.specs.Judged.{Judged};
 
     ghost Value = { Judged S };
 
-    ghost view = { λ a. record { listing = record { source = a.source; rows = a.rows }; found = a.noted } };
+    ghost view = { λ a. record { listing = record { source = a.source; rows = a.rows }; findings = a.findings } };
 }
 
 impl<S: Source, A: Allocator> Checked<S, A> {
@@ -183,13 +185,13 @@ impl<S: Source, A: Allocator + Copy> Checked<S, A> {
         ensures { Opens IsJudgedOf (S.tapped source) (S.tapped (source_judged result)) (judged_of result) }
     {
         let mut source = source;
-        let noted = Noted::new(alloc);
-        let (answer, rows, noted) = read_on(alloc, &mut source, Rows::new(alloc), noted);
+        let findings = OwnFindings::new(alloc);
+        let (answer, rows, findings) = read_on(alloc, &mut source, Rows::new(alloc), findings);
         match answer {
             Ok(()) => Ok(Checked {
                 source,
                 rows,
-                noted,
+                findings,
             }),
             Err(fault) => Err((fault, source)),
         }
@@ -199,8 +201,8 @@ impl<S: Source, A: Allocator + Copy> Checked<S, A> {
     /// nothing: what ends it early is a write that fails, `Write`, or a refused growth of the memory, `Memory`. Each
     /// tells how many bytes went out, which are the first of the output.
     pub fn check<W: Sink>(&self, out: &mut W) -> Result<usize, OutFault>
-        ensures tells { (bytes : List ℕ) (is : IsJudgedOf bytes self.now) → TellsFound (contents is.listed.are.records)
-            (W.seen out.old) (W.seen out.new) result }
+        ensures tells { (bytes : List ℕ) (is : IsJudgedOf bytes self.now) →
+            WritesFindings (contents is.listed.are.records) (W.seen out.old) (W.seen out.new) result }
         ensures cause { (W.seen out.new).faults ≡ failed_by result (W.seen out.old).faults }
 
         // No read is told, since none is made.
@@ -208,6 +210,6 @@ impl<S: Source, A: Allocator + Copy> Checked<S, A> {
     {
         head_of_spelled();
         let alloc = self.rows.allocator();
-        tell_rows(alloc, &self.rows, &self.noted, out)
+        tell_rows(alloc, &self.rows, &self.findings, out)
     }
 }

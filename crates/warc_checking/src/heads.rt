@@ -8,7 +8,7 @@ ghost use Rattle.warc_record.specs.Readings.{reading_of};
 ghost use Rattle.warc_record.specs.Seen.{said};
 ghost use Rattle.warc_checking.specs.Heads.{IsHeadBy, ReadsHeads};
 ghost use Rattle.warc_reading.specs.Row.{Placed, row_of};
-ghost use Rattle.warc_checking.specs.Examining.{HasFailed, HasHead, IsHeadReadOf, MayHaveFailed, halt_of, halted};
+ghost use Rattle.warc_checking.specs.Examining.{HasFailed, HasHead, IsHeadReadOf, MayHaveFailed, reread_fault_of, ended_by};
 
 use std::alloc::{AllocError, Allocator};
 use warc_field::Fields;
@@ -18,21 +18,21 @@ use warc_record::{Typed, type_head};
 
 /// Why a head isn't read again.
 #[derive(Clone, Copy, PartialEq, Eq, Debug)]
-pub enum Halt {
+pub enum RereadFault {
     /// A read failed, or the source doesn't give what it gave before.
     Read,
     /// A growth of the memory was refused.
     Memory,
 }
 
-impl Halt {
+impl RereadFault {
     /// The same as the end of an output of which so many bytes went out.
     pub fn after(self, sent: u64) -> OutFault
-        ensures { result ≡ halted self sent }
+        ensures { result ≡ ended_by self sent }
     {
         match self {
-            Halt::Read => OutFault::Read(sent),
-            Halt::Memory => OutFault::Memory(sent),
+            RereadFault::Read => OutFault::Read(sent),
+            RereadFault::Memory => OutFault::Memory(sent),
         }
     }
 }
@@ -45,46 +45,50 @@ pub struct Reread<A: Allocator> {
 }
 
 /// Why a head isn't read again, from what reading it answered.
-fn halt_of(kind: FaultKind) -> Halt
-    ensures { result ≡ halt_of kind }
+fn reread_fault_of(kind: FaultKind) -> RereadFault
+    ensures { result ≡ reread_fault_of kind }
 {
     match kind {
-        FaultKind::Memory => Halt::Memory,
-        _ => Halt::Read,
+        FaultKind::Memory => RereadFault::Memory,
+        _ => RereadFault::Read,
     }
 }
 
 /// The head that a text is, where it is a whole one with a block of this length.
-fn head_in<A: Allocator + Copy>(alloc: A, text: &[u8], block_len: u64) -> Result<Head<A>, Halt>
+fn head_in<A: Allocator + Copy>(
+    alloc: A,
+    text: &[u8],
+    block_len: u64,
+) -> Result<Head<A>, RereadFault>
     ensures is { (r : Record) → head_of any_fields text.now
         ≡ Ok (record { version = r.version; fields = r.fields; len = length text.now; block_len = block_len })
-        → MatchResult result (IsHeadReadOf r) (λ halt. halt ≡ Halt.Memory) }
+        → MatchResult result (IsHeadReadOf r) (λ e. e ≡ RereadFault.Memory) }
     ensures whole { IfOk result (λ h. head_of any_fields text.now
         ≡ Ok (record { version = h.version; fields = h.fields; len = length text.now; block_len = block_len })) }
 {
     let head = match read_head(alloc, text) {
         Ok(head) => head,
-        Err(fault) => return Err(halt_of(fault.kind)),
+        Err(fault) => return Err(reread_fault_of(fault.kind)),
     };
     if head.len != text.len() || head.block_len != block_len {
-        return Err(Halt::Read);
+        return Err(RereadFault::Read);
     }
     Ok(head)
 }
 
 /// What a head says that is good.
-fn typed<A: Allocator + Copy>(alloc: A, head: Head<A>) -> Result<Reread<A>, Halt>
+fn typed<A: Allocator + Copy>(alloc: A, head: Head<A>) -> Result<Reread<A>, RereadFault>
     ensures said { IfOk result (λ x. said x.typed ≡ reading_of x.fields) }
     ensures fields { IfOk result (λ x. x.fields ≡ head.fields) }
     ensures read { head_fault head.fields ≡ None →
-        MatchResult result (λ x. x.fields ≡ head.fields) (λ halt. halt ≡ Halt.Memory) }
+        MatchResult result (λ x. x.fields ≡ head.fields) (λ e. e ≡ RereadFault.Memory) }
 {
     match type_head(alloc, &head.fields) {
         Ok(typed) => Ok(Reread {
             fields: head.fields,
             typed,
         }),
-        Err(kind) => Err(halt_of(kind)),
+        Err(kind) => Err(reread_fault_of(kind)),
     }
 }
 
@@ -113,7 +117,7 @@ pub fn reread_head<S: Source, A: Allocator + Copy>(
     source: &mut S,
     row: &Row<'_>,
     buf: &mut [u8],
-) -> Result<Head<A>, Halt>
+) -> Result<Head<A>, RereadFault>
     requires { max_head ≤ length buf.old }
     ensures read { (bytes : List ℕ) (p : Placed) → (S.tapped source.old).holds ≡ Some bytes → HasHead bytes p → row.now
         ≡ row_of p → IfOk result (IsHeadReadOf p.content) }
@@ -122,19 +126,19 @@ pub fn reread_head<S: Source, A: Allocator + Copy>(
     ensures kept { (S.tapped source.new).holds ≡ (S.tapped source.old).holds }
     ensures sound { OnOk result ((S.tapped source.new).faults ≡ (S.tapped source.old).faults) }
     ensures heads { ReadsHeads (row.now ∷ []) (S.tapped source.old) (S.tapped source.new) }
-    ensures may { IfErr result (λ halt. MayHaveFailed halt (S.tapped source.old).faults (S.tapped source.new).faults) }
+    ensures may { IfErr result (λ e. MayHaveFailed e (S.tapped source.old).faults (S.tapped source.new).faults) }
 
     // Over bytes that hold the head it stops for a failed read or for want of memory alone.
     ensures failed { (bytes : List ℕ) (p : Placed) → (S.tapped source.old).holds ≡ Some bytes → HasHead bytes p →
-        row.now ≡ row_of p → IfErr result (λ halt. HasFailed halt (S.tapped source.old).faults
+        row.now ≡ row_of p → IfErr result (λ e. HasFailed e (S.tapped source.old).faults
         (S.tapped source.new).faults) }
 {
     let Some(len) = head_len(row, buf.len()) else {
-        return Err(Halt::Read);
+        return Err(RereadFault::Read);
     };
     let text = &mut buf[..len];
     if read_range(source, row.offset, text).is_err() {
-        return Err(Halt::Read);
+        return Err(RereadFault::Read);
     }
     head_in(alloc, text, row.block_len)
 }
@@ -146,7 +150,7 @@ pub fn read_again<S: Source, A: Allocator + Copy>(
     source: &mut S,
     row: &Row<'_>,
     buf: &mut [u8],
-) -> Result<Reread<A>, Halt>
+) -> Result<Reread<A>, RereadFault>
     requires { max_head ≤ length buf.old }
     ensures said { IfOk result (λ x. said x.typed ≡ reading_of x.fields) }
     ensures whole { IfOk result (λ x. IsHeadBy row.now x.fields) }
@@ -155,16 +159,16 @@ pub fn read_again<S: Source, A: Allocator + Copy>(
     ensures kept { (S.tapped source.new).holds ≡ (S.tapped source.old).holds }
     ensures sound { OnOk result ((S.tapped source.new).faults ≡ (S.tapped source.old).faults) }
     ensures heads { ReadsHeads (row.now ∷ []) (S.tapped source.old) (S.tapped source.new) }
-    ensures may { IfErr result (λ halt. MayHaveFailed halt (S.tapped source.old).faults (S.tapped source.new).faults) }
+    ensures may { IfErr result (λ e. MayHaveFailed e (S.tapped source.old).faults (S.tapped source.new).faults) }
 
     // Over bytes that hold the head it stops for a failed read or for want of memory alone.
     ensures failed { (bytes : List ℕ) (p : Placed) → (S.tapped source.old).holds ≡ Some bytes → HasHead bytes p →
-        row.now ≡ row_of p → IfErr result (λ halt. HasFailed halt (S.tapped source.old).faults
+        row.now ≡ row_of p → IfErr result (λ e. HasFailed e (S.tapped source.old).faults
         (S.tapped source.new).faults) }
 {
     let head = match reread_head(alloc, source, row, buf) {
         Ok(head) => head,
-        Err(halt) => return Err(halt),
+        Err(fault) => return Err(fault),
     };
     typed(alloc, head)
 }

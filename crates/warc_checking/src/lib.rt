@@ -5,9 +5,9 @@ mod check;
 mod checking;
 mod heads;
 pub mod laws;
-mod noting;
-mod used;
+mod own_findings;
+mod used_ids;
 
 pub use check::check_rows;
 pub use checking::Checked;
-pub use heads::{Halt, Reread, head_buffer, read_again, reread_head};
+pub use heads::{Reread, RereadFault, head_buffer, read_again, reread_head};

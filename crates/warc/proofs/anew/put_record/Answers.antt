@@ -3,7 +3,7 @@ use Rattle.warc.specs.Copied.{IsTextOf, len_by, text_by}
 use Rattle.warc.specs.declared.anew.Manner.{Manner}
 use Rattle.warc.specs.declared.anew.Manner.TheVariants.{As, Split}
 use Rattle.warc_reading.specs.Row.{Row}
-use Rattle.warc.proofs.EmitLemmas.{both, of_halt, of_read, reads_both, reads_within}
+use Rattle.warc.proofs.EmitLemmas.{both, of_fault, of_read, reads_both, reads_within}
 use Rattle.warc.proofs.WholeLemmas.{reads_block_of, reads_head_of}
 use Rattle.warc.proofs.anew.put_record.Goals as goal
 
@@ -16,7 +16,7 @@ head_within (Split size) row = omega arith
 
 pub returns-in-Err-clause-emits : goal.returns-in-Err-clause-emits
 returns-in-Err-clause-emits g c =
-    of_halt c.in-Err.halt c.after.result c.sent.result c.after.ensures c.sent.ensures c.in-Err.ensures.kept c.in-Err.ensures.may
+    of_fault c.in-Err.fault c.after.result c.sent.result c.after.ensures c.sent.ensures c.in-Err.ensures.kept c.in-Err.ensures.may
     (λ bytes text held is. c.in-Err.ensures.failed bytes is.placed held is.whole.head is.row_is)
 
 pub returns-in-Err-clause-reads : goal.returns-in-Err-clause-reads

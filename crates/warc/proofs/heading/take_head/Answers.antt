@@ -1,6 +1,6 @@
 use Rattle.std.proofs.Common.{◌≡◌, refl, ap, subst, ◌∙◌, arith}
 use Rattle.warc_checking.specs.Examining.{HasFailed}
-use Rattle.warc_checking.specs.declared.heads.Halt.{Halt}
+use Rattle.warc_checking.specs.declared.heads.RereadFault.{RereadFault}
 use Rattle.warc_reading.specs.Row.{Row}
 use Rattle.warc.proofs.heading.take_head.Goals as goal
 
@@ -20,5 +20,5 @@ returns-in-Ok-reread_head-clause-taken g c = λ bytes p held has same.
 
 pub returns-in-Err-Read-clause-failed : goal.returns-in-Err-Read-clause-failed
 returns-in-Err-Read-clause-failed g c = λ bytes p held has same.
-    let P : Halt → Type 0 = λ h. HasFailed h ((g.S.Source.tapped c.args.source.now).faults) ((g.S.Source.tapped c.reread_head.new.source).faults) in
+    let P : RereadFault → Type 0 = λ h. HasFailed h ((g.S.Source.tapped c.args.source.now).faults) ((g.S.Source.tapped c.reread_head.new.source).faults) in
     subst P c.in-Err-Read.field-0-is (c.in-Err-Read.ensures.failed bytes p held has same)

@@ -1,24 +1,24 @@
 use Rattle.std.proofs.Common.{ap, ◌∙◌}
 use Rattle.warc_record.specs.Readings.{reading_of}
 use Rattle.warc_reading.specs.Archive.{contents}
-use Rattle.warc_checking.specs.Examining.{halted}
+use Rattle.warc_checking.specs.Examining.{ended_by}
 use Rattle.warc.proofs.LocatingLemmas.{front_is_read, head_is_read}
-use Rattle.warc.proofs.ReplayLemmas.{halted_failed, halted_may, halted_sent, origin_inside, place_by_row}
+use Rattle.warc.proofs.ReplayLemmas.{ended_failed, ended_may, ended_sent, origin_inside, place_by_row}
 use Rattle.warc.proofs.locating.locate_row.Goals as goal
 
 pub returns-in-Err-clause-located : goal.returns-in-Err-clause-located
 returns-in-Err-clause-located g c = λ bytes records found p held is has same parts. record {
   located = λ tells.
-      rw c.after.ensures (c.fails_before_all.ensures (contents records) found tells (halted c.in-Err.halt 0) (origin_inside bytes records found c.args.path p is) (halted_sent c.in-Err.halt));
+      rw c.after.ensures (c.fails_before_all.ensures (contents records) found tells (ended_by c.in-Err.fault 0) (origin_inside bytes records found c.args.path p is) (ended_sent c.in-Err.fault));
   reads = head_is_read records found c.args.path p c.args.row.now _ is.path_is is.stands same _ _
-      (rw c.after.ensures (halted_failed c.in-Err.halt _ _ (c.in-Err.ensures.failed bytes p held has same)))
+      (rw c.after.ensures (ended_failed c.in-Err.fault _ _ (c.in-Err.ensures.failed bytes p held has same)))
       c.in-Err.ensures.heads;
 }
 
 pub returns-in-Err-clause-keeps : goal.returns-in-Err-clause-keeps
 returns-in-Err-clause-keeps g c = record {
   kept = c.in-Err.ensures.kept;
-  may = rw c.after.ensures (halted_may c.in-Err.halt _ _ c.in-Err.ensures.may);
+  may = rw c.after.ensures (ended_may c.in-Err.fault _ _ c.in-Err.ensures.may);
 }
 
 pub returns-clause-located : goal.returns-clause-located

@@ -1,15 +1,15 @@
 use Rattle.std.proofs.Common.{ap, ◌∙◌}
 use Rattle.warc_record.specs.Readings.{reading_of}
-use Rattle.warc.proofs.LookLemmas.{halted_early}
-use Rattle.warc.proofs.ReplayLemmas.{halted_failed, place_by_row}
+use Rattle.warc.proofs.LookLemmas.{ended_early}
+use Rattle.warc.proofs.ReplayLemmas.{ended_failed, place_by_row}
 use Rattle.warc.proofs.looking.look_row.Goals as goal
 
 pub returns-in-Err-clause-failed : goal.returns-in-Err-clause-failed
 returns-in-Err-clause-failed g c = λ bytes records path p held is has same parts.
-    rw c.after.ensures (halted_failed c.in-Err.halt _ _ (c.in-Err.ensures.failed bytes p held has same))
+    rw c.after.ensures (ended_failed c.in-Err.fault _ _ (c.in-Err.ensures.failed bytes p held has same))
 
 pub returns-in-Err-clause-early : goal.returns-in-Err-clause-early
-returns-in-Err-clause-early g c = rw c.after.ensures (halted_early c.in-Err.halt)
+returns-in-Err-clause-early g c = rw c.after.ensures (ended_early c.in-Err.fault)
 
 pub returns-clause-told : goal.returns-clause-told
 returns-clause-told g c = λ bytes records path p held is has same parts.

@@ -1,17 +1,17 @@
 use Rattle.std.proofs.Common.{◌<◌, length, ap, ◌∙◌}
 use Rattle.warc_record.specs.Readings.{reading_of}
 use Rattle.warc_reading.specs.Archive.{contents}
-use Rattle.warc_checking.specs.Examining.{halted}
-use Rattle.warc.proofs.ReplayLemmas.{asks_both, halted_failed, halted_sent, head_inside, near_head, near_origin, origin_inside, place_by_row, row_reads}
+use Rattle.warc_checking.specs.Examining.{ended_by}
+use Rattle.warc.proofs.ReplayLemmas.{asks_both, ended_failed, ended_sent, head_inside, near_head, near_origin, origin_inside, place_by_row, row_reads}
 use Rattle.warc.proofs.replay.replay_row.Goals as goal
 
 pub returns-in-Err-clause-told : goal.returns-in-Err-clause-told
 returns-in-Err-clause-told g c = λ bytes records found p held is has same parts.
-    rw c.after.ensures (c.fails_before_all.ensures (contents records) found ((g.W.Sink.seen c.args.out.now).tells) (halted c.in-Err.halt 0) (origin_inside bytes records found c.args.path p is) (halted_sent c.in-Err.halt))
+    rw c.after.ensures (c.fails_before_all.ensures (contents records) found ((g.W.Sink.seen c.args.out.now).tells) (ended_by c.in-Err.fault 0) (origin_inside bytes records found c.args.path p is) (ended_sent c.in-Err.fault))
 
 pub returns-in-Err-clause-failed : goal.returns-in-Err-clause-failed
 returns-in-Err-clause-failed g c = λ bytes records found p held is has same parts.
-    rw c.after.ensures (halted_failed c.in-Err.halt _ _ (c.in-Err.ensures.failed bytes p held has same))
+    rw c.after.ensures (ended_failed c.in-Err.fault _ _ (c.in-Err.ensures.failed bytes p held has same))
 
 pub returns-clause-told : goal.returns-clause-told
 returns-clause-told g c = λ bytes records found p held is has same parts.

@@ -7,8 +7,8 @@ use Rattle.warc_checking.specs.Examining.{findings_of_first, first_text}
 use Rattle.warc_reading.specs.Row.{Row}
 use Rattle.warc_frame.proofs.LawLemmas.{same_out, same_staged}
 use Rattle.warc_checking.proofs.ReadLemmas.{reads_all, reads_more}
-use Rattle.warc_checking.proofs.RecordsLemmas.{failed_halted, first_all, met_one, number_more, record_at, rest_text, sent_halted, text_more, text_rest, unread_sound}
-use Rattle.warc_checking.specs.Used.{IsTally}
+use Rattle.warc_checking.proofs.RecordsLemmas.{failed_ended, first_all, ids_one, number_more, record_at, rest_text, sent_ended, text_more, text_rest, unread_sound}
+use Rattle.warc_checking.specs.UsedIds.{IsTally}
 use Rattle.warc_checking.proofs.TallyLemmas.{alone}
 use Rattle.warc_checking.proofs.check.put_records.Goals as goal
 
@@ -31,7 +31,7 @@ returns-in-Err-clause-puts g c = λ bytes held records can.
       cut = λ start output is.
           let gone = c.staged_went_out.ensures start _ (output ++ first_text i rs) c.checking.buffer (c.checking.invariant.staged bytes records start output held can is) in
           let out = same_out (text_rest rs i output) (c.went_out_of_longer.ensures start _ (output ++ first_text i rs) (rest_text i rs) _ gone) in
-          rw (sym (sent_halted c.in-Err.halt c.after.result c.sent.result c.checking.buffer.sent c.after.ensures c.sent.ensures)) out;
+          rw (sym (sent_ended c.in-Err.fault c.after.result c.sent.result c.checking.buffer.sent c.after.ensures c.sent.ensures)) out;
       number = search rules;
     }
 
@@ -39,7 +39,7 @@ pub returns-in-Err-clause-failed : goal.returns-in-Err-clause-failed
 returns-in-Err-clause-failed g c = λ bytes records held can.
     let row_is : slice_get c.args.rows.now c.checking.position ≡ Some c.in-Some.row = sym c.get.ensures ∙ c.in-Some.is in
     let at = record_at bytes records c.args.rows.now c.checking.position c.in-Some.row can row_is in
-    failed_halted ℕ c.in-Err.halt c.after.result c.sent.result _ _ _ c.after.ensures c.checking.invariant.sound
+    failed_ended ℕ c.in-Err.fault c.after.result c.sent.result _ _ _ c.after.ensures c.checking.invariant.sound
     (c.in-Err.ensures.failed bytes at.0 (c.checking.invariant.kept ∙ held) at.3 at.2)
 
 pub returns-in_err-number-clause-puts : goal.returns-in_err-number-clause-puts
@@ -48,8 +48,8 @@ returns-in_err-number-clause-puts g c = λ bytes held records can.
     let i = c.checking.position in
     let row_is : slice_get c.args.rows.now i ≡ Some c.in-Some.row = sym c.get.ensures ∙ c.in-Some.is in
     let at = record_at bytes records c.args.rows.now i c.in-Some.row can row_is in
-    let examined = c.in-Ok.ensures.read bytes at.0 (take i rs) (c.checking.invariant.kept ∙ held) at.3 at.2 (c.checking.invariant.met bytes records held can)
-    (alone bytes records c.args.rows.now i c.in-Some.row c.checking.met c.good_heads_read.ensures can c.checking.invariant.tally row_is) in
+    let examined = c.in-Ok.ensures.read bytes at.0 (take i rs) (c.checking.invariant.kept ∙ held) at.3 at.2 (c.checking.invariant.ids bytes records held can)
+    (alone bytes records c.args.rows.now i c.in-Some.row c.checking.ids c.good_heads_read.ensures can c.checking.invariant.tally row_is) in
     let len = ap (λ (r : Row). r.block_len) (c.row.view_is ∙ at.2) in
     record {
       out = λ start output is. search rules;
@@ -98,21 +98,21 @@ checking-preserved g c =
       staged = λ bytes records start output held can is.
           let rs = contents records in
           let at = record_at bytes records c.args.rows.now i c.in-Some.row can row_is in
-          let examined = c.in-Ok.ensures.read bytes at.0 (take i rs) (c.checking.invariant.kept ∙ held) at.3 at.2 (c.checking.invariant.met bytes records held can)
-          (alone bytes records c.args.rows.now i c.in-Some.row c.checking.met c.good_heads_read.ensures can c.checking.invariant.tally row_is) in
+          let examined = c.in-Ok.ensures.read bytes at.0 (take i rs) (c.checking.invariant.kept ∙ held) at.3 at.2 (c.checking.invariant.ids bytes records held can)
+          (alone bytes records c.args.rows.now i c.in-Some.row c.checking.ids c.good_heads_read.ensures can c.checking.invariant.tally row_is) in
           let len = ap (λ (r : Row). r.block_len) (c.row.view_is ∙ at.2) in
           same_staged (text_more records i at.0 c.in-Ok.examined.fields c.row.inside.block_len c.in-Ok.examined.facts output at.1 examined len)
           (c.in_ok-number.ensures.out start (output ++ first_text i rs) (c.checking.invariant.staged bytes records start output held can is));
-      met = λ bytes records held can.
+      ids = λ bytes records held can.
           let rs = contents records in
           let at = record_at bytes records c.args.rows.now i c.in-Some.row can row_is in
-          met_one records i at.0 c.examine.new.met at.1
-          (c.in-Ok.ensures.met bytes at.0 (take i rs) (c.checking.invariant.kept ∙ held) at.3 at.2 (c.checking.invariant.met bytes records held can));
+          ids_one records i at.0 c.examine.new.ids at.1
+          (c.in-Ok.ensures.ids bytes at.0 (take i rs) (c.checking.invariant.kept ∙ held) at.3 at.2 (c.checking.invariant.ids bytes records held can));
       number = λ bytes records held can.
           let rs = contents records in
           let at = record_at bytes records c.args.rows.now i c.in-Some.row can row_is in
-          let examined = c.in-Ok.ensures.read bytes at.0 (take i rs) (c.checking.invariant.kept ∙ held) at.3 at.2 (c.checking.invariant.met bytes records held can)
-          (alone bytes records c.args.rows.now i c.in-Some.row c.checking.met c.good_heads_read.ensures can c.checking.invariant.tally row_is) in
+          let examined = c.in-Ok.ensures.read bytes at.0 (take i rs) (c.checking.invariant.kept ∙ held) at.3 at.2 (c.checking.invariant.ids bytes records held can)
+          (alone bytes records c.args.rows.now i c.in-Some.row c.checking.ids c.good_heads_read.ensures can c.checking.invariant.tally row_is) in
           let len = ap (λ (r : Row). r.block_len) (c.row.view_is ∙ at.2) in
           c.saturating_add-count.ensures ∙ ap (λ n. capped (n + c.in_ok-number.number)) (c.checking.invariant.number bytes records held can)
           ∙ ap (λ n. capped (capped (length (findings_of_first i rs)) + n)) c.in_ok-number.ensures.number

@@ -5,20 +5,20 @@ use Rattle.warc_frame.specs.Send.{IsStaged}
 use Rattle.warc_reading.specs.Archive.{contents}
 use Rattle.warc_reading.specs.Row.{Placed}
 use Rattle.warc_checking.specs.Examining.{AreCheckable, findings_of_first, first_text}
-use Rattle.warc_checking.specs.Used.{HasMet, IsTally}
+use Rattle.warc_checking.specs.UsedIds.{HoldsIdsOf, IsTally}
 use Rattle.warc_checking.specs.Heads.{ReadsHeads}
 use Rattle.warc_checking.proofs.check.put_records.Given as goal
 
--- the lines of the records so far are staged, their ids are met, and nothing has failed
+-- the lines of the records so far are staged, their ids are held, and nothing has failed
 abbrev pub invariant-checking : goal.invariant-checking
 invariant-checking g l = record {
   room : max_head ≤ length l.head;
-  tally : IsTally (length l.rows) l.rows l.met.counts;
+  tally : IsTally (length l.rows) l.rows l.ids.counts;
   staged : (bytes : List ℕ) (records : List Placed) (start : Option (List ℕ)) (output : List ℕ) → (g.S.Source.tapped l.fn.source).holds ≡ Some bytes
       → AreCheckable bytes records l.rows → IsStaged start output ((g.W.Sink.seen l.fn.out).tells) l.fn.buffer
       → IsStaged start (output ++ first_text l.position (contents records)) ((g.W.Sink.seen l.out).tells) l.buffer;
-  met : (bytes : List ℕ) (records : List Placed) → (g.S.Source.tapped l.fn.source).holds ≡ Some bytes → AreCheckable bytes records l.rows
-      → HasMet (take l.position (contents records)) l.met;
+  ids : (bytes : List ℕ) (records : List Placed) → (g.S.Source.tapped l.fn.source).holds ≡ Some bytes → AreCheckable bytes records l.rows
+      → HoldsIdsOf (take l.position (contents records)) l.ids;
   number : (bytes : List ℕ) (records : List Placed) → (g.S.Source.tapped l.fn.source).holds ≡ Some bytes → AreCheckable bytes records l.rows
       → l.count ≡ capped (length (findings_of_first l.position (contents records)));
   heads : ReadsHeads (take l.position l.rows)

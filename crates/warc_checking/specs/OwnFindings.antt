@@ -1,0 +1,88 @@
+-- How findings are kept in flat lists, and how those of a record are told with N6 among them. States of the code: no
+-- public clause cites them.
+use Rattle.std.specs.Prelude.{◌≡◌, ℕ, ◌≤◌, Bool, true, false, nat_lt, List, [], ◌++◌, map, ◌==◌, slice_range, unwrap_or, None, if◌then◌else◌}
+use Rattle.std.specs.List.{AllByRecursion, filter, slice_get}
+use Rattle.warc_record.specs.Findings.{Found, Absent, Forbidden, Repeated, Digest, SegmentNumber, IdUsed, NoContentType, Profile, NotUtf8, BareId, NoOrigin, Empty, finding_number, once}
+use Rattle.warc_frame.specs.Record.{Record}
+use Rattle.warc_reading.specs.Archive.{contents}
+use Rattle.warc_reading.specs.Row.{Placed, Row, row_of}
+use Rattle.warc_record.specs.Heads.{head_fault}
+use Rattle.warc_record.specs.Ids.{id_key}
+use Rattle.warc_checking.specs.Examining.{AreCheckable}
+use Rattle.warc_checking.specs.Judged.{own_findings}
+use Rattle.warc_checking.specs.UsedIds.{HoldsIdsOf, Ids, IsAlone}
+use Rattle.warc_checking.specs.declared.own_findings.PackedFinding.{PackedFinding}
+use Rattle.warc_checking.specs.declared.own_findings.Part.{Part}
+
+-- the finding of a number, with the name of a field if it is about one
+abbrev pub finding_by_number : ℕ → List ℕ → Found
+finding_by_number number name =
+    if number == 1 then Absent name
+    else if number == 2 then Forbidden name
+    else if number == 3 then Repeated name
+    else if number == 4 then Digest
+    else if number == 5 then SegmentNumber
+    else if number == 6 then IdUsed
+    else if number == 7 then NoContentType
+    else if number == 8 then Profile
+    else if number == 9 then NotUtf8 name
+    else if number == 10 then BareId
+    else if number == 11 then NoOrigin
+    else Empty
+
+-- the finding that is packed, its name among the bytes
+abbrev pub finding_in : List ℕ → PackedFinding → Found
+finding_in names n = finding_by_number n.number (slice_range names n.start n.end)
+
+abbrev pub all_found : List ℕ → List PackedFinding → List Found
+all_found names findings = map (finding_in names) findings
+
+-- its name is within the first bytes, as many as this
+pub record IsNamed (count : ℕ) (n : PackedFinding) : Type 0 where
+  pub order : n.start ≤ n.end
+  pub end : n.end ≤ count
+
+abbrev pub AreNamed : ℕ → List PackedFinding → Type 0
+AreNamed count findings = AllByRecursion (IsNamed count) findings
+
+-- a part of so many findings
+pub record IsPart (count : ℕ) (p : Part) : Type 0 where
+  pub order : p.start ≤ p.end
+  pub end : p.end ≤ count
+
+abbrev pub AreParts : ℕ → List Part → Type 0
+AreParts count parts = AllByRecursion (IsPart count) parts
+
+-- the findings of a part, and of each
+abbrev pub findings_of_part : List Found → Part → List Found
+findings_of_part findings p = slice_range findings p.start p.end
+
+abbrev pub found_by_part : List Found → List Part → List (List Found)
+found_by_part findings parts = map (findings_of_part findings) parts
+
+-- those at a place, none behind the last
+abbrev pub found_at : List (List Found) → ℕ → List Found
+found_at found position = unwrap_or (slice_get found position) []
+
+-- whether a finding comes after N6, or else before it
+abbrev pub is_late : Bool → Found → Bool
+is_late true f = nat_lt (finding_number IdUsed) (finding_number f)
+is_late false f = nat_lt (finding_number f) (finding_number IdUsed)
+
+-- findings with N6 among them, where it holds
+abbrev pub with_used : List Found → Bool → List Found
+with_used found used = filter (is_late false) found ++ once IdUsed used ++ filter (is_late true) found
+
+-- what is known of the record whose findings are written next: its row, its findings, and the ids used before it
+pub record IsDue (before : List Record) (p : Placed) (row : Row) (found : List Found) (ids : Ids) : Type 0 where
+  pub row_is : row ≡ row_of p
+  pub good : head_fault p.content.fields ≡ None
+  pub found_is : found ≡ own_findings p.content
+  pub has : HoldsIdsOf before ids
+  pub lone : IsAlone before ids (id_key row.id)
+
+-- these are the rows of records that can be checked, and what was found of each
+pub record AreJudged (bytes : List ℕ) (records : List Placed) (rows : List Row) (found : List (List Found))
+    : Type 0 where
+  pub can : AreCheckable bytes records rows
+  pub found_is : found ≡ map own_findings (contents records)

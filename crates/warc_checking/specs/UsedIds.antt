@@ -1,0 +1,44 @@
+-- Which ids of an archive may stand in it more than once. Each id's key has a bucket, and of each bucket it is counted
+-- how many of the archive's ids it has: an id that is alone in its bucket stands once. States of the code: no public
+-- clause cites them.
+use Rattle.std.specs.Prelude.{◌≡◌, ℕ, ◌<◌, ◌≤◌, ◌%◌, false, List, length, Option, Some, slice_index}
+use Rattle.std.specs.BTreeSet.{BTreeSet, contains}
+use Rattle.std.specs.Cmp.Lexicographic.{slice_cmp}
+use Rattle.std.specs.Hash.FoldHasher.{finish, initial, write}
+use Rattle.std.specs.List.{slice_get}
+use Rattle.std.specs.Ordering.{nat_cmp}
+use Rattle.warc_frame.specs.Record.{Record}
+use Rattle.warc_record.specs.Ids.{id_key}
+use Rattle.warc_checking.specs.Checking.{is_used}
+use Rattle.warc_reading.specs.Row.{Row}
+
+-- the bucket of a key, of so many
+unfoldable pub bucket_of : ℕ → List ℕ → ℕ
+bucket_of count key = finish (write initial key) % count
+
+-- how many ids were counted in the bucket of a key, up to 255
+abbrev pub level : List ℕ → List ℕ → ℕ
+level counts key = slice_index counts (bucket_of (length counts) key)
+
+-- the ids of the first n of these rows were counted
+pub record IsTally (n : ℕ) (rows : List Row) (counts : List ℕ) : Type 0 where
+  pub some : 0 < length counts
+  pub once : (i : ℕ) (row : Row) (key : List ℕ) → i < n → slice_get rows i ≡ Some row → id_key row.id ≡ Some key
+      → 0 < level counts key
+  pub twice : (i j : ℕ) (a b : Row) (key : List ℕ) → i < j → j < n → slice_get rows i ≡ Some a
+      → slice_get rows j ≡ Some b → id_key a.id ≡ Some key → id_key b.id ≡ Some key → 1 < level counts key
+
+-- how many ids the buckets have, and the keys of the ids in buckets of several that earlier records use
+pub record Ids : Type 0 where
+  pub counts : List ℕ
+  pub keys : BTreeSet (List ℕ)
+
+-- of the keys in buckets of several, the set holds those of the ids of these records, and no others
+abbrev pub HoldsIdsOf : List Record → Ids → Type 0
+HoldsIdsOf records ids = (key : List ℕ) → 1 < level ids.counts key
+    → contains (slice_cmp nat_cmp) ids.keys key ≡ is_used records (Some key)
+
+-- a key in a bucket of one is that of no id of these records
+abbrev pub IsAlone : List Record → Ids → Option (List ℕ) → Type 0
+IsAlone records ids wanted = (key : List ℕ) → wanted ≡ Some key → level ids.counts key ≤ 1
+    → is_used records (Some key) ≡ false

@@ -1,0 +1,443 @@
+//! The findings that records alone tell, kept in flat lists as the records are read.
+ghost use Rattle.std.specs.Prelude.{◌≡◌, ℕ, ◌+◌, false, List, [], ◌∷◌, ◌++◌, length, map, OnErr, OnOk, IfOk, if◌then◌else◌};
+ghost use Rattle.std.specs.List.{filter};
+ghost use Rattle.warc_frame.specs.Count.{capped};
+ghost use Rattle.warc_frame.specs.Putting.{Puts};
+ghost use Rattle.warc_reading.specs.Archive.{contents};
+ghost use Rattle.warc_record.specs.Findings.{Found, IdUsed, finding_seen, findings_of, once};
+ghost use Rattle.warc_checking.specs.Examining.{record_lines};
+ghost use Rattle.warc_checking.specs.Judged.{own_findings};
+ghost use Rattle.warc_checking.specs.OwnFindings.{AreNamed, AreParts, IsNamed, IsPart, all_found, found_at, found_by_part, finding_in, is_late, findings_of_part, finding_by_number, with_used};
+ghost use Rattle.warc_value.specs.Digests.{is_bad};
+
+use crate::check::put_finding;
+use std::alloc::{AllocError, Allocator};
+use std::marker::Model;
+use warc_field::Fields;
+use warc_frame::laws::went_out_of_longer;
+use warc_frame::{OutBuffer, SendFault, Sink};
+use warc_reading::Keep;
+use warc_record::{ArchiveFacts, Finding, all_findings};
+use warc_segment::Place;
+
+/// A finding in 24 bytes: its number, and where the name of its field is in a list of bytes, an empty part if it is
+/// about none.
+#[derive(Clone, Copy)]
+struct PackedFinding {
+    number: u8,
+    start: usize,
+    end: usize,
+}
+
+/// The finding of a number, with the name of a field if it is about one.
+fn finding_by_number(number: u8, name: &[u8]) -> Finding<'_>
+    ensures { finding_seen result ≡ finding_by_number number name.now }
+{
+    match number {
+        1 => Finding::Absent(name),
+        2 => Finding::Forbidden(name),
+        3 => Finding::Repeated(name),
+        4 => Finding::Digest,
+        5 => Finding::SegmentNumber,
+        6 => Finding::IdUsed,
+        7 => Finding::NoContentType,
+        8 => Finding::Profile,
+        9 => Finding::NotUtf8(name),
+        10 => Finding::BareId,
+        11 => Finding::NoOrigin,
+        _ => Finding::Empty,
+    }
+}
+
+/// The finding that is packed.
+fn finding_in<'a>(names: &'a [u8], packed: &PackedFinding) -> Finding<'a>
+    requires { IsNamed (length names.now) packed.now }
+    ensures { finding_seen result ≡ finding_in names.now packed.now }
+{
+    finding_by_number(packed.number, &names[packed.start..packed.end])
+}
+
+/// Whether a finding comes after N6, or else before it.
+fn is_late(finding: Finding<'_>, late: bool) -> bool
+    ensures { result ≡ is_late late (finding_seen finding.entry) }
+{
+    let used = Finding::IdUsed.number();
+    if late {
+        finding.number() > used
+    } else {
+        finding.number() < used
+    }
+}
+
+/// Adds the line of a finding to the output, by the position of its record, if it comes after N6, or else before it.
+fn put_packed<W: Sink>(
+    position: u64,
+    names: &[u8],
+    packed: &PackedFinding,
+    late: bool,
+    buffer: &mut OutBuffer,
+    out: &mut W,
+) -> Result<(), SendFault>
+    requires { IsNamed (length names.now) packed.now }
+    ensures { Puts (W.seen out.old) (W.seen out.new) buffer.old buffer.new result (record_lines position
+        (filter (is_late late) (finding_in names.now packed.now ∷ []))) }
+{
+    let finding = finding_in(names, packed);
+    if !is_late(finding, late) {
+        return Ok(());
+    }
+    put_finding(position, &finding, buffer, out)
+}
+
+/// Adds the lines of those findings that come after N6, or else of those before it.
+fn put_half<W: Sink>(
+    position: u64,
+    names: &[u8],
+    findings: &[PackedFinding],
+    late: bool,
+    buffer: &mut OutBuffer,
+    out: &mut W,
+) -> Result<(), SendFault>
+    requires { AreNamed (length names.now) findings.now }
+    ensures { Puts (W.seen out.old) (W.seen out.new) buffer.old buffer.new result (record_lines position
+        (filter (is_late late) (all_found names.now findings.now))) }
+{
+    went_out_of_longer();
+    'putting: for packed in findings {
+        put_packed(position, names, packed, late, buffer, out)?;
+    }
+    Ok(())
+}
+
+/// Adds the line of N6 to the output, if it holds.
+fn put_used<W: Sink>(
+    position: u64,
+    used: bool,
+    buffer: &mut OutBuffer,
+    out: &mut W,
+) -> Result<(), SendFault>
+    ensures { Puts (W.seen out.old) (W.seen out.new) buffer.old buffer.new result (record_lines position
+        (once IdUsed used)) }
+{
+    if !used {
+        return Ok(());
+    }
+    put_finding(position, &Finding::IdUsed, buffer, out)
+}
+
+/// How many lines tell N6.
+fn line_count(used: bool) -> usize
+    ensures { result ≡ (if used then 1 else 0) }
+{
+    if used { 1 } else { 0 }
+}
+
+/// Adds the lines of a record's findings to the output, and of N6 among them, if it holds.
+fn put_found<W: Sink>(
+    position: u64,
+    names: &[u8],
+    findings: &[PackedFinding],
+    used: bool,
+    buffer: &mut OutBuffer,
+    out: &mut W,
+) -> Result<(), SendFault>
+    requires { AreNamed (length names.now) findings.now }
+    ensures { Puts (W.seen out.old) (W.seen out.new) buffer.old buffer.new result (record_lines position
+        (with_used (all_found names.now findings.now) used)) }
+{
+    went_out_of_longer();
+    put_half(position, names, findings, false, buffer, out)?;
+    put_used(position, used, buffer, out)?;
+    put_half(position, names, findings, true, buffer, out)
+}
+
+/// Adds the finding of a number after the others, with the name of its field. Where memory is refused none is added.
+fn add_numbered<A: Allocator>(
+    names: &mut Vec<u8, A>,
+    findings: &mut Vec<PackedFinding, A>,
+    number: u8,
+    name: &[u8],
+) -> Result<(), AllocError>
+    requires { AreNamed (length names.old.items) findings.old.items }
+    ensures named { AreNamed (length names.new.items) findings.new.items }
+    ensures ok { OnOk result (all_found names.new.items findings.new.items
+        ≡ all_found names.old.items findings.old.items ++ finding_by_number number name.now ∷ []) }
+    ensures err { OnErr result (all_found names.new.items findings.new.items
+        ≡ all_found names.old.items findings.old.items) }
+{
+    let start = names.len();
+    findings.reserve(1)?;
+    names.extend_from_slice(name)?;
+    findings.push_reserved(PackedFinding {
+        number,
+        start,
+        end: names.len(),
+    });
+    Ok(())
+}
+
+/// Adds a finding after the others. Where memory is refused none is added.
+#[tactic(auto, using(crate::proofs::OwnFindingLemmas::numbered_named, crate::proofs::OwnFindingLemmas::numbered_bare))]
+fn add_finding<A: Allocator>(
+    names: &mut Vec<u8, A>,
+    findings: &mut Vec<PackedFinding, A>,
+    finding: &Finding<'_>,
+) -> Result<(), AllocError>
+    requires { AreNamed (length names.old.items) findings.old.items }
+    ensures named { AreNamed (length names.new.items) findings.new.items }
+    ensures ok { OnOk result (all_found names.new.items findings.new.items
+        ≡ all_found names.old.items findings.old.items ++ finding_seen finding.now ∷ []) }
+    ensures err { OnErr result (all_found names.new.items findings.new.items
+        ≡ all_found names.old.items findings.old.items) }
+{
+    match finding.field() {
+        Some(name) => add_numbered(names, findings, finding.number(), name),
+        None => add_numbered(names, findings, finding.number(), b""),
+    }
+}
+
+/// Findings, one behind another.
+#[derive(Drop)]
+struct FindingList<A: Allocator> {
+    names: Vec<u8, A>,
+    findings: Vec<PackedFinding, A>,
+}
+
+impl<A: Allocator> Model for FindingList<A> {
+    ghost use Rattle.std.specs.Prelude.{List, length};
+    ghost use Rattle.warc_record.specs.Findings.{Found};
+    ghost use Rattle.warc_checking.specs.OwnFindings.{AreNamed, all_found};
+
+    ghost Value = { List Found };
+
+    ghost view = { λ n. all_found n.names.items n.findings.items };
+
+    ghost invariant = { λ n. AreNamed (length n.names.items) n.findings.items };
+}
+
+impl<A: Allocator + Copy> FindingList<A> {
+    /// No findings.
+    fn new(alloc: A) -> FindingList<A>
+        ensures { result ≡ [] }
+    {
+        FindingList {
+            names: Vec::new(alloc),
+            findings: Vec::new(alloc),
+        }
+    }
+}
+
+impl<A: Allocator> FindingList<A> {
+    /// How many findings there are.
+    fn len(&self) -> usize
+        ensures { result ≡ length self.now }
+    {
+        self.findings.len()
+    }
+
+    /// Adds a finding behind the others. Where memory is refused none is added.
+    fn push(&mut self, finding: &Finding<'_>) -> Result<(), AllocError>
+        ensures ok { OnOk result (self.new ≡ self.old ++ finding_seen finding.now ∷ []) }
+        ensures err { OnErr result (self.new ≡ self.old) }
+    {
+        add_finding(&mut self.names, &mut self.findings, finding)
+    }
+
+    /// Adds the lines of a part to the output, and of N6 among them, if it holds.
+    fn put<W: Sink>(
+        &self,
+        part: Part,
+        position: u64,
+        used: bool,
+        buffer: &mut OutBuffer,
+        out: &mut W,
+    ) -> Result<(), SendFault>
+        requires { IsPart (length self.now) part }
+        ensures { Puts (W.seen out.old) (W.seen out.new) buffer.old buffer.new result (record_lines position
+            (with_used (findings_of_part self.now part) used)) }
+    {
+        put_part(
+            self.names.as_slice(),
+            self.findings.as_slice(),
+            part,
+            position,
+            used,
+            buffer,
+            out,
+        )
+    }
+}
+
+/// Adds the lines of a part of the findings to the output, and of N6 among them, if it holds.
+fn put_part<W: Sink>(
+    names: &[u8],
+    findings: &[PackedFinding],
+    part: Part,
+    position: u64,
+    used: bool,
+    buffer: &mut OutBuffer,
+    out: &mut W,
+) -> Result<(), SendFault>
+    requires named { AreNamed (length names.now) findings.now }
+    requires within { IsPart (length findings.now) part }
+    ensures { Puts (W.seen out.old) (W.seen out.new) buffer.old buffer.new result (record_lines position
+        (with_used (findings_of_part (all_found names.now findings.now) part) used)) }
+{
+    put_found(
+        position,
+        names,
+        &findings[part.start..part.end],
+        used,
+        buffer,
+        out,
+    )
+}
+
+/// Adds findings behind the others. Where memory is refused some of them are added.
+fn add_all<A: Allocator>(
+    found: &[Finding<'_>],
+    findings: &mut FindingList<A>,
+) -> Result<(), AllocError>
+    ensures ok { OnOk result (findings.new ≡ findings.old ++ map finding_seen found.now) }
+    ensures more { (more : List Found) × (findings.new ≡ findings.old ++ more) }
+{
+    'adding: for finding in found {
+        findings.push(finding)?;
+    }
+    Ok(())
+}
+
+/// Adds the findings that a record alone tells, by the fields of its head and where its block stands. Where memory
+/// is refused some of them are added.
+fn add_own<A: Allocator + Copy>(
+    alloc: A,
+    fields: &Fields<A>,
+    place: Place,
+    findings: &mut FindingList<A>,
+) -> Result<(), AllocError>
+    ensures ok { OnOk result (findings.new ≡ findings.old
+        ++ findings_of fields.now place.len (is_bad place.verdict) false) }
+    ensures more { (more : List Found) × (findings.new ≡ findings.old ++ more) }
+{
+    let facts = ArchiveFacts {
+        bad_digest: place.verdict.is_bad(),
+        used_id: false,
+    };
+    let found = all_findings(alloc, fields, place.len, facts)?;
+    add_all(&found, findings)
+}
+
+/// Where the findings of a record stand among those of all.
+#[derive(Clone, Copy)]
+struct Part {
+    start: usize,
+    end: usize,
+}
+
+/// The part at a place, an empty one behind the last.
+fn part_at(parts: &[Part], position: usize) -> Part
+    ensures is { (findings : List Found) → findings_of_part findings result
+        ≡ found_at (found_by_part findings parts.now) position }
+    ensures within { (count : ℕ) → AreParts count parts.now → IsPart count result }
+{
+    match parts.get(position) {
+        Some(part) => *part,
+        None => Part { start: 0, end: 0 },
+    }
+}
+
+/// Adds the part of the next record. Where memory is refused none is added, and the findings that were added are in no
+/// part.
+fn add_part<A: Allocator + Copy>(
+    alloc: A,
+    findings: &mut FindingList<A>,
+    parts: &mut Vec<Part, A>,
+    fields: &Fields<A>,
+    place: Place,
+) -> Result<(), AllocError>
+    requires { AreParts (length findings.old) parts.old.items }
+    ensures within { AreParts (length findings.new) parts.new.items }
+    ensures ok { OnOk result (found_by_part findings.new parts.new.items
+        ≡ found_by_part findings.old parts.old.items
+        ++ findings_of fields.now place.len (is_bad place.verdict) false ∷ []) }
+    ensures err { OnErr result (found_by_part findings.new parts.new.items
+        ≡ found_by_part findings.old parts.old.items) }
+{
+    let start = findings.len();
+    parts.reserve(1)?;
+    add_own(alloc, fields, place, findings)?;
+    parts.push_reserved(Part {
+        start,
+        end: findings.len(),
+    });
+    Ok(())
+}
+
+/// The findings that each record alone tells.
+#[derive(Drop)]
+pub(crate) struct OwnFindings<A: Allocator> {
+    findings: FindingList<A>,
+    parts: Vec<Part, A>,
+}
+
+impl<A: Allocator> Model for OwnFindings<A> {
+    ghost use Rattle.std.specs.Prelude.{List, length};
+    ghost use Rattle.warc_record.specs.Findings.{Found};
+    ghost use Rattle.warc_checking.specs.OwnFindings.{AreParts, found_by_part};
+
+    ghost Value = { List (List Found) };
+
+    ghost view = { λ n. found_by_part n.findings n.parts.items };
+
+    ghost invariant = { λ n. AreParts (length n.findings) n.parts.items };
+}
+
+impl<A: Allocator + Copy> OwnFindings<A> {
+    /// Of no records.
+    pub(crate) fn new(alloc: A) -> OwnFindings<A>
+        ensures { result ≡ [] }
+    {
+        OwnFindings {
+            findings: FindingList::new(alloc),
+            parts: Vec::new(alloc),
+        }
+    }
+
+    /// Adds the lines of the findings of the record at a position to the output, and of N6 among them, if it holds.
+    /// The answer is their number, up to 2^64 - 1.
+    pub(crate) fn put<W: Sink>(
+        &self,
+        position: usize,
+        used: bool,
+        buffer: &mut OutBuffer,
+        out: &mut W,
+    ) -> Result<usize, SendFault>
+        ensures puts { Puts (W.seen out.old) (W.seen out.new) buffer.old buffer.new result (record_lines position
+            (with_used (found_at self.now position) used)) }
+        ensures number { IfOk result (λ n. n ≡ capped (length (found_at self.now position)
+            + (if used then 1 else 0))) }
+    {
+        let part = part_at(self.parts.as_slice(), position);
+        self.findings.put(part, position as u64, used, buffer, out)?;
+        Ok((part.end - part.start).saturating_add(line_count(used)))
+    }
+}
+
+impl<A: Allocator + Copy> Keep<A> for OwnFindings<A> {
+    ghost keeps = { λ l records. l ≡ map own_findings (contents records) };
+
+    fn keep(
+        &mut self,
+        alloc: A,
+        _position: usize,
+        fields: &Fields<A>,
+        place: Place,
+    ) -> Result<(), AllocError> {
+        add_part(alloc, &mut self.findings, &mut self.parts, fields, place)
+    }
+
+    fn forget_after(&mut self, count: usize) {
+        // The findings of the others stay, in no part.
+        self.parts.truncate(count);
+    }
+}
