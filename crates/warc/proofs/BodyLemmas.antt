@@ -22,7 +22,7 @@ use Rattle.warc_answer.specs.declared.answer.ReplayFault.{ReplayFault}
 use Rattle.warc_answer.specs.declared.answer.ReplayFault.TheVariants.{Reason}
 use Rattle.warc_reading.specs.Archive.{IsArchiveOf, contents}
 use Rattle.warc_reading.specs.Row.{Placed, Row, row_of}
-use Rattle.warc_checking.proofs.RecordsLemmas.{placed}
+use Rattle.warc_reading.proofs.PlacedLemmas.{placed}
 use Rattle.warc.specs.Bodies.{GivesBodyAt, IsCaptureAt, IsOtherAt}
 use Rattle.warc.specs.Finding.{IsCaptureRow, IsFoundAt, IsOtherRow}
 use Rattle.warc.specs.Replaying.{ReplaysOn}

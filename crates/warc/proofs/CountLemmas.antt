@@ -2,7 +2,7 @@
 use Rattle.std.proofs.Common.{◌≡◌, ℕ, ◌+◌, ◌++◌, Bool, true, false, List, [], ◌∷◌, length, take, if◌then◌else◌, filter, refl, ap, ◌∙◌, arith, length-append, Some}
 use Rattle.std.proofs.lemmas.List.Elements.{filter-append}
 use Rattle.std.specs.List.{slice_get}
-use Rattle.warc_checking.proofs.RecordsLemmas.{take_one}
+use Rattle.warc_reading.proofs.PlacedLemmas.{take_one}
 
 abbrev pub one_if : Bool → ℕ
 one_if test = if test then 1 else 0

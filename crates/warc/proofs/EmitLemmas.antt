@@ -14,9 +14,9 @@ use Rattle.warc_frame.specs.declared.send.SendFault.{SendFault}
 use Rattle.warc_frame.proofs.LawLemmas.{same_out, same_staged, staged_went_out, went_out_of_longer}
 use Rattle.warc.specs.Emitting.{Emits}
 use Rattle.warc.specs.Forms.{ReadsOnly}
-use Rattle.warc_checking.specs.Examining.{HasFailed, MayHaveFailed, ended_by}
-use Rattle.warc_checking.specs.declared.heads.RereadFault.{RereadFault}
-use Rattle.warc_checking.specs.declared.heads.RereadFault.TheVariants.{Read as NotRead, Memory as NoMemory}
+use Rattle.warc_reading.specs.Rereading.{HasFailed, MayHaveFailed, ended_by}
+use Rattle.warc_reading.specs.declared.rereading.RereadFault.{RereadFault}
+use Rattle.warc_reading.specs.declared.rereading.RereadFault.TheVariants.{Read as NotRead, Memory as NoMemory}
 
 -- what the bytes of a source have to give
 abbrev pub Giving : Type 1

@@ -23,7 +23,7 @@ use Rattle.warc.specs.declared.fault.ExtractFault.{ExtractFault}
 use Rattle.warc.specs.declared.fault.ExtractFault.TheVariants.{NoRecord, Out}
 use Rattle.warc.specs.declared.part.Part.{Part}
 use Rattle.warc.specs.declared.part.Part.TheVariants.{Head, Block}
-use Rattle.warc_checking.proofs.RecordsLemmas.{placed}
+use Rattle.warc_reading.proofs.PlacedLemmas.{placed}
 use Rattle.warc.proofs.StandLemmas.{written}
 use Rattle.warc.proofs.TakeLemmas.{absent}
 

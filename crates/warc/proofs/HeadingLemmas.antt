@@ -6,16 +6,15 @@ use Rattle.std.specs.Option.{option_to_list}
 use Rattle.warc_frame.specs.Failing.{HasFailedBy, MayHaveFailedBy}
 use Rattle.warc_frame.specs.Seen.{Tapped}
 use Rattle.warc_frame.specs.declared.reading.Head.{Head}
-use Rattle.warc_checking.specs.Examining.{HasHead}
-use Rattle.warc_checking.specs.Heads.{ReadsHeads}
+use Rattle.warc_reading.specs.Rereading.{HasHead, ReadsHeads}
 use Rattle.warc_reading.specs.Row.{Placed, Row, row_of}
 use Rattle.warc.specs.Heading.{IsHeadTaken, TakesHead}
 use Rattle.warc.specs.Standing.{IsEnd}
 use Rattle.warc.specs.Taking.{take_result}
 use Rattle.warc.specs.declared.fault.TakeFault.{TakeFault}
 use Rattle.warc.specs.declared.fault.TakeFault.TheVariants.{NoRecord, Read, Memory}
-use Rattle.warc_checking.proofs.PlaceLemmas.{HeadsAreRead, checkable_archive}
-use Rattle.warc_checking.proofs.RecordsLemmas.{placed}
+use Rattle.warc_reading.proofs.PlaceLemmas.{HeadsAreRead, checkable_archive}
+use Rattle.warc_reading.proofs.PlacedLemmas.{placed}
 use Rattle.warc.proofs.TakeLemmas.{absent}
 
 -- where there is no row there is no record, and nothing is read

@@ -17,7 +17,7 @@ use Rattle.warc_answer.specs.declared.answer.ReplayFault.TheVariants.{Reason}
 use Rattle.warc_reading.specs.Archive.{contents}
 use Rattle.warc_reading.specs.Indexed.{placed_record}
 use Rattle.warc_reading.specs.Row.{Placed, Row, row_of}
-use Rattle.warc_checking.specs.Heads.{ReadsHeads}
+use Rattle.warc_reading.specs.Rereading.{ReadsHeads}
 use Rattle.warc.specs.Finding.{IsFoundAt, IsOtherRow}
 use Rattle.warc.specs.Locating.{KeepsSource, LocatesAt, LocatesOn, ReadsAtMost}
 use Rattle.warc.specs.Replaying.{IsJoined, IsOnPath, origin_joined, path_reads}

@@ -31,9 +31,9 @@ use Rattle.warc_answer.specs.declared.answer.ReplayFault.{ReplayFault}
 use Rattle.warc_answer.specs.declared.answer.ReplayFault.TheVariants.{Reason, Out}
 use Rattle.warc_answer.specs.declared.stored.Stored.{Stored}
 use Rattle.warc_answer.proofs.GiveLemmas.{places_lie, places_text}
-use Rattle.warc_checking.specs.Examining.{ended_by}
-use Rattle.warc_checking.specs.declared.heads.RereadFault.{RereadFault}
-use Rattle.warc_checking.specs.declared.heads.RereadFault.TheVariants.{Read, Memory}
+use Rattle.warc_reading.specs.Rereading.{ended_by}
+use Rattle.warc_reading.specs.declared.rereading.RereadFault.{RereadFault}
+use Rattle.warc_reading.specs.declared.rereading.RereadFault.TheVariants.{Read, Memory}
 use Rattle.warc_reading.specs.Archive.{IsArchiveOf, contents}
 use Rattle.warc_reading.specs.Indexed.{AreOf, placed_record}
 use Rattle.warc_reading.specs.Row.{Placed, Row}

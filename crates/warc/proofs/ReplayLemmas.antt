@@ -26,15 +26,14 @@ use Rattle.warc_answer.specs.Payloads.{read_record}
 use Rattle.warc_answer.specs.Places.{IsInOne, len_of}
 use Rattle.warc_answer.specs.declared.answer.Path.{Path}
 use Rattle.warc_reading.specs.Archive.{SpellsFrom, contents}
-use Rattle.warc_checking.specs.Heads.{IsInHead, ReadsHeads, heads_len}
+use Rattle.warc_reading.specs.Rereading.{HasFailed, IsInHead, MayHaveFailed, ReadsHeads, ended_by, heads_len}
 use Rattle.warc_reading.specs.Indexed.{indexed_record, place_of, placed_record}
 use Rattle.warc.specs.Replaying.{IsJoined, IsOfOrigin, IsOnPath, joined_len, origin_reads, path_reads}
-use Rattle.warc_checking.specs.Examining.{HasFailed, MayHaveFailed, ended_by}
 use Rattle.warc_reading.specs.Row.{Placed, Row, row_of}
 use Rattle.warc.specs.Standing.{IsOrigin, IsWritten}
-use Rattle.warc_checking.specs.declared.heads.RereadFault.{RereadFault}
-use Rattle.warc_checking.specs.declared.heads.RereadFault.TheVariants.{Read, Memory}
-use Rattle.warc_checking.proofs.ReadLemmas.{one_row}
+use Rattle.warc_reading.specs.declared.rereading.RereadFault.{RereadFault}
+use Rattle.warc_reading.specs.declared.rereading.RereadFault.TheVariants.{Read, Memory}
+use Rattle.warc_reading.proofs.ReadLemmas.{one_row}
 use Rattle.warc.proofs.StandLemmas.{written}
 
 -- the records, read

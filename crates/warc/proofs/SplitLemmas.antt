@@ -24,7 +24,7 @@ use Rattle.warc.specs.Forms.{IsInBlock, ReadsOnly, split_text}
 use Rattle.warc.specs.Segments.{AreSegmentTexts, IsCutOf, IsSegmentText}
 use Rattle.warc.specs.declared.copying.Copied.{Copied}
 use Rattle.warc.specs.declared.segments.Cut.{Cut}
-use Rattle.warc_checking.specs.Examining.{IsHeadReadOf}
+use Rattle.warc_reading.specs.Rereading.{IsHeadReadOf}
 use Rattle.warc.proofs.EmitLemmas.{Begins, InTurn, reads_both, reads_within}
 use Rattle.warc.proofs.WholeLemmas.{copy_of}
 

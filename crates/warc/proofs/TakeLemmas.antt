@@ -15,7 +15,7 @@ use Rattle.warc.specs.Standing.{IsEnd, IsWritten}
 use Rattle.warc.specs.Taking.{IsSpelledIn, IsTaken, ReadsRecord, Takes, record_len, take_result}
 use Rattle.warc.specs.declared.fault.TakeFault.{TakeFault}
 use Rattle.warc.specs.declared.fault.TakeFault.TheVariants.{NoRecord, Read, Memory}
-use Rattle.warc_checking.proofs.RecordsLemmas.{placed}
+use Rattle.warc_reading.proofs.PlacedLemmas.{placed}
 use Rattle.warc.proofs.StandLemmas.{written}
 
 -- the text that is read where the row says spells the record

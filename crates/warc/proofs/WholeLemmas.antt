@@ -17,7 +17,7 @@ use Rattle.warc_write.specs.Conversion.{converted, converted_fields}
 use Rattle.warc_reading.specs.Archive.{IsArchiveOf, SpellsFrom, contents}
 use Rattle.warc.specs.Copied.{AreTextsOf, HasWhole, IsCopiedOf, IsCopy, IsTextOf}
 use Rattle.warc.specs.Forms.{IsInBlock, IsInRecord, IsInRow, ReadsOnly, text_as}
-use Rattle.warc_checking.specs.Heads.{ReadsHeads}
+use Rattle.warc_reading.specs.Rereading.{ReadsHeads}
 use Rattle.warc_frame.specs.Seen.{Tapped}
 use Rattle.warc_reading.specs.Row.{Placed, Row, row_of}
 use Rattle.warc.specs.declared.copying.Copied.{Copied}
@@ -25,9 +25,9 @@ use Rattle.warc.specs.declared.copying.Form.{Form}
 use Rattle.warc.specs.declared.copying.Form.TheVariants.{Canonical, Converted}
 use Rattle.warc.proofs.EmitLemmas.{Begins, InTurn, reads_both, reads_within}
 use Rattle.warc_reading.proofs.GoodLemmas.{accepted}
-use Rattle.warc_checking.proofs.PlaceLemmas.{HeadsAreRead, head_here}
-use Rattle.warc_checking.proofs.ReadLemmas.{one_row}
-use Rattle.warc_checking.proofs.RecordsLemmas.{take_one}
+use Rattle.warc_reading.proofs.PlaceLemmas.{HeadsAreRead, head_here}
+use Rattle.warc_reading.proofs.ReadLemmas.{one_row}
+use Rattle.warc_reading.proofs.PlacedLemmas.{take_one}
 
 front_len : (head block : List ℕ) → length (((head ++ block) ++ crlf) ++ crlf) ≡ length head + length block + 4
 front_len head block = simp length-append (omega arith)

@@ -7,7 +7,7 @@ use Rattle.warc_frame.specs.Copying.{HasRange}
 use Rattle.warc_frame.specs.Record.{Record, head_text}
 use Rattle.warc_frame.specs.declared.reading.Head.{Head}
 use Rattle.warc_reading.specs.Archive.{contents}
-use Rattle.warc_checking.specs.Examining.{HasHead, IsHeadReadOf}
+use Rattle.warc_reading.specs.Rereading.{HasHead, IsHeadReadOf}
 use Rattle.warc.specs.Forms.{read_len, split_len, split_text, text_as}
 use Rattle.warc_reading.specs.Row.{Placed, Row, row_of}
 use Rattle.warc.specs.declared.copying.Copied.{Copied}

@@ -4,7 +4,7 @@ use Rattle.std.specs.Option.{option_to_list}
 use Rattle.warc_frame.specs.Failing.{HasFailedBy, MayHaveFailedBy}
 use Rattle.warc_frame.specs.Seen.{IfHeld, Tapped}
 use Rattle.warc_frame.specs.declared.reading.Head.{Head}
-use Rattle.warc_checking.specs.Heads.{ReadsHeads}
+use Rattle.warc_reading.specs.Rereading.{ReadsHeads}
 use Rattle.warc_reading.specs.Archive.{IsArchiveOf}
 use Rattle.warc_reading.specs.Row.{Placed, Row}
 use Rattle.warc.specs.Taking.{take_result}

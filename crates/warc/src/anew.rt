@@ -12,9 +12,8 @@ ghost use Rattle.warc.specs.Forms.{IsInRecord, IsInRow, ReadsOnly};
 use crate::copying::{Form, put_as};
 use crate::segments::put_split;
 use std::alloc::Allocator;
-use warc_checking::{head_buffer, reread_head};
 use warc_frame::{OutBuffer, OutFault, Sink, Source};
-use warc_reading::{Row, Rows};
+use warc_reading::{Row, Rows, head_buffer, reread_head};
 
 /// What is written in the place of each record.
 #[derive(Clone, Copy)]

@@ -2,7 +2,7 @@
 ghost use Rattle.std.specs.Prelude.{◌≡◌, ◌<◌, IfOk, length};
 ghost use Rattle.warc.specs.Copied.{IsCopiedOf, IsCopy, IsTextWith};
 ghost use Rattle.warc.specs.Emitting.{Emits};
-ghost use Rattle.warc_checking.specs.Examining.{IsHeadReadOf};
+ghost use Rattle.warc_reading.specs.Rereading.{IsHeadReadOf};
 ghost use Rattle.warc.specs.Forms.{IsInBlock, ReadsOnly, text_as};
 ghost use Rattle.warc_reading.specs.Row.{Placed, row_of};
 

@@ -1,7 +1,6 @@
 //! Heads of records, read again through the source.
 ghost use Rattle.std.specs.Prelude.{◌≡◌, ℕ, ◌∷◌, [], List, Some, IfErr};
-ghost use Rattle.warc_checking.specs.Examining.{HasHead};
-ghost use Rattle.warc_checking.specs.Heads.{ReadsHeads};
+ghost use Rattle.warc_reading.specs.Rereading.{HasHead, ReadsHeads};
 ghost use Rattle.warc_frame.specs.Failing.{HasFailedBy, MayHaveFailedBy};
 ghost use Rattle.warc_reading.specs.Row.{Placed, row_of};
 ghost use Rattle.warc.specs.Heading.{IsHeadTaken};
@@ -10,9 +9,8 @@ ghost use Rattle.warc.specs.Taking.{take_result};
 
 use crate::fault::TakeFault;
 use std::alloc::Allocator;
-use warc_checking::{RereadFault, head_buffer, reread_head};
 use warc_frame::{Head, Source};
-use warc_reading::Row;
+use warc_reading::{RereadFault, Row, head_buffer, reread_head};
 
 /// The head of the record of a row, read again.
 pub(crate) fn take_head<S: Source, A: Allocator + Copy>(

@@ -9,7 +9,7 @@ ghost use Rattle.warc_answer.specs.Located.{IsLocatedOn};
 ghost use Rattle.warc_answer.specs.Replays.{out_result};
 ghost use Rattle.warc_reading.specs.Archive.{contents};
 ghost use Rattle.warc_reading.specs.Indexed.{place_of, placed_record};
-ghost use Rattle.warc_checking.specs.Examining.{HasHead};
+ghost use Rattle.warc_reading.specs.Rereading.{HasHead};
 ghost use Rattle.warc.specs.Locating.{KeepsSource, Locates, LocatesAt, LocatesFor, LocatesOn, ReadsAtMost};
 ghost use Rattle.warc.specs.Replaying.{IsJoined, origin_joined};
 ghost use Rattle.warc_reading.specs.Row.{Placed, row_of};
@@ -23,11 +23,10 @@ use warc_answer::laws::{
     fails_before_all, paths_end_inside, places_are_as_long, reasons_are_answers,
 };
 use warc_answer::{Located, Path, Reason, ReplayFault, locate_joined};
-use warc_checking::{head_buffer, read_again};
 use warc_frame::laws::head_of_spelled;
 use warc_frame::{OutFault, Source};
 use warc_index::Unfound;
-use warc_reading::{Lookup, Row, Rows};
+use warc_reading::{Lookup, Row, Rows, head_buffer, read_again};
 use warc_record::Typed;
 use warc_segment::laws::places_are_of_records;
 use warc_segment::{JoinFault, Parts, Place};

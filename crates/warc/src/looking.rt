@@ -11,17 +11,16 @@ ghost use Rattle.warc_answer.specs.Stored.{own_type};
 ghost use Rattle.warc_reading.specs.Archive.{contents};
 ghost use Rattle.warc_reading.specs.Indexed.{place_of, placed_record};
 ghost use Rattle.warc_reading.specs.Row.{Placed, row_of};
-ghost use Rattle.warc_checking.specs.Examining.{HasHead};
+ghost use Rattle.warc_reading.specs.Rereading.{HasHead};
 ghost use Rattle.warc.specs.Looking.{IsLook, Judges, Looks, Sends};
 ghost use Rattle.warc.specs.Standing.{IsOrigin};
 
 use std::alloc::Allocator;
 use warc_answer::{Path, Reason, ReplayFault, Stored, judge_joined, send_blocks};
-use warc_checking::{Reread, head_buffer, read_again};
 use warc_field::Fields;
 use warc_frame::laws::head_of_spelled;
 use warc_frame::{OutFault, Sink, Source};
-use warc_reading::{Lookup, Row, Rows};
+use warc_reading::{Lookup, Reread, Row, Rows, head_buffer, read_again};
 use warc_segment::laws::places_are_of_records;
 use warc_segment::{JoinFault, Parts, Place};
 

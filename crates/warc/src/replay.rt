@@ -12,7 +12,7 @@ ghost use Rattle.warc_answer.specs.Payloads.{read_record};
 ghost use Rattle.warc_answer.specs.Replays.{IsReplayOn, IsSilent, out_result};
 ghost use Rattle.warc_reading.specs.Archive.{contents};
 ghost use Rattle.warc_reading.specs.Indexed.{AreOf, indexed_record, place_of, placed_record};
-ghost use Rattle.warc_checking.specs.Examining.{HasHead};
+ghost use Rattle.warc_reading.specs.Rereading.{HasHead};
 ghost use Rattle.warc.specs.Replaying.{IsJoined, IsOfOrigin, Replays, ReplaysOn, joined_len};
 ghost use Rattle.warc_reading.specs.Row.{Placed, row_of};
 ghost use Rattle.warc.specs.Standing.{IsOrigin, LeadsTo};
@@ -22,11 +22,10 @@ use warc_answer::laws::{
     fails_before_all, paths_end_inside, places_are_as_long, reasons_are_answers,
 };
 use warc_answer::{Answer, Path, Reason, ReplayFault, replay_joined};
-use warc_checking::{head_buffer, read_again};
 use warc_frame::laws::head_of_spelled;
 use warc_frame::{OutFault, Sink, Source};
 use warc_index::Unfound;
-use warc_reading::{Lookup, Row, Rows};
+use warc_reading::{Lookup, Row, Rows, head_buffer, read_again};
 use warc_record::Typed;
 use warc_segment::laws::places_are_of_records;
 use warc_segment::{JoinFault, Parts, Place};

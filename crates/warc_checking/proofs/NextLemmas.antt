@@ -19,8 +19,9 @@ use Rattle.warc_checking.specs.OwnFindings.{AreJudged, IsDue, found_at, with_use
 use Rattle.warc_checking.specs.UsedIds.{HoldsIdsOf, Ids, IsTally}
 use Rattle.warc_checking.proofs.AmongLemmas.{used_among, used_count}
 use Rattle.warc_checking.proofs.CheckLemmas.{key_by_row}
-use Rattle.warc_checking.proofs.PlaceLemmas.{HeadsAreRead, checkable_archive}
-use Rattle.warc_checking.proofs.RecordsLemmas.{content_at, number_more, record_at, text_more}
+use Rattle.warc_reading.proofs.PlaceLemmas.{HeadsAreRead, checkable_archive}
+use Rattle.warc_reading.proofs.PlacedLemmas.{content_at, record_at}
+use Rattle.warc_checking.proofs.RecordsLemmas.{number_more, text_more}
 use Rattle.warc_checking.proofs.TallyLemmas.{alone}
 
 found_there : (records : List Placed) (i : ℕ) (p : Placed) → slice_get records i ≡ Some p → found_at (map own_findings (contents records)) i ≡ own_findings p.content

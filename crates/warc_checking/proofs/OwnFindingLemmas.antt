@@ -1,5 +1,5 @@
 -- Findings in flat lists, and the lines of those that are told.
-use Rattle.std.proofs.Common.{◌≡◌, ℕ, zero, suc, ◌+◌, ◌-◌, ◌<◌, ◌≤◌, Bool, List, [], ◌∷◌, ◌++◌, Some, None, length, map, take, drop, slice_range, get_or, if◌then◌else◌, true, false, decimal, append_assoc, length-append, refl, sym, ap, subst, ◌∙◌, arith}
+use Rattle.std.proofs.Common.{◌≡◌, ℕ, zero, suc, ◌+◌, ◌-◌, ◌<◌, ◌≤◌, Bool, List, [], ◌∷◌, ◌++◌, Some, None, length, map, take, drop, slice_range, get_or, true, false, append_assoc, length-append, refl, sym, ap, subst, ◌∙◌, arith}
 use Rattle.std.proofs.Math.Seq.{drop-append_seam}
 use Rattle.std.proofs.lemmas.List.{append-nil, drop-append-le, drop-map, length-drop, length-take-le, map-append, map_more, take-append-drop, take-append-le, take-map, take_all}
 use Rattle.std.proofs.lemmas.List.Elements.{filter-append}

@@ -1,5 +1,5 @@
 -- The findings of the first records, and one more.
-use Rattle.std.proofs.Common.{◌≡◌, ℕ, zero, suc, ◌+◌, ◌-◌, ◌^◌, ◌<◌, ◌≤◌, false, min, List, [], ◌∷◌, ◌++◌, length, map, take, drop, Some, Result, Ok, Err, append_assoc, length-append, take_all, refl, sym, ap, subst, ◌∙◌, arith}
+use Rattle.std.proofs.Common.{◌≡◌, ℕ, ◌+◌, ◌-◌, ◌^◌, ◌≤◌, false, min, List, [], ◌∷◌, ◌++◌, length, map, take, drop, Some, Result, Ok, Err, append_assoc, length-append, take_all, refl, sym, ap, subst, ◌∙◌, arith}
 use Rattle.std.proofs.lemmas.Grind.{flat_map-append}
 use Rattle.std.proofs.lemmas.List.{append-nil, length-map, length-take-le, take-append-drop}
 use Rattle.std.specs.Result.{IsErrAnd}
@@ -13,42 +13,14 @@ use Rattle.warc_frame.specs.Record.{Record}
 use Rattle.warc_record.specs.declared.checks.ArchiveFacts.{ArchiveFacts}
 use Rattle.warc_reading.specs.Archive.{contents}
 use Rattle.warc_checking.specs.Checking.{Line, findings_at, findings_behind, findings_of_records, line_text}
-use Rattle.warc_checking.specs.Examining.{AreCheckable, HasFailed, HasHead, IsExamined, findings_of_first, first_text, findings_by_facts, ended_by, record_lines, records_text}
+use Rattle.warc_reading.specs.Rereading.{AreCheckable, HasFailed, ended_by}
+use Rattle.warc_checking.specs.Examining.{IsExamined, findings_of_first, first_text, findings_by_facts, record_lines, records_text}
 use Rattle.warc_frame.specs.Failing.{HasFailedBy, MayHaveFailedBy, is_read}
-use Rattle.warc_checking.specs.declared.heads.RereadFault.{RereadFault}
-use Rattle.warc_checking.specs.declared.heads.RereadFault.TheVariants.{Read, Memory}
+use Rattle.warc_reading.specs.declared.rereading.RereadFault.{RereadFault}
+use Rattle.warc_reading.specs.declared.rereading.RereadFault.TheVariants.{Read, Memory}
+use Rattle.warc_reading.proofs.PlacedLemmas.{below, content_at, take_one}
 use Rattle.warc_reading.specs.Row.{Placed, Row, row_of}
 use Rattle.warc_checking.specs.UsedIds.{HoldsIdsOf, Ids}
-
--- the record of a row
-pub placed : (records : List Placed) (i : ℕ) (row : Row) → slice_get (map row_of records) i ≡ Some row → (p : Placed) × (slice_get records i ≡ Some p) × (row ≡ row_of p)
-placed [] i row is = absurd (cc is)
-placed (x ∷ xs) zero row is = (x, refl, cc is)
-placed (x ∷ xs) (suc i) row is = placed xs i row is
-
-pub record_at : (bytes : List ℕ) (records : List Placed) (rows : List Row) (i : ℕ) (row : Row) → AreCheckable bytes records rows → slice_get rows i ≡ Some row
-    → (p : Placed) × (slice_get records i ≡ Some p) × (row ≡ row_of p) × HasHead bytes p
-record_at bytes records rows i row can is =
-    let found = placed records i row (sym (ap (λ l. slice_get l i) can.rows_are) ∙ is) in
-    (found.0, found.1, found.2, can.heads i found.0 found.1)
-
-pub content_at : (records : List Placed) (i : ℕ) (p : Placed) → slice_get records i ≡ Some p → slice_get (contents records) i ≡ Some p.content
-content_at [] i p is = absurd (cc is)
-content_at (x ∷ xs) zero p is = let same : x ≡ p = cc is in ap (λ (q : Placed). Some q.content) same
-content_at (x ∷ xs) (suc i) p is = content_at xs i p is
-
-below : {X : Type 0} (xs : List X) (i : ℕ) (x : X) → slice_get xs i ≡ Some x → i < length xs
-below [] i x is = absurd (cc is)
-below (y ∷ ys) zero x is = omega arith
-below (y ∷ ys) (suc i) x is = let lt = below ys i x is in omega (arith, lt)
-
-take_suc : {X : Type 0} (xs : List X) (i : ℕ) (x : X) → slice_get xs i ≡ Some x → take (suc i) xs ≡ take i xs ++ x ∷ []
-take_suc [] i x is = absurd (cc is)
-take_suc (y ∷ ys) zero x is = let same : y ≡ x = cc is in ap (λ z. z ∷ []) same
-take_suc (y ∷ ys) (suc i) x is = ap (λ l. y ∷ l) (take_suc ys i x is)
-
-pub take_one : {X : Type 0} (xs : List X) (i : ℕ) (x : X) → slice_get xs i ≡ Some x → take (i + 1) xs ≡ take i xs ++ x ∷ []
-take_one xs i x is = let e : i + 1 ≡ suc i = omega arith in ap (λ n. take n xs) e ∙ take_suc xs i x is
 
 enumerate_from-append : {X : Type 0} (n : ℕ) (xs ys : List X) → enumerate_from n (xs ++ ys) ≡ enumerate_from n xs ++ enumerate_from (n + length xs) ys
 enumerate_from-append n [] ys = ap (λ k. enumerate_from k ys) (omega arith)

@@ -11,7 +11,7 @@ use Rattle.warc_record.specs.Ids.{id_key}
 use Rattle.warc_record.specs.Texts.{is_same_text}
 use Rattle.warc_reading.specs.Archive.{contents}
 use Rattle.warc_checking.specs.Checking.{is_used, record_key}
-use Rattle.warc_checking.specs.Examining.{AreCheckable}
+use Rattle.warc_reading.specs.Rereading.{AreCheckable}
 use Rattle.warc_reading.specs.Row.{Placed, Row, row_of}
 use Rattle.warc_checking.specs.UsedIds.{HoldsIdsOf, Ids, IsAlone, IsTally, level}
 use Rattle.warc_checking.proofs.CheckLemmas.{key_by_row}

@@ -8,7 +8,7 @@ use Rattle.warc_reading.specs.Archive.{contents}
 use Rattle.warc_reading.specs.Row.{Placed, Row, row_of}
 use Rattle.warc_record.specs.Heads.{head_fault}
 use Rattle.warc_record.specs.Ids.{id_key}
-use Rattle.warc_checking.specs.Examining.{AreCheckable}
+use Rattle.warc_reading.specs.Rereading.{AreCheckable}
 use Rattle.warc_checking.specs.Judged.{own_findings}
 use Rattle.warc_checking.specs.UsedIds.{HoldsIdsOf, Ids, IsAlone}
 use Rattle.warc_checking.specs.declared.own_findings.PackedFinding.{PackedFinding}

@@ -1,31 +1,29 @@
 //! What is wrong with records though they are readable: their findings, a line each.
-ghost use Rattle.std.specs.Prelude.{◌≡◌, ℕ, ◌++◌, ◌≤◌, List, [], ◌∷◌, Option, Some, false, IfOk, IfErr, OnOk, codes, decimal, length, map, is_err, if◌then◌else◌};
-ghost use Rattle.std.specs.Io.KnownBytes.{append_known};
-ghost use Rattle.warc_frame.specs.Count.{capped, raised};
+ghost use Rattle.std.specs.Prelude.{◌≡◌, ℕ, ◌++◌, ◌≤◌, List, [], ◌∷◌, Option, Some, false, IfOk, IfErr, OnOk, codes, decimal, length, map};
+ghost use Rattle.warc_frame.specs.Count.{capped};
 ghost use Rattle.warc_frame.specs.Record.{Record, max_head};
 ghost use Rattle.warc_frame.specs.Send.{IsStaged, WentOut, sent_of};
 ghost use Rattle.warc_record.specs.Findings.{finding_seen};
 ghost use Rattle.warc_reading.specs.Archive.{contents};
 ghost use Rattle.warc_reading.specs.Row.{Placed, row_of};
 ghost use Rattle.warc_checking.specs.Checks.{AreCutOff, AreTold, Checks};
-ghost use Rattle.warc_checking.specs.Checking.{about_record, check_text, findings_of_archive, findings_of_records, line_text, numbered_line};
-ghost use Rattle.warc_checking.specs.Examining.{AreCheckable, HasFailed, HasHead, IsExamined, MayHaveFailed, PutsCheck, PutsFindingsOf, PutsLines};
+ghost use Rattle.warc_checking.specs.Checking.{about_record, findings_of_archive, line_text, numbered_line};
+ghost use Rattle.warc_reading.specs.Rereading.{AreCheckable, HasFailed, HasHead, MayHaveFailed, ReadsHeads};
+ghost use Rattle.warc_checking.specs.Examining.{IsExamined, PutsCheck, PutsFindingsOf, PutsLines};
 ghost use Rattle.warc_checking.specs.Examining.{findings_by_facts, record_lines};
-ghost use Rattle.warc_checking.specs.Heads.{ReadsHeads};
 ghost use Rattle.warc_checking.specs.UsedIds.{HoldsIdsOf, IsAlone, IsTally};
 ghost use Rattle.warc_record.specs.Ids.{id_key};
 ghost use Rattle.warc_frame.specs.Putting.{Puts};
 ghost use Rattle.warc_frame.specs.Seen.{IfHeld};
 ghost use Rattle.warc_frame.specs.Failing.{HasFailedBy, MayHaveFailedBy, failed_by, is_read};
 
-use crate::heads::{RereadFault, head_buffer, read_again};
 use crate::used_ids::UsedIds;
 use itoa::Buffer;
 use std::alloc::Allocator;
 use warc_field::Fields;
 use warc_frame::laws::{head_of_spelled, staged_went_out, went_out_of_longer};
 use warc_frame::{OutBuffer, OutFault, SendFault, Sink, Source, put_all};
-use warc_reading::{Row, Rows};
+use warc_reading::{RereadFault, Row, Rows, head_buffer, read_again};
 use warc_record::laws::good_heads_read;
 use warc_record::{ArchiveFacts, Finding, all_findings};
 

@@ -8,13 +8,12 @@ ghost use Rattle.warc_frame.specs.Send.{IsStaged, WentOut, sent_of};
 ghost use Rattle.warc_reading.specs.Archive.{contents};
 ghost use Rattle.warc_reading.specs.Opening.{Opens};
 ghost use Rattle.warc_reading.specs.Row.{Placed};
-ghost use Rattle.warc_checking.specs.Checking.{check_text, findings_behind, findings_of_archive, findings_of_records};
+ghost use Rattle.warc_checking.specs.Checking.{findings_behind, findings_of_archive};
 ghost use Rattle.warc_checking.specs.Checks.{AreCutOff, AreTold, WritesFindings};
 ghost use Rattle.warc_checking.specs.Examining.{PutsCheck, PutsFindingsOf, record_lines};
 ghost use Rattle.warc_checking.specs.Judged.{IsJudgedOf, judged_of, source_judged};
 ghost use Rattle.warc_checking.specs.OwnFindings.{AreJudged, IsDue, found_at};
 ghost use Rattle.warc_checking.specs.UsedIds.{HoldsIdsOf, IsTally};
-ghost use Rattle.std.specs.Io.KnownBytes.{append_known};
 
 use crate::check::put_none;
 use crate::own_findings::OwnFindings;

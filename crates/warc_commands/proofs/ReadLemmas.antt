@@ -13,7 +13,7 @@ use Rattle.warc_reading.specs.Opening.{Opens}
 use Rattle.warc_reading.specs.Row.{Placed, Row, row_of}
 use Rattle.warc_reading.proofs.FitLemmas.{front_size}
 use Rattle.warc_reading.proofs.SourceLemmas.{raised_by_one}
-use Rattle.warc_checking.proofs.RecordsLemmas.{placed}
+use Rattle.warc_reading.proofs.PlacedLemmas.{placed}
 use Rattle.warc.specs.Forms.{IsInRecord, ReadsOnly, read_len, split_len}
 use Rattle.warc.specs.Parts.{IsInPart, ReadsPart, found_len}
 use Rattle.warc.specs.declared.copying.Form.{Form}

@@ -11,3 +11,7 @@ pub mod StepLemmas
 pub mod StreamLemmas
 pub mod LengthLemmas
 pub mod FitLemmas
+pub mod HeadLemmas
+pub mod PlaceLemmas
+pub mod PlacedLemmas
+pub mod ReadLemmas

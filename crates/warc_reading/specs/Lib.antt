@@ -5,6 +5,7 @@ pub mod Growing
 pub mod Indexed
 pub mod Keeping
 pub mod Opening
+pub mod Rereading
 pub mod Row
 pub mod Rows
 pub mod Stream

@@ -1,11 +1,14 @@
-//! An archive read as a stream: a row is kept of each of its records, and what finds and joins them beside.
+//! An archive read as a stream: a row is kept of each of its records, and what finds and joins them beside. A record's
+//! head is read again by its row.
 #![tactic(auto)]
 
 mod beside;
 mod reading;
+mod rereading;
 mod rows;
 mod spare;
 
 pub use beside::{Gathering, Keep, Lookup, Nothing};
 pub use reading::{read_front, read_on};
+pub use rereading::{Reread, RereadFault, head_buffer, read_again, reread_head};
 pub use rows::{Row, Rows, rows_fit};

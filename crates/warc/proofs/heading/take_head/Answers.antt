@@ -1,6 +1,6 @@
 use Rattle.std.proofs.Common.{◌≡◌, refl, ap, subst, ◌∙◌, arith}
-use Rattle.warc_checking.specs.Examining.{HasFailed}
-use Rattle.warc_checking.specs.declared.heads.RereadFault.{RereadFault}
+use Rattle.warc_reading.specs.Rereading.{HasFailed}
+use Rattle.warc_reading.specs.declared.rereading.RereadFault.{RereadFault}
 use Rattle.warc_reading.specs.Row.{Row}
 use Rattle.warc.proofs.heading.take_head.Goals as goal
 

@@ -3,8 +3,8 @@ use Rattle.std.specs.List.{slice_get}
 use Rattle.warc_frame.specs.declared.fault.OutFault.TheVariants as outs
 use Rattle.warc_reading.specs.Archive.{contents}
 use Rattle.warc.specs.Standing.{IsOrigin}
-use Rattle.warc_checking.proofs.PlaceLemmas.{checkable_archive}
-use Rattle.warc_checking.proofs.RecordsLemmas.{placed}
+use Rattle.warc_reading.proofs.PlaceLemmas.{checkable_archive}
+use Rattle.warc_reading.proofs.PlacedLemmas.{placed}
 use Rattle.warc.proofs.ReplayLemmas.{row_missing}
 use Rattle.warc.proofs.locating.locate_on.Goals as goal
 

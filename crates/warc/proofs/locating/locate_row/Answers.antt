@@ -1,7 +1,7 @@
 use Rattle.std.proofs.Common.{ap, ◌∙◌}
 use Rattle.warc_record.specs.Readings.{reading_of}
 use Rattle.warc_reading.specs.Archive.{contents}
-use Rattle.warc_checking.specs.Examining.{ended_by}
+use Rattle.warc_reading.specs.Rereading.{ended_by}
 use Rattle.warc.proofs.LocatingLemmas.{front_is_read, head_is_read}
 use Rattle.warc.proofs.ReplayLemmas.{ended_failed, ended_may, ended_sent, origin_inside, place_by_row}
 use Rattle.warc.proofs.locating.locate_row.Goals as goal

@@ -4,8 +4,8 @@ use Rattle.std.specs.Prelude.{Result}
 use Rattle.warc_answer.specs.declared.answer.Path.{Path}
 use Rattle.warc_reading.specs.Archive.{contents}
 use Rattle.warc.specs.Standing.{IsOrigin}
-use Rattle.warc_checking.proofs.PlaceLemmas.{checkable_archive}
-use Rattle.warc_checking.proofs.RecordsLemmas.{placed}
+use Rattle.warc_reading.proofs.PlaceLemmas.{checkable_archive}
+use Rattle.warc_reading.proofs.PlacedLemmas.{placed}
 use Rattle.warc.proofs.BodyLemmas.{none_there}
 use Rattle.warc.proofs.LookLemmas.{absent_after}
 use Rattle.warc.proofs.looking.look_at.Goals as goal

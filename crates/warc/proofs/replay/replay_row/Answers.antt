@@ -1,7 +1,7 @@
 use Rattle.std.proofs.Common.{◌<◌, length, ap, ◌∙◌}
 use Rattle.warc_record.specs.Readings.{reading_of}
 use Rattle.warc_reading.specs.Archive.{contents}
-use Rattle.warc_checking.specs.Examining.{ended_by}
+use Rattle.warc_reading.specs.Rereading.{ended_by}
 use Rattle.warc.proofs.ReplayLemmas.{asks_both, ended_failed, ended_sent, head_inside, near_head, near_origin, origin_inside, place_by_row, row_reads}
 use Rattle.warc.proofs.replay.replay_row.Goals as goal
 

@@ -1,7 +1,7 @@
 use Rattle.std.proofs.Common.{sym, subst}
 use Rattle.std.proofs.lemmas.Result.{IfOk-weaker}
 use Rattle.warc_frame.specs.Spelling.{Spells}
-use Rattle.warc_checking.proofs.HeadLemmas.{of_ok}
+use Rattle.warc_reading.proofs.HeadLemmas.{of_ok}
 use Rattle.warc.proofs.TakeLemmas.{failed_by_none, may_take, read_is}
 use Rattle.warc.proofs.taking.read_record.Goals as goal
 

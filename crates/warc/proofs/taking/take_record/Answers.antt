@@ -1,6 +1,6 @@
 use Rattle.std.proofs.Common.{◌≡◌, ◌∙◌, length, take, drop, refl, ap, sym, arith}
 use Rattle.std.proofs.lemmas.Result.{IfOk-weaker}
-use Rattle.warc_checking.proofs.HeadLemmas.{len_is_there}
+use Rattle.warc_reading.proofs.HeadLemmas.{len_is_there}
 use Rattle.warc.proofs.TakeLemmas.{end_below, end_by_row, reads_record, spells_there, taken_by}
 use Rattle.warc_reading.specs.Row.{Row}
 use Rattle.warc.proofs.taking.take_record.Goals as goal

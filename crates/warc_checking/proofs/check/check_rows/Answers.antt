@@ -1,7 +1,7 @@
 use Rattle.std.proofs.lemmas.Result.{IfOk-weaker}
 use Rattle.std.proofs.Common.{refl, ◌∙◌}
 use Rattle.warc_checking.proofs.CountLemmas.{counted}
-use Rattle.warc_checking.proofs.PlaceLemmas.{checkable_archive}
+use Rattle.warc_reading.proofs.PlaceLemmas.{checkable_archive}
 use Rattle.warc_checking.proofs.check.check_rows.Goals as goal
 
 pub returns : goal.returns

@@ -6,8 +6,9 @@ use Rattle.warc_checking.specs.Checking.{line_text}
 use Rattle.warc_checking.specs.Examining.{findings_of_first, first_text}
 use Rattle.warc_reading.specs.Row.{Row}
 use Rattle.warc_frame.proofs.LawLemmas.{same_out, same_staged}
-use Rattle.warc_checking.proofs.ReadLemmas.{reads_all, reads_more}
-use Rattle.warc_checking.proofs.RecordsLemmas.{failed_ended, first_all, ids_one, number_more, record_at, rest_text, sent_ended, text_more, text_rest, unread_sound}
+use Rattle.warc_reading.proofs.ReadLemmas.{reads_all, reads_more}
+use Rattle.warc_reading.proofs.PlacedLemmas.{record_at}
+use Rattle.warc_checking.proofs.RecordsLemmas.{failed_ended, first_all, ids_one, number_more, rest_text, sent_ended, text_more, text_rest, unread_sound}
 use Rattle.warc_checking.specs.UsedIds.{IsTally}
 use Rattle.warc_checking.proofs.TallyLemmas.{alone}
 use Rattle.warc_checking.proofs.check.put_records.Goals as goal

@@ -4,9 +4,9 @@ use Rattle.warc_frame.specs.Record.{max_head}
 use Rattle.warc_frame.specs.Send.{IsStaged}
 use Rattle.warc_reading.specs.Archive.{contents}
 use Rattle.warc_reading.specs.Row.{Placed}
-use Rattle.warc_checking.specs.Examining.{AreCheckable, findings_of_first, first_text}
+use Rattle.warc_reading.specs.Rereading.{AreCheckable, ReadsHeads}
+use Rattle.warc_checking.specs.Examining.{findings_of_first, first_text}
 use Rattle.warc_checking.specs.UsedIds.{HoldsIdsOf, IsTally}
-use Rattle.warc_checking.specs.Heads.{ReadsHeads}
 use Rattle.warc_checking.proofs.check.put_records.Given as goal
 
 -- the lines of the records so far are staged, their ids are held, and nothing has failed

@@ -1,4 +1,4 @@
-use Rattle.warc_checking.proofs.PlaceLemmas.{same_rows, same_source}
+use Rattle.warc_reading.proofs.PlaceLemmas.{same_rows, same_source}
 use Rattle.warc.proofs.reader.Listing.check.Goals as goal
 
 pub returns-clause-checks : goal.returns-clause-checks

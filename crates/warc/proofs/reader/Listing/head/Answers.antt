@@ -1,6 +1,6 @@
 use Rattle.std.proofs.Common.{◌≡◌, Some, sym, ap, ◌∙◌}
 use Rattle.std.specs.List.{slice_get}
-use Rattle.warc_checking.proofs.PlaceLemmas.{same_rows, same_source}
+use Rattle.warc_reading.proofs.PlaceLemmas.{same_rows, same_source}
 use Rattle.warc.proofs.HeadingLemmas.{takes_head}
 use Rattle.warc.proofs.reader.Listing.head.Goals as goal
 

@@ -3,7 +3,7 @@ use Rattle.std.specs.List.{slice_get}
 use Rattle.warc.specs.Listing.{listing}
 use Rattle.warc_frame.proofs.LawLemmas.{longer, same_out, same_staged}
 use Rattle.warc.proofs.LineLemmas.{listing_front, listing_next}
-use Rattle.warc_checking.proofs.PlaceLemmas.{same_rows}
+use Rattle.warc_reading.proofs.PlaceLemmas.{same_rows}
 use Rattle.warc.proofs.reader.Listing.list.Goals as goal
 
 pub listing-init : goal.listing-init

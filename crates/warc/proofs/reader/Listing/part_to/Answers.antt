@@ -1,7 +1,7 @@
 use Rattle.std.proofs.Common.{◌≡◌, Some, sym, ap, ◌∙◌}
 use Rattle.std.specs.List.{slice_get}
 use Rattle.warc.proofs.ExtractLemmas.{gives_cut, gives_ok}
-use Rattle.warc_checking.proofs.PlaceLemmas.{same_rows, same_source}
+use Rattle.warc_reading.proofs.PlaceLemmas.{same_rows, same_source}
 use Rattle.warc.proofs.reader.Listing.part_to.Goals as goal
 
 pub returns-in-Err-clause-gives : goal.returns-in-Err-clause-gives

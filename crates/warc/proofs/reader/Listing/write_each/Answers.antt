@@ -1,6 +1,6 @@
 use Rattle.std.proofs.Common.{rules, ap, ◌∙◌}
 use Rattle.warc.specs.Copied.{text_by}
-use Rattle.warc_checking.proofs.PlaceLemmas.{same_rows, same_source}
+use Rattle.warc_reading.proofs.PlaceLemmas.{same_rows, same_source}
 use Rattle.warc.proofs.WholeLemmas.{texts_of_archive}
 use Rattle.warc.proofs.reader.Listing.write_each.Goals as goal
 

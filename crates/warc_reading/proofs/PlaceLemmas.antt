@@ -10,7 +10,7 @@ use Rattle.warc_frame.specs.Record.{Record, head_text}
 use Rattle.warc_frame.specs.Spelling.{Spells}
 use Rattle.warc_record.specs.Heads.{head_fault}
 use Rattle.warc_reading.specs.Archive.{AreRowsOf, Contents, IsArchiveOf, SpellsFrom, contents}
-use Rattle.warc_checking.specs.Examining.{AreCheckable, HasHead}
+use Rattle.warc_reading.specs.Rereading.{AreCheckable, HasHead}
 use Rattle.warc_reading.specs.Row.{Placed, Row}
 use Rattle.warc_reading.proofs.GoodLemmas.{accepted}
 

@@ -2,9 +2,9 @@ use Rattle.std.proofs.Common.{◌≡◌, None, List, ap, subst, sym, ◌∙◌}
 use Rattle.std.proofs.lemmas.Result.{IfOk-weaker}
 use Rattle.warc_field.specs.Area.{Pair}
 use Rattle.warc_record.specs.Heads.{head_fault}
-use Rattle.warc_checking.specs.Heads.{IsHeadBy}
-use Rattle.warc_checking.proofs.HeadLemmas.{only_memory, read_or_memory}
-use Rattle.warc_checking.proofs.heads.read_again.Goals as goal
+use Rattle.warc_reading.specs.Rereading.{IsHeadBy}
+use Rattle.warc_reading.proofs.HeadLemmas.{only_memory, read_or_memory}
+use Rattle.warc_reading.proofs.rereading.read_again.Goals as goal
 
 pub returns-clause-read : goal.returns-clause-read
 returns-clause-read g c = λ bytes p held has same.

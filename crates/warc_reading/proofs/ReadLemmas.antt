@@ -3,11 +3,11 @@ use Rattle.std.proofs.Common.{◌≡◌, ℕ, ◌+◌, ◌-◌, Bool, false, zer
 use Rattle.std.proofs.Math.Seq.{take-add}
 use Rattle.std.proofs.lemmas.List.Sums.{sum_by-take-le, sum_by-cons, sum_by_push}
 use Rattle.std.specs.List.{slice_get, sum_by}
-use Rattle.warc_checking.specs.Heads.{IsInHead, ReadsHeads, heads_len}
+use Rattle.warc_reading.specs.Rereading.{IsInHead, ReadsHeads, heads_len}
 use Rattle.warc_reading.specs.Row.{Row}
 use Rattle.warc_frame.specs.Seen.{AsksOnly, Tapped}
 use Rattle.warc_frame.specs.Ranges.{HasFilled}
-use Rattle.warc_checking.proofs.RecordsLemmas.{take_one}
+use Rattle.warc_reading.proofs.PlacedLemmas.{take_one}
 
 -- a head is read
 pub reads_one : (row : Row) (len : ℕ) (old new : Tapped) → row.offset + len ≡ row.block_start → HasFilled row.offset len old new → ReadsHeads (row ∷ []) old new

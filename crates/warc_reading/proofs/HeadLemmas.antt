@@ -2,13 +2,12 @@
 use Rattle.std.proofs.Common.{◌≡◌, ℕ, ◌+◌, ◌-◌, true, true≢false, List, length, take, drop, slice_range, Option, Some, None, Result, Ok, Err, OnOk, IfOk, IfErr, MatchResult, is_ok, sym, ap, ◌∙◌, arith}
 use Rattle.warc_frame.specs.Reading.{Head, any_fields, head_of}
 use Rattle.warc_frame.specs.declared.fault.Fault.{Fault}
-use Rattle.warc_checking.specs.Examining.{HasFailed, HasHead}
-use Rattle.warc_checking.specs.Heads.{IsHeadBy}
+use Rattle.warc_reading.specs.Rereading.{HasFailed, HasHead, IsHeadBy}
 use Rattle.warc_field.specs.Area.{Pair}
 use Rattle.warc_frame.specs.declared.version.Version.{Version}
 use Rattle.warc_reading.specs.Row.{Placed, Row, row_of}
-use Rattle.warc_checking.specs.declared.heads.RereadFault.{RereadFault}
-use Rattle.warc_checking.specs.declared.heads.RereadFault.TheVariants.{Memory}
+use Rattle.warc_reading.specs.declared.rereading.RereadFault.{RereadFault}
+use Rattle.warc_reading.specs.declared.rereading.RereadFault.TheVariants.{Memory}
 
 -- how long the head is, by the row
 pub len_by_row : (bytes : List ℕ) (p : Placed) (row : Row) (has : HasHead bytes p) → row ≡ row_of p → row.block_start ≡ row.offset + has.len

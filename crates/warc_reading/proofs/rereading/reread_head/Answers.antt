@@ -1,10 +1,10 @@
 use Rattle.std.proofs.Common.{◌≡◌, ◌≤◌, ◌∙◌, length, take, drop, sym, ap, arith}
 use Rattle.std.proofs.lemmas.List.{length-take-le}
 use Rattle.std.proofs.lemmas.Result.{IfOk-weaker}
-use Rattle.warc_checking.proofs.HeadLemmas.{head_by, len_by_row, len_is, len_is_there, of_ok, only_memory, read_or_memory, reads_head}
-use Rattle.warc_checking.proofs.ReadLemmas.{reads_one}
+use Rattle.warc_reading.proofs.HeadLemmas.{head_by, len_by_row, len_is, len_is_there, of_ok, only_memory, read_or_memory, reads_head}
+use Rattle.warc_reading.proofs.ReadLemmas.{reads_one}
 use Rattle.warc_reading.specs.Row.{Row}
-use Rattle.warc_checking.proofs.heads.reread_head.Goals as goal
+use Rattle.warc_reading.proofs.rereading.reread_head.Goals as goal
 
 pub returns-in_default-clause-failed : goal.returns-in_default-clause-failed
 returns-in_default-clause-failed g c = λ bytes p held has same.

@@ -1,19 +1,17 @@
 //! The heads of records, read again through the source.
-ghost use Rattle.std.specs.Prelude.{◌≡◌, ℕ, ◌+◌, ◌-◌, ◌^◌, ◌<◌, ◌≤◌, ◌⊎◌, List, [], ◌∷◌, length, take, drop, Ok, Some, None, IfOk, IfErr, IfSome, OnOk, OnErr, MatchResult};
-ghost use Rattle.warc_frame.specs.Count.{raised};
+ghost use Rattle.std.specs.Prelude.{◌≡◌, ℕ, ◌+◌, ◌-◌, ◌<◌, ◌≤◌, List, [], ◌∷◌, length, Ok, Some, None, IfOk, IfErr, IfSome, OnOk, MatchResult};
 ghost use Rattle.warc_frame.specs.Reading.{any_fields, head_of};
 ghost use Rattle.warc_frame.specs.Record.{Record, max_head};
 ghost use Rattle.warc_record.specs.Heads.{head_fault};
 ghost use Rattle.warc_record.specs.Readings.{reading_of};
 ghost use Rattle.warc_record.specs.Seen.{said};
-ghost use Rattle.warc_checking.specs.Heads.{IsHeadBy, ReadsHeads};
+ghost use Rattle.warc_reading.specs.Rereading.{HasFailed, HasHead, IsHeadBy, IsHeadReadOf, MayHaveFailed, ReadsHeads, ended_by, reread_fault_of};
 ghost use Rattle.warc_reading.specs.Row.{Placed, row_of};
-ghost use Rattle.warc_checking.specs.Examining.{HasFailed, HasHead, IsHeadReadOf, MayHaveFailed, reread_fault_of, ended_by};
 
+use crate::rows::Row;
 use std::alloc::{AllocError, Allocator};
 use warc_field::Fields;
 use warc_frame::{FaultKind, Head, MAX_HEAD, OutFault, Source, read_head, read_range};
-use warc_reading::Row;
 use warc_record::{Typed, type_head};
 
 /// Why a head isn't read again.
