@@ -100,7 +100,7 @@ class Library {
       this.send();
     };
     this.worker.onerror = (event) => tell({ tell: 'failed', why: event.message || 'the worker stopped' });
-    this.worker.postMessage({ wasm: module, limit });
+    this.worker.postMessage({ wasm: module, limit, script });
   }
 
   open(file) {
