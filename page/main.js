@@ -79,6 +79,7 @@ function openFile(file) {
   byId('words').value = '';
   byId('start').hidden = true;
   byId('room').hidden = false;
+  byId('room').classList.remove('unreadable');
   byId('another').hidden = false;
   byId('damage').hidden = true;
   byId('opened').hidden = false;
@@ -112,8 +113,9 @@ function hear(message) {
     room.listed = true;
     room.listedIn = performance.now() - room.began;
     showDamage();
-    say(`${many(room.rows.count, 'record')} read in ${(room.listedIn / 1000).toFixed(1)} s. ${room.holds ? 'Looking for findings…' : 'This archive is too long to be replayed here.'}`);
-    showProgress(room.holds ? -1 : null);
+    const looks = room.holds && !(room.fault && !room.end);
+    say(`${many(room.rows.count, 'record')} read in ${(room.listedIn / 1000).toFixed(1)} s.${looks ? ' Looking for findings…' : room.holds ? '' : ' This archive is too long to be replayed here.'}`);
+    showProgress(looks ? -1 : null);
     soon();
   } else if (message.tell === 'findings') {
     room.findingLines = message.lines;
@@ -139,11 +141,29 @@ function readFindings(lines) {
   });
 }
 
+// Whether a file begins as one that gzip compressed.
+async function isPacked(file) {
+  const [first, second] = new Uint8Array(await file.slice(0, 2).arrayBuffer());
+  return first === 0x1f && second === 0x8b;
+}
+
+// A file without a record that can be read: what it may be. The room is empty, so it isn't shown.
+async function showUnreadable() {
+  const { file, fault } = room, packed = await isPacked(file), [, ...words] = FAULTS[numberOf(fault)] ?? [];
+  if (file !== room.file) return;
+  byId('damage').replaceChildren(
+    make('h2', {}, packed ? 'This file is compressed' : `This file can’t be read: ${fault}`),
+    packed ? make('p', {}, 'Decompress it first, as by ', make('code', {}, `gunzip ${file.name.endsWith('.gz') ? file.name : 'a.warc.gz'}`), `, and open what that gives. (${fault})`)
+      : make('p', {}, ['It has no record that is whole.', ...words].join(' ')));
+}
+
 // A damaged archive: where and why, in the words of docs/FORMAT.md, and its good part.
 function showDamage() {
   const place = byId('damage');
   place.hidden = !room.fault;
+  byId('room').classList.toggle('unreadable', Boolean(room.fault) && !room.end);
   if (!room.fault) return;
+  if (!room.end) { showUnreadable(); return; }
   const [name, meaning, cause] = FAULTS[numberOf(room.fault)] ?? [room.fault, '', ''];
   const offset = Number(/ at (\d+)$/.exec(room.fault)?.[1] ?? 0);
   const field = /(Missing|Repeated) (\S+)/.exec(room.fault)?.[2];
@@ -151,7 +171,7 @@ function showDamage() {
     make('h2', {}, `This archive is damaged: ${room.fault}`),
     make('p', {}, make('b', {}, `${name}${field ? ` ${field}` : ''}. `), meaning, ` At byte ${offset.toLocaleString('en')} of ${room.file.size.toLocaleString('en')}. `, cause),
     make('p', {}, `Its good part is shown: ${many(room.rows.count, 'record')}, ${size(room.end)}, before the damage. Nothing is skipped, and nothing is repaired. The program refuses the whole archive, and `, make('code', {}, 'warc salvage'), ' writes the good part.'),
-    make('div', { className: 'actions' }, room.end ? make('button', { className: 'button', on: { click: () => download(room.file.slice(0, room.end), `good-part-of-${room.file.name}`) } }, 'Save the good part') : null));
+    make('div', { className: 'actions' }, make('button', { className: 'button', type: 'button', on: { click: () => download(room.file.slice(0, room.end), `good-part-of-${room.file.name}`) } }, 'Save the good part')));
 }
 
 // ---------------------------------------------------------------- overview
@@ -169,7 +189,8 @@ function drawNumbers() {
     [room.counts.verdicts[0], 'blocks good'], [room.counts.verdicts[1], 'bad'], [room.counts.verdicts[2], 'unchecked'],
     [room.findings ? room.findings.length : '…', 'findings']];
   const span = room.counts.first <= room.counts.last ? `${dateText(room.counts.first).slice(0, 10)} to ${dateText(room.counts.last).slice(0, 10)}` : '';
-  byId('numbers').replaceChildren(...numbers.map(([number, name]) => make('div', {}, make('b', {}, typeof number === 'number' ? number.toLocaleString('en') : number), make('span', {}, name))),
+  const named = (name) => (name === 'captures' ? make('button', { className: 'link', type: 'button', title: 'Show only captures: responses, resources and revisits', on: { click: () => toggle('only', 'captures', 'captures') } }, name) : make('span', {}, name));
+  byId('numbers').replaceChildren(...numbers.map(([number, name]) => make('div', {}, make('b', {}, typeof number === 'number' ? number.toLocaleString('en') : number), named(name))),
     span ? make('div', {}, make('span', {}, span)) : '');
 }
 
@@ -211,7 +232,14 @@ function bars(name, entries, toneOf = () => 'var(--c8)', titleOf = () => '') {
 }
 
 const sorted = (map) => [...map].sort((a, b) => b[1] - a[1]);
-function plot(id, ...children) { byId(id).replaceChildren(byId(id).querySelector('figcaption'), ...children); }
+
+// Draws a plot anew. The focus stays where it was, and so does what is seen of a long one.
+function plot(id, ...children) {
+  const place = byId(id), focused = [...place.querySelectorAll('button')].indexOf(document.activeElement), top = place.querySelector('.bars')?.scrollTop ?? 0;
+  place.replaceChildren(place.querySelector('figcaption'), ...children);
+  if (top) place.querySelector('.bars').scrollTop = top;
+  if (focused >= 0) place.querySelectorAll('button')[focused]?.focus({ preventScroll: true });
+}
 
 function drawPlots() {
   plot('types', bars('type', sorted(room.counts.kinds), tone));
@@ -251,6 +279,7 @@ function toggle(name, value, label, end) {
 function tests() {
   const list = [];
   const { filters } = room, wanted = (name) => filters.get(name)?.value;
+  if (filters.has('only')) list.push((row) => CAPTURES.has(row.kind.toLowerCase()));
   if (filters.has('type')) list.push((row) => row.kind.toLowerCase() === wanted('type'));
   if (filters.has('host')) list.push((row) => CAPTURES.has(row.kind.toLowerCase()) && hostOf(latin.decode(row.target)) === wanted('host'));
   if (filters.has('verdict')) list.push((row) => row.verdict === wanted('verdict'));
@@ -284,7 +313,7 @@ function filter() {
   }
   room.order = sortOrder(found);
   byId('shown').textContent = found.length === room.rows.count ? many(found.length, 'record') : `${found.length.toLocaleString('en')} of ${many(room.rows.count, 'record')}`;
-  byId('filters').replaceChildren(...[...room.filters].map(([name, { label }]) => make('button', { type: 'button', title: 'Remove this filter', 'aria-label': `Remove the filter ${name} ${label}`, on: { click: () => { room.filters.delete(name); drawPlots(); filter(); } } }, `${name}: ${label} ×`)));
+  byId('filters').replaceChildren(...[...room.filters].map(([name, { label }]) => make('button', { type: 'button', title: 'Remove this filter', 'aria-label': `Remove the filter ${name} ${label}`, on: { click: () => { room.filters.delete(name); drawPlots(); filter(); byId('list').focus({ preventScroll: true }); } } }, `${name}: ${label} ×`)));
   drawHead();
   drawRows();
 }
@@ -367,5 +396,5 @@ function listKey(event) {
   const now = room.order?.indexOf(room.current) ?? -1, page = Math.max(1, Math.floor(body().clientHeight / LINE) - 1);
   const moves = { ArrowDown: now + 1, ArrowUp: Math.max(0, now - 1), PageDown: now + page, PageUp: now - page, Home: 0, End: Infinity };
   if (event.key in moves) { event.preventDefault(); moveTo(moves[event.key]); }
-  if (event.key === 'Enter' && room.current >= 0) { event.preventDefault(); openRecord(room.current, true); }
+  if (event.key === 'Enter' && room.current >= 0) { event.preventDefault(); openRecord(room.current, WHOLE); }
 }

@@ -61,8 +61,16 @@ function closeRecord() {
   byId('room').classList.remove('has-record');
 }
 
-// Opens the record at a position, and moves the list to it.
-async function openRecord(position, focus = false, note = null) {
+const closing = () => make('button', { className: 'button quiet close', type: 'button', 'aria-label': 'Close the record', on: { click: () => { room.visit += 1; closeRecord(); drawRows(); byId('list').focus(); } } }, 'Close');
+
+// Shows the record from its top, unless most of it can be seen.
+function bringRecord() {
+  const { top } = byId('record').getBoundingClientRect();
+  if (top < 0 || top > innerHeight / 4) byId('record').scrollIntoView({ block: 'start' });
+}
+
+// Opens the record at a position, and moves the list to it. The focus goes to the record, or to a part of it, or stays.
+async function openRecord(position, focus = null, note = null) {
   forgetUrls();
   const visit = room.visit += 1, row = room.rows.row(position);
   room.current = position;
@@ -72,10 +80,9 @@ async function openRecord(position, focus = false, note = null) {
   drawRows();
   const panel = byId('record'), isCapture = CAPTURES.has(row.kind.toLowerCase());
   panel.hidden = false;
-  const top = panel.getBoundingClientRect().top;
-  if (top < 0 || top > innerHeight * 0.6) panel.scrollIntoView({ block: 'start' });
   panel.replaceChildren(titleOf(row), make('div', { className: 'panel' }, make('p', { className: 'small' }, 'Reading…')));
-  if (focus) panel.focus();
+  bringRecord();
+  if (focus) panel.focus({ preventScroll: true });
   const own = await typeOf(row);
   if (visit !== room.visit) return;
   const it = { position, row, own, given: row, type: own.type, http: own.http, isCapture, note };
@@ -83,8 +90,10 @@ async function openRecord(position, focus = false, note = null) {
   it.answered.catch(() => {}); // the tab that waits for it says so
   const tabs = isCapture ? [['Page', pageTab], ['Source', sourceTab], ['HTTP head', httpTab], ['Record head', headTab], ['Facts', factsTab]] : [['Block', blockTab], ['Record head', headTab], ['Facts', factsTab]];
   panel.replaceChildren(titleOf(row), isCapture && row.target.length ? timeline(it) : '', ...tabList(tabs, it, visit));
-  if (focus) panel.focus();
+  if (focus) (panel.querySelector(focus) ?? panel).focus({ preventScroll: true });
 }
+
+const WHOLE = '#record'; // the focus goes to the record itself
 
 const NEAR = 5, MOST_AHEAD = 1048576; // captures before and after one, and bytes of their blocks, that are asked for with it
 
@@ -104,8 +113,7 @@ async function completed(it, visit) {
 }
 
 function titleOf(row) {
-  return make('header', {}, make('button', { className: 'button quiet close', type: 'button', 'aria-label': 'Close the record', on: { click: () => { room.visit += 1; closeRecord(); drawRows(); byId('list').focus(); } } }, 'Close'),
-    make('h2', {}, make('bdi', {}, shown(row.target) || `${row.kind} ${latin.decode(row.id)}`)),
+  return make('header', {}, closing(), make('h2', {}, make('bdi', {}, shown(row.target) || `${row.kind} ${latin.decode(row.id)}`)),
     make('div', { className: 'sub' }, `Record ${row.position}, ${row.kind}, ${row.date}, ${size(row.blockLength)}, digest `, make('span', { className: `verdict ${row.verdict}` }, row.verdict), row.truncated ? ', marked as truncated' : ''));
 }
 
@@ -114,13 +122,11 @@ function timeline(it) {
   const list = capturesOf(it.row.target), first = list[0].time, last = list[list.length - 1].time, span = Math.max(1, last - first);
   const now = list.findIndex((capture) => capture.position === it.position);
   const points = list.length > 2000 ? list.filter((_, number) => number % Math.ceil(list.length / 2000) === 0 || number === now) : list;
-  const step = (by) => { const next = list[now + by]; if (next) openRecord(next.position, false); };
+  const step = (by, words) => make('button', { className: `link ${words}`, type: 'button', disabled: !list[now + by], on: { click: () => openRecord(list[now + by].position, `.${words}:enabled`) } }, words);
   return make('div', { className: 'timeline', role: 'group', 'aria-label': 'Captures of this URI' },
-    make('div', { className: 'small' }, `Capture ${now + 1} of ${list.length} of this URI`, list.length > 1 ? ' ' : '',
-      list.length > 1 ? make('button', { className: 'link', type: 'button', disabled: now === 0, on: { click: () => step(-1) } }, 'earlier') : '', list.length > 1 ? ' · ' : '',
-      list.length > 1 ? make('button', { className: 'link', type: 'button', disabled: now === list.length - 1, on: { click: () => step(1) } }, 'later') : ''),
+    make('div', { className: 'small steps' }, make('span', {}, list.length > 1 ? `Capture ${now + 1} of ${list.length} of this URI` : 'The only capture of this URI'), ...(list.length > 1 ? [step(-1, 'earlier'), step(1, 'later')] : [])),
     make('div', { className: 'line-of' }, ...points.map((capture) => make('button', { type: 'button', className: capture.kind, title: `${capture.date} ${capture.kind}, record ${capture.position}`, 'aria-label': `${capture.date}, ${capture.kind}`,
-      'aria-current': String(capture.position === it.position), style: { left: `${list.length === 1 ? 50 : span === 1 ? (list.indexOf(capture) / (list.length - 1)) * 100 : (capture.time - first) / span * 100}%` }, on: { click: () => openRecord(capture.position) } }))),
+      'aria-current': String(capture.position === it.position), style: { left: `${list.length === 1 ? 50 : span === 1 ? (list.indexOf(capture) / (list.length - 1)) * 100 : (capture.time - first) / span * 100}%` }, on: { click: () => openRecord(capture.position, '.line-of [aria-current="true"]') } }))),
     make('div', { className: 'ends' }, make('span', {}, list[0].date), list.length > 1 ? make('span', {}, list[list.length - 1].date) : ''));
 }
 
@@ -158,13 +164,16 @@ function tabList(tabs, it, visit) {
 const fileName = (it) => { const path = shown(it.row.target).split(/[?#]/)[0].split('/').pop(); return path || 'page.html'; };
 const saving = (name, bytes, words) => make('button', { className: 'button', type: 'button', on: { click: () => download(new Blob([bytes]), name) } }, words);
 
+// Whether the library gives no body since it is stored chunked or compressed.
+const isCoded = (it) => numberOf(it.answer?.reason ?? '') === 'P10';
+
 // What is said before a body: where a revisit leads, or why there is none.
 function wordsBefore(it) {
   const words = [];
   if (it.note) words.push(make('p', { className: 'note plainly' }, it.note));
   if (!room.holds && it.isCapture) words.push(make('p', { className: 'note' }, 'This archive is too long to be replayed here. The block is shown as it is stored.'));
-  if (it.given !== it.row) words.push(make('p', { className: 'note plainly' }, 'This is a revisit: its payload is that of ', make('button', { className: 'link', type: 'button', on: { click: () => openRecord(it.given.position) } }, `record ${it.given.position}`), `, captured ${it.given.date}.`));
-  if (it.answer?.reason) {
+  if (it.given !== it.row) words.push(make('p', { className: 'note plainly' }, 'This is a revisit: its payload is that of ', make('button', { className: 'link', type: 'button', on: { click: () => openRecord(it.given.position, WHOLE) } }, `record ${it.given.position}`), `, captured ${it.given.date}.`));
+  if (it.answer?.reason && !isCoded(it)) {
     const [meaning, hint] = inWords(it.answer.reason);
     words.push(make('div', { className: 'note reason' }, make('p', {}, make('b', {}, `No body: ${it.answer.reason}. `), meaning), hint ? make('p', {}, hint) : ''));
   }
@@ -180,13 +189,14 @@ function wordsBefore(it) {
 async function bodyOf(it) {
   if (it.answer?.body) return { bytes: it.answer.body, words: [] };
   const stored = await bytesAt(it.given.blockStart, it.given.blockLength);
-  if (numberOf(it.answer?.reason ?? '') !== 'P10') return { bytes: null, stored, words: [] };
+  if (!isCoded(it)) return { bytes: null, stored, words: [] };
+  const said = `${it.answer.reason}: ${inWords(it.answer.reason).join(' ')}`;
   try {
     const { body: bytes, steps } = await decoded(stored);
-    return { bytes, stored, isDecoded: true, words: [make('div', { className: 'note' }, make('p', {}, make('b', {}, 'Decoded by this browser'), ` (${steps.join(', then ')}), outside of what is proved. `),
+    return { bytes, stored, isDecoded: true, words: [make('div', { className: 'note' }, make('p', {}, make('b', {}, 'Decoded by this browser'), ` (${steps.join(', then ')}), outside of what is proved. ${said}`),
       make('div', { className: 'actions' }, saving(`${fileName(it)}.stored`, stored, 'Save the stored block')))] };
   } catch (error) {
-    return { bytes: null, stored, words: [make('p', { className: 'note reason' }, `This browser can’t decode it: ${error.message || error}.`)] };
+    return { bytes: null, stored, words: [make('p', { className: 'note reason' }, make('b', {}, 'No body: '), `${said} This browser can’t decode it: ${error.message || error}.`)] };
   }
 }
 
@@ -195,11 +205,11 @@ async function pageTab(it) {
   if (!found.bytes) return [...words, ...storedBytes(it, found.stored)];
   const media = mediaOf(it.type, found.bytes, shown(it.row.target));
   const saved = make('div', { className: 'actions' }, saving(fileName(it), found.bytes, found.isDecoded ? 'Save the decoded bytes' : 'Save the exact bytes'), make('span', { className: 'small' }, `${media}, ${size(found.bytes.length)}`));
-  if (found.bytes.length === 0) return [...words, make('p', {}, 'The body is empty.'), saved];
-  if (isPicture(media)) return [...words, picture(found.bytes, media), saved];
-  if (isHtml(media)) return [...words, ...(await htmlView(it, found.bytes)), saved];
-  if (isText(media)) return [...words, textView(textOf(found.bytes, it.type)), saved];
-  return [...words, make('p', {}, `Not shown here: ${media}.`), hexView(found.bytes), saved];
+  if (found.bytes.length === 0) return [...words, make('p', {}, 'The body is empty.')];
+  if (isPicture(media)) return [...words, saved, picture(found.bytes, media)];
+  if (isHtml(media)) return [...words, ...(await htmlView(it, found.bytes, saved))];
+  if (isText(media)) return [...words, saved, textView(textOf(found.bytes, it.type))];
+  return [...words, saved, make('p', {}, `This page can’t show ${media}. Its bytes:`), hexView(found.bytes)];
 }
 
 function picture(bytes, media) {
@@ -241,7 +251,7 @@ function moments(it) {
   return all;
 }
 
-async function htmlView(it, bytes) {
+async function htmlView(it, bytes, saved) {
   const frame = make('iframe', { className: 'view', title: 'The page as a view, without scripts and without network' });
   frame.setAttribute('sandbox', '');
   frame.referrerPolicy = 'no-referrer';
@@ -259,12 +269,12 @@ async function htmlView(it, bytes) {
   }
   await draw(moments(it)[1][1]);
   return [make('div', { className: 'note plainly' }, make('p', {}, make('b', {}, 'This is a view. '), 'Scripts and network are off, links don’t lead away, and what isn’t in the archive is missing. The bytes on disk and in the download are never changed.'),
-    make('div', { className: 'actions' }, make('span', { className: 'small' }, 'Pictures and styles as of'), choice), summary), frame, below];
+    make('div', { className: 'actions' }, make('span', { className: 'small' }, 'Pictures and styles as of'), choice), summary), saved, frame, below];
 }
 
 function listed(resources, links, moment) {
   const parts = [];
-  if (resources.there.length) parts.push(make('details', {}, make('summary', {}, `Pictures and styles in this view (${resources.there.length})`), make('ul', { className: 'plain-list' }, ...resources.there.map(([uri, found]) => make('li', {}, make('button', { className: 'link', type: 'button', on: { click: () => openRecord(found.chosen, true) } }, uri), ` record ${found.chosen}${found.given !== found.chosen ? `, from ${found.given}` : ''}${found.isDecoded ? ', decoded by this browser' : ''}`)))));
+  if (resources.there.length) parts.push(make('details', {}, make('summary', {}, `Pictures and styles in this view (${resources.there.length})`), make('ul', { className: 'plain-list' }, ...resources.there.map(([uri, found]) => make('li', {}, make('button', { className: 'link', type: 'button', on: { click: () => openRecord(found.chosen, WHOLE) } }, uri), ` record ${found.chosen}${found.given !== found.chosen ? `, from ${found.given}` : ''}${found.isDecoded ? ', decoded by this browser' : ''}`)))));
   if (resources.missing.length) parts.push(make('details', {}, make('summary', {}, `Missing (${resources.missing.length})`), make('ul', { className: 'plain-list' }, ...resources.missing.map(([uri, why]) => make('li', { className: 'absent' }, `${uri} `, make('span', { className: 'small' }, why))))));
   if (links.length) {
     const there = links.filter((uri) => capturesOf(typed(uri)).length).length;
@@ -297,17 +307,20 @@ async function blockTab(it) {
   return [it.row.blockLength ? (isBinary ? hexView(bytes) : textView(shown(bytes))) : make('p', {}, 'The block is empty.'), make('div', { className: 'actions' }, make('button', { className: 'button', type: 'button', on: { click: () => download(whole, `block-${it.position}`) } }, 'Save the block'))];
 }
 
+const EMPTY_DIGEST = '3I42H3S6NNFQ2MSVX7XZKYAYSCX5QBYJ'; // the SHA-1 of no bytes
 const VERDICT_WORDS = { good: 'good: the block has the digest that the record states', bad: 'bad: the block doesn’t have the digest that the record states', unchecked: 'unchecked: the record states no digest, or one that can’t be checked' };
 async function factsTab(it) {
-  const facts = [['Position', String(it.position)], ['Offset', `${it.row.offset.toLocaleString('en')} bytes`], ['Type', it.row.kind], ['Date', it.row.date], ['Id', latin.decode(it.row.id)], ['Target', shown(it.row.target) || '–'],
-    ['Head', size(it.row.blockStart - it.row.offset)], ['Block', `${it.row.blockLength.toLocaleString('en')} bytes from offset ${it.row.blockStart.toLocaleString('en')}`], ['Digest of the block', VERDICT_WORDS[it.row.verdict]],
-    ['Digest as stated', fieldOf(it.own.fields, 'WARC-Block-Digest') || '–']];
+  const stated = fieldOf(it.own.fields, 'WARC-Block-Digest'), isOfWget = it.row.verdict === 'bad' && it.row.kind.toLowerCase() === 'revisit' && stated.endsWith(EMPTY_DIGEST);
+  const facts = [['Position', String(it.position)], ['Offset', `byte ${it.row.offset.toLocaleString('en')}`], ['Type', it.row.kind], ['Date', it.row.date], ['Id', latin.decode(it.row.id)], ['Target', shown(it.row.target) || '–'],
+    ['Head', size(it.row.blockStart - it.row.offset)], ['Block', `${it.row.blockLength.toLocaleString('en')} bytes from byte ${it.row.blockStart.toLocaleString('en')} on`], ['Digest of the block', VERDICT_WORDS[it.row.verdict]],
+    ['Digest as stated', stated || '–']];
   const answer = it.answer;
   if (answer?.body) facts.push(['Chosen', `record ${answer.chosen}`], ['Given', `record ${answer.given}${answer.given === answer.chosen ? '' : ', where the revisit leads'}`], ['Status', answer.status === null ? '–' : String(answer.status)], ['Truncated', answer.truncated ? 'yes' : 'no'], ['Length of the body', `${answer.length.toLocaleString('en')} bytes`]);
   if (answer?.reason) facts.push(['No body', `${answer.reason}. ${inWords(answer.reason)[0]}`]);
   const found = (room.findings ?? []).filter((finding) => finding.position === it.position);
   return [make('dl', { className: 'facts' }, ...facts.flatMap(([name, value]) => [make('dt', {}, name), make('dd', {}, value)])),
     make('p', { className: 'small' }, 'These facts are the library’s answers, whose contracts are proved. “Digest as stated” is read by this page.'),
+    isOfWget ? make('p', { className: 'note plainly' }, 'The digest that is stated is that of no bytes. wget 1.21 writes it into each revisit, although it stores the HTTP head there. It says nothing of the body, which comes from another record with a digest of its own.') : '',
     found.length ? make('div', {}, make('h3', {}, 'Findings'), make('ul', { className: 'plain-list' }, ...found.map((finding) => make('li', {}, `${finding.number} ${finding.field} ${FINDINGS[finding.number] ?? ''}`)))) : make('p', { className: 'small' }, room.findings ? 'Nothing was found wrong with this record.' : '')];
 }
 
@@ -317,7 +330,7 @@ async function openAsOf(uri, date, focus) {
   if (!room.holds) { say('This archive is too long to be replayed here.'); return; }
   const [answer] = await room.library.ask([{ uri, date }]);
   if (answer.chosen !== null && answer.chosen !== undefined) {
-    await openRecord(answer.chosen, focus, `As of ${date}, the archive chooses this capture of the URI.`);
+    await openRecord(answer.chosen, focus ? WHOLE : null, `As of ${date}, the archive chooses this capture of the URI.`);
     return;
   }
   room.visit += 1;
@@ -326,7 +339,8 @@ async function openAsOf(uri, date, focus) {
   const [meaning, hint] = inWords(answer.reason), panel = byId('record');
   byId('room').classList.add('has-record');
   panel.hidden = false;
-  panel.replaceChildren(make('header', {}, make('button', { className: 'button quiet close', type: 'button', on: { click: closeRecord } }, 'Close'), make('h2', {}, make('bdi', {}, shown(uri))), make('div', { className: 'sub' }, `as of ${date}`)),
+  panel.replaceChildren(make('header', {}, closing(), make('h2', {}, make('bdi', {}, shown(uri))), make('div', { className: 'sub' }, `as of ${date}`)),
     make('div', { className: 'panel' }, make('div', { className: 'note reason' }, make('p', {}, make('b', {}, `No body: ${answer.reason}. `), meaning), hint ? make('p', {}, hint) : '')));
-  if (focus) panel.focus();
+  bringRecord();
+  if (focus) panel.focus({ preventScroll: true });
 }

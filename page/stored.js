@@ -190,7 +190,7 @@ function referencesOf(page, base) {
   const pictures = [...page.querySelectorAll('img, input[type="image" i], image')].map((node) => ({ node, reference: node.getAttribute('src') ?? node.getAttribute('srcset')?.trim().split(/[\s,]+/)[0] ?? node.getAttribute('href') ?? node.getAttribute('xlink:href') ?? '' }));
   const sheets = [...page.querySelectorAll('link[rel~="stylesheet" i]')].map((node) => ({ node, reference: node.getAttribute('href') ?? '' }));
   const links = [...page.querySelectorAll('a[href], area[href]')].map((node) => resolved(node.getAttribute('href'), base)).filter((it) => it);
-  return { pictures: pictures.filter((it) => !/^data:/i.test(it.reference)), sheets, links: [...new Set(links)] };
+  return { pictures: pictures.filter((it) => it.reference.trim() && !/^data:/i.test(it.reference)), sheets, links: [...new Set(links)] };
 }
 
 // Takes out of a page all that runs, loads or leads away. The policy and the sandbox of the frame forbid the same.

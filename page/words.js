@@ -43,7 +43,7 @@ const numberOf = (words) => /^[A-Z]\d+/.exec(words)?.[0] ?? '';
 
 // A reason that the library gives, in words.
 function inWords(reason) {
-  if (reason === 'bad date') return ['This is no date.', 'YYYY, YYYY-MM, YYYY-MM-DD, YYYY-MM-DDThh:mmZ or YYYY-MM-DDThh:mm:ssZ, in UTC.'];
+  if (reason === 'bad date') return ['What was given isn’t a date.', 'A date is written YYYY, YYYY-MM, YYYY-MM-DD, YYYY-MM-DDThh:mmZ or YYYY-MM-DDThh:mm:ssZ, in UTC.'];
   return REASONS[numberOf(reason)] ?? FAULTS[numberOf(reason)]?.slice(1) ?? ['', ''];
 }
 
