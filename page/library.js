@@ -86,19 +86,7 @@ class Library {
     this.pending = [];
     const url = URL.createObjectURL(new Blob([script], { type: 'text/javascript' }));
     this.worker = new Worker(url);
-    this.worker.onmessage = ({ data }) => {
-      if (!data.id) { tell(data); return; }
-      const all = this.asked;
-      this.asked = null;
-      let from = 0;
-      for (const { questions, done, failed } of all.waiting) {
-        const answers = data.answers?.slice(from, from += questions.length);
-        if (!answers) { failed(new Error(data.why)); continue; }
-        if (all.since === this.since) this.remember(questions, answers);
-        done(answers.map((it) => ({ ...it })));
-      }
-      this.send();
-    };
+    this.worker.onmessage = ({ data }) => (data.id ? this.hear(data) : tell(data));
     this.worker.onerror = (event) => tell({ tell: 'failed', why: event.message || 'the worker stopped' });
     this.worker.postMessage({ wasm: module, limit, script });
   }
@@ -109,25 +97,45 @@ class Library {
   }
 
   // The answers to questions: of a URI and a date, or of a position. Null if they are no longer wanted when it is their
-  // turn. Where the archive has to be opened for them, it is also asked what may be wanted next.
+  // turn. Where the archive has to be opened, it is also asked what may be wanted next.
   ask(questions, isWanted = () => true, next = []) {
-    const isKnown = (it) => this.known.has(Library.name(it));
-    if (questions.every(isKnown)) return Promise.resolve(questions.map((it) => ({ ...this.known.get(Library.name(it)) })));
-    const all = [...questions, ...next.filter((it) => !isKnown(it))];
     return new Promise((done, failed) => {
-      this.pending.push({ questions: all, isWanted, failed, done: (answers) => done(answers && answers.slice(0, questions.length)) });
+      this.pending.push({ questions, next, isWanted, done, failed });
       this.send();
     });
   }
 
+  isKnown(question) { return this.known.has(Library.name(question)); }
+
+  // Answers what is known already. Whether nothing is left to ask.
+  isSettled(it) {
+    if (!it.isWanted()) { it.done(null); return true; }
+    if (!it.questions.every((question) => this.isKnown(question))) return false;
+    it.done(it.questions.map((question) => ({ ...this.known.get(Library.name(question)) })));
+    return it.next.every((question) => this.isKnown(question));
+  }
+
+  // Asks what isn't known, each question once, unless the worker is busy.
   send() {
+    this.pending = this.pending.filter((it) => !this.isSettled(it));
     if (this.asked || !this.pending.length) return;
-    const waiting = this.pending.filter((it) => it.isWanted());
-    this.pending.filter((it) => !waiting.includes(it)).forEach((it) => it.done(null));
+    const waiting = this.pending, all = [...waiting.flatMap((it) => it.questions), ...waiting.flatMap((it) => it.next)];
+    const questions = [...new Map(all.filter((it) => !this.isKnown(it)).map((it) => [Library.name(it), it])).values()];
     this.pending = [];
-    if (!waiting.length) return;
-    this.asked = { waiting, since: this.since };
-    this.worker.postMessage({ id: 1, questions: waiting.flatMap((it) => it.questions) });
+    this.asked = { waiting, questions, since: this.since };
+    this.worker.postMessage({ id: 1, questions });
+  }
+
+  hear({ answers, why }) {
+    const { waiting, questions, since } = this.asked;
+    this.asked = null;
+    const given = new Map(answers ? questions.map((it, number) => [Library.name(it), answers[number]]) : []);
+    const answerOf = (it) => given.get(Library.name(it)) ?? this.known.get(Library.name(it));
+    for (const it of waiting) {
+      if (answers) it.done(it.questions.map((question) => ({ ...answerOf(question) }))); else it.failed(new Error(why));
+    }
+    if (answers && since === this.since) this.remember(questions, answers);
+    this.send();
   }
 
   static name(question) { return question.uri ? `${question.date} ${latin.decode(question.uri)}` : question.position; }

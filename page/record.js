@@ -95,15 +95,41 @@ async function openRecord(position, focus = null, note = null) {
 
 const WHOLE = '#record'; // the focus goes to the record itself
 
-const NEAR = 5, MOST_AHEAD = 1048576; // captures before and after one, and bytes of their blocks, that are asked for with it
+const NEAR = 5; // captures before and after one that are asked for with it
+const MOST_AHEAD = 1048576, MOST_AHEAD_IN_ALL = 32 * MOST_AHEAD; // bytes of the blocks of what is asked ahead, of one and of all
+
+// What a target seems to give as of a time, by the stored bytes of its latest capture that is no revisit; null where
+// nothing. The body is read only where it may name something else.
+async function seeming(target, time) {
+  const capture = capturesOf(target).filter((it) => it.kind !== 'revisit' && it.time <= time).pop();
+  if (!capture || room.rows.blockLength(capture.position) > MOST_AHEAD) return null;
+  const row = room.rows.row(capture.position), { http, type } = await typeOf(row), length = row.blockLength;
+  if (!/css|html|^$/i.test(type)) return { type, body: new Uint8Array(0), length };
+  const block = await bytesAt(row.blockStart, length);
+  return { type, body: http ? (await decoded(block)).body : block, length };
+}
+
+// The questions that the view of a page will ask, guessed from its stored bytes. Whatever is guessed, the answers are the
+// library's.
+async function askedByView(it) {
+  const found = await seeming(it.row.target, captureTime(it.row.date) ?? 0), uri = shown(it.row.target);
+  if (!found || !isHtml(mediaOf(found.type, found.body, uri))) return [];
+  const [, moment] = moments(it)[1], time = captureTime(moment) ?? Infinity;
+  const guess = async (questions) => Promise.all(questions.map(async (question) => (await seeming(question.uri, time).catch(() => null)) ?? { length: 0 }));
+  const resources = new Resources(guess, moment), { page, base } = parsed(textOf(found.body, found.type), uri);
+  await gather(page, base, referencesOf(page, base), resources);
+  return [...resources.known].map(([name, { length }]) => ({ uri: typed(name), date: moment, length }));
+}
 
 // Adds the library's answer. Since the archive is opened once for all questions, the captures around this one are asked
-// for with it.
+// for with it, and what the view of a page will ask for.
 async function completed(it, visit) {
   const list = capturesOf(it.row.target), now = list.findIndex((capture) => capture.position === it.position);
-  const near = list.slice(Math.max(0, now - NEAR), now + NEAR + 1).map(({ position }) => position);
-  const next = near.filter((position) => position !== it.position && room.rows.blockLength(position) <= MOST_AHEAD);
-  const answers = await room.library.ask([{ position: it.position }], () => visit === room.visit, next.map((position) => ({ position })));
+  const near = list.slice(Math.max(0, now - NEAR), now + NEAR + 1).filter(({ position }) => position !== it.position);
+  const ahead = [...await askedByView(it).catch(() => []), ...near.map(({ position }) => ({ position, length: room.rows.blockLength(position) }))];
+  let left = MOST_AHEAD_IN_ALL;
+  const next = ahead.filter(({ length }) => length <= MOST_AHEAD && (left -= length) > 0);
+  const answers = await room.library.ask([{ position: it.position, length: it.row.blockLength }], () => visit === room.visit, next);
   if (!answers) return;
   it.answer = answers[0];
   if (it.answer.given === null || it.answer.given === it.position) return;

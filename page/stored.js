@@ -205,11 +205,14 @@ function quieted(page) {
   }
 }
 
-// HTML as a view: the archive's own pictures and styles, as of one moment, and nothing else.
-async function viewOf(html, uri, resources) {
+// A page of HTML, and what its references are resolved against.
+function parsed(html, uri) {
   const page = new DOMParser().parseFromString(html, 'text/html');
-  const base = resolved(page.querySelector('base[href]')?.getAttribute('href') ?? '', uri) ?? uri;
-  const { pictures, sheets, links } = referencesOf(page, base);
+  return { page, base: resolved(page.querySelector('base[href]')?.getAttribute('href') ?? '', uri) ?? uri };
+}
+
+// Asks for the pictures and styles of a page, and for what its styles name.
+async function gather(page, base, { pictures, sheets }, resources) {
   const inline = [...page.querySelectorAll('style')].map((node) => node.textContent);
   const styled = [...page.querySelectorAll('[style]')].map((node) => node.getAttribute('style'));
   let wanted = [...pictures, ...sheets].map((it) => resolved(it.reference, base));
@@ -221,6 +224,12 @@ async function viewOf(html, uri, resources) {
     wanted = [...resources.known].filter(([name, found]) => !before.has(name) && isThere(found) && (sheetUris.has(name) || /^text\/css/i.test(found.type ?? '')))
       .flatMap(([name, found]) => namedByStyle(textOf(found.body, found.type ?? ''), name));
   }
+}
+
+// HTML as a view: the archive's own pictures and styles, as of one moment, and nothing else.
+async function viewOf(html, uri, resources) {
+  const { page, base } = parsed(html, uri), references = referencesOf(page, base), { pictures, sheets, links } = references;
+  await gather(page, base, references, resources);
   const faces = pictures.map(({ node, reference }) => [node, resources.get(resolved(reference, base))]);
   const looks = sheets.map(({ node, reference }) => [node, resolved(reference, base)]);
   page.querySelectorAll('style').forEach((node) => { node.textContent = styleWith(node.textContent, base, resources, 0); });
