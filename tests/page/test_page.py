@@ -226,6 +226,40 @@ def many_rows(tests, folder):
         browser.close()
 
 
+def resource(number, block):
+    return (b"WARC/1.1\r\nWARC-Type: resource\r\nWARC-Record-ID: <urn:x:%d>\r\nWARC-Date: 2026\r\nWARC-Target-URI: http://a.example/%d\r\n"
+            b"Content-Type: text/plain\r\nContent-Length: %d\r\n\r\n%s\r\n\r\n" % (number, number, len(block), block))
+
+
+def in_segments(tests, folder):
+    """Archives that are long enough for helpers: with blocks that look like records, with a block longer than a segment, torn,
+    and damaged in the middle. The list is the program's, and the fault too."""
+    inner, small = b"".join(small_record(number) for number in range(4000)), b"x" * 9000
+    plain = b"".join(resource(number, small) for number in range(5000))
+    archives = {
+        "inner": b"".join(resource(number, inner) for number in range(40)), "plain": plain, "torn": plain[:-5000],
+        "long": resource(0, b"y" * 40_000_000) + plain[:8_000_000], "changed": plain[:30_000_000] + b"?" + plain[30_000_001:],
+    }
+    for name, data in archives.items():
+        archive = f"{folder}/segments-{name}.warc"
+        with open(archive, "wb") as out:
+            out.write(data)
+        browser = tests.opened(archive)
+        try:
+            out, err, status = tests.warc("list", archive)
+            if status != 0:
+                tests.holds(f"warc: {browser.run('room.fault')}\n" in err, f"segments, {name}: fault", (err, browser.run("room.fault")))
+                with open(f"{archive}.good", "wb") as saved:
+                    saved.write(tests.warc("salvage", archive)[0])
+                tests.holds(os.path.getsize(f"{archive}.good") == browser.run("room.end"), f"segments, {name}: end of the good part")
+                out = tests.warc("list", f"{archive}.good")[0]
+            tests.holds(lines_of(browser) == out, f"segments, {name}: list", browser.run("room.rows.count"))
+            print(f"segments, {name}: {len(data):,} bytes listed in {browser.run('room.listedIn'):.0f} ms", flush=True)
+        finally:
+            browser.close()
+        os.remove(archive)
+
+
 def by_keyboard(tests, archive):
     """A reader without a mouse gets to a record and through its tabs; each control has a name."""
     browser = tests.opened(archive)
@@ -242,6 +276,14 @@ def by_keyboard(tests, archive):
         browser.press("ArrowRight")
         browser.until("document.getElementById('panel')?.dataset.ready === 'yes'", 30)
         tests.holds(browser.run("document.activeElement.id + document.activeElement.getAttribute('aria-selected')") == "tab-1true", "keyboard: tabs by arrows")
+        for place in ("#types .bar", "#numbers button"):
+            browser.run(f"document.querySelector('{place}').focus()")
+            browser.press("Enter", "\r")
+            tests.holds(browser.run(f"document.activeElement.matches('{place}')"), f"keyboard: the focus stays at {place}", browser.run("document.activeElement.outerHTML.slice(0, 99)"))
+        browser.run("room.filters.clear(); drawPlots(); filter()")
+        browser.run("document.querySelector('.close').focus()")
+        browser.press("Enter", "\r")
+        tests.holds(browser.run("document.activeElement.id") == "list", "keyboard: closing a record leads to the list", browser.run("document.activeElement.id"))
         browser.run("document.activeElement.blur()")
         browser.press("/", "/")
         tests.holds(browser.run("document.activeElement.id") == "words", "keyboard: / goes to the search", browser.run("document.activeElement.id"))
@@ -266,7 +308,9 @@ def views(tests, archive, site):
 
     try:
         tests.picture(browser, "overview")
+        browser.run("window.asked = 0; const send = Worker.prototype.postMessage; Worker.prototype.postMessage = function (...all) { window.asked += all[0].questions ? 1 : 0; return send.apply(this, all); }; 0")
         words = show("response", "/page/12")
+        tests.holds(browser.run("window.asked") == 1, "view: one opening for a page and its pictures and styles", browser.run("window.asked"))
         tests.holds("4 pictures and styles from the archive" in words and "1 missing" in words, "view: pictures and styles", words[:400])
         source = browser.run("document.querySelector('iframe.view').srcdoc")
         tests.holds("data:image/png" in source and "line-height" in source, "view: a style that a style names, and a picture")
@@ -384,6 +428,15 @@ def damaged(tests, folder):
         tests.picture(browser, "damaged")
     finally:
         browser.close()
+    with open(f"{folder}/packed.warc.gz", "wb") as out:
+        out.write(b"\x1f\x8b\x08\0" + b"x" * 100)
+    browser = tests.opened(f"{folder}/packed.warc.gz")
+    try:
+        browser.until("document.getElementById('damage').innerText.includes('This file is compressed')", 10)
+        words = browser.run("document.body.innerText")
+        tests.holds("gunzip packed.warc.gz" in words and "Looking for findings" not in words, "compressed: says so", words[:300])
+    finally:
+        browser.close()
 
 
 def compare_all(tests, folder, crawled):
@@ -402,13 +455,14 @@ def main():
     tests = Tests(sys.argv[1], sys.argv[2], (sys.argv[3:] or [None])[0])
     with tempfile.TemporaryDirectory(prefix="zogwedu-page-test-") as folder:
         crawled, small = f"{folder}/stations.warc", f"{TOP}/examples/crawl.warc"
-        names = os.environ.get("PAGE_TESTS", "compare,damaged,hostile,views,keyboard,saved,without,long,many").split(",")
+        names = os.environ.get("PAGE_TESTS", "compare,damaged,hostile,views,keyboard,saved,without,long,many,segments").split(",")
         where = stations.crawl(crawled) if {"compare", "views"} & set(names) else None
         parts = {
             "compare": lambda: compare_all(tests, folder, crawled), "damaged": lambda: damaged(tests, folder),
             "hostile": lambda: hostile_archive(tests, folder), "views": lambda: views(tests, crawled, where),
             "keyboard": lambda: by_keyboard(tests, small), "saved": lambda: saved_bytes(tests, folder, small),
             "without": lambda: without_wide_memory(tests), "long": lambda: too_long(tests, folder, small), "many": lambda: many_rows(tests, folder),
+            "segments": lambda: in_segments(tests, folder),
         }
         for name in names:
             try:
