@@ -68,14 +68,19 @@ def bash(all_commands, options):
 
 
 def quoted(text):
-    """Text between single quotes, for a description of zsh or fish."""
-    return text.replace("\\", "\\\\").replace("'", "").replace("[", "(").replace("]", ")").replace(":", "\\:")
+    """Text between single quotes, for a description of zsh."""
+    return text.replace("\\", "\\\\").replace("'", "'\\''").replace("[", "(").replace("]", ")").replace(":", "\\:")
+
+
+def quoted_for_fish(text):
+    """Text in single quotes, as fish reads it."""
+    return "'" + text.replace("\\", "\\\\").replace("'", "\\'") + "'"
 
 
 def zsh_action(argument):
     """How zsh completes an argument."""
     action = "_files" if argument in FILES else f"({' '.join(KINDS)})" if argument == "kind" else " "
-    return f"'{argument}:{argument}:{action}'"
+    return f"':{argument}:{action}'"
 
 
 def zsh(all_commands, options):
@@ -97,11 +102,11 @@ def zsh(all_commands, options):
 def fish(all_commands, options):
     """The completion of fish."""
     lines = ["# Completion of warc for fish, made from its --help.", "complete -c warc -f"]
-    lines += [f"complete -c warc -n __fish_use_subcommand -a {name} -d '{about}'" for name, about, *_ in all_commands]
+    lines += [f"complete -c warc -n __fish_use_subcommand -a {name} -d {quoted_for_fish(about)}" for name, about, *_ in all_commands]
 
     def option(word, about, when):
         kind = "l" if word.startswith("--") else "s"
-        return f"complete -c warc -n '{when}' -{kind} {word.lstrip('-')} -d '{about.replace(chr(39), '')}'"
+        return f"complete -c warc -n '{when}' -{kind} {word.lstrip('-')} -d {quoted_for_fish(about)}"
 
     lines += [option(word, about, "__fish_use_subcommand") for word, about in options]
     for name, _, arguments, own in all_commands:
