@@ -30,7 +30,7 @@ def files():
     yield "out/completions/warc.bash", "share/bash-completion/completions/warc"
     yield "out/completions/_warc", "share/zsh/site-functions/_warc"
     yield "out/completions/warc.fish", "share/fish/vendor_completions.d/warc.fish"
-    for name in ("README.md", "CHANGELOG.md", "LICENSE-APACHE", "LICENSE-MIT"):
+    for name in ("README.md", "CHANGELOG.md", "CONTRIBUTING.md", "LICENSE-APACHE", "LICENSE-MIT"):
         yield name, f"{DOCS}/{name}"
     for path in sorted(glob.glob(f"{TOP}/docs/*") + glob.glob(f"{TOP}/examples/*")):
         name = os.path.relpath(path, TOP)
