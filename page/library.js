@@ -122,12 +122,13 @@ class Library {
     const waiting = this.pending, all = [...waiting.flatMap((it) => it.questions), ...waiting.flatMap((it) => it.next)];
     const questions = [...new Map(all.filter((it) => !this.isKnown(it)).map((it) => [Library.name(it), it])).values()];
     this.pending = [];
-    this.asked = { waiting, questions, since: this.since };
+    this.asked = { waiting, questions, since: this.since, begun: performance.now() };
     this.worker.postMessage({ id: 1, questions });
   }
 
   hear({ answers, why }) {
-    const { waiting, questions, since } = this.asked;
+    const { waiting, questions, since, begun } = this.asked;
+    this.took = (performance.now() - begun) / 1000;
     this.asked = null;
     const given = new Map(answers ? questions.map((it, number) => [Library.name(it), answers[number]]) : []);
     const answerOf = (it) => given.get(Library.name(it)) ?? this.known.get(Library.name(it));
@@ -140,7 +141,7 @@ class Library {
 
   static name(question) { return question.uri ? `${question.date} ${latin.decode(question.uri)}` : question.position; }
 
-  forget() { this.known = new Map(); this.remembered = 0; this.since = {}; }
+  forget() { this.known = new Map(); this.remembered = 0; this.since = {}; this.took = 0; }
 
   // An answer is also that of the capture that is chosen.
   remember(questions, answers) {

@@ -164,7 +164,7 @@ function tabList(tabs, it, visit) {
     panel.setAttribute('aria-labelledby', `tab-${number}`);
     room.tab = tabs[number][0];
     panel.dataset.ready = 'no';
-    panel.replaceChildren(make('p', { className: 'small' }, 'Asking the archive…'));
+    panel.replaceChildren(make('p', { className: 'small' }, 'Asking the archive…', room.library.took > 2 ? ` The last answer took ${room.library.took.toFixed(0)} s.` : ''));
     const mine = panel.dataset.turn = String(Math.random());
     let content;
     try {

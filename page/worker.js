@@ -16,9 +16,9 @@ const DONE = 0, MEMORY = 2;
 const NOWHERE = 2n ** 64n - 1n; // a position that isn't known
 const SPENT = 1024 * MEGABYTE; // a module is started anew once its calls were given this much
 const MOST_HEAP = 8192 * MEGABYTE;
-const HELPERS = Math.min(4, navigator.hardwareConcurrency || 1);
+const HELPERS = typeof Worker === 'function' ? Math.min(4, navigator.hardwareConcurrency || 1) : 1;
 const LEAST_SHARED = 32 * MEGABYTE; // bytes: a shorter file is listed by this worker alone
-const MOST_TWICE = 1024 * MEGABYTE; // bytes: of a longer file there is no second copy in memory, for its findings
+const MOST_TWICE = navigator.deviceMemory >= 8 ? Infinity : 1024 * MEGABYTE; // bytes: of a longer file there is no second copy in memory, for its findings
 const BEGINNING = '\r\n\r\nWARC/1.'; // what a record's beginning looks like, after the end of the record before it
 const ROOM = 8 * MEGABYTE; // for the bodies of answers
 
