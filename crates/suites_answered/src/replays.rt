@@ -291,7 +291,7 @@ impl Replays {
 
 /// Tells the text of the fault that a case names.
 fn tell_fault(alloc: Global, case: &Case<'_>, answer: &mut Vec<u8>) -> Result<(), AllocError> {
-    match fault_of(case.text(1), case.number(2)) {
+    match fault_of(case.text(1), case.optional_number(2)) {
         Some(fault) => answer.extend_from_slice(format!(in alloc; "{fault}\n")?.as_bytes()),
         None => answer.extend_from_slice(b"no such fault\n"),
     }

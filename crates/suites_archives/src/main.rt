@@ -6,13 +6,15 @@ mod by_reads;
 
 use std::alloc::{AllocError, Global};
 use std::io::{self, Read, Write};
-use suites_moved::keeps_answers;
+use std::process::ExitCode;
+use suites_moved::{Moves, keeps_answers};
 use suites_program::Archives;
 use suites_script::{Case, Trial, try_script};
 
 #[derive(Drop)]
 struct Trials {
     archives: Archives,
+    moves: Moves,
 }
 
 /// Says where an archive that a case gives answers otherwise once it is moved to WARC 1.1.
@@ -20,10 +22,11 @@ fn tell_moved(
     alloc: Global,
     case: &Case<'_>,
     archive: &[u8],
+    moves: &mut Moves,
     answer: &mut Vec<u8>,
 ) -> Result<(), AllocError> {
     let is_new = matches!(case.text(0), "archive" | "by");
-    if is_new && !keeps_answers(alloc, archive)? {
+    if is_new && !keeps_answers(alloc, archive, moves)? {
         answer.extend_from_slice(b"another answer once it is moved\n")?;
     }
     Ok(())
@@ -53,20 +56,26 @@ impl Trial for Trials {
         answer: &mut Vec<u8>,
     ) -> Result<(), AllocError> {
         if self.archives.answer(alloc, case, answer)? {
-            tell_moved(alloc, case, self.archives.bytes(), answer)
+            tell_moved(alloc, case, self.archives.bytes(), &mut self.moves, answer)
         } else {
             answer_about(alloc, case, self.archives.bytes(), answer)
         }
     }
 }
 
-fn main(rt: HostRuntime) -> io::Result<()> {
+fn main(rt: HostRuntime) -> io::Result<ExitCode> {
     let alloc = rt.alloc();
     let mut script = Vec::new(alloc);
     rt.reader().read_to_end(&mut script)?;
     let mut trials = Trials {
         archives: Archives::new(alloc),
+        moves: Moves::new(),
     };
-    let told = try_script(alloc, &script, &mut trials)?;
-    rt.stdout().write_all(&told)
+    let mut report = try_script(alloc, &script, &mut trials)?;
+    report.add_line(&trials.archives.openings(alloc)?)?;
+    report.add_line(&trials.archives.damages(alloc)?)?;
+    report.add_line(&trials.moves.counts(alloc)?)?;
+    let status = report.status();
+    rt.stdout().write_all(&report.into_text(alloc)?)?;
+    Ok(status)
 }

@@ -18,9 +18,9 @@ pub fn opened<S: Source + Drop, A: Allocator + Copy>(
 }
 
 /// What an archive lists.
-pub(crate) fn listed<S: Source>(
+pub fn listed<S: Source, A: Allocator + Copy>(
     alloc: Global,
-    archive: &Archive<S>,
+    archive: &Archive<S, A>,
 ) -> Result<Vec<u8>, AllocError> {
     let mut lines = MemSink::new(Vec::new(alloc));
     match archive.list(&mut lines) {
@@ -30,8 +30,8 @@ pub(crate) fn listed<S: Source>(
 }
 
 /// What an archive answers to a replay.
-pub fn replayed<S: Source, W: Sink>(
-    archive: &mut Archive<S>,
+pub fn replayed<S: Source, A: Allocator + Copy, W: Sink>(
+    archive: &mut Archive<S, A>,
     uri: &[u8],
     moment: &Moment,
     out: &mut W,
@@ -40,8 +40,8 @@ pub fn replayed<S: Source, W: Sink>(
 }
 
 /// What an archive answers to an extraction.
-pub(crate) fn extracted<S: Source, W: Sink>(
-    archive: &mut Archive<S>,
+pub fn extracted<S: Source, A: Allocator + Copy, W: Sink>(
+    archive: &mut Archive<S, A>,
     id: &[u8],
     out: &mut W,
 ) -> Result<u64, ExtractFault> {
@@ -49,8 +49,8 @@ pub(crate) fn extracted<S: Source, W: Sink>(
 }
 
 /// What an archive answers to a check.
-pub(crate) fn checked<S: Source, W: Sink>(
-    archive: &mut Archive<S>,
+pub fn checked<S: Source, A: Allocator + Copy, W: Sink>(
+    archive: &mut Archive<S, A>,
     out: &mut W,
 ) -> Result<usize, OutFault> {
     archive.check(out)

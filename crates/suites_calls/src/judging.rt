@@ -22,14 +22,14 @@ fn judged(heap: &RefusingAllocator<Global>, source: MemSource) -> Option<Fault> 
     }
 }
 
-/// How often memory is asked for until an archive is open and judged.
-fn requests(alloc: Global, bytes: &[u8]) -> Result<u64, AllocError> {
+/// How often memory is asked for until an archive is open and judged; nothing where that isn't met.
+fn requests(alloc: Global, bytes: &[u8]) -> Result<Option<u64>, AllocError> {
     for number in 1..1000u64 {
         if refused_without(alloc, bytes, number)?.is_none() {
-            return Ok(number - 1);
+            return Ok(Some(number - 1));
         }
     }
-    Ok(1000)
+    Ok(None)
 }
 
 /// Adds a refusal, and whether it comes once the first bytes alone have the memory that they ask for.
@@ -63,12 +63,12 @@ pub(crate) fn add_refusals(
         let refused = refused_without(alloc, archive, number)?;
         match refused {
             Some(fault) if last != refused => {
-                add_refusal(alloc, fault, number - 1 == first, front, answer)?;
+                add_refusal(alloc, fault, first == Some(number - 1), front, answer)?;
             }
             Some(_) => {}
             None => return add_line(answer, b"opened"),
         }
         last = refused;
     }
-    Ok(())
+    add_line(answer, b"there are more requests")
 }

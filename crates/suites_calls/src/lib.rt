@@ -2,18 +2,21 @@
 //! checks, and what other suites of archives call.
 #![tactic(auto)]
 
+mod all;
+mod asking;
 mod calls;
-mod chains;
 mod checks;
 mod fronts;
 mod judging;
+mod kept;
 mod replays;
 mod sources;
 mod telling;
+mod turns;
 mod verbs;
 
+pub use all::all_of;
 pub use calls::{opened, refused, replayed};
-pub use chains::{add_link, chain_count};
 pub use replays::{Asked, add_replayed};
 pub use sources::{broken, source_of};
 pub use telling::{add_line, add_number, add_record, add_replay, add_text};

@@ -16,8 +16,8 @@ const BEFORE: &[u8] = b"before ";
 /// A target and a moment.
 #[derive(Drop)]
 pub struct Asked {
-    uri: Vec<u8>,
-    moment: Moment,
+    pub(crate) uri: Vec<u8>,
+    pub(crate) moment: Moment,
 }
 
 impl Asked {

@@ -3,8 +3,10 @@
 use crate::checks::{add_check_changed, add_check_of, add_check_thrice, add_check_unread};
 use crate::fronts::add_fronts;
 use crate::judging::add_refusals;
+use crate::kept::{add_kept, add_kept_same};
 use crate::replays::{add_given_case, add_replay_case, add_unread};
 use crate::sources::source_of;
+use crate::turns::add_turns;
 use std::alloc::{AllocError, Global};
 use suites_script::Case;
 
@@ -44,6 +46,9 @@ pub fn answer_once(
         "checked-thrice" => add_check_thrice(alloc, archive, case.number(1), answer)?,
         "checked-fronts" => add_fronts(alloc, case, archive, answer)?,
         "judged-refused" => add_refusals(alloc, case, archive, answer)?,
+        "kept" => add_kept(alloc, case, archive, answer)?,
+        "in-turn" => add_turns(alloc, case, archive, answer)?,
+        "kept-as" => add_kept_same(alloc, case, archive, answer)?,
         _ => return Ok(false),
     }
     Ok(true)

@@ -1,6 +1,6 @@
 //! What records are read from and written to: sources and sinks.
 
-use crate::odd::{Trick, read_of, sent_once, sent_to_full, written_once};
+use crate::odd::{Trick, Tricked, read_twice, sent_once, sent_to_full, written_once};
 use crate::ranges::{tell_put_ranges, tell_range};
 use std::alloc::{AllocError, Global};
 use std::io::Cursor;
@@ -61,18 +61,41 @@ fn tell_source(
     tell_outcome(alloc, answer, source.read_at(0, &mut []))
 }
 
-/// Adds what a file gives, and what is asked at 2^48.
+/// Adds the four bytes that a source gives at an offset.
+fn tell_four<S: Source>(
+    alloc: Global,
+    answer: &mut Vec<u8>,
+    source: &mut S,
+    at: u64,
+) -> Result<(), AllocError> {
+    let mut bytes = [b'-'; 4];
+    let read = source.read_at(at, &mut bytes);
+    tell_outcome(alloc, answer, read)?;
+    tell_parts(answer, &[&bytes, b"\n"])
+}
+
+/// Adds what a file gives, what is asked at 2^48, and what it gives then at 5 and at 0.
 fn tell_file(alloc: Global, answer: &mut Vec<u8>, text: &[u8]) -> Result<(), AllocError> {
     let mut source = FileSource::new(Cursor::new(text));
     tell_reads(alloc, answer, &mut source)?;
-    tell_outcome(alloc, answer, source.read_at(1 << 48, &mut [0]))
+    tell_outcome(alloc, answer, source.read_at(1 << 48, &mut [0]))?;
+    tell_four(alloc, answer, &mut source, 5)?;
+    tell_four(alloc, answer, &mut source, 0)
 }
 
-/// Adds what one read of a file that fails or lies tells, the bytes that it leaves, and how often the file was read.
+/// Adds what two reads of a file that fails or lies tell, the bytes that they leave, and how often the file was read,
+/// and a place sought.
 fn tell_odd_file(alloc: Global, answer: &mut Vec<u8>, trick: Trick) -> Result<(), AllocError> {
-    let (read, bytes, reads) = read_of(trick);
-    tell_outcome(alloc, answer, read)?;
-    let told = format!(in alloc; " by {reads}\n")?;
+    let Tricked {
+        first,
+        second,
+        bytes,
+        reads,
+        seeks,
+    } = read_twice(trick);
+    tell_outcome(alloc, answer, first)?;
+    tell_outcome(alloc, answer, second)?;
+    let told = format!(in alloc; " by {reads} reads and {seeks} seeks\n")?;
     tell_parts(answer, &[&bytes, told.as_bytes()])
 }
 
@@ -120,18 +143,18 @@ fn tell_broken(alloc: Global, answer: &mut Vec<u8>, text: &[u8]) -> Result<(), A
     tell_line(alloc, answer, &told)
 }
 
-/// A writer that breaks as the words from a place on say: `fails at N`, or `takes M at N`.
+/// A writer that breaks as the words from a place on say: `fails at N`, or `takes M at N`; one that doesn't where there
+/// are none.
 fn writer_of(alloc: Global, case: &Case<'_>, place: usize) -> BrokenWriter {
-    if case.text(place) == "takes" {
-        let most = case.number(place.saturating_add(1)) as usize;
-        BrokenWriter::new(
-            alloc,
-            case.number(place.saturating_add(3)),
-            Break::Takes(most),
-        )
-    } else {
-        BrokenWriter::new(alloc, case.number(place.saturating_add(2)), Break::Fails)
-    }
+    let (number, how) = match case.text(place) {
+        "takes" => {
+            let most = case.number(place.saturating_add(1)) as usize;
+            (case.number(place.saturating_add(3)), Break::Takes(most))
+        }
+        "fails" => (case.number(place.saturating_add(2)), Break::Fails),
+        _ => (0, Break::Fails),
+    };
+    BrokenWriter::new(alloc, number, how)
 }
 
 /// Adds bytes between brackets, in a line.
@@ -235,18 +258,17 @@ pub(crate) fn answer(
     kept: &[u8],
     answer: &mut Vec<u8>,
 ) -> Result<bool, AllocError> {
-    let text = text_of(case, kept);
     let told = match case.text(0) {
-        "source" => tell_source(alloc, answer, text, number_or_all(case, 1)),
-        "file" => tell_file(alloc, answer, text),
+        "source" => tell_source(alloc, answer, text_of(case, kept), number_or_all(case, 1)),
+        "file" => tell_file(alloc, answer, text_of(case, kept)),
         "odd-file" => tell_odd_file(alloc, answer, Trick::named(case.text(1))),
-        "broken-source" => tell_broken(alloc, answer, text),
-        "send" => tell_send(alloc, case, answer, text),
-        "flush" => tell_flush(alloc, case, answer, text),
-        "sink-without-memory" => tell_sink(alloc, answer, text),
-        "writer" => tell_out(alloc, case, answer, text),
-        "range" => tell_range(alloc, case, answer, text),
-        "put-ranges" => tell_put_ranges(alloc, case, answer, text),
+        "broken-source" => tell_broken(alloc, answer, text_of(case, kept)),
+        "send" => tell_send(alloc, case, answer, text_of(case, kept)),
+        "flush" => tell_flush(alloc, case, answer, text_of(case, kept)),
+        "sink-without-memory" => tell_sink(alloc, answer, text_of(case, kept)),
+        "writer" => tell_out(alloc, case, answer, text_of(case, kept)),
+        "range" => tell_range(alloc, case, answer, text_of(case, kept)),
+        "put-ranges" => tell_put_ranges(alloc, case, answer, text_of(case, kept)),
         _ => return Ok(false),
     };
     told?;

@@ -8,6 +8,8 @@ use warc_frame::{FileSource, OutSink, ReadFault, SendFault, Sink, Source, WriteF
 pub(crate) enum Trick {
     IsInterrupted,
     SeeksNowhere,
+    /// The first seek fails, and no other.
+    SeeksLate,
     FillsNothing,
 }
 
@@ -16,15 +18,17 @@ impl Trick {
         match word {
             "is-interrupted" => Trick::IsInterrupted,
             "seeks-nowhere" => Trick::SeeksNowhere,
+            "seeks-late" => Trick::SeeksLate,
             _ => Trick::FillsNothing,
         }
     }
 }
 
-/// A file that fails or lies.
+/// A file that fails or lies. It counts the calls.
 struct Liar {
     trick: Trick,
     reads: u32,
+    seeks: u32,
 }
 
 impl Read for Liar {
@@ -39,20 +43,47 @@ impl Read for Liar {
 
 impl Seek for Liar {
     fn seek(&mut self, _to: SeekFrom) -> io::Result<u64> {
-        match self.trick {
-            Trick::SeeksNowhere => Err(io::Error::from(ErrorKind::Unsupported)),
+        self.seeks = self.seeks.saturating_add(1);
+        match (self.trick, self.seeks) {
+            (Trick::SeeksNowhere, _) | (Trick::SeeksLate, 1) => {
+                Err(io::Error::from(ErrorKind::Unsupported))
+            }
             _ => Ok(7),
         }
     }
 }
 
-/// What one read of such a file tells, the bytes that it leaves, and how often the file was read.
-pub(crate) fn read_of(trick: Trick) -> (Result<usize, ReadFault>, [u8; 3], u32) {
-    let mut source = FileSource::new(Liar { trick, reads: 0 });
-    let mut buffer = [b'x'; 3];
-    let answer = source.read_at(5, &mut buffer);
-    let Liar { trick: _, reads } = source.into_inner();
-    (answer, buffer, reads)
+/// What two reads of such a file tell, the bytes that they leave, and how often the file was read, and a place sought.
+pub(crate) struct Tricked {
+    pub(crate) first: Result<usize, ReadFault>,
+    pub(crate) second: Result<usize, ReadFault>,
+    pub(crate) bytes: [u8; 3],
+    pub(crate) reads: u32,
+    pub(crate) seeks: u32,
+}
+
+/// What comes of two reads of such a file.
+pub(crate) fn read_twice(trick: Trick) -> Tricked {
+    let mut source = FileSource::new(Liar {
+        trick,
+        reads: 0,
+        seeks: 0,
+    });
+    let mut bytes = [b'x'; 3];
+    let first = source.read_at(5, &mut bytes);
+    let second = source.read_at(5, &mut bytes);
+    let Liar {
+        trick: _,
+        reads,
+        seeks,
+    } = source.into_inner();
+    Tricked {
+        first,
+        second,
+        bytes,
+        reads,
+        seeks,
+    }
 }
 
 /// A writer that takes two bytes, and then fails or takes none.

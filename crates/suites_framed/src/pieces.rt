@@ -1,5 +1,6 @@
 //! Archives in pieces: every cutting gives the same.
 
+use crate::devices::number_or_all;
 use crate::records::{changed, tell_cut};
 use crate::steps::{Stepping, tell_letters, tell_steps};
 use std::alloc::{AllocError, Global};
@@ -73,11 +74,7 @@ fn tell_cuttings(
     text: &[u8],
     last: usize,
 ) -> Result<(), AllocError> {
-    let first = if last == 0 {
-        0
-    } else {
-        text.len().saturating_sub(last)
-    };
+    let first = text.len().saturating_sub(last);
     let wanted = given_by(alloc, at, &[text])?;
     if let Some(place) = first_other_place(alloc, at, text, first, &wanted)? {
         let told = format!(in alloc; "something else cut at {place}")?;
@@ -101,7 +98,7 @@ fn tell_cuttings_of(
     text: &[u8],
 ) -> Result<(), AllocError> {
     let text = changed(alloc, case, 3, text)?;
-    let last = case.number(2) as usize;
+    let last = number_or_all(case, 2);
     tell_cuttings(alloc, answer, case.number(1), &text, last)
 }
 
@@ -150,17 +147,28 @@ pub(crate) fn answer(
     kept: &[u8],
     answer: &mut Vec<u8>,
 ) -> Result<bool, AllocError> {
-    let text = text_of(case, kept);
     let told = match case.text(0) {
-        "cut" => tell_cuttings_of(alloc, case, answer, text),
-        "pieces" => tell_pieces(alloc, case, answer, text),
+        "cut" => tell_cuttings_of(alloc, case, answer, text_of(case, kept)),
+        "pieces" => tell_pieces(alloc, case, answer, text_of(case, kept)),
         "fronts-in-pieces" => {
-            let count = text.len().saturating_sub(1);
-            tell_cut(alloc, answer, first_not_cut(alloc, text), count)
+            let count = text_of(case, kept).len().saturating_sub(1);
+            tell_cut(
+                alloc,
+                answer,
+                first_not_cut(alloc, text_of(case, kept)),
+                count,
+            )
         }
-        "steps" => tell_steps(alloc, case, answer, text),
-        "letters" => tell_letters(alloc, case, answer, text),
-        "steps-without-memory" => { tell_refusals(alloc, answer, &Stepping(text), case.number(1)) }
+        "steps" => tell_steps(alloc, case, answer, text_of(case, kept)),
+        "letters" => tell_letters(alloc, case, answer, text_of(case, kept)),
+        "steps-without-memory" => {
+            tell_refusals(
+                alloc,
+                answer,
+                &Stepping(text_of(case, kept)),
+                case.number(1),
+            )
+        }
         _ => return Ok(false),
     };
     told?;

@@ -12,14 +12,16 @@ use warc_vectors::RefusingAllocator;
 /// A record's version, the number of its fields, the length of its block and its own.
 type Shape = (Version, usize, usize, usize);
 
-/// The text changed by the words at a place and behind it; where there are none, or what the first one says doesn't
-/// stand there, it is as it was.
+/// The text changed by the words at a place and after it; where there are none, it is as it was.
 pub(crate) fn changed(
     alloc: Global,
     case: &Case<'_>,
     place: usize,
     text: &[u8],
 ) -> Result<Vec<u8>, AllocError> {
+    if case.word(place).is_empty() {
+        return text.to_vec(alloc);
+    }
     match case.changed(alloc, place, text)? {
         Some(text) => Ok(text),
         None => text.to_vec(alloc),
@@ -164,20 +166,29 @@ pub(crate) fn answer(
     kept: &[u8],
     answer: &mut Vec<u8>,
 ) -> Result<bool, AllocError> {
-    let text = text_of(case, kept);
     let told = match case.text(0) {
-        "shape" => tell_shape(alloc, answer, text),
+        "shape" => tell_shape(alloc, answer, text_of(case, kept)),
         "length" => tell_outcome(
             alloc,
             answer,
-            length(alloc, &changed(alloc, case, 1, text)?),
+            length(alloc, &changed(alloc, case, 1, text_of(case, kept))?),
         ),
-        "records" => tell_outcome(alloc, answer, count_of(alloc, text)),
-        "fronts" => tell_cut(alloc, answer, first_not_cut(alloc, text), text.len()),
-        "rewrite" => tell_rewritten(alloc, answer, text, false),
-        "rewrite-without-memory" => tell_rewritten(alloc, answer, text, true),
-        "frame" => tell_made_of(alloc, answer, text, case.word(1)),
-        "read-without-memory" => tell_refusals(alloc, answer, &Reading(text), case.number(1)),
+        "records" => tell_outcome(alloc, answer, count_of(alloc, text_of(case, kept))),
+        "fronts" => tell_cut(
+            alloc,
+            answer,
+            first_not_cut(alloc, text_of(case, kept)),
+            text_of(case, kept).len(),
+        ),
+        "rewrite" => tell_rewritten(alloc, answer, text_of(case, kept), false),
+        "rewrite-without-memory" => tell_rewritten(alloc, answer, text_of(case, kept), true),
+        "frame" => tell_made_of(alloc, answer, text_of(case, kept), case.word(1)),
+        "read-without-memory" => tell_refusals(
+            alloc,
+            answer,
+            &Reading(text_of(case, kept)),
+            case.number(1),
+        ),
         _ => return Ok(false),
     };
     told?;

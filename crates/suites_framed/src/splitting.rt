@@ -102,22 +102,26 @@ pub(crate) fn tell_split_without_memory(
     tell_refusals(alloc, answer, &attempt, case.number(2))
 }
 
-/// Adds the fields of the segment of a record that the words from the second on say: its number, the total, and the
-/// length of its block, whose digest is all zeros.
-fn tell_segment_head(
-    alloc: Global,
-    case: &Case<'_>,
-    answer: &mut Vec<u8>,
-    whole: &Fields,
-    uuid: &[u8; 16],
-) -> Result<(), AllocError> {
-    let part = Part {
+/// The segment that the words of a case from the second on say: its number, the total, and the length of its block,
+/// whose digest is all zeros.
+fn part_of(case: &Case<'_>) -> Part {
+    Part {
         number: case.number(2),
         total: Some(case.number(3)),
         len: case.number(4),
         digest: [0; 20],
-    };
-    match segment_head(alloc, whole, uuid, &part) {
+    }
+}
+
+/// Adds the fields of a segment of a record.
+fn tell_segment_head(
+    alloc: Global,
+    answer: &mut Vec<u8>,
+    whole: &Fields,
+    uuid: &[u8; 16],
+    part: &Part,
+) -> Result<(), AllocError> {
+    match segment_head(alloc, whole, uuid, part) {
         Ok(fields) => tell_fields(answer, &fields),
         Err(fault) => tell_line(alloc, answer, &fault),
     }
@@ -130,8 +134,9 @@ fn tell_splittable(
     answer: &mut Vec<u8>,
     whole: &Fields,
 ) -> Result<(), AllocError> {
+    let part = part_of(case);
     match splittable(alloc, whole, case.number(1)) {
-        Ok(uuid) => tell_segment_head(alloc, case, answer, whole, &uuid),
+        Ok(uuid) => tell_segment_head(alloc, answer, whole, &uuid, &part),
         Err(fault) => tell_line(alloc, answer, &fault),
     }
 }

@@ -112,19 +112,28 @@ pub(crate) fn answer(
     kept: &[u8],
     answer: &mut Vec<u8>,
 ) -> Result<bool, AllocError> {
-    let text = text_of(case, kept);
     let told = match case.text(0) {
         "make" => tell_made(alloc, case, answer, kept),
         "make-without-memory" => tell_made_without_memory(alloc, case, answer),
-        "split" | "segments" => tell_split_of(alloc, case, answer, text),
-        "split-without-memory" => tell_split_without_memory(alloc, case, answer, text),
-        "segment-head" => tell_splittable_of(alloc, case, answer, text),
-        "convert" => tell_converted_of(alloc, answer, text),
+        "split" | "segments" => tell_split_of(alloc, case, answer, text_of(case, kept)),
+        "split-without-memory" => tell_split_without_memory(
+            alloc,
+            case,
+            answer,
+            text_of(case, kept),
+        ),
+        "segment-head" => tell_splittable_of(alloc, case, answer, text_of(case, kept)),
+        "convert" => tell_converted_of(alloc, answer, text_of(case, kept)),
         "convert-without-memory" => {
-            tell_refusals(alloc, answer, &Converting(text), case.number(1))
+            tell_refusals(
+                alloc,
+                answer,
+                &Converting(text_of(case, kept)),
+                case.number(1),
+            )
         }
-        "render" => tell_rendered_of(alloc, answer, text, false),
-        "render-without-memory" => tell_rendered_of(alloc, answer, text, true),
+        "render" => tell_rendered_of(alloc, answer, text_of(case, kept), false),
+        "render-without-memory" => tell_rendered_of(alloc, answer, text_of(case, kept), true),
         _ => return Ok(false),
     };
     told?;

@@ -1,6 +1,7 @@
 //! Growth in which each read or each request for memory fails in turn, and growth behind it, in which none does.
 
-use crate::growth::{Size, joined};
+use crate::growth::joined;
+use crate::wanted::{Wanted, answers};
 use std::alloc::{AllocError, Allocator, Global};
 use suites_calls::{broken, opened, refused, source_of};
 use suites_script::Case;
@@ -8,55 +9,36 @@ use warc::Archive;
 use warc_frame::{Fault, FaultKind, MemSource, Source};
 use warc_vectors::{BrokenSource, RefusingAllocator};
 
-/// Why an archive doesn't grow by a source, if it doesn't, its size before and then, and how many records it has once
-/// it has grown by another source, if it has.
+/// More failures than any case has.
+const MOST: u64 = 5000;
+
+/// Why an archive doesn't grow by a source, if it doesn't; whether it answers then as before; and whether it answers as
+/// the longer one once it has grown by another source.
 #[derive(Clone, Copy)]
 struct Outcome {
     fault: Option<Fault>,
-    before: Size,
-    then: Size,
-    again: Option<usize>,
+    is_left: bool,
+    is_grown: bool,
 }
 
-impl Outcome {
-    /// Whether the archive was left as it was, and grew by a record behind that.
-    fn is_left(&self) -> bool {
-        self.then == self.before && self.again == Some(self.before.count.saturating_add(1))
-    }
-
-    /// Whether the archive grew by a record.
-    fn is_grown(&self) -> bool {
-        self.fault.is_none() && self.then.count == self.before.count.saturating_add(1)
-    }
-}
-
-/// How many records an archive has once it has grown by a source, if it grows.
-fn count_grown<S: Source + Drop, A: Allocator + Copy>(
-    archive: &mut Archive<S, A>,
-    source: S,
-) -> Option<usize> {
-    match refused(archive, source) {
-        None => Some(archive.count()),
-        Some(_) => None,
-    }
-}
-
-/// What comes of growth by a source, and then by another.
+/// What comes of growth by a source, and then by another, which is tried only where the first one fails.
 fn grown_twice<S: Source + Drop, A: Allocator + Copy>(
+    alloc: Global,
     archive: &mut Archive<S, A>,
     source: S,
     again: S,
-) -> Outcome {
-    let before = Size::of(archive);
+    wanted: &Wanted,
+) -> Result<Outcome, AllocError> {
     let fault = refused(archive, source);
-    let then = Size::of(archive);
-    let again = count_grown(archive, again);
-    Outcome {
-        fault,
-        before,
-        then,
-        again,
+    let is_left = answers(alloc, archive, &wanted.before)?;
+    if fault.is_some() {
+        refused(archive, again);
     }
+    Ok(Outcome {
+        fault,
+        is_left,
+        is_grown: answers(alloc, archive, &wanted.after)?,
+    })
 }
 
 /// What comes of the growth of an archive to these bytes, which are read one at a time, of which the read of a number
@@ -66,10 +48,11 @@ fn grown_unread(
     archive: &mut Archive<BrokenSource>,
     longer: &[u8],
     number: u64,
+    wanted: &Wanted,
 ) -> Result<Option<Outcome>, AllocError> {
     let source = broken(alloc, longer, 1, number)?;
     let again = broken(alloc, longer, 1, 0)?;
-    Ok(Some(grown_twice(archive, source, again)))
+    Ok(Some(grown_twice(alloc, archive, source, again, wanted)?))
 }
 
 /// The same of an archive of other bytes, that is opened for it; nothing where it doesn't open.
@@ -78,15 +61,16 @@ fn unread(
     bytes: &[u8],
     longer: &[u8],
     number: u64,
+    wanted: &Wanted,
 ) -> Result<Option<Outcome>, AllocError> {
     match opened(alloc, broken(alloc, bytes, 1, 0)?) {
-        Ok(mut archive) => grown_unread(alloc, &mut archive, longer, number),
+        Ok(mut archive) => grown_unread(alloc, &mut archive, longer, number, wanted),
         Err(_) => Ok(None),
     }
 }
 
-/// Adds how many reads fail in turn until none does, each of them told where it was made, where the archive is left as
-/// it was and grows by a record behind it.
+/// Adds how many reads fail in turn until none does. Each is told where it was made, and the archive answers as before
+/// then, and as the longer one once it has grown.
 pub(crate) fn add_unread(
     alloc: Global,
     case: &Case<'_>,
@@ -94,12 +78,15 @@ pub(crate) fn add_unread(
     answer: &mut Vec<u8>,
 ) -> Result<(), AllocError> {
     let longer = joined(alloc, archive, case.given())?;
+    let wanted = Wanted::of(alloc, archive, &longer)?;
     let mut at = archive.len() as u64;
-    for number in 1..1000u64 {
+    for number in 1..MOST {
         let fault = FaultKind::Read.at(at);
-        match unread(alloc, archive, &longer, number)? {
-            Some(it) if it.is_grown() => break,
-            Some(it) if it.is_left() && it.fault == Some(fault) => at = at.saturating_add(1),
+        match unread(alloc, archive, &longer, number, &wanted)? {
+            Some(it) if it.fault.is_none() && it.is_grown => break,
+            Some(it) if it.is_left && it.is_grown && it.fault == Some(fault) => {
+                at = at.saturating_add(1);
+            }
             _ => return answer.extend_from_slice(b"another outcome\n"),
         }
     }
@@ -115,10 +102,11 @@ fn grown<A: Allocator + Copy>(
     alloc: Global,
     archive: &mut Archive<MemSource, A>,
     longer: &[u8],
+    wanted: &Wanted,
 ) -> Result<Option<Outcome>, AllocError> {
     let source = source_of(alloc, longer, usize::MAX)?;
     let again = source_of(alloc, longer, usize::MAX)?;
-    Ok(Some(grown_twice(archive, source, again)))
+    Ok(Some(grown_twice(alloc, archive, source, again, wanted)?))
 }
 
 /// The same of an archive of other bytes, that is opened for it with memory of its own; nothing where it doesn't open
@@ -128,9 +116,10 @@ fn grown_on<A: Allocator + Copy>(
     heap: A,
     bytes: &[u8],
     longer: &[u8],
+    wanted: &Wanted,
 ) -> Result<Option<Outcome>, AllocError> {
     match opened(heap, source_of(alloc, bytes, usize::MAX)?) {
-        Ok(mut archive) => grown(alloc, &mut archive, longer),
+        Ok(mut archive) => grown(alloc, &mut archive, longer, wanted),
         Err(_) => Ok(None),
     }
 }
@@ -141,13 +130,14 @@ fn unkept(
     bytes: &[u8],
     longer: &[u8],
     number: u64,
+    wanted: &Wanted,
 ) -> Result<Option<Outcome>, AllocError> {
     let heap = RefusingAllocator::new(alloc, number);
-    grown_on(alloc, &heap, bytes, longer)
+    grown_on(alloc, &heap, bytes, longer, wanted)
 }
 
-/// Adds whether more requests for memory than a case says are refused in turn until none is, each of them told, where
-/// the archive is left as it was and grows by a record behind it.
+/// Adds whether more requests for memory than a case says are refused in turn until none is. Each is told, and the
+/// archive answers as before then, and as the longer one once it has grown.
 pub(crate) fn add_unkept(
     alloc: Global,
     case: &Case<'_>,
@@ -155,12 +145,15 @@ pub(crate) fn add_unkept(
     answer: &mut Vec<u8>,
 ) -> Result<(), AllocError> {
     let longer = joined(alloc, archive, case.given())?;
+    let wanted = Wanted::of(alloc, archive, &longer)?;
     let mut refusals = 0u64;
-    for number in 1..1000u64 {
-        match unkept(alloc, archive, &longer, number)? {
+    for number in 1..MOST {
+        match unkept(alloc, archive, &longer, number, &wanted)? {
             None => {}
-            Some(it) if it.is_grown() => break,
-            Some(it) if it.is_left() && is_want(it.fault) => refusals = refusals.saturating_add(1),
+            Some(it) if it.fault.is_none() && it.is_grown => break,
+            Some(it) if it.is_left && it.is_grown && is_want(it.fault) => {
+                refusals = refusals.saturating_add(1);
+            }
             Some(_) => return answer.extend_from_slice(b"another outcome\n"),
         }
     }

@@ -1,7 +1,7 @@
 //! Cases in which archives grow. What a case gives is what is added to the archive.
 
 use std::alloc::{AllocError, Allocator, Global};
-use suites_calls::{Asked, add_line, add_replayed, add_text, opened, refused, source_of};
+use suites_calls::{Asked, add_line, add_replayed, add_text, all_of, opened, refused, source_of};
 use suites_script::Case;
 use warc::Archive;
 use warc_frame::{MemSource, Source};
@@ -40,19 +40,35 @@ fn add_size(
     answer.extend_from_slice(line.as_bytes())
 }
 
-/// Adds why an archive doesn't grow by a source, if it doesn't, and its size then.
+/// Adds whether an archive answers as it did.
+fn add_as_before<S: Source>(
+    alloc: Global,
+    archive: &mut Archive<S>,
+    before: &[u8],
+    answer: &mut Vec<u8>,
+) -> Result<(), AllocError> {
+    if all_of(alloc, archive)?.as_slice() == before {
+        add_line(answer, b"all as before")
+    } else {
+        add_line(answer, b"not all as before")
+    }
+}
+
+/// Adds why an archive doesn't grow by a source, and whether it answers as it did then, if it doesn't; and its size.
 fn add_grown<S: Source + Drop>(
     alloc: Global,
     archive: &mut Archive<S>,
     source: S,
     answer: &mut Vec<u8>,
 ) -> Result<(), AllocError> {
-    let before = Size::of(archive);
+    let size = Size::of(archive);
+    let before = all_of(alloc, archive)?;
     if let Some(fault) = refused(archive, source) {
         add_text(alloc, answer, &fault)?;
+        add_as_before(alloc, archive, &before, answer)?;
     }
     let now = Size::of(archive);
-    add_size(alloc, before, now, answer)
+    add_size(alloc, size, now, answer)
 }
 
 /// These bytes and others behind them.

@@ -6,8 +6,9 @@ mod failing;
 mod growth;
 mod listings;
 mod torn;
+mod wanted;
 
-use chains::add_chain_case;
+use chains::{add_chain_answers, add_chain_case};
 use failing::{add_unkept, add_unread};
 use growth::add_growth_case;
 use listings::add_from_nothing;
@@ -47,6 +48,7 @@ pub fn answer_once(
     answer: &mut Vec<u8>,
 ) -> Result<bool, AllocError> {
     match case.text(0) {
+        "chain-answers" => add_chain_answers(alloc, case, archive, answer)?,
         "grown-unread" => add_unread(alloc, case, archive, answer)?,
         "grown-unkept" => add_unkept(alloc, case, archive, answer)?,
         _ => return Ok(false),

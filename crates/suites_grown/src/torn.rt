@@ -1,26 +1,35 @@
 //! Growth by each front of a record, and by the whole record behind each.
 
-use crate::growth::{Size, longer};
+use crate::growth::{joined, longer};
+use crate::wanted::{Wanted, answers};
 use std::alloc::{AllocError, Global};
 use suites_calls::{opened, refused, source_of};
 use suites_script::Case;
 use warc::Archive;
 use warc_frame::{FaultKind, MemSource};
 
-/// Whether an archive refuses to grow by the front of a record, which ends at this offset, and is as it was.
-fn is_torn(archive: &mut Archive<MemSource>, source: MemSource, end: usize) -> bool {
-    let before = Size::of(archive);
+/// Whether an archive refuses to grow by the front of a record, which ends at this offset, and answers as before then.
+fn is_torn(
+    alloc: Global,
+    archive: &mut Archive<MemSource>,
+    source: MemSource,
+    end: usize,
+    wanted: &Wanted,
+) -> Result<bool, AllocError> {
     let fault = refused(archive, source);
     let torn = FaultKind::Truncated.at(end as u64);
-    fault == Some(torn) && Size::of(archive) == before
+    Ok(answers(alloc, archive, &wanted.before)? && fault == Some(torn))
 }
 
 /// Whether it grows by the whole record.
-fn is_whole(archive: &mut Archive<MemSource>, source: MemSource) -> bool {
-    let before = Size::of(archive);
+fn is_whole(
+    alloc: Global,
+    archive: &mut Archive<MemSource>,
+    source: MemSource,
+    wanted: &Wanted,
+) -> Result<bool, AllocError> {
     let fault = refused(archive, source);
-    let now = Size::of(archive);
-    fault.is_none() && now.count == before.count.saturating_add(1) && now.kept >= before.kept
+    Ok(answers(alloc, archive, &wanted.after)? && fault.is_none())
 }
 
 /// Whether an archive of these bytes refuses that front of a record, which is so long, and then grows by the record.
@@ -28,31 +37,32 @@ fn recovers(
     alloc: Global,
     archive: &mut Archive<MemSource>,
     (bytes, most): (&[u8], usize),
-    record: &[u8],
-    len: usize,
+    (record, len): (&[u8], usize),
+    wanted: &Wanted,
 ) -> Result<bool, AllocError> {
     let front = record.get(..len).unwrap_or(record);
     let torn = longer(alloc, bytes, front, most)?;
-    let is_refused = is_torn(archive, torn, bytes.len().saturating_add(len));
+    let end = bytes.len().saturating_add(len);
+    let is_refused = is_torn(alloc, archive, torn, end, wanted)?;
     let whole = longer(alloc, bytes, record, most)?;
-    Ok(is_whole(archive, whole) && is_refused)
+    Ok(is_whole(alloc, archive, whole, wanted)? && is_refused)
 }
 
 /// The same of an archive that is opened for it.
 fn recovers_once_open(
     alloc: Global,
     (bytes, most): (&[u8], usize),
-    record: &[u8],
-    len: usize,
+    (record, len): (&[u8], usize),
+    wanted: &Wanted,
 ) -> Result<bool, AllocError> {
     match opened(alloc, source_of(alloc, bytes, most)?) {
-        Ok(mut archive) => recovers(alloc, &mut archive, (bytes, most), record, len),
+        Ok(mut archive) => recovers(alloc, &mut archive, (bytes, most), (record, len), wanted),
         Err(_) => Ok(false),
     }
 }
 
-/// Adds how many fronts of the record that a case gives an archive refuses, each as torn at its end, and grows by the
-/// whole record then.
+/// Adds how many fronts of the record that a case gives an archive refuses, each as torn at its end. It answers as
+/// before then, and as the longer one once it has grown by the whole record.
 pub(crate) fn add_torn(
     alloc: Global,
     case: &Case<'_>,
@@ -60,9 +70,11 @@ pub(crate) fn add_torn(
     most: usize,
     answer: &mut Vec<u8>,
 ) -> Result<(), AllocError> {
+    let record = case.given();
+    let wanted = Wanted::of(alloc, archive, &joined(alloc, archive, record)?)?;
     let mut count = 0u64;
-    for len in 1..case.given().len() {
-        if recovers_once_open(alloc, (archive, most), case.given(), len)? {
+    for len in 1..record.len() {
+        if recovers_once_open(alloc, (archive, most), (record, len), &wanted)? {
             count = count.saturating_add(1);
         }
     }

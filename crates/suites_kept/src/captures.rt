@@ -86,13 +86,15 @@ fn asked(
 ) -> Result<String, AllocError> {
     let one = case.word(from.saturating_add(1));
     let two = case.word(from.saturating_add(2));
-    let number = case.number(from.saturating_add(1)) as usize;
     match case.text(from) {
         "latest" => latest_text(alloc, index, one, two),
         "pair" => position_text(alloc, by_pair(index, one, two)),
         "capture" => id_text(alloc, index, one, true),
         "first" => id_text(alloc, index, one, false),
-        "origin" => found_text(alloc, index.origin(number)),
+        "origin" => {
+            let number = case.number(from.saturating_add(1)) as usize;
+            found_text(alloc, index.origin(number))
+        }
         "index-bytes" => format!(in alloc; "{}\n", index.kept()),
         _ => format!(in alloc; "no such case\n"),
     }

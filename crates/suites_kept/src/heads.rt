@@ -3,7 +3,7 @@
 use crate::captures::answer_capture;
 use crate::series::answer_series;
 use std::alloc::{AllocError, Allocator, Global};
-use suites_script::{Case, Trial, number_of};
+use suites_script::{Case, Trial};
 use warc_field::read_area;
 use warc_record::{Typed, type_head};
 use warc_segment::Place;
@@ -133,7 +133,7 @@ impl Records {
         let head = Head {
             name: case.word(1).to_vec(alloc)?,
             text: case.given().to_vec(alloc)?,
-            len: case.number(2),
+            len: case.optional_number(2),
             place: place_of(case),
         };
         self.heads.push(head).map_err(|_| AllocError)
@@ -161,7 +161,7 @@ impl Records {
                 is_count = true;
             } else if is_count {
                 is_count = false;
-                self.steps.push(Step::Keep(number_of(word) as usize))?;
+                self.steps.push(Step::Keep(case.number_in(word) as usize))?;
             } else {
                 match self.number_of(word) {
                     Some(number) => self.steps.push(Step::Add(number))?,

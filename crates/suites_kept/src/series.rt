@@ -351,7 +351,7 @@ fn numbered(
 
 /// The gap that the words of a case name.
 fn gap_of(case: &Case<'_>) -> Option<Gap> {
-    let number = case.number(2);
+    let number = case.optional_number(2);
     match case.text(1) {
         "repeated" => Some(Gap::Repeated(number)),
         "unfinished" => Some(Gap::Unfinished),

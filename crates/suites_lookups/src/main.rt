@@ -4,6 +4,7 @@
 
 use std::alloc::{AllocError, Global};
 use std::io::{self, Read, Write};
+use std::process::ExitCode;
 use suites_answered::Replays;
 use suites_kept::Records;
 use suites_ordered::Orders;
@@ -46,7 +47,7 @@ impl Trial for Trials {
     }
 }
 
-fn main(rt: HostRuntime) -> io::Result<()> {
+fn main(rt: HostRuntime) -> io::Result<ExitCode> {
     let alloc = rt.alloc();
     let mut script = Vec::new(alloc);
     rt.reader().read_to_end(&mut script)?;
@@ -55,6 +56,8 @@ fn main(rt: HostRuntime) -> io::Result<()> {
         records: Records::new(alloc),
         replays: Replays::new(alloc),
     };
-    let told = try_script(alloc, &script, &mut trials)?;
-    rt.stdout().write_all(&told)
+    let report = try_script(alloc, &script, &mut trials)?;
+    let status = report.status();
+    rt.stdout().write_all(&report.into_text(alloc)?)?;
+    Ok(status)
 }

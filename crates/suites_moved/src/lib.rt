@@ -7,7 +7,7 @@ mod moves;
 mod questions;
 mod returns;
 
-pub use moves::keeps_answers;
+pub use moves::{Moves, keeps_answers};
 use moves::{add_moved_case, add_moved_chain};
 use returns::add_returned;
 use std::alloc::{AllocError, Global};

@@ -3,8 +3,8 @@
 use crate::migrated::{answers_converted, answers_migrated, answers_of, offsets_of, questions_of};
 use crate::questions::{Answers, Questions};
 use std::alloc::{AllocError, Global};
-use suites_calls::{add_line, add_link, add_text, chain_count};
-use suites_script::Case;
+use suites_calls::{add_line, add_text};
+use suites_script::{Case, add_link};
 
 /// Of an archive of so many records at most each one that it begins with is asked too.
 const MOST_FRONTS: usize = 8;
@@ -107,7 +107,7 @@ pub(crate) fn add_moved_case(
 /// An archive and behind it the chain of a case.
 fn chain_of(alloc: Global, case: &Case<'_>, archive: &[u8]) -> Result<Vec<u8>, AllocError> {
     let mut text = archive.to_vec(alloc)?;
-    for number in 1..=chain_count(case) {
+    for number in 1..=case.number(1) {
         add_link(alloc, &mut text, case.given(), number)?;
     }
     Ok(text)
@@ -125,12 +125,56 @@ pub(crate) fn add_moved_chain(
     add_moved_case(alloc, case, 2, &chain, most, answer)
 }
 
-/// Whether the archive of these bytes itself does so.
-fn keeps_own_answers(alloc: Global, bytes: &[u8]) -> Result<bool, AllocError> {
+/// How many archives were moved, and how many of their answers stayed, with a body or without one.
+#[derive(Clone, Copy)]
+pub struct Moves {
+    archives: u64,
+    answers: u64,
+    bodies: u64,
+}
+
+impl Moves {
+    /// None.
+    pub fn new() -> Moves {
+        Moves {
+            archives: 0,
+            answers: 0,
+            bodies: 0,
+        }
+    }
+
+    /// Counts an archive, and says whether it answers the same.
+    fn add(&mut self, answers: u64, outcome: Outcome) -> bool {
+        match outcome {
+            Outcome::Same(bodies) => {
+                self.archives = self.archives.saturating_add(1);
+                self.answers = self.answers.saturating_add(answers);
+                self.bodies = self.bodies.saturating_add(bodies);
+                true
+            }
+            _ => false,
+        }
+    }
+
+    /// A line of them.
+    pub fn counts(&self, alloc: Global) -> Result<String, AllocError> {
+        let Moves {
+            archives,
+            answers,
+            bodies,
+        } = *self;
+        format!(in alloc;
+            "{archives} archives were moved to WARC 1.1: {answers} answers stayed, {bodies} with a body"
+        )
+    }
+}
+
+/// Whether the archive of these bytes itself does so. Counts this.
+fn keeps_own_answers(alloc: Global, bytes: &[u8], moves: &mut Moves) -> Result<bool, AllocError> {
     match questions_of(alloc, bytes)? {
         Ok(questions) => {
             let outcome = outcome_of(alloc, bytes, usize::MAX, &questions)?;
-            Ok(matches!(outcome, Outcome::Same(_)))
+            Ok(moves.add(questions.count(), outcome))
         }
         Err(_) => Ok(true),
     }
@@ -139,12 +183,12 @@ fn keeps_own_answers(alloc: Global, bytes: &[u8]) -> Result<bool, AllocError> {
 /// Whether the archive of these bytes, and each archive that it begins with where it has few records, answers the same
 /// once it is moved to WARC 1.1 by the library or by the command: for each of its targets as of each of its dates, and
 /// as of the first and the last instant of all. One that doesn't open does.
-pub fn keeps_answers(alloc: Global, archive: &[u8]) -> Result<bool, AllocError> {
+pub fn keeps_answers(alloc: Global, archive: &[u8], moves: &mut Moves) -> Result<bool, AllocError> {
     for end in offsets_of(alloc, archive, MOST_FRONTS)? {
         let front = archive.get(..end).unwrap_or(archive);
-        if !keeps_own_answers(alloc, front)? {
+        if !keeps_own_answers(alloc, front, moves)? {
             return Ok(false);
         }
     }
-    keeps_own_answers(alloc, archive)
+    keeps_own_answers(alloc, archive, moves)
 }

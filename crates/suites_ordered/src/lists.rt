@@ -64,10 +64,9 @@ fn make(
     answer: &mut Vec<u8>,
 ) -> Result<(), AllocError> {
     for at in (1..64usize).step_by(2) {
-        let count = case.number(at + 1) as usize;
         match case.text(at) {
-            "add" => add(entries, rows, count)?,
-            "keep" => entries.truncate(count),
+            "add" => add(entries, rows, case.number(at + 1) as usize)?,
+            "keep" => entries.truncate(case.number(at + 1) as usize),
             _ => return Ok(()),
         }
         tell(alloc, entries, rows, answer)?;

@@ -145,8 +145,12 @@ fn make(
 ) -> Result<u64, AllocError> {
     let mut again = 0u64;
     for at in (from..64).step_by(2) {
+        let verb = case.text(at);
+        if verb.is_empty() {
+            break;
+        }
         let count = number(case, at.saturating_add(1));
-        match case.text(at) {
+        match verb {
             "add" => again = again.saturating_add(add_up_to(alloc, rising, work, count, told)?),
             "forget" => rising.forget_after(count),
             "walk" => walk(alloc, rising, work, told)?,
@@ -358,7 +362,7 @@ impl Orders {
         answer: &mut Vec<u8>,
     ) -> Result<(), AllocError> {
         let work = Work {
-            rows: rows(alloc, &self.entries)?,
+            rows: rows(alloc, case, &self.entries)?,
             texts: lines(alloc, &self.texts)?,
         };
         answer_about(alloc, &work, case, answer)

@@ -1,7 +1,7 @@
 //! Entries as lines: a text, the two numbers of a mark, and a position, with one blank between two.
 
 use std::alloc::{AllocError, Global};
-use suites_script::number_of;
+use suites_script::Case;
 use warc_order::Mark;
 
 /// An entry.
@@ -17,15 +17,15 @@ fn word(line: &[u8], index: usize) -> &[u8] {
     line.split(|byte| *byte == b' ').nth(index).unwrap_or(b"")
 }
 
-/// The entry that a line is.
-fn row_of(line: &[u8]) -> Row<'_> {
+/// The entry that a line of a case is.
+fn row_of<'a>(case: &Case<'_>, line: &'a [u8]) -> Row<'a> {
     Row {
         text: word(line, 0),
         mark: Mark {
-            major: u32::try_from(number_of(word(line, 1))).unwrap_or(u32::MAX),
-            minor: number_of(word(line, 2)),
+            major: u32::try_from(case.number_in(word(line, 1))).unwrap_or(u32::MAX),
+            minor: case.number_in(word(line, 2)),
         },
-        position: number_of(word(line, 3)) as usize,
+        position: case.number_in(word(line, 3)) as usize,
     }
 }
 
@@ -41,10 +41,14 @@ pub(crate) fn lines(alloc: Global, text: &[u8]) -> Result<Vec<&[u8]>, AllocError
 }
 
 /// The entries that the lines of a text are.
-pub(crate) fn rows(alloc: Global, text: &[u8]) -> Result<Vec<Row<'_>>, AllocError> {
+pub(crate) fn rows<'a>(
+    alloc: Global,
+    case: &Case<'_>,
+    text: &'a [u8],
+) -> Result<Vec<Row<'a>>, AllocError> {
     let mut rows = Vec::new(alloc);
     for line in &lines(alloc, text)? {
-        rows.push(row_of(line))?;
+        rows.push(row_of(case, line))?;
     }
     Ok(rows)
 }

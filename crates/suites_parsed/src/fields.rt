@@ -111,16 +111,15 @@ pub(crate) fn answer(
     kept: &[u8],
     answer: &mut Vec<u8>,
 ) -> Result<bool, AllocError> {
-    let text = text_of(case, kept);
     let told = match case.text(0) {
-        "name" => tell_kept(alloc, answer, Reading::Name, text),
-        "value" => tell_kept(alloc, answer, Reading::Value, text),
-        "name-without-memory" => tell_name_twice(alloc, answer, text),
-        "value-without-memory" => tell_value_twice(alloc, answer, text),
+        "name" => tell_kept(alloc, answer, Reading::Name, text_of(case, kept)),
+        "value" => tell_kept(alloc, answer, Reading::Value, text_of(case, kept)),
+        "name-without-memory" => tell_name_twice(alloc, answer, text_of(case, kept)),
+        "value-without-memory" => tell_value_twice(alloc, answer, text_of(case, kept)),
         "kept-bytes" => tell_bytes_of(alloc, case, answer, true),
         "refused-bytes" => tell_bytes_of(alloc, case, answer, false),
         "same-name" => tell_same(alloc, case, answer),
-        "trim" => tell_trimmed(answer, text),
+        "trim" => tell_trimmed(answer, text_of(case, kept)),
         "decimal" => tell_number(alloc, answer, &case.bytes(alloc, 1)?),
         _ => return Ok(false),
     };
@@ -326,14 +325,13 @@ pub(crate) fn answer_of_area(
     kept: &[u8],
     answer: &mut Vec<u8>,
 ) -> Result<bool, AllocError> {
-    let text = text_of(case, kept);
     let told = match case.text(0) {
-        "area" => tell_area(alloc, answer, read_area(alloc, text)),
-        "field" | "first" | "count" => tell_found_in(alloc, case, answer, text),
-        "canonical" => tell_written_of(alloc, answer, text, false),
-        "canonical-without-memory" => tell_written_of(alloc, answer, text, true),
-        "push-without-memory" => tell_refused(alloc, case, answer, text, true),
-        "area-without-memory" => tell_refused(alloc, case, answer, text, false),
+        "area" => tell_area(alloc, answer, read_area(alloc, text_of(case, kept))),
+        "field" | "first" | "count" => tell_found_in(alloc, case, answer, text_of(case, kept)),
+        "canonical" => tell_written_of(alloc, answer, text_of(case, kept), false),
+        "canonical-without-memory" => tell_written_of(alloc, answer, text_of(case, kept), true),
+        "push-without-memory" => tell_refused(alloc, case, answer, text_of(case, kept), true),
+        "area-without-memory" => tell_refused(alloc, case, answer, text_of(case, kept), false),
         _ => return Ok(false),
     };
     told?;

@@ -223,16 +223,15 @@ pub(crate) fn answer(
     kept: &[u8],
     answer: &mut Vec<u8>,
 ) -> Result<bool, AllocError> {
-    let text = text_of(case, kept);
     let told = match case.text(0) {
         "kind" => tell_kind(alloc, answer, case.word(1)),
         "bare" => tell_bare(answer, &case.bytes(alloc, 1)?),
         "id" => tell_kept(alloc, answer, kept_of(alloc, &case.bytes(alloc, 1)?)),
         "id-without-memory" => tell_kept_twice(alloc, answer, case.word(1)),
         "same-id" => tell_same(alloc, case, answer),
-        "head-without-memory" => tell_wants(alloc, answer, text),
+        "head-without-memory" => tell_wants(alloc, answer, text_of(case, kept)),
         "head" | "typed" | "target" | "segment" | "reference" | "findings" => {
-            tell_of_area(alloc, case, answer, text)
+            tell_of_area(alloc, case, answer, text_of(case, kept))
         }
         _ => return Ok(false),
     };

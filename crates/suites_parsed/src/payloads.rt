@@ -28,10 +28,9 @@ pub(crate) fn answer(
     kept: &[u8],
     answer: &mut Vec<u8>,
 ) -> Result<bool, AllocError> {
-    let text = text_of(case, kept);
     let told = match case.text(0) {
-        "http" => tell_http(alloc, answer, text),
-        "front" => tell_line(alloc, answer, &front(text).len()),
+        "http" => tell_http(alloc, answer, text_of(case, kept)),
+        "front" => tell_line(alloc, answer, &front(text_of(case, kept)).len()),
         _ => return Ok(false),
     };
     told?;

@@ -134,15 +134,14 @@ pub(crate) fn answer(
     kept: &[u8],
     answer: &mut Vec<u8>,
 ) -> Result<bool, AllocError> {
-    let text = text_of(case, kept);
     let told = match case.text(0) {
         "date" => tell_moment(alloc, answer, read_date(&case.bytes(alloc, 1)?)),
         "order" => tell_order(alloc, case, answer),
-        "base32" => tell_base32(alloc, answer, text),
+        "base32" => tell_base32(alloc, answer, text_of(case, kept)),
         "unbase32" => tell_unbase32(alloc, answer, case.word(1)),
-        "wanted" => tell_wanted_of(alloc, answer, text),
-        "digest" => tell_digest(answer, text),
-        "judge" => tell_verdicts(alloc, case, answer, text),
+        "wanted" => tell_wanted_of(alloc, answer, text_of(case, kept)),
+        "digest" => tell_digest(answer, text_of(case, kept)),
+        "judge" => tell_verdicts(alloc, case, answer, text_of(case, kept)),
         _ => return Ok(false),
     };
     told?;

@@ -1,13 +1,41 @@
 //! The archive that commands are run over: given, or made of the one that was given.
 
+use crate::damages::Damages;
 use crate::plain::read_plainly;
 use std::alloc::{AllocError, Global};
-use suites_script::Case;
+use suites_script::{Case, add_link};
 use warc::Archive;
 use warc_frame::{Fault, MemSource};
 
 /// The sizes of the reads of which each archive is opened, and each command run.
 pub(crate) const PIECES: [usize; 3] = [1, 7, usize::MAX];
+
+/// How many archives were opened, how many of the openings gave an archive, and how many records these have.
+#[derive(Clone, Copy)]
+pub(crate) struct Openings {
+    all: u64,
+    opened: u64,
+    records: u64,
+}
+
+impl Openings {
+    pub(crate) fn new() -> Openings {
+        Openings {
+            all: 0,
+            opened: 0,
+            records: 0,
+        }
+    }
+
+    /// Counts what came of one.
+    fn add(&mut self, count: Result<usize, Fault>) {
+        self.all = self.all.saturating_add(1);
+        if let Ok(count) = count {
+            self.opened = self.opened.saturating_add(1);
+            self.records = self.records.saturating_add(count as u64);
+        }
+    }
+}
 
 /// The archive of a script.
 #[derive(Drop)]
@@ -18,6 +46,11 @@ pub struct Archives {
     bytes: Vec<u8>,
     /// The text in it that is to be replaced.
     old: Vec<u8>,
+    /// How many archives were given, and how many were made of these.
+    given_count: u64,
+    made_count: u64,
+    openings: Openings,
+    damages: Damages,
 }
 
 impl Archives {
@@ -27,6 +60,10 @@ impl Archives {
             given: Vec::new(alloc),
             bytes: Vec::new(alloc),
             old: Vec::new(alloc),
+            given_count: 0,
+            made_count: 0,
+            openings: Openings::new(),
+            damages: Damages::new(alloc),
         }
     }
 
@@ -45,14 +82,29 @@ impl Archives {
     ) -> Result<bool, AllocError> {
         match case.text(0) {
             "archive" => self.give(alloc, case.given(), answer)?,
-            "replace" => self.old = case.given().to_vec(alloc)?,
+            "replace" => self.forget(alloc, case.given(), answer)?,
             "by" => self.replace(alloc, case.given(), answer)?,
             "first" => self.cut(alloc, case.number(1), answer)?,
-            "opens" => tell_opened(alloc, &self.bytes, answer)?,
-            "each-front-opens" => tell_fronts(alloc, &self.bytes, answer)?,
+            "flood" => self.flood(alloc, case)?,
+            "opens" => tell_opened(alloc, &self.bytes, &mut self.openings, answer)?,
+            "each-front-opens" => tell_fronts(alloc, &self.bytes, &mut self.openings, answer)?,
             _ => return Ok(false),
         }
         Ok(true)
+    }
+
+    /// Keeps a text that the next one is to replace. An earlier one has to be replaced by now.
+    fn forget(
+        &mut self,
+        alloc: Global,
+        old: &[u8],
+        answer: &mut Vec<u8>,
+    ) -> Result<(), AllocError> {
+        if !self.old.is_empty() {
+            answer.extend_from_slice(b"no text came for the last one\n")?;
+        }
+        self.old = old.to_vec(alloc)?;
+        Ok(())
     }
 
     fn give(
@@ -63,7 +115,33 @@ impl Archives {
     ) -> Result<(), AllocError> {
         self.given = bytes.to_vec(alloc)?;
         self.bytes = bytes.to_vec(alloc)?;
-        tell_otherwise(alloc, bytes, answer)
+        self.given_count = self.given_count.saturating_add(1);
+        self.damages.damage_both(alloc, bytes, answer)?;
+        tell_otherwise(alloc, bytes, &mut self.openings, answer)
+    }
+
+    /// Takes an archive that was made of the one that was given.
+    fn make(
+        &mut self,
+        alloc: Global,
+        bytes: Vec<u8>,
+        answer: &mut Vec<u8>,
+    ) -> Result<(), AllocError> {
+        self.bytes = bytes;
+        self.made_count = self.made_count.saturating_add(1);
+        self.damages.damage_both(alloc, &self.bytes, answer)?;
+        tell_otherwise(alloc, &self.bytes, &mut self.openings, answer)
+    }
+
+    /// Makes an archive of the one that was given and so many records after it: the text of a case, in which `#` is the
+    /// number of a record, and `@` the number before it.
+    fn flood(&mut self, alloc: Global, case: &Case<'_>) -> Result<(), AllocError> {
+        self.bytes = self.given.to_vec(alloc)?;
+        self.made_count = self.made_count.saturating_add(1);
+        for number in 1..=case.number(1) {
+            add_link(alloc, &mut self.bytes, case.given(), number)?;
+        }
+        Ok(())
     }
 
     /// Puts a text in the place of the first one that is to be replaced.
@@ -73,12 +151,11 @@ impl Archives {
         new: &[u8],
         answer: &mut Vec<u8>,
     ) -> Result<(), AllocError> {
-        match replaced(alloc, &self.given, &self.old, new)? {
-            Some(bytes) => {
-                self.bytes = bytes;
-                tell_otherwise(alloc, &self.bytes, answer)
-            }
-            None => answer.extend_from_slice(b"the text doesn't stand in it\n"),
+        let made = replaced(alloc, &self.given, &self.old, new)?;
+        self.old.clear();
+        match made {
+            Some(bytes) => self.make(alloc, bytes, answer),
+            None => answer.extend_from_slice(b"the text isn't there\n"),
         }
     }
 
@@ -86,21 +163,42 @@ impl Archives {
     fn cut(&mut self, alloc: Global, len: u64, answer: &mut Vec<u8>) -> Result<(), AllocError> {
         match self.given.get(..len as usize) {
             Some(front) => {
-                self.bytes = front.to_vec(alloc)?;
-                tell_otherwise(alloc, &self.bytes, answer)
+                let bytes = front.to_vec(alloc)?;
+                self.make(alloc, bytes, answer)
             }
             None => answer.extend_from_slice(b"it is shorter\n"),
         }
     }
+
+    /// A line of how often archives were damaged.
+    pub fn damages(&self, alloc: Global) -> Result<String, AllocError> {
+        self.damages.counts(alloc)
+    }
+
+    /// A line of how many archives were given and made, and how they opened.
+    pub fn openings(&self, alloc: Global) -> Result<String, AllocError> {
+        let Openings {
+            all,
+            opened,
+            records,
+        } = self.openings;
+        let (given, made) = (self.given_count, self.made_count);
+        format!(in alloc;
+            "{given} archives and {made} made of them: opened {all} times as they read, {opened} with {records} records"
+        )
+    }
 }
 
-/// The text with the first of one text in it replaced by another.
+/// The text with the first of one text in it replaced by another; nothing where it isn't there, or has no bytes.
 fn replaced(
     alloc: Global,
     text: &[u8],
     old: &[u8],
     new: &[u8],
 ) -> Result<Option<Vec<u8>>, AllocError> {
+    if old.is_empty() {
+        return Ok(None);
+    }
     for at in 0..text.len() {
         let (front, back) = text.split_at(at);
         if let Some(rest) = back.strip_prefix(old) {
@@ -118,22 +216,28 @@ fn opened(alloc: Global, source: MemSource) -> (Result<usize, Fault>, MemSource)
     }
 }
 
-/// Whether an archive opens so, read so many bytes at a time, and its source is given back as it was.
+/// Whether an archive opens so, read so many bytes at a time, and its source is given back as it was. Counts this.
 fn opens_so(
     alloc: Global,
     bytes: &[u8],
     most: usize,
     wanted: Result<usize, Fault>,
+    openings: &mut Openings,
 ) -> Result<bool, AllocError> {
     let (count, source) = opened(alloc, MemSource::new(bytes.to_vec(alloc)?, most.max(1)));
+    openings.add(count);
     Ok(count == wanted && source.into_inner().as_slice() == bytes)
 }
 
 /// Whether an archive opens as the plain reading says, with reads of 1 byte, of 7 bytes and of all.
-fn opens_as_read(alloc: Global, bytes: &[u8]) -> Result<bool, AllocError> {
+pub(crate) fn opens_as_read(
+    alloc: Global,
+    bytes: &[u8],
+    openings: &mut Openings,
+) -> Result<bool, AllocError> {
     let plain = read_plainly(alloc, bytes);
     for most in PIECES {
-        if !opens_so(alloc, bytes, most, plain)? {
+        if !opens_so(alloc, bytes, most, plain, openings)? {
             return Ok(false);
         }
     }
@@ -141,8 +245,13 @@ fn opens_as_read(alloc: Global, bytes: &[u8]) -> Result<bool, AllocError> {
 }
 
 /// Says where an archive doesn't open as the plain reading says.
-fn tell_otherwise(alloc: Global, bytes: &[u8], answer: &mut Vec<u8>) -> Result<(), AllocError> {
-    if opens_as_read(alloc, bytes)? {
+fn tell_otherwise(
+    alloc: Global,
+    bytes: &[u8],
+    openings: &mut Openings,
+    answer: &mut Vec<u8>,
+) -> Result<(), AllocError> {
+    if opens_as_read(alloc, bytes, openings)? {
         Ok(())
     } else {
         answer.extend_from_slice(b"it opens otherwise than it reads\n")
@@ -150,21 +259,31 @@ fn tell_otherwise(alloc: Global, bytes: &[u8], answer: &mut Vec<u8>) -> Result<(
 }
 
 /// How many records an archive has, or why it isn't opened.
-fn tell_opened(alloc: Global, bytes: &[u8], answer: &mut Vec<u8>) -> Result<(), AllocError> {
+fn tell_opened(
+    alloc: Global,
+    bytes: &[u8],
+    openings: &mut Openings,
+    answer: &mut Vec<u8>,
+) -> Result<(), AllocError> {
     let (count, _) = opened(alloc, MemSource::new(bytes.to_vec(alloc)?, usize::MAX));
     let line = match count {
         Ok(count) => format!(in alloc; "{count}\n")?,
         Err(fault) => format!(in alloc; "{fault}\n")?,
     };
     answer.extend_from_slice(line.as_bytes())?;
-    tell_otherwise(alloc, bytes, answer)
+    tell_otherwise(alloc, bytes, openings, answer)
 }
 
 /// How many of the fronts that are shorter than an archive open as they read.
-fn tell_fronts(alloc: Global, bytes: &[u8], answer: &mut Vec<u8>) -> Result<(), AllocError> {
+fn tell_fronts(
+    alloc: Global,
+    bytes: &[u8],
+    openings: &mut Openings,
+    answer: &mut Vec<u8>,
+) -> Result<(), AllocError> {
     let mut count = 0u64;
     for len in 0..bytes.len() {
-        if opens_as_read(alloc, bytes.get(..len).unwrap_or(b""))? {
+        if opens_as_read(alloc, bytes.get(..len).unwrap_or(b""), openings)? {
             count = count.saturating_add(1);
         }
     }

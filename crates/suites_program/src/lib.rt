@@ -3,6 +3,7 @@
 #![tactic(auto)]
 
 mod archives;
+mod damages;
 mod endless;
 mod fronts;
 mod lines;

@@ -74,16 +74,17 @@ pub(crate) fn run_in_pieces(
     Ok(ended)
 }
 
-/// The same where the read of a number fails, counted from 1.
+/// The same where the read of a number fails, counted from 1; and the run after it, over the source that came back.
 pub(crate) fn run_broken(
     alloc: Global,
     asked: Asked<'_>,
     most: usize,
     number: u64,
-) -> Result<Ended, AllocError> {
+) -> Result<(Ended, Ended), AllocError> {
     let source = BrokenSource::new(asked.archive.to_vec(alloc)?, most.max(1), number);
-    let (ended, _) = run(alloc, alloc, asked.command, source);
-    Ok(ended)
+    let (ended, source) = run(alloc, alloc, asked.command, source);
+    let (again, _) = run(alloc, alloc, asked.command, source);
+    Ok((ended, again))
 }
 
 /// The run of a command over a source that gives other bytes from the read of a number on.
@@ -104,30 +105,45 @@ pub(crate) fn run_endless(alloc: Global, command: &Command<'_>) -> (Ended, (u64,
     (ended, source.reads())
 }
 
-/// The run of a command over its archive where the request for memory of a number is refused, and whether it came.
+/// What came of a run of which a request for memory was to be refused.
+#[derive(Drop)]
+pub(crate) struct Refused {
+    pub(crate) ended: Ended,
+    pub(crate) has_refused: bool,
+    /// The run after it, over the source that came back.
+    pub(crate) again: Ended,
+}
+
+/// The run of a command over its archive where the request for memory of a number is refused.
 pub(crate) fn run_refused(
     alloc: Global,
     asked: Asked<'_>,
     number: u64,
-) -> Result<(Ended, bool), AllocError> {
+) -> Result<Refused, AllocError> {
     let heap = RefusingAllocator::new(alloc, number);
     let source = MemSource::new(asked.archive.to_vec(alloc)?, usize::MAX);
-    let (ended, _) = run(&heap, alloc, asked.command, source);
-    Ok((ended, heap.has_refused()))
+    let (ended, source) = run(&heap, alloc, asked.command, source);
+    let has_refused = heap.has_refused();
+    let (again, _) = run(&heap, alloc, asked.command, source);
+    Ok(Refused {
+        ended,
+        has_refused,
+        again,
+    })
 }
 
 /// The run of a command over its archive to a sink that takes so many bytes at most, of which the write of a number
-/// breaks; and whether its source still holds the archive then.
+/// breaks; and the run after it, over the source that came back.
 pub(crate) fn run_cut(
     alloc: Global,
     asked: Asked<'_>,
     most: usize,
     (number, how): (u64, Break),
-) -> Result<(Ended, bool), AllocError> {
+) -> Result<(Ended, Ended), AllocError> {
     let source = MemSource::new(asked.archive.to_vec(alloc)?, usize::MAX);
     let mut sink = BrokenWriter::new(alloc, number, how).taking(most);
     let (err, status, source) = told(alloc, alloc, asked.command, source, &mut sink);
     let out = sink.bytes().to_vec(alloc)?;
-    let is_kept = source.into_inner().as_slice() == asked.archive;
-    Ok((Ended { out, err, status }, is_kept))
+    let (again, _) = run(alloc, alloc, asked.command, source);
+    Ok((Ended { out, err, status }, again))
 }

@@ -1,7 +1,7 @@
 //! Runs in which each read, each write or each request for memory fails in turn.
 
 use crate::lines::tell_count;
-use crate::runs::{Asked, Ended, run_broken, run_cut, run_in_pieces, run_refused};
+use crate::runs::{Asked, Ended, Refused, run_broken, run_cut, run_in_pieces, run_refused};
 use std::alloc::{AllocError, Global};
 use warc_vectors::Break;
 
@@ -34,19 +34,21 @@ fn is_begun(ended: &Ended, line: &[u8]) -> bool {
     ended.out.is_empty() && ended.err.starts_with(line) && ended.status == 3
 }
 
-fn stage_of(alloc: Global, ended: &Ended, whole: &Ended) -> Result<Stage, AllocError> {
+/// How far a run came that ended otherwise than the whole, since a read failed. That asked for the bytes from an offset
+/// on if the archive wasn't open.
+fn stage_of(alloc: Global, ended: &Ended, whole: &Ended, at: u64) -> Result<Stage, AllocError> {
+    let line = format!(in alloc; "warc: F13 Read at {at}\n")?;
     Ok(if is_cut(alloc, ended, whole, "read failed")? {
         Stage::Behind
-    } else if is_begun(ended, b"warc: F13 Read at ") {
+    } else if is_begun(ended, line.as_bytes()) {
         Stage::Opening
-    } else if ended.is_like(whole) {
-        Stage::Done
     } else {
         Stage::Otherwise
     })
 }
 
-/// How far the run comes of which the read of a number fails.
+/// How far the run comes of which the read of a number fails. An archive is opened by reads of so many bytes, each from
+/// where the one before ended.
 fn stage_at(
     alloc: Global,
     asked: Asked<'_>,
@@ -54,8 +56,15 @@ fn stage_at(
     most: usize,
     number: u64,
 ) -> Result<Stage, AllocError> {
-    let ended = run_broken(alloc, asked, most, number)?;
-    stage_of(alloc, &ended, whole)
+    let (ended, again) = run_broken(alloc, asked, most, number)?;
+    if ended.is_like(whole) {
+        return Ok(Stage::Done);
+    }
+    if !again.is_like(whole) {
+        return Ok(Stage::Otherwise);
+    }
+    let at = (most as u64).saturating_mul(number.saturating_sub(1));
+    stage_of(alloc, &ended, whole, at.min(asked.archive.len() as u64))
 }
 
 /// How many reads fail in turn while the archive is opened, and how many behind that. Nothing where a run ends
@@ -95,19 +104,21 @@ pub(crate) fn tell_reads(
     }
 }
 
-/// How far the run comes of which the write of a number fails, counted from 0, each being of so many bytes at most.
-/// Before it exactly the bytes of the writes went out.
+/// How far the run comes of which the write of a number breaks, counted from 0, each being of so many bytes at most.
+/// Before it exactly the bytes of the writes went out. The run after it ends as if none had broken.
 fn stage_of_write(
     alloc: Global,
     asked: Asked<'_>,
     whole: &Ended,
     most: usize,
-    number: u64,
+    (number, how): (u64, Break),
 ) -> Result<Stage, AllocError> {
-    let at = (number.saturating_add(1), Break::Fails);
-    let (ended, _) = run_cut(alloc, asked, most, at)?;
+    let at = (number.saturating_add(1), how);
+    let (ended, again) = run_cut(alloc, asked, most, at)?;
     let sent = (most as u64).saturating_mul(number);
-    Ok(if is_cut(alloc, &ended, whole, "write failed")? && ended.out.len() as u64 == sent {
+    Ok(if !again.is_like(whole) {
+        Stage::Otherwise
+    } else if is_cut(alloc, &ended, whole, "write failed")? && ended.out.len() as u64 == sent {
         Stage::Behind
     } else if ended.is_like(whole) {
         Stage::Done
@@ -116,15 +127,16 @@ fn stage_of_write(
     })
 }
 
-/// How many writes fail in turn. Nothing where a run ends otherwise.
+/// How many writes break in turn and end the run. Nothing where a run ends otherwise.
 fn count_writes(
     alloc: Global,
     asked: Asked<'_>,
     whole: &Ended,
     most: usize,
+    how: Break,
 ) -> Result<Option<u64>, AllocError> {
     for number in 0..MOST {
-        match stage_of_write(alloc, asked, whole, most, number)? {
+        match stage_of_write(alloc, asked, whole, most, (number, how))? {
             Stage::Behind => {}
             Stage::Done => return Ok(Some(number)),
             Stage::Opening | Stage::Otherwise => return Ok(None),
@@ -133,7 +145,23 @@ fn count_writes(
     Ok(None)
 }
 
-/// Tells how many writes of so many bytes fail in turn, until none fails.
+/// How many writes up to a number take one byte in turn, as do those after each, where the run ends as if none did.
+fn count_short(
+    alloc: Global,
+    asked: Asked<'_>,
+    whole: &Ended,
+    most: usize,
+    writes: u64,
+) -> Result<u64, AllocError> {
+    let mut count = 0u64;
+    for number in 0..writes {
+        let stage = stage_of_write(alloc, asked, whole, most, (number, Break::Takes(1)))?;
+        count = count.saturating_add(u64::from(matches!(stage, Stage::Done)));
+    }
+    Ok(count)
+}
+
+/// Tells how many writes of so many bytes fail in turn, take nothing and take one byte, until none does.
 pub(crate) fn tell_writes(
     alloc: Global,
     asked: Asked<'_>,
@@ -141,9 +169,17 @@ pub(crate) fn tell_writes(
     answer: &mut Vec<u8>,
 ) -> Result<(), AllocError> {
     let whole = run_in_pieces(alloc, asked, usize::MAX)?;
-    match count_writes(alloc, asked, &whole, most)? {
-        Some(count) => tell_count(alloc, count, "writes", answer),
-        None => answer.extend_from_slice(b"a run ends otherwise\n"),
+    let failing = count_writes(alloc, asked, &whole, most, Break::Fails)?;
+    let empty = count_writes(alloc, asked, &whole, most, Break::Takes(0))?;
+    match (failing, empty) {
+        (Some(failing), Some(empty)) => {
+            let short = count_short(alloc, asked, &whole, most, failing)?;
+            let line = format!(in alloc;
+                "{failing} writes fail, {empty} take nothing, {short} take one byte\n"
+            )?;
+            answer.extend_from_slice(line.as_bytes())
+        }
+        _ => answer.extend_from_slice(b"a run ends otherwise\n"),
     }
 }
 
@@ -165,7 +201,7 @@ fn tell_line(line: Vec<u8>, last: &mut Vec<u8>, answer: &mut Vec<u8>) -> Result<
 }
 
 /// Tells the line of the run of which the request for memory of a number is refused, and whether there was such a
-/// request.
+/// request. Where there was none, it is the run after it that may meet it.
 fn tell_request(
     alloc: Global,
     asked: Asked<'_>,
@@ -174,13 +210,18 @@ fn tell_request(
     last: &mut Vec<u8>,
     answer: &mut Vec<u8>,
 ) -> Result<bool, AllocError> {
-    let (ended, has_refused) = run_refused(alloc, asked, number)?;
+    let Refused {
+        ended,
+        has_refused,
+        again,
+    } = run_refused(alloc, asked, number)?;
     let is_so = if has_refused {
         is_refused(alloc, &ended, whole)?
     } else {
         ended.is_like(whole)
     };
-    if !is_so {
+    let is_again = !has_refused || again.is_like(whole);
+    if !is_so || !is_again {
         tell_count(alloc, number, "refused: the run ends otherwise", answer)?;
     }
     if has_refused {
@@ -200,10 +241,10 @@ pub(crate) fn tell_requests(
     let mut last = Vec::new(alloc);
     for number in 1..MOST {
         if !tell_request(alloc, asked, &whole, number, &mut last, answer)? {
-            break;
+            return Ok(());
         }
     }
-    Ok(())
+    answer.extend_from_slice(b"there are more requests\n")
 }
 
 /// Whether a run refuses the request for memory of a number, and tells a line that begins so; nothing where there is no
@@ -214,24 +255,24 @@ fn tells_refusal(
     line: &[u8],
     number: u64,
 ) -> Result<Option<bool>, AllocError> {
-    let (ended, has_refused) = run_refused(alloc, asked, number)?;
-    if has_refused {
-        Ok(Some(is_begun(&ended, line)))
+    let run = run_refused(alloc, asked, number)?;
+    if run.has_refused {
+        Ok(Some(is_begun(&run.ended, line)))
     } else {
         Ok(None)
     }
 }
 
-/// How many requests for memory are refused in turn with a line that begins so.
-fn count_refusals(alloc: Global, asked: Asked<'_>, line: &[u8]) -> Result<u64, AllocError> {
+/// How many requests for memory are refused in turn with a line that begins so; nothing where not all are met.
+fn count_refusals(alloc: Global, asked: Asked<'_>, line: &[u8]) -> Result<Option<u64>, AllocError> {
     let mut count = 0u64;
     for number in 1..MOST {
         match tells_refusal(alloc, asked, line, number)? {
             Some(is_told) => count = count.saturating_add(u64::from(is_told)),
-            None => break,
+            None => return Ok(Some(count)),
         }
     }
-    Ok(count)
+    Ok(None)
 }
 
 /// Tells whether as many requests are refused at the first record as while the archive of that record alone is opened.
@@ -247,7 +288,7 @@ pub(crate) fn tell_as_alone(
         ..asked
     };
     let wanted = count_refusals(alloc, alone, b"warc: F14 Memory at ")?;
-    if count > 0 && count == wanted {
+    if count.is_some_and(|count| count > 0) && count == wanted {
         answer.extend_from_slice(b"as many\n")
     } else {
         answer.extend_from_slice(b"not as many\n")

@@ -6,7 +6,7 @@ use crate::lines::{tell, tell_count, tell_end};
 use crate::runs::{Asked, Ended, run_broken, run_changing, run_cut, run_endless, run_in_pieces};
 use crate::turns::{tell_as_alone, tell_reads, tell_requests, tell_writes};
 use crate::usage::answer_usage;
-use crate::words::{command_of, words_from};
+use crate::words::{command_of, is_command, words_from};
 use std::alloc::{AllocError, Global};
 use suites_script::Case;
 use warc_commands::Command;
@@ -17,16 +17,16 @@ fn words_before(verb: &str) -> usize {
     match verb {
         "failed-read" | "failed-write" | "short-writes" => 3,
         "changed-read" | "each-read" | "each-write" | "requests-alone" => 2,
-        "length" | "endless" | "each-request" => 1,
+        "length" | "whole" | "endless" | "each-request" => 1,
         _ => 0,
     }
 }
 
-/// The most bytes that a read or a write takes, by a word: a number, or `all`.
-fn most_of(word: &str) -> usize {
-    match word {
+/// The most bytes that a read or a write takes, by the word at an index: a number, or `all`.
+fn most_of(case: &Case<'_>, index: usize) -> usize {
+    match case.text(index) {
         "all" => usize::MAX,
-        number => number.parse().unwrap_or(1),
+        _ => case.number(index) as usize,
     }
 }
 
@@ -44,8 +44,12 @@ pub fn answer(
         tell_salvaged(alloc, archive, answer)?;
         return Ok(true);
     }
-    let words = words_from(alloc, case, words_before(case.text(0)))?;
-    match command_of(&words, case.given()) {
+    let index = words_before(case.text(0));
+    if !is_command(case.text(index)) {
+        return Ok(false);
+    }
+    let words = words_from(alloc, case, index)?;
+    match command_of(&words, case) {
         Some(command) => {
             let asked = Asked {
                 command: &command,
@@ -65,12 +69,14 @@ fn answer_run(
     asked: Asked<'_>,
     answer: &mut Vec<u8>,
 ) -> Result<(), AllocError> {
-    let number = case.number(1);
     match case.text(0) {
         "length" => tell_length(alloc, asked, answer),
+        "whole" => {
+            let ended = run_in_pieces(alloc, asked, usize::MAX)?;
+            tell(alloc, &ended, asked.archive, answer)
+        }
         "failed-read" => {
-            let most = most_of(case.text(2));
-            let ended = run_broken(alloc, asked, most, number)?;
+            let (ended, _) = run_broken(alloc, asked, most_of(case, 2), case.number(1))?;
             tell(alloc, &ended, asked.archive, answer)
         }
         "failed-write" => tell_cut(alloc, case, asked, Break::Fails, answer),
@@ -79,14 +85,14 @@ fn answer_run(
             tell_cut(alloc, case, asked, how, answer)
         }
         "changed-read" => {
-            let ended = run_changing(alloc, asked, case.given(), number)?;
+            let ended = run_changing(alloc, asked, case.given(), case.number(1))?;
             tell(alloc, &ended, asked.archive, answer)
         }
         "endless" => tell_endless(alloc, asked.command, answer),
-        "each-read" => tell_reads(alloc, asked, most_of(case.text(1)), answer),
-        "each-write" => tell_writes(alloc, asked, most_of(case.text(1)), answer),
+        "each-read" => tell_reads(alloc, asked, most_of(case, 1), answer),
+        "each-write" => tell_writes(alloc, asked, most_of(case, 1), answer),
         "each-request" => tell_requests(alloc, asked, answer),
-        "requests-alone" => tell_as_alone(alloc, asked, number as usize, answer),
+        "requests-alone" => tell_as_alone(alloc, asked, case.number(1) as usize, answer),
         _ => tell_pieces(alloc, asked, answer),
     }
 }
@@ -125,8 +131,8 @@ fn tell_length(alloc: Global, asked: Asked<'_>, answer: &mut Vec<u8>) -> Result<
     tell_end(alloc, &ended, answer)
 }
 
-/// Tells a run of which a write breaks, and whether its source holds what it held. Writes that fail are of so many
-/// bytes as the case says, and others of one byte.
+/// Tells a run of which a write breaks, and whether the run after it ends as if none had. Writes that fail are of so
+/// many bytes as the case says, and others of one byte.
 fn tell_cut(
     alloc: Global,
     case: &Case<'_>,
@@ -135,15 +141,15 @@ fn tell_cut(
     answer: &mut Vec<u8>,
 ) -> Result<(), AllocError> {
     let most = match how {
-        Break::Fails => most_of(case.text(2)),
+        Break::Fails => most_of(case, 2),
         Break::Takes(_) => 1,
     };
-    let (ended, is_kept) = run_cut(alloc, asked, most, (case.number(1), how))?;
+    let (ended, again) = run_cut(alloc, asked, most, (case.number(1), how))?;
     tell(alloc, &ended, asked.archive, answer)?;
-    if is_kept {
+    if ends_like(alloc, asked, usize::MAX, &again)? {
         Ok(())
     } else {
-        answer.extend_from_slice(b"the source holds other bytes\n")
+        answer.extend_from_slice(b"the next run ends otherwise\n")
     }
 }
 

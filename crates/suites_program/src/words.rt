@@ -57,17 +57,60 @@ fn draft_of<'a>(words: &'a [String], content_type: &'a str) -> Draft<'a> {
     }
 }
 
-/// The content type of `write`: its last word, or the text that is given with it.
-fn content_type_of<'a>(words: &'a [String], given: &'a [u8]) -> &'a str {
-    if given.is_empty() {
-        word(words, 5)
+/// The content type of `write`: its last word, or the text that is given with the case.
+fn content_type_of<'a>(words: &'a [String], case: &'a Case<'_>) -> &'a str {
+    if case.gives() {
+        str::from_utf8(case.given()).unwrap_or("")
     } else {
-        str::from_utf8(given).unwrap_or("")
+        word(words, 5)
     }
 }
 
-/// The command that words name, as on the command line but for the archive.
-pub(crate) fn command_of<'a>(words: &'a [String], given: &'a [u8]) -> Option<Command<'a>> {
+/// How few words a command has, itself among them, and how many; nothing where it is no command.
+fn counts_of(command: &str, gives: bool) -> Option<(usize, usize)> {
+    match command {
+        "list" | "check" | "rewrite" | "convert" | "fixity" | "salvage" | "summary" => Some((1, 1)),
+        "extract" | "split" | "head" | "block" | "explain" => Some((2, 2)),
+        "body" => Some((2, 3)),
+        "captures" => Some((1, 3)),
+        "replay" => Some((3, 4)),
+        "write" if gives => Some((5, 5)),
+        "write" => Some((6, 6)),
+        _ => None,
+    }
+}
+
+/// Whether a word of a case names a command.
+pub(crate) fn is_command(word: &str) -> bool {
+    counts_of(word, false).is_some()
+}
+
+/// Whether the last of the words is an option, where it has to be one.
+fn ends_in_option(words: &[String]) -> bool {
+    match (word(words, 0), words.len()) {
+        ("replay", 4) => word(words, 3) == "--uri-hex",
+        ("captures", 3) => word(words, 2) == "--uri-hex",
+        ("body", 3) => word(words, 2) == "--stored",
+        _ => true,
+    }
+}
+
+/// Whether words are as many as their command takes.
+fn are_words(words: &[String], gives: bool) -> bool {
+    match counts_of(word(words, 0), gives) {
+        Some((least, most)) => {
+            least <= words.len() && words.len() <= most && ends_in_option(words)
+        }
+        None => false,
+    }
+}
+
+/// The command that the words of a case name, as on the command line but for the archive; nothing where there is a word
+/// too many or too few.
+pub(crate) fn command_of<'a>(words: &'a [String], case: &'a Case<'_>) -> Option<Command<'a>> {
+    if !are_words(words, case.gives()) {
+        return None;
+    }
     let archive = PATH;
     Some(match word(words, 0) {
         "list" => Command::List { archive },
@@ -99,7 +142,7 @@ pub(crate) fn command_of<'a>(words: &'a [String], given: &'a [u8]) -> Option<Com
             size: word(words, 1),
         },
         "write" => Command::Write {
-            draft: draft_of(words, content_type_of(words, given)),
+            draft: draft_of(words, content_type_of(words, case)),
             file: PATH,
         },
         "head" => Command::Head {

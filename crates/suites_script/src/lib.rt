@@ -13,15 +13,20 @@
 //! . a text that is wanted
 //! ```
 //!
+//! A case fails that isn't answered as it wants. It also fails where a word that has to be a number is none, where
+//! nobody reads the text that is given, or where it has a word that nobody reads.
+//!
 //! In texts `\n`, `\r`, `\t` and `\x20` are the bytes that they are in Rust, and any other byte behind a `\` is itself.
 #![tactic(auto)]
 
 mod cases;
+mod chains;
 mod escapes;
 mod refusals;
 mod trying;
 
-pub use cases::{Case, number_of};
+pub use cases::Case;
+pub use chains::add_link;
 pub use escapes::add_unescaped;
 pub use refusals::{Refusal, Refusals};
-pub use trying::{Trial, try_script};
+pub use trying::{Report, Trial, try_script};

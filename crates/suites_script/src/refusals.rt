@@ -29,6 +29,8 @@ impl Refusal {
 pub struct Refusals {
     count: u64,
     is_wrong: bool,
+    /// Whether a run was met that makes fewer requests.
+    is_ended: bool,
 }
 
 impl Refusals {
@@ -37,13 +39,17 @@ impl Refusals {
         Refusals {
             count: 0,
             is_wrong: false,
+            is_ended: false,
         }
     }
 
     /// Counts a run, and says whether another one is to come.
     pub fn goes_on(&mut self, refusal: Refusal) -> bool {
         match refusal {
-            Refusal::Absent => return false,
+            Refusal::Absent => {
+                self.is_ended = true;
+                return false;
+            }
             Refusal::Harmless => {}
             Refusal::Wrong => self.is_wrong = true,
         }
@@ -55,6 +61,8 @@ impl Refusals {
     pub fn tell(self, alloc: Global, least: u64, answer: &mut Vec<u8>) -> Result<(), AllocError> {
         let (how, number) = if self.is_wrong {
             ("something else once this request is refused", self.count)
+        } else if !self.is_ended {
+            ("not all requests were met by", self.count)
         } else if self.count > least {
             ("the same with each request refused, of more than", least)
         } else {

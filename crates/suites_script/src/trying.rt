@@ -2,6 +2,7 @@
 
 use crate::cases::Case;
 use std::alloc::{AllocError, Global};
+use std::process::ExitCode;
 
 /// What answers the cases of a script.
 pub trait Trial {
@@ -16,20 +17,23 @@ pub trait Trial {
 
 /// What is told of the cases so far, how many stood under each name, and how many failed.
 #[derive(Drop)]
-struct Tally {
+pub struct Report {
     told: Vec<u8>,
     /// How many cases stand under the last name.
     named: usize,
     cases: usize,
+    /// How many lines of words want no answer: they give, make or name what cases are about.
+    steps: usize,
     failed: usize,
 }
 
-impl Tally {
-    fn new(alloc: Global) -> Tally {
-        Tally {
+impl Report {
+    fn new(alloc: Global) -> Report {
+        Report {
             told: Vec::new(alloc),
             named: 0,
             cases: 0,
+            steps: 0,
             failed: 0,
         }
     }
@@ -45,29 +49,61 @@ impl Tally {
         Ok(())
     }
 
-    /// Counts a case, and tells of it where it isn't answered as it should be. One of which nothing is wanted is only
-    /// told of.
+    /// Counts a case, and tells of it where it isn't answered as it should be, or is wrong itself. One of which nothing
+    /// is wanted is a step.
     fn count(&mut self, case: &Case<'_>, answer: &[u8]) -> Result<(), AllocError> {
         if !case.wanted().is_empty() {
             self.named = self.named.saturating_add(1);
             self.cases = self.cases.saturating_add(1);
+        } else if !case.line().is_empty() {
+            self.steps = self.steps.saturating_add(1);
         }
-        if case.wanted() != answer {
+        let mistake = case.mistake().unwrap_or(b"");
+        if case.wanted() != answer || !mistake.is_empty() {
             self.failed = self.failed.saturating_add(1);
-            self.told.extend_from_slice(b"FAILED: ")?;
-            self.told.extend_from_slice(case.words())?;
-            self.told.extend_from_slice(b"\n--- wanted:\n")?;
-            self.told.extend_from_slice(case.wanted())?;
-            self.told.extend_from_slice(b"\n--- answered:\n")?;
-            self.told.extend_from_slice(answer)?;
-            self.told.push(b'\n')?;
+            self.tell_failed(case, answer, mistake)?;
         }
         Ok(())
     }
 
-    /// All that is told.
-    fn into_told(mut self, alloc: Global) -> Result<Vec<u8>, AllocError> {
-        let total = format!(in alloc; "{} cases, {} failed\n", self.cases, self.failed)?;
+    fn tell_failed(
+        &mut self,
+        case: &Case<'_>,
+        answer: &[u8],
+        mistake: &[u8],
+    ) -> Result<(), AllocError> {
+        self.told.extend_from_slice(b"FAILED: ")?;
+        self.told.extend_from_slice(case.line())?;
+        self.told.extend_from_slice(b"\n")?;
+        self.told.extend_from_slice(mistake)?;
+        self.told.extend_from_slice(b"--- wanted:\n")?;
+        self.told.extend_from_slice(case.wanted())?;
+        self.told.extend_from_slice(b"\n--- answered:\n")?;
+        self.told.extend_from_slice(answer)?;
+        self.told.extend_from_slice(b"\n")
+    }
+
+    /// Adds a line of what was counted beside the cases.
+    pub fn add_line(&mut self, line: &str) -> Result<(), AllocError> {
+        self.told.extend_from_slice(line.as_bytes())?;
+        self.told.extend_from_slice(b"\n")
+    }
+
+    /// The status that a suite ends with: 1 where a case failed.
+    pub fn status(&self) -> ExitCode {
+        if self.failed == 0 {
+            ExitCode::SUCCESS
+        } else {
+            ExitCode::FAILURE
+        }
+    }
+
+    /// All that is told, with how many cases and steps there were, and how many failed.
+    pub fn into_text(mut self, alloc: Global) -> Result<Vec<u8>, AllocError> {
+        let total = format!(in alloc;
+            "{} cases, {} steps, {} failed\n",
+            self.cases, self.steps, self.failed
+        )?;
         self.told.extend_from_slice(total.as_bytes())?;
         Ok(self.told)
     }
@@ -102,23 +138,23 @@ fn try_case<T: Trial>(
     alloc: Global,
     trial: &mut T,
     case: &Case<'_>,
-    tally: &mut Tally,
+    report: &mut Report,
 ) -> Result<(), AllocError> {
     let mut answer = Vec::new(alloc);
-    if !case.words().is_empty() {
+    if !case.line().is_empty() {
         trial.answer(alloc, case, &mut answer)?;
     }
-    tally.count(case, &answer)
+    report.count(case, &answer)
 }
 
 /// The report of a script: a line for each name, with the number of its cases; what was wanted and answered of each
-/// case that failed; and how many cases there were and failed.
+/// case that failed, or what is wrong with it; and how many cases and steps there were, and how many failed.
 pub fn try_script<T: Trial>(
     alloc: Global,
     script: &[u8],
     trial: &mut T,
-) -> Result<Vec<u8>, AllocError> {
-    let mut tally = Tally::new(alloc);
+) -> Result<Report, AllocError> {
+    let mut report = Report::new(alloc);
     let mut name = b"".as_slice();
     let mut case = Case::new(alloc, b"");
     for line in script.split(|byte| *byte == b'\n') {
@@ -126,18 +162,18 @@ pub fn try_script<T: Trial>(
             Line::Nothing => {}
             Line::Part(mark, text) => case.add(mark, text)?,
             Line::Words(words) => {
-                try_case(alloc, trial, &case, &mut tally)?;
+                try_case(alloc, trial, &case, &mut report)?;
                 case = Case::new(alloc, words);
             }
             Line::Name(next) => {
-                try_case(alloc, trial, &case, &mut tally)?;
+                try_case(alloc, trial, &case, &mut report)?;
                 case = Case::new(alloc, b"");
-                tally.end(alloc, name)?;
+                report.end(alloc, name)?;
                 name = next;
             }
         }
     }
-    try_case(alloc, trial, &case, &mut tally)?;
-    tally.end(alloc, name)?;
-    tally.into_told(alloc)
+    try_case(alloc, trial, &case, &mut report)?;
+    report.end(alloc, name)?;
+    Ok(report)
 }

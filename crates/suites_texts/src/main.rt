@@ -3,6 +3,7 @@
 
 use std::alloc::{AllocError, Global};
 use std::io::{self, Read, Write};
+use std::process::ExitCode;
 use suites_script::{Case, Trial, try_script};
 
 /// The text that cases speak of which give none.
@@ -31,13 +32,15 @@ impl Trial for Trials {
     }
 }
 
-fn main(rt: HostRuntime) -> io::Result<()> {
+fn main(rt: HostRuntime) -> io::Result<ExitCode> {
     let alloc = rt.alloc();
     let mut script = Vec::new(alloc);
     rt.reader().read_to_end(&mut script)?;
     let mut trials = Trials {
         text: Vec::new(alloc),
     };
-    let told = try_script(alloc, &script, &mut trials)?;
-    rt.stdout().write_all(&told)
+    let report = try_script(alloc, &script, &mut trials)?;
+    let status = report.status();
+    rt.stdout().write_all(&report.into_text(alloc)?)?;
+    Ok(status)
 }

@@ -1,14 +1,9 @@
-//! Chains of records, each of which is a text with its own number and the number before it.
+//! Chains of records, each of which is a text with its own number, the number before it and the number after it.
 
 use std::alloc::{AllocError, Global};
-use suites_script::Case;
 
-/// How many records the chain of a case has.
-pub fn chain_count(case: &Case<'_>) -> u64 {
-    case.number(1).min(100_000)
-}
-
-/// Adds a record of a chain to a text: in the pattern `#` stands for its number, and `@` for the number before it.
+/// Adds a record of a chain to a text: in the pattern `#` stands for its number, `@` for the number before it, and `%`
+/// for the number after it.
 pub fn add_link(
     alloc: Global,
     text: &mut Vec<u8>,
@@ -17,10 +12,12 @@ pub fn add_link(
 ) -> Result<(), AllocError> {
     let own = number.to_string(alloc)?;
     let before = number.saturating_sub(1).to_string(alloc)?;
+    let after = number.saturating_add(1).to_string(alloc)?;
     for byte in pattern {
         match byte {
             b'#' => text.extend_from_slice(own.as_bytes())?,
             b'@' => text.extend_from_slice(before.as_bytes())?,
+            b'%' => text.extend_from_slice(after.as_bytes())?,
             _ => text.push(*byte)?,
         }
     }
