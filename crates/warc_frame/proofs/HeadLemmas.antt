@@ -107,16 +107,19 @@ no_cr_so_early : (t : List ℕ) (v : Version) (p : ℕ) → version_of t ≡ Som
 no_cr_so_early t v p h cr inside early =
     no_cr_in_line v p early (sym (begins-byte t (version_line v) p (version-begins t v h) inside (line_short v p early)) ∙ cr)
 
+-- a line end of a text with a version isn't before its version line's end
+room_at : (t : List ℕ) (v : Version) (n p : ℕ) → version_of t ≡ Some v → get_or t p 0 ≡ 13 → p + 4 ≡ n → n ≤ length t → 12 ≤ n
+room_at t v n p h cr e inside = ⊎_elim
+    (λ early. absurd (no_cr_so_early t v p h cr (omega (arith, e, inside)) early))
+    (λ late. omega (arith, late, e))
+    (cases_lt p 8)
+
 -- a head holds its version line and the empty line behind it
 pub head_room : (t : List ℕ) (v : Version) (n : ℕ) → version_of t ≡ Some v → head_len t ≡ Some n → 12 ≤ n
 unfolding head_front
 head_room t v n h e =
     let found = head-place t n e in
-    let cr = cr_of_front max_head t found.0 found.1 in
-    ⊎_elim
-    (λ early. absurd (no_cr_so_early t v found.0 h cr (omega (arith, found.2, found.3)) early))
-    (λ late. omega (arith, late, found.2))
-    (cases_lt found.0 8)
+    room_at t v n found.0 h (cr_of_front max_head t found.0 found.1) found.2 found.3
 
 number_fits : (o : Option ℕ) (n : ℕ) → or_length (option_and_then (λ k. cond (nat_le k max_block) (Some k) None) o) ≡ Ok n → n ≤ max_block
 number_fits None n h = absurd cc
