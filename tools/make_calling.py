@@ -37,7 +37,7 @@ definition of an answer names, and it proves that from the contracts of the thre
 CONTRACTS = """\
 ## Contracts
 
-`self.old` is the value before a call and `self.new` the one after it. `S.tapped` is what contracts see of a source, and
+`self.old` is the value before a call and `self.new` the one after it. `S.seen` is what contracts see of a source, and
 `W.seen` what they see of a sink. The words of clauses are defined in specs/ of the crates that the `ghost use` lines of each
 file name; docs/ARCHITECTURE.md has them in reading order, and docs/PROMISES.md says in plain words what each call promises.
 """

@@ -45,7 +45,7 @@ fn make<'a>(parts: &mut Parts<Heap<'a>>, willing: Heap<'a>, records: &Records) -
     for step in records.steps() {
         match *step {
             Step::Keep(count) => {
-                parts.forget_after(count);
+                parts.truncate(count);
                 position = position.min(count as u64);
             }
             Step::Add(number) => {

@@ -8,7 +8,7 @@ use Rattle.std.proofs.lemmas.Option.{get_or_from_slice_get, slice_get-map, slice
 use Rattle.warc_value.specs.Dates.{Instant}
 use Rattle.warc_frame.specs.Device.{Stored}
 use Rattle.warc_frame.specs.Record.{Record, max_archive}
-use Rattle.warc_frame.specs.Seen.{Tapped}
+use Rattle.warc_frame.specs.Seen.{SeenSource}
 use Rattle.warc_frame.specs.Spelling.{canonical}
 use Rattle.warc_frame.specs.declared.fault.Fault.{Fault}
 use Rattle.warc_frame.specs.declared.fault.FaultKind.{FaultKind}
@@ -33,14 +33,14 @@ use Rattle.suites_migration.specs.RoundTrip.{plan_of_draft}
 use Rattle.suites_migration.specs.declared.round_trip.Plan.{Plan}
 
 -- why a source isn't opened
-pub first_refused : (kind : FaultKind) (bytes : List ℕ) (old new : Tapped) (f : Fault) → RefusesBy kind bytes old new f
+pub first_refused : (kind : FaultKind) (bytes : List ℕ) (old new : SeenSource) (f : Fault) → RefusesBy kind bytes old new f
     → (kind ≡ Read) ⊎ ((kind ≡ Memory) ⊎ IsFaultOf bytes f)
 first_refused Read bytes old new f is = inl refl
 first_refused Memory bytes old new f is = inr (inl refl)
 first_refused kind bytes old new f is = inr (inr is)
 
 -- why one isn't that never fails
-pub sound_refused : (kind : FaultKind) (bytes : List ℕ) (old new : Tapped) (f : Fault) → 0 ≡ faults_after kind 0
+pub sound_refused : (kind : FaultKind) (bytes : List ℕ) (old new : SeenSource) (f : Fault) → 0 ≡ faults_after kind 0
     → RefusesBy kind bytes old new f → (kind ≡ Memory) ⊎ IsFaultOf bytes f
 sound_refused Read bytes old new f sound is = absurd (omega (arith, sound))
 sound_refused Memory bytes old new f sound is = inl refl

@@ -27,7 +27,7 @@ pub enum MoveFault {
 
 /// What is written of an archive as records of WARC 1.1.
 fn converted<S: Source>(alloc: Global, listing: &mut Listing<S>) -> Result<Vec<u8>, OutFault>
-    ensures { IfHeld (S.tapped listing.old.source).holds (λ bytes. (is : IsArchiveOf bytes listing.old.rows) → IfOk
+    ensures { IfHeld (S.seen listing.old.source).holds (λ bytes. (is : IsArchiveOf bytes listing.old.rows) → IfOk
         result (λ text. text.items ≡ texts_as Converted (contents is.are.records))) }
 {
     let mut sink = MemSink::new(Vec::new(alloc));
@@ -41,8 +41,8 @@ fn converted<S: Source>(alloc: Global, listing: &mut Listing<S>) -> Result<Vec<u
 /// what one of the archive does. What was written doesn't open only for want of memory, or where it is longer than 2^48
 /// bytes.
 pub fn migrate<S: Source + Drop>(alloc: Global, source: S) -> Result<Archive<MemSource>, MoveFault>
-    ensures moved { IfHeld (S.tapped source).holds (λ bytes. IfOk result (IsMigrationOf bytes)) }
-    ensures refused { IfHeld (S.tapped source).holds (λ bytes. IfErr result (IsNotMoved bytes)) }
+    ensures moved { IfHeld (S.seen source).holds (λ bytes. IfOk result (IsMigrationOf bytes)) }
+    ensures refused { IfHeld (S.seen source).holds (λ bytes. IfErr result (IsNotMoved bytes)) }
 {
     written_opens_as_same();
     migration_keeps_answers();

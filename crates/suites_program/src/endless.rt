@@ -23,13 +23,13 @@ impl EndlessSource {
 }
 
 impl Source for EndlessSource {
-    ghost tapped = { λ s. record {
+    ghost seen = { λ s. record {
       holds = None;
       faults = 0;
       reads = s.reads;
       asked = s.asked;
       watches = λ _. false;
-      strays = 0;
+      watched_reads = 0;
       next = None;
       jumps = 0;
     } };

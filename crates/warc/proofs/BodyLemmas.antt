@@ -5,7 +5,7 @@ use Rattle.std.specs.List.{slice_get}
 use Rattle.std.specs.Option.{option_map_or}
 use Rattle.std.proofs.lemmas.Option.{slice_get-map}
 use Rattle.warc_field.specs.Area.{first_value}
-use Rattle.warc_frame.specs.Seen.{Seen, Tapped}
+use Rattle.warc_frame.specs.Seen.{Seen, SeenSource}
 use Rattle.warc_record.specs.Kinds.{kind_named}
 use Rattle.warc_record.specs.Readings.{kind_of}
 use Rattle.warc_record.specs.declared.types.Kind.TheVariants.{Other}
@@ -29,7 +29,7 @@ use Rattle.warc.specs.Replaying.{ReplaysOn}
 use Rattle.warc.specs.Standing.{LeadsTo}
 use Rattle.warc.specs.declared.bodies.Found.TheVariants.{Capture}
 use Rattle.warc.specs.declared.fault.BodyFault.TheVariants.{NoRecord, NoCapture, Replay}
-use Rattle.warc.proofs.ReplayLemmas.{in_list, path_by_links}
+use Rattle.warc.proofs.ReplayLemmas.{in_list, path_by_links, reads_nothing}
 use Rattle.warc.proofs.TakeLemmas.{absent}
 
 -- the kind that a row's text names is the record's
@@ -75,35 +75,29 @@ module _ (bytes : List ℕ) (rows : List Row) (position : ℕ) (is : IsArchiveOf
       let at = capture_there has in in_list (contents is.are.records) position at.content at.there
 
 module _ (rows : List Row) (index : Indexes) (parts : Parts) (position : ℕ) where
-  pub gives_no_record : (s : Tapped) (o : Seen) → slice_get rows position ≡ None → GivesBodyAt rows index parts position s s o o (Err NoRecord)
+  pub gives_no_record : (s : SeenSource) (o : Seen) → slice_get rows position ≡ None → GivesBodyAt rows index parts position s s o o (Err NoRecord)
   gives_no_record s o none = record {
     told = λ bytes held is are. (none_there bytes rows position is none, refl);
-    failed = λ bytes held is are. refl;
-    cost = λ bytes held is are. omega arith;
-    near = λ bytes held is are off. refl;
-    inside = λ bytes is are off. refl;
+    reads = λ bytes held is are. reads_nothing;
+    inside = λ bytes is off. refl;
+    keeps = record { kept = refl; watched = refl };
     silent = refl;
-    kept = refl;
-    watched = refl;
-    may = refl;
+    fails = record { may = refl; failed = λ bytes held is. refl };
     cause = refl;
   }
 
-  pub gives_no_capture : (s : Tapped) (o : Seen) → IsOtherRow rows position → GivesBodyAt rows index parts position s s o o (Err NoCapture)
+  pub gives_no_capture : (s : SeenSource) (o : Seen) → IsOtherRow rows position → GivesBodyAt rows index parts position s s o o (Err NoCapture)
   gives_no_capture s o has = record {
     told = λ bytes held is are. (other_there bytes rows position is has, refl);
-    failed = λ bytes held is are. refl;
-    cost = λ bytes held is are. omega arith;
-    near = λ bytes held is are off. refl;
-    inside = λ bytes is are off. refl;
+    reads = λ bytes held is are. reads_nothing;
+    inside = λ bytes is off. refl;
+    keeps = record { kept = refl; watched = refl };
     silent = refl;
-    kept = refl;
-    watched = refl;
-    may = refl;
+    fails = record { may = refl; failed = λ bytes held is. refl };
     cause = refl;
   }
 
-  pub gives_no_path : ReasonsAreAnswers → (s : Tapped) (o : Seen) (unfound : Unfound) → IsFoundAt rows index parts position (Capture (Err unfound))
+  pub gives_no_path : ReasonsAreAnswers → (s : SeenSource) (o : Seen) (unfound : Unfound) → IsFoundAt rows index parts position (Capture (Err unfound))
       → GivesBodyAt rows index parts position s s o o (Err (Replay (Reason (NotFound unfound))))
   gives_no_path reasons s o unfound found = record {
     told = λ bytes held is are. (
@@ -114,14 +108,11 @@ module _ (rows : List Row) (index : Indexes) (parts : Parts) (position : ℕ) wh
         refl,
       ),
     );
-    failed = λ bytes held is are. refl;
-    cost = λ bytes held is are. omega arith;
-    near = λ bytes held is are off. refl;
-    inside = λ bytes is are off. refl;
+    reads = λ bytes held is are. reads_nothing;
+    inside = λ bytes is off. refl;
+    keeps = record { kept = refl; watched = refl };
     silent = refl;
-    kept = refl;
-    watched = refl;
-    may = refl;
+    fails = record { may = refl; failed = λ bytes held is. refl };
     cause = refl;
   }
 
@@ -131,32 +122,26 @@ module _ (rows : List Row) (index : Indexes) (parts : Parts) (position : ℕ) wh
     ends = λ bytes is are. (inside (contents is.are.records)).1 position (below_there bytes rows position is found.0);
   }
 
-  pub gives_body : (path : Path) (answer : Answer) (old new : Tapped) (before after : Seen) → IsFoundAt rows index parts position (Capture (Ok path))
+  pub gives_body : (path : Path) (answer : Answer) (old new : SeenSource) (before after : Seen) → IsFoundAt rows index parts position (Capture (Ok path))
       → ReplaysOn rows index parts (λ records. path_at records position) old new before after (Ok answer) → GivesBodyAt rows index parts position old new before after (Ok answer)
   gives_body path answer old new before after found by = record {
     told = λ bytes held is are. (capture_there bytes rows position is found.0, by.told bytes held is are);
-    failed = by.failed;
-    cost = by.cost;
-    near = by.near;
+    reads = by.reads;
     inside = by.inside;
-    silent = by.silent;
-    kept = by.kept;
-    watched = by.watched;
-    may = by.may;
-    cause = by.cause;
+    keeps = by.keeps;
+    silent = by.late.silent;
+    fails = record { may = by.fails.may; failed = by.fails.failed };
+    cause = by.late.cause;
   }
 
-  pub gives_fault : (path : Path) (fault : ReplayFault) (old new : Tapped) (before after : Seen) → IsFoundAt rows index parts position (Capture (Ok path))
+  pub gives_fault : (path : Path) (fault : ReplayFault) (old new : SeenSource) (before after : Seen) → IsFoundAt rows index parts position (Capture (Ok path))
       → ReplaysOn rows index parts (λ records. path_at records position) old new before after (Err fault) → GivesBodyAt rows index parts position old new before after (Err (Replay fault))
   gives_fault path fault old new before after found by = record {
     told = λ bytes held is are. (capture_there bytes rows position is found.0, by.told bytes held is are);
-    failed = by.failed;
-    cost = by.cost;
-    near = by.near;
+    reads = by.reads;
     inside = by.inside;
-    silent = by.silent;
-    kept = by.kept;
-    watched = by.watched;
-    may = by.may;
-    cause = by.cause;
+    keeps = by.keeps;
+    silent = by.late.silent;
+    fails = record { may = by.fails.may; failed = by.fails.failed };
+    cause = by.late.cause;
   }

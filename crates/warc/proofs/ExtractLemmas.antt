@@ -5,11 +5,11 @@ use Rattle.std.specs.Io.KnownBytes.{append_known}
 use Rattle.std.specs.List.{slice_get}
 use Rattle.std.proofs.lemmas.List.{length-drop}
 use Rattle.std.proofs.lemmas.Option.{slice_get-map}
-use Rattle.warc_frame.specs.Copying.{HasRange, IsOfDevice}
-use Rattle.warc_frame.specs.Failing.{HasFailedBy, MayHaveFailedBy, failed_with}
-use Rattle.warc_frame.specs.Ranges.{HasFilled}
+use Rattle.warc_frame.specs.Effects.{FailsBy, HasRange, IsOfDevice, IsRange, ReadsRange}
+use Rattle.warc_frame.proofs.EffectLemmas.{fails_more, fails_never, reads_none, reads_within}
+use Rattle.warc_frame.specs.Failing.{failed_with}
 use Rattle.warc_frame.specs.Record.{max_archive}
-use Rattle.warc_frame.specs.Seen.{Seen, Tapped}
+use Rattle.warc_frame.specs.Seen.{Seen, SeenSource}
 use Rattle.warc_frame.specs.Send.{WentOut, sent_of}
 use Rattle.warc_frame.specs.declared.fault.OutFault.{OutFault}
 use Rattle.warc_frame.specs.declared.fault.OutFault.TheVariants as outs
@@ -18,7 +18,7 @@ use Rattle.warc.specs.Extracting.{Extracts, IsExtract, extracted, position_with}
 use Rattle.warc.specs.Parts.{GivesPart, IsGiven, IsGivenCut, ReadsPart, part_len, part_start, part_text}
 use Rattle.warc_reading.specs.Indexed.{Archived, AreOf}
 use Rattle.warc_reading.specs.Row.{Placed, Row, row_of}
-use Rattle.warc.specs.Standing.{IsWritten}
+use Rattle.warc.specs.Standing.{IsPlacedIn}
 use Rattle.warc.specs.declared.fault.ExtractFault.{ExtractFault}
 use Rattle.warc.specs.declared.fault.ExtractFault.TheVariants.{NoRecord, Out}
 use Rattle.warc.specs.declared.part.Part.{Part}
@@ -27,21 +27,19 @@ use Rattle.warc_reading.proofs.PlacedLemmas.{placed}
 use Rattle.warc.proofs.StandLemmas.{written}
 use Rattle.warc.proofs.TakeLemmas.{absent}
 
-nothing_read : (part : Part) (found : Option Row) (s : Tapped) → ReadsPart part found s s
-nothing_read part found s = record { near = λ off. refl; bound = omega arith; watched = refl }
+nothing_read : (part : Part) (found : Option Row) (s : SeenSource) → ReadsPart part found s s
+nothing_read part found s = reads_within (λ at in_. in_) (omega arith) reads_none
 
 no_row : (bytes : List ℕ) (rows : List Row) (is : IsArchiveOf bytes rows) (i : ℕ) → slice_get rows i ≡ None → slice_get is.are.records i ≡ None
 no_row bytes rows is i none = absent is.are.records i (ap (λ l. slice_get l i) (sym is.are.rows_are) ∙ none)
 
-pub gives_none : (part : Part) (rows : List Row) (i : ℕ) (s : Tapped) (o : Seen) → slice_get rows i ≡ None → GivesPart part rows i s s o o (Err NoRecord)
+pub gives_none : (part : Part) (rows : List Row) (i : ℕ) (s : SeenSource) (o : Seen) → slice_get rows i ≡ None → GivesPart part rows i s s o o (Err NoRecord)
 gives_none part rows i s o none = record {
   told = λ bytes held is. (ap (option_map (λ p. part_text part bytes p)) (no_row bytes rows is i none), refl);
-  failed = λ bytes held is. refl;
   silent = λ e. refl;
   absent = (λ e. none, λ e. refl);
-  kept = refl;
   reads = nothing_read part (slice_get rows i) s;
-  may = refl;
+  fails = record { may = refl; failed = λ bytes held is. refl };
   cause = refl;
 }
 
@@ -51,11 +49,11 @@ cut_by (outs.Write n) found text old new device is went = (text, is, went)
 cut_by (outs.Memory n) found text old new device is went = absurd device
 
 -- where a part of a row's record lies
-part_there : (part : Part) (bytes : List ℕ) (p : Placed) → IsWritten bytes p → take (part_len part (row_of p)) (drop (part_start part (row_of p)) bytes) ≡ part_text part bytes p
+part_there : (part : Part) (bytes : List ℕ) (p : Placed) → IsPlacedIn bytes p → take (part_len part (row_of p)) (drop (part_start part (row_of p)) bytes) ≡ part_text part bytes p
 part_there Head bytes p has = refl
 part_there Block bytes p has = has.block
 
-part_range : (part : Part) (bytes : List ℕ) (p : Placed) → IsWritten bytes p → length bytes ≤ max_archive → HasRange (part_start part (row_of p)) (part_len part (row_of p)) bytes
+part_range : (part : Part) (bytes : List ℕ) (p : Placed) → IsPlacedIn bytes p → length bytes ≤ max_archive → HasRange (part_start part (row_of p)) (part_len part (row_of p)) bytes
 part_range Head bytes p has short = (omega (arith, has.order, has.end, has.within), omega (arith, short))
 part_range Block bytes p has short = (omega (arith, has.end, has.within), omega (arith, short))
 
@@ -63,14 +61,14 @@ part_range Block bytes p has short = (omega (arith, has.end, has.within), omega 
 range_len : (start len : ℕ) (bytes : List ℕ) → start + len ≤ length bytes → length (take len (drop start bytes)) ≡ len
 range_len start len bytes within = omega (arith, within, length-take len (drop start bytes), length-drop start bytes)
 
-module _ (part : Part) (rows : List Row) (i : ℕ) (row : Row) (start len : ℕ) (old new : Tapped) (before after : Seen) (at : slice_get rows i ≡ Some row) (start_is : start ≡ part_start part row)
-    (len_is : len ≡ part_len part row) (kept : new.holds ≡ old.holds) (filled : HasFilled start len old new) where
+module _ (part : Part) (rows : List Row) (i : ℕ) (row : Row) (start len : ℕ) (old new : SeenSource) (before after : Seen) (at : slice_get rows i ≡ Some row) (start_is : start ≡ part_start part row)
+    (len_is : len ≡ part_len part row) (filled : ReadsRange start len old new) where
   reads : ReadsPart part (slice_get rows i) old new
   reads =
-      let P : ℕ → Type 0 = λ s. HasFilled s len old new in
-      let Q : ℕ → Type 0 = λ n. HasFilled (part_start part row) n old new in
+      let P : ℕ → Type 0 = λ s. ReadsRange s len old new in
+      let Q : ℕ → Type 0 = λ n. ReadsRange (part_start part row) n old new in
       let there = subst Q len_is (subst P start_is filled) in
-      subst (λ o. ReadsPart part o old new) (sym at) (record { near = there.near; bound = there.bound; watched = there.watched })
+      subst (λ o. ReadsPart part o old new) (sym at) (reads_within (λ q in_. in_) (omega arith) there)
 
   some_row : slice_get rows i ≡ None → ⊥
   some_row none = cc (sym at ∙ none)
@@ -91,67 +89,59 @@ module _ (part : Part) (rows : List Row) (i : ℕ) (row : Row) (start len : ℕ)
         subst R (sym from) (subst L (sym long) (part_range part bytes p text is.short)),
       )
 
-  pub gives_ok : ((bytes : List ℕ) → old.holds ≡ Some bytes → HasRange start len bytes → after.tells ≡ append_known before.tells (take len (drop start bytes)))
+  pub gives_ok : ((bytes text : List ℕ) → old.holds ≡ Some bytes → IsRange start len bytes text → after.tells ≡ append_known before.tells text)
       → new.faults ≡ old.faults → after.faults ≡ before.faults → GivesPart part rows i old new before after (Ok len)
   gives_ok told sound cause = record {
     told = λ bytes held is.
         let (text, found, same, range) = there bytes is in
-        (text, found, sym (range_len start len bytes range.0) ∙ ap length same, told bytes held range ∙ ap (append_known before.tells) same);
-    failed = λ bytes held is. sound;
+        (text, found, sym (range_len start len bytes range.0) ∙ ap length same, told bytes _ held (range, refl) ∙ ap (append_known before.tells) same);
     silent = λ e. cc e;
     absent = (λ e. cc e, λ none. absurd (some_row none));
-    kept = kept;
     reads = reads;
-    may = sound;
+    fails = fails_never sound;
     cause = cause;
   }
 
   pub gives_cut : (e : OutFault) → IsOfDevice e
-      → ((bytes : List ℕ) → old.holds ≡ Some bytes → HasRange start len bytes → WentOut before.tells (take len (drop start bytes)) after.tells (sent_of e))
-      → ((bytes : List ℕ) → old.holds ≡ Some bytes → HasRange start len bytes → HasFailedBy {X = Unit {0}} (Err e) old.faults new.faults)
-      → MayHaveFailedBy {X = Unit {0}} (Err e) old.faults new.faults → after.faults ≡ failed_with e before.faults → GivesPart part rows i old new before after (Err (Out e))
-  gives_cut e device cut failed may cause = record {
+      → ((bytes text : List ℕ) → old.holds ≡ Some bytes → IsRange start len bytes text → WentOut before.tells text after.tells (sent_of e))
+      → FailsBy {X = Unit {0}} (λ bytes. (text : List ℕ) × IsRange start len bytes text) (Err e) old new
+      → after.faults ≡ failed_with e before.faults → GivesPart part rows i old new before after (Err (Out e))
+  gives_cut e device cut fails cause = record {
     told = λ bytes held is.
         let (text, found, same, range) = there bytes is in
-        cut_by e (option_map (λ p. part_text part bytes p) (slice_get is.are.records i)) text before.tells after.tells device found (subst (λ b. WentOut before.tells b after.tells (sent_of e)) same (cut bytes held range));
-    failed = λ bytes held is. let (text, found, same, range) = there bytes is in failed bytes held range;
+        cut_by e (option_map (λ p. part_text part bytes p) (slice_get is.are.records i)) text before.tells after.tells device found (subst (λ b. WentOut before.tells b after.tells (sent_of e)) same (cut bytes _ held (range, refl)));
     silent = λ no. cc no;
     absent = (λ no. cc no, λ none. absurd (some_row none));
-    kept = kept;
     reads = reads;
-    may = may;
+    fails = fails_more (λ bytes held is. let (text, found, same, range) = there bytes is in (_, (range, refl))) fails;
     cause = cause;
   }
 
 -- memory was refused before anything was looked for
-pub extracts_refused : {S : Type 0} (archive : Archived S) (id : List ℕ) (s : Tapped) (o : Seen) → Extracts archive id s s o o (Err (Out (outs.Memory 0)))
+pub extracts_refused : {S : Type 0} (archive : Archived S) (id : List ℕ) (s : SeenSource) (o : Seen) → Extracts archive id s s o o (Err (Out (outs.Memory 0)))
 extracts_refused archive id s o = record {
   told = λ bytes held is. (refl, refl);
   reads = λ bytes held is. nothing_read Block (option_map row_of (extracted is.listed.are.records id)) s;
-  failed = λ bytes held is. refl;
   silent = λ no. cc no;
-  kept = refl;
   near = (0, nothing_read Block (slice_get archive.listing.rows 0) s);
-  may = refl;
+  fails = record { may = refl; failed = λ bytes held is. refl };
   cause = refl;
 }
 
 -- no record has the id
-pub extracts_missing : {S : Type 0} (archive : Archived S) (id : List ℕ) (s : Tapped) (o : Seen)
+pub extracts_missing : {S : Type 0} (archive : Archived S) (id : List ℕ) (s : SeenSource) (o : Seen)
     → ((records : List Placed) → AreOf records archive.index archive.parts → position_with records id ≡ None) → Extracts archive id s s o o (Err NoRecord)
 extracts_missing archive id s o none = record {
   told = λ bytes held is. (ap (option_map (λ p. part_text Block bytes p)) (ap (option_and_then (slice_get is.listed.are.records)) (none is.listed.are.records is.kept)), refl);
   reads = λ bytes held is. nothing_read Block (option_map row_of (extracted is.listed.are.records id)) s;
-  failed = λ bytes held is. refl;
   silent = λ no. refl;
-  kept = refl;
   near = (0, nothing_read Block (slice_get archive.listing.rows 0) s);
-  may = refl;
+  fails = record { may = refl; failed = λ bytes held is. refl };
   cause = refl;
 }
 
 -- the record at a position has it first
-pub extracts_at : {S : Type 0} (archive : Archived S) (id : List ℕ) (position : ℕ) (old new : Tapped) (before after : Seen) (answer : Result ℕ ExtractFault)
+pub extracts_at : {S : Type 0} (archive : Archived S) (id : List ℕ) (position : ℕ) (old new : SeenSource) (before after : Seen) (answer : Result ℕ ExtractFault)
     → ((records : List Placed) → AreOf records archive.index archive.parts → position_with records id ≡ Some position)
     → GivesPart Block archive.listing.rows position old new before after answer → Extracts archive id old new before after answer
 extracts_at archive id position old new before after answer found at = record {
@@ -165,10 +155,8 @@ extracts_at archive id position old new before after answer found at = record {
       let row : option_map row_of (extracted records id) ≡ slice_get archive.listing.rows position =
       ap (option_map row_of) here ∙ sym (slice_get-map row_of records position) ∙ ap (λ l. slice_get l position) (sym is.listed.are.rows_are) in
       subst (λ o. ReadsPart Block o old new) (sym row) at.reads;
-  failed = λ bytes held is. at.failed bytes held is.listed;
   silent = at.silent;
-  kept = at.kept;
   near = (position, at.reads);
-  may = at.may;
+  fails = fails_more (λ bytes held is. is.listed) at.fails;
   cause = at.cause;
 }

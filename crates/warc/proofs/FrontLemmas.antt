@@ -4,10 +4,9 @@ use Rattle.std.specs.Prelude.{Result}
 use Rattle.std.proofs.Math.Seq.{take-append_seam}
 use Rattle.std.proofs.lemmas.List.{append_assoc, append-nil, take-append-drop}
 use Rattle.std.specs.Io.KnownBytes.{append_known}
-use Rattle.warc_frame.specs.Copying.{HasRange}
-use Rattle.warc_frame.specs.Failing.{HasFailedBy, MayHaveFailedBy, failed_with}
-use Rattle.warc_frame.specs.Ranges.{HasFilled}
-use Rattle.warc_frame.specs.Seen.{Seen, Tapped}
+use Rattle.warc_frame.specs.Effects.{HasRange, IsRange, ReadsRange, Sends}
+use Rattle.warc_frame.specs.Failing.{HasFailedBy, MayHaveFailedBy}
+use Rattle.warc_frame.specs.Seen.{Seen, SeenSource}
 use Rattle.warc_frame.specs.Send.{WentOut, sent_of}
 use Rattle.warc_frame.specs.declared.fault.Fault.{Fault}
 use Rattle.warc_frame.specs.declared.fault.OutFault.{OutFault}
@@ -25,7 +24,7 @@ abbrev pub fault_in : Result (Unit {0}) Fault → Option Fault
 fault_in (Ok u) = None
 fault_in (Err f) = Some f
 
-pub front_opened : {S : Type 0} (front : Fronted S) (rows : List Row) (old new : Tapped) (answer given : Result (Unit {0}) Fault) → answer ≡ given → front.listing.rows ≡ rows → front.fault ≡ fault_in given
+pub front_opened : {S : Type 0} (front : Fronted S) (rows : List Row) (old new : SeenSource) (answer given : Result (Unit {0}) Fault) → answer ≡ given → front.listing.rows ≡ rows → front.fault ≡ fault_in given
     → Opens IsArchiveOf old new (grown answer rows) → ((bytes : List ℕ) → old.holds ≡ Some bytes → AreFrontRows bytes answer rows) → OpensFront old new front
 front_opened front rows old new answer (Ok u) is same none opens fronts =
     let P : Option Fault → List Row → Type 0 = λ f xs. Opens IsArchiveOf old new (refused_by f xs) in
@@ -69,42 +68,44 @@ may_as_count (Read s) n m is = is
 may_as_count (Write s) n m is = is
 may_as_count (Memory s) n m is = is
 
-module _ (rows : List Row) (end : ℕ) (old new : Tapped) (before after : Seen) (at : (text : List ℕ) → IsArchiveOf text rows → end ≡ length text) (kept : new.holds ≡ old.holds)
-    (filled : HasFilled 0 end old new) where
+module _ (rows : List Row) (end : ℕ) (old new : SeenSource) (before after : Seen) (at : (text : List ℕ) → IsArchiveOf text rows → end ≡ length text)
+    (filled : ReadsRange 0 end old new) where
   there : (text more : List ℕ) → length (text ++ more) < 2 ^ 64 → IsArchiveOf text rows → HasRange 0 end (text ++ more)
   there text more few is = (omega (arith, at text is, length-append text more), few)
 
   front_bytes : (text more : List ℕ) → IsArchiveOf text rows → take end (drop 0 (text ++ more)) ≡ text
   front_bytes text more is = ap (λ n. take n (text ++ more)) (at text is) ∙ take-append_seam text more
 
-  near : (text : List ℕ) → IsArchiveOf text rows → ((q : ℕ) → q < length text → old.watches q ≡ false) → new.strays ≡ old.strays
+  near : (text : List ℕ) → IsArchiveOf text rows → ((q : ℕ) → q < length text → old.watches q ≡ false) → new.watched_reads ≡ old.watched_reads
   near text is these = filled.near (λ q within. these q (omega (arith, within.1, at text is)))
 
-  pub copies_all : ((bytes : List ℕ) → old.holds ≡ Some bytes → HasRange 0 end bytes → after.tells ≡ append_known before.tells (take end (drop 0 bytes)))
-      → new.faults ≡ old.faults → after.faults ≡ before.faults → CopiesFront rows old new before after (Ok end)
-  copies_all told sound cause = record {
-    told = λ text more held few is. (told (text ++ more) held (there text more few is) ∙ ap (append_known before.tells) (front_bytes text more is), at text is);
+  pub copies_all : Sends {X = Unit {0}} (IsRange 0 end) old new before after (Ok tt)
+      → CopiesFront rows old new before after (Ok end)
+  copies_all sends = record {
+    told = λ text more held few is.
+        let told = sends.out (text ++ more) _ held (there text more few is, refl) in
+        (told ∙ ap (append_known before.tells) (front_bytes text more is), at text is);
     cut = λ text more held few is. tt;
-    failed = λ text more held few is. sound;
+    failed = λ text more held few is. sends.fails.may;
     near = λ text more held few is. near text is;
     cost = λ text more held few is. omega (arith, filled.bound, at text is);
-    kept = kept;
-    may = sound;
-    cause = cause;
+    kept = filled.kept;
+    may = sends.fails.may;
+    cause = sends.cause;
   }
 
-  pub copies_cut : (e : OutFault) → ((bytes : List ℕ) → old.holds ≡ Some bytes → HasRange 0 end bytes → WentOut before.tells (take end (drop 0 bytes)) after.tells (sent_of e))
-      → ((bytes : List ℕ) → old.holds ≡ Some bytes → HasRange 0 end bytes → HasFailedBy {X = Unit {0}} (Err e) old.faults new.faults)
-      → MayHaveFailedBy {X = Unit {0}} (Err e) old.faults new.faults → after.faults ≡ failed_with e before.faults → CopiesFront rows old new before after (Err e)
-  copies_cut e cut failed may cause = record {
+  pub copies_cut : (e : OutFault) → Sends {X = Unit {0}} (IsRange 0 end) old new before after (Err e)
+      → CopiesFront rows old new before after (Err e)
+  copies_cut e sends = record {
     told = λ text more held few is. (tt, tt);
     cut = λ text more held few is.
         let P : List ℕ → Type 0 = λ t. WentOut before.tells t after.tells (sent_of e) in
-        subst P (front_bytes text more is) (cut (text ++ more) held (there text more few is));
-    failed = λ text more held few is. failed_as_count e old.faults new.faults (failed (text ++ more) held (there text more few is));
+        subst P (front_bytes text more is) (sends.cut (text ++ more) _ held (there text more few is, refl));
+    failed = λ text more held few is.
+        failed_as_count e old.faults new.faults (sends.fails.failed (text ++ more) held (_, (there text more few is, refl)));
     near = λ text more held few is. near text is;
     cost = λ text more held few is. omega (arith, filled.bound, at text is);
-    kept = kept;
-    may = may_as_count e old.faults new.faults may;
-    cause = cause;
+    kept = filled.kept;
+    may = may_as_count e old.faults new.faults sends.fails.may;
+    cause = sends.cause;
   }

@@ -4,12 +4,14 @@ use Rattle.std.specs.List.{slice_get}
 use Rattle.std.proofs.lemmas.Option.{slice_get_within}
 use Rattle.std.specs.Option.{option_to_list}
 use Rattle.warc_frame.specs.Failing.{HasFailedBy, MayHaveFailedBy}
-use Rattle.warc_frame.specs.Seen.{Tapped}
+use Rattle.warc_frame.specs.Seen.{SeenSource}
 use Rattle.warc_frame.specs.declared.reading.Head.{Head}
-use Rattle.warc_reading.specs.Rereading.{HasHead, ReadsHeads}
+use Rattle.warc_frame.specs.Effects.{FailsBy}
+use Rattle.warc_frame.proofs.EffectLemmas.{fails_more, fails_never}
+use Rattle.warc_reading.specs.Rereading.{HasHeadOf, ReadsHeads}
 use Rattle.warc_reading.specs.Row.{Placed, Row, row_of}
-use Rattle.warc.specs.Heading.{IsHeadTaken, TakesHead}
-use Rattle.warc.specs.Standing.{IsEnd}
+use Rattle.warc.specs.Heading.{IsHeadTaken, GivesHead}
+use Rattle.warc.specs.Standing.{IsUntaken}
 use Rattle.warc.specs.Taking.{take_result}
 use Rattle.warc.specs.declared.fault.TakeFault.{TakeFault}
 use Rattle.warc.specs.declared.fault.TakeFault.TheVariants.{NoRecord, Read, Memory}
@@ -18,38 +20,35 @@ use Rattle.warc_reading.proofs.PlacedLemmas.{placed}
 use Rattle.warc.proofs.TakeLemmas.{absent}
 
 -- where there is no row there is no record, and nothing is read
-pub takes_no_head : {A : Type 0} (rows : List Row) (i : ℕ) (s : Tapped) → slice_get rows i ≡ None → TakesHead {A = A} rows i s s (Err NoRecord)
+pub takes_no_head : {A : Type 0} (rows : List Row) (i : ℕ) (s : SeenSource) → slice_get rows i ≡ None → GivesHead {A = A} rows i s s (Err NoRecord)
 takes_no_head rows i s none = record {
   taken = λ bytes held is. absent is.are.records i (ap (λ l. slice_get l i) (sym is.are.rows_are) ∙ none);
-  failed = λ bytes held is. refl;
   absent = (λ is. none, λ is. refl);
-  kept = refl;
-  may = refl;
-  reads = record { near = λ off. refl; bound = omega arith; watched = refl };
+  reads = record { kept = refl; watched = refl; near = λ off. refl; bound = omega arith };
+  fails = fails_never refl;
 }
 
-is_end : {A : Type 0} (r : Result (Head A) TakeFault) → IfErr r IsEnd → r ≢ Err NoRecord
+is_end : {A : Type 0} (r : Result (Head A) TakeFault) → IfErr r IsUntaken → r ≢ Err NoRecord
 is_end (Ok x) is e = cc e
 is_end (Err NoRecord) is e = is
 is_end (Err Read) is e = cc e
 is_end (Err Memory) is e = cc e
 
 -- what giving the head of a row's record promises
-pub takes_head : {A : Type 0} → HeadsAreRead → (rows : List Row) (i : ℕ) (row : Row) (old new : Tapped) (r : Result (Head A) TakeFault) → slice_get rows i ≡ Some row
-    → ((bytes : List ℕ) (p : Placed) → old.holds ≡ Some bytes → HasHead bytes p → row ≡ row_of p → IsHeadTaken (Some p) r × HasFailedBy (take_result r) old.faults new.faults)
-    → IfErr r IsEnd → new.holds ≡ old.holds → MayHaveFailedBy (take_result r) old.faults new.faults → ReadsHeads (row ∷ []) old new → TakesHead rows i old new r
-takes_head law rows i row old new r at given end kept may reads = record {
+pub takes_head : {A : Type 0} → HeadsAreRead → (rows : List Row) (i : ℕ) (row : Row) (old new : SeenSource) (r : Result (Head A) TakeFault) → slice_get rows i ≡ Some row
+    → ((bytes : List ℕ) → old.holds ≡ Some bytes → (is : HasHeadOf row bytes) → IsHeadTaken (Some is.placed) r)
+    → IfErr r IsUntaken → ReadsHeads (row ∷ []) old new → FailsBy (HasHeadOf row) (take_result r) old new
+    → GivesHead rows i old new r
+takes_head law rows i row old new r at given end reads fails = record {
   taken = λ bytes held is.
       let (p, there, same) = placed is.are.records i row (sym (ap (λ l. slice_get l i) is.are.rows_are) ∙ at) in
       let has = (checkable_archive law bytes rows is rows refl).heads i p there in
-      subst (λ o. IsHeadTaken o r) (sym there) (given bytes p held has same).0;
-  failed = λ bytes held is.
-      let (p, there, same) = placed is.are.records i row (sym (ap (λ l. slice_get l i) is.are.rows_are) ∙ at) in
-      (given bytes p held ((checkable_archive law bytes rows is rows refl).heads i p there) same).1;
+      subst (λ o. IsHeadTaken o r) (sym there) (given bytes held (record { placed = p; has = has; row_is = same }));
   absent = (λ e. absurd (is_end r end e), λ none. let no : Some row ≡ None = sym at ∙ none in absurd (cc no));
-  kept = kept;
-  may = may;
   reads = subst (λ o. ReadsHeads (option_to_list o) old new) (sym at) reads;
+  fails = fails_more (λ bytes held is.
+      let (p, there, same) = placed is.are.records i row (sym (ap (λ l. slice_get l i) is.are.rows_are) ∙ at) in
+      record { placed = p; has = (checkable_archive law bytes rows is rows refl).heads i p there; row_is = same }) fails;
 }
 
 -- the rows that are left at a position

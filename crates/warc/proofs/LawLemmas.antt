@@ -7,7 +7,7 @@ use Rattle.warc_frame.specs.declared.fault.Fault.{Fault}
 use Rattle.warc_frame.proofs.LawLemmas.{no_fault_where_spelled, no_fault_where_spelled-or, faults_are_stable as frame_faults_are_stable, first_fault_is_unique as frame_fault_is_unique}
 use Rattle.warc_record.specs.Heads.{head_fault}
 use Rattle.warc_reading.specs.Archive.{IsFaultOf, contents}
-use Rattle.warc_frame.specs.Seen.{Tapped}
+use Rattle.warc_frame.specs.Seen.{SeenSource}
 use Rattle.warc_frame.specs.declared.fault.FaultKind.{FaultKind}
 use Rattle.warc_frame.specs.declared.fault.FaultKind.TheVariants.{Memory, Read}
 use Rattle.warc_reading.specs.Opening.{RefusesBy, faults_after}
@@ -46,7 +46,7 @@ pub records_are_the_same : ((rs ss : List Record) (text : List ℕ) → SpellsAl
 records_are_the_same only bytes rows others is other =
     only (contents is.are.records) (contents other.are.records) bytes (spells_all 0 is.are.records bytes is.are.spelled) (spells_all 0 other.are.records bytes other.are.spelled)
 
-refused_by : (kind : FaultKind) (bytes : List ℕ) (old new : Tapped) (f : Fault) → 0 ≡ faults_after kind 0 → RefusesBy kind bytes old new f → (kind ≡ Memory) ⊎ IsFaultOf bytes f
+refused_by : (kind : FaultKind) (bytes : List ℕ) (old new : SeenSource) (f : Fault) → 0 ≡ faults_after kind 0 → RefusesBy kind bytes old new f → (kind ≡ Memory) ⊎ IsFaultOf bytes f
 refused_by Read bytes old new f sound is = absurd (omega (arith, sound))
 refused_by Memory bytes old new f sound is = inl refl
 refused_by kind bytes old new f sound is = inr is

@@ -4,9 +4,11 @@ use Rattle.std.specs.Prelude.{IfErr, option_map}
 use Rattle.std.specs.Io.KnownBytes.{append_known}
 use Rattle.std.specs.List.{slice_get}
 use Rattle.std.specs.Option.{option_map_or}
-use Rattle.warc_frame.specs.Failing.{HasFailedBy, MayHaveFailedBy, failed_by}
+use Rattle.warc_frame.specs.Effects.{FailsBy}
+use Rattle.warc_frame.specs.Failing.{MayHaveFailedBy, failed_by}
+use Rattle.warc_frame.proofs.EffectLemmas.{fails_as, fails_more}
 use Rattle.warc_frame.specs.Record.{Record, max_archive}
-use Rattle.warc_frame.specs.Seen.{Seen, Tapped}
+use Rattle.warc_frame.specs.Seen.{Seen, SeenSource}
 use Rattle.warc_frame.specs.Send.{WentOut, sent_of}
 use Rattle.warc_frame.specs.declared.fault.OutFault.{OutFault}
 use Rattle.warc_frame.specs.declared.fault.OutFault.TheVariants as outs
@@ -39,7 +41,7 @@ use Rattle.warc_reading.specs.Indexed.{AreOf, placed_record}
 use Rattle.warc_reading.specs.Row.{Placed, Row}
 use Rattle.warc.specs.Bodies.{IsCaptureAt}
 use Rattle.warc.specs.Finding.{IsCaptureRow, IsFoundAt, IsOtherRow}
-use Rattle.warc.specs.Looking.{IsLook, IsReason, IsSent, Judges, Looks, Sends}
+use Rattle.warc.specs.Looking.{IsLook, IsReason, IsSent, Judges, Looks, SendsStored}
 use Rattle.warc.specs.Outcomes.{GivesStoredAt, CaptureSeen, IsOutcome, JudgesAt, StoredAnswer, judged_seen, origin_on}
 use Rattle.warc.specs.declared.bodies.Found.TheVariants.{Capture}
 use Rattle.warc.specs.declared.fault.BodyFault.TheVariants.{NoRecord, NoCapture, Replay}
@@ -86,18 +88,10 @@ look_failed A B bytes records i p joined (Reason why) there same is = stored_by 
 look_failed A B bytes records i p joined (Out e) there same is = tt
 
 -- a fault of the same kind, of another answer
-pub fault_failed : (X Y : Type 0) (fault : ReplayFault) (old new : ℕ) → HasFailedBy (out_result {X = X} (Err fault)) old new → HasFailedBy (out_result {X = Y} (Err fault)) old new
-fault_failed X Y (Reason why) old new is = is
-fault_failed X Y (Out e) old new is = is
-
-pub fault_may : (X Y : Type 0) (fault : ReplayFault) (old new : ℕ) → MayHaveFailedBy (out_result {X = X} (Err fault)) old new → MayHaveFailedBy (out_result {X = Y} (Err fault)) old new
-fault_may X Y (Reason why) old new is = is
-fault_may X Y (Out e) old new is = is
-
-pub out_failed : (X Y : Type 0) (e : OutFault) (old new : ℕ) → HasFailedBy {X = X} (Err e) old new → HasFailedBy {X = Y} (Err e) old new
-out_failed X Y (outs.Read n) old new is = is
-out_failed X Y (outs.Write n) old new is = is
-out_failed X Y (outs.Memory n) old new is = is
+pub fault_fails : (X Y : Type 0) (fault : ReplayFault) {Expected : List ℕ → Type 0} {old new : SeenSource}
+    → FailsBy Expected (out_result {X = X} (Err fault)) old new → FailsBy Expected (out_result {X = Y} (Err fault)) old new
+fault_fails X Y (Reason why) has = has
+fault_fails X Y (Out e) has = has
 
 pub out_may : (X Y : Type 0) (e : OutFault) (old new : ℕ) → MayHaveFailedBy {X = X} (Err e) old new → MayHaveFailedBy {X = Y} (Err e) old new
 out_may X Y (outs.Read n) old new is = is
@@ -123,20 +117,18 @@ ended_early Memory = refl
 -- ---- by a position
 
 module _ (rows : List Row) (index : Indexes) (parts : Parts) (position : ℕ) where
-  pub judges_no_record : {A : Type 0} → (s : Tapped) → slice_get rows position ≡ None → JudgesAt {A = A} rows index parts position s s (Err NoRecord)
+  pub judges_no_record : {A : Type 0} → (s : SeenSource) → slice_get rows position ≡ None → JudgesAt {A = A} rows index parts position s s (Err NoRecord)
   judges_no_record s none = record {
     told = λ bytes held is are. none_there bytes rows position is none;
-    failed = λ bytes held is are. refl;
-    kept = refl;
-    may = refl;
+    keeps = record { kept = refl; watched = refl };
+    fails = record { may = refl; failed = λ bytes held is. refl };
   }
 
-  pub judges_no_capture : {A : Type 0} → (s : Tapped) → IsOtherRow rows position → JudgesAt {A = A} rows index parts position s s (Err NoCapture)
+  pub judges_no_capture : {A : Type 0} → (s : SeenSource) → IsOtherRow rows position → JudgesAt {A = A} rows index parts position s s (Err NoCapture)
   judges_no_capture s has = record {
     told = λ bytes held is are. other_there bytes rows position is has;
-    failed = λ bytes held is are. refl;
-    kept = refl;
-    may = refl;
+    keeps = record { kept = refl; watched = refl };
+    fails = record { may = refl; failed = λ bytes held is. refl };
   }
 
   path_found : (path : Result Path Unfound) (bytes : List ℕ) (is : IsArchiveOf bytes rows) → AreOf is.are.records index parts
@@ -150,7 +142,7 @@ module _ (rows : List Row) (index : Indexes) (parts : Parts) (position : ℕ) wh
     stored = subst (λ (p : Result Path Unfound). IsStoredOn records p stored) (sym same) is;
   }
 
-  pub judges_no_path : {A : Type 0} → (s : Tapped) (unfound : Unfound) → IsFoundAt rows index parts position (Capture (Err unfound))
+  pub judges_no_path : {A : Type 0} → (s : SeenSource) (unfound : Unfound) → IsFoundAt rows index parts position (Capture (Err unfound))
       → let r : Outcome A = record { chosen = position; given = None; stored = Err (NotFound unfound) } in JudgesAt {A = A} rows index parts position s s (Ok r)
   judges_no_path s unfound found = record {
     told = λ bytes held is are. (
@@ -158,9 +150,8 @@ module _ (rows : List Row) (index : Indexes) (parts : Parts) (position : ℕ) wh
       refl,
       outcome_made None (Err (NotFound unfound)) (Err unfound) (contents is.are.records) (path_found (Err unfound) bytes is are found) refl refl,
     );
-    failed = λ bytes held is are. refl;
-    kept = refl;
-    may = refl;
+    keeps = record { kept = refl; watched = refl };
+    fails = record { may = refl; failed = λ bytes held is. refl };
   }
 
   inside_there : PathsEndInside → (path : Path) (bytes : List ℕ) (is : IsArchiveOf bytes rows) → AreOf is.are.records index parts
@@ -168,7 +159,7 @@ module _ (rows : List Row) (index : Indexes) (parts : Parts) (position : ℕ) wh
   inside_there inside path bytes is are found =
       (inside (contents is.are.records)).1 position (below_there bytes rows position is found.0) path (path_found (Ok path) bytes is are found)
 
-  pub judges_made : {A : Type 0} → PathsEndInside → (path : Path) (stored : Result (Stored A) Why) (old new : Tapped) → IsFoundAt rows index parts position (Capture (Ok path))
+  pub judges_made : {A : Type 0} → PathsEndInside → (path : Path) (stored : Result (Stored A) Why) (old new : SeenSource) → IsFoundAt rows index parts position (Capture (Ok path))
       → Judges rows parts path.given old new (Ok stored)
       → let r : Outcome A = record { chosen = position; given = Some path.given; stored = stored } in JudgesAt {A = A} rows index parts position old new (Ok r)
   judges_made inside path stored old new found by = record {
@@ -177,39 +168,35 @@ module _ (rows : List Row) (index : Indexes) (parts : Parts) (position : ℕ) wh
       refl,
       outcome_made (Some path.given) (judged_seen stored) (Ok path) (contents is.are.records) (path_found (Ok path) bytes is are found) refl (by.told bytes held is are.parts_are),
     );
-    failed = λ bytes held is are. by.failed bytes held is are.parts_are (inside_there inside path bytes is are found);
-    kept = by.kept;
-    may = by.may;
+    keeps = by.keeps;
+    fails = fails_more (λ bytes held (is, are). (is, are.parts_are, inside_there inside path bytes is are found)) (record { may = by.fails.may; failed = by.fails.failed });
   }
 
-  pub judges_failed : {A : Type 0} → PathsEndInside → (path : Path) (e : OutFault) (old new : Tapped) → IsFoundAt rows index parts position (Capture (Ok path))
+  pub judges_failed : {A : Type 0} → PathsEndInside → (path : Path) (e : OutFault) (old new : SeenSource) → IsFoundAt rows index parts position (Capture (Ok path))
       → Judges {A = A} rows parts path.given old new (Err e) → JudgesAt {A = A} rows index parts position old new (Err (Replay (Out e)))
-  judges_failed inside path e old new found by = record {
+  judges_failed {A} inside path e old new found by = record {
     told = λ bytes held is are. (capture_there bytes rows position is found.0, early_sent e by.early);
-    failed = λ bytes held is are. out_failed (Unit {0}) (Unit {0}) e _ _ (by.failed bytes held is are.parts_are (inside_there inside path bytes is are found));
-    kept = by.kept;
-    may = out_may (Unit {0}) (Unit {0}) e _ _ by.may;
+    keeps = by.keeps;
+    fails = fails_more (λ bytes held (is, are). (is, are.parts_are, inside_there inside path bytes is are found)) (fails_as (Result (Stored A) Why) (Unit {0}) by.fails);
   }
 
   -- ---- what is stored is written
 
-  pub gives_none : (s : Tapped) (o : Seen) → slice_get rows position ≡ None → GivesStoredAt rows index parts position s s o o (Err NoRecord)
+  pub gives_none : (s : SeenSource) (o : Seen) → slice_get rows position ≡ None → GivesStoredAt rows index parts position s s o o (Err NoRecord)
   gives_none s o none = record {
     told = λ bytes held is are. (none_there bytes rows position is none, refl);
-    failed = λ bytes held is are. refl;
     silent = refl;
-    kept = refl;
-    may = refl;
+    keeps = record { kept = refl; watched = refl };
+    fails = record { may = refl; failed = λ bytes held is. refl };
     cause = refl;
   }
 
-  pub gives_other : (s : Tapped) (o : Seen) → IsOtherRow rows position → GivesStoredAt rows index parts position s s o o (Err NoCapture)
+  pub gives_other : (s : SeenSource) (o : Seen) → IsOtherRow rows position → GivesStoredAt rows index parts position s s o o (Err NoCapture)
   gives_other s o has = record {
     told = λ bytes held is are. (other_there bytes rows position is has, refl);
-    failed = λ bytes held is are. refl;
     silent = refl;
-    kept = refl;
-    may = refl;
+    keeps = record { kept = refl; watched = refl };
+    fails = record { may = refl; failed = λ bytes held is. refl };
     cause = refl;
   }
 
@@ -217,7 +204,7 @@ module _ (rows : List Row) (index : Indexes) (parts : Parts) (position : ℕ) wh
       → IsStoredOn records path (Err why) → IsStoredOn records (path_at records position) (Err why)
   reason_there path why records same is = subst (λ (p : Result Path Unfound). IsStoredOn records p (Err why)) (sym same) is
 
-  pub gives_unfound : (s : Tapped) (o : Seen) (unfound : Unfound) → IsFoundAt rows index parts position (Capture (Err unfound))
+  pub gives_unfound : (s : SeenSource) (o : Seen) (unfound : Unfound) → IsFoundAt rows index parts position (Capture (Err unfound))
       → GivesStoredAt rows index parts position s s o o (Err (Replay (Reason (NotFound unfound))))
   gives_unfound s o unfound found = record {
     told = λ bytes held is are. (
@@ -225,29 +212,27 @@ module _ (rows : List Row) (index : Indexes) (parts : Parts) (position : ℕ) wh
       reason_there (Err unfound) (NotFound unfound) (contents is.are.records) (path_found (Err unfound) bytes is are found) refl,
       refl,
     );
-    failed = λ bytes held is are. refl;
     silent = refl;
-    kept = refl;
-    may = refl;
+    keeps = record { kept = refl; watched = refl };
+    fails = record { may = refl; failed = λ bytes held is. refl };
     cause = refl;
   }
 
-  pub gives_stored : {A : Type 0} → PathsEndInside → (path : Path) (stored : Stored A) (old new : Tapped) (before after : Seen) → IsFoundAt rows index parts position (Capture (Ok path))
-      → Sends rows parts path.given old new before after (Ok stored)
+  pub gives_stored : {A : Type 0} → PathsEndInside → (path : Path) (stored : Stored A) (old new : SeenSource) (before after : Seen) → IsFoundAt rows index parts position (Capture (Ok path))
+      → SendsStored rows parts path.given old new before after (Ok stored)
       → let r : StoredAnswer = record { path = path; stored = stored_seen stored } in GivesStoredAt rows index parts position old new before after (Ok r)
   gives_stored inside path stored old new before after found by = record {
     told = λ bytes held is are.
         let sent = by.told bytes held is are.parts_are in
         (capture_there bytes rows position is found.0, path_found (Ok path) bytes is are found, sent.0, sent.1);
-    failed = λ bytes held is are. by.failed bytes held is are.parts_are (inside_there inside path bytes is are found);
     silent = tt;
-    kept = by.kept;
-    may = by.may;
+    keeps = by.keeps;
+    fails = fails_more (λ bytes held (is, are). (is, are.parts_are, inside_there inside path bytes is are found)) (record { may = by.fails.may; failed = by.fails.failed });
     cause = by.cause;
   }
 
-  pub gives_failed : {A : Type 0} → PathsEndInside → (path : Path) (fault : ReplayFault) (old new : Tapped) (before after : Seen) → IsFoundAt rows index parts position (Capture (Ok path))
-      → Sends {A = A} rows parts path.given old new before after (Err fault) → GivesStoredAt rows index parts position old new before after (Err (Replay fault))
+  pub gives_failed : {A : Type 0} → PathsEndInside → (path : Path) (fault : ReplayFault) (old new : SeenSource) (before after : Seen) → IsFoundAt rows index parts position (Capture (Ok path))
+      → SendsStored {A = A} rows parts path.given old new before after (Err fault) → GivesStoredAt rows index parts position old new before after (Err (Replay fault))
   gives_failed inside path (Reason why) old new before after found by = record {
     told = λ bytes held is are.
         let sent = by.told bytes held is are.parts_are in (
@@ -255,10 +240,9 @@ module _ (rows : List Row) (index : Indexes) (parts : Parts) (position : ℕ) wh
           reason_there (Ok path) why (contents is.are.records) (path_found (Ok path) bytes is are found) sent.0,
           sent.1,
         );
-    failed = λ bytes held is are. by.failed bytes held is are.parts_are (inside_there inside path bytes is are found);
     silent = by.silent tt;
-    kept = by.kept;
-    may = by.may;
+    keeps = by.keeps;
+    fails = fails_more (λ bytes held (is, are). (is, are.parts_are, inside_there inside path bytes is are found)) (record { may = by.fails.may; failed = by.fails.failed });
     cause = by.cause;
   }
   gives_failed inside path (Out e) old new before after found by = record {
@@ -268,10 +252,9 @@ module _ (rows : List Row) (index : Indexes) (parts : Parts) (position : ℕ) wh
       path_found (Ok path) bytes is are found,
       by.told bytes held is are.parts_are,
     );
-    failed = λ bytes held is are. by.failed bytes held is are.parts_are (inside_there inside path bytes is are found);
     silent = tt;
-    kept = by.kept;
-    may = by.may;
+    keeps = by.keeps;
+    fails = fails_more (λ bytes held (is, are). (is, are.parts_are, inside_there inside path bytes is are found)) (record { may = by.fails.may; failed = by.fails.failed });
     cause = by.cause;
   }
 
@@ -286,9 +269,6 @@ pub front_sent : (A : Type 0) (records : List Record) (i : ℕ) (s : StoredBody)
     → text ≡ joined_text_at records i → WentOut old (drop s.head_len text) new (sent_of e) → IsSent {A = A} records i (Err (Out e)) old new
 front_sent A records i s e text old new is same went =
     inr (record { stored = s; is = is; front = subst (λ (t : List ℕ). WentOut old (drop s.head_len t) new (sent_of e)) same went })
-
-pub may_from : (e : OutFault) (old mid new : ℕ) → mid ≡ old → MayHaveFailedBy {X = Unit {0}} (Err e) mid new → MayHaveFailedBy {X = Unit {0}} (Err e) old new
-may_from e old mid new same may = subst (λ (n : ℕ). MayHaveFailedBy {X = Unit {0}} (Err e) n new) same may
 
 pub all_sent : {A : Type 0} (records : List Record) (i : ℕ) (s : Stored A) (text : List ℕ) (old new : Option (List ℕ)) → IsStoredAt records i (Ok (stored_seen s))
     → text ≡ joined_text_at records i → new ≡ append_known old (drop s.head_len text) → IsSent records i (Ok s) old new

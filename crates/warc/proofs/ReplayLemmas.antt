@@ -1,11 +1,12 @@
 -- What a replay gives over the bytes of an archive.
-use Rattle.std.proofs.Common.{◌≡◌, inl, inr, Bool, false, ℕ, zero, suc, ◌+◌, ◌-◌, ◌*◌, ◌<◌, ◌≤◌, List, [], ◌∷◌, length, map, Option, Some, None, Ok, Err, refl, sym, ap, subst, ◌∙◌, arith}
+use Rattle.std.proofs.Common.{◌≡◌, inl, inr, Bool, true, false, ℕ, zero, suc, ◌+◌, ◌-◌, ◌*◌, ◌<◌, ◌≤◌, List, [], ◌∷◌, length, map, Option, Some, None, Ok, Err, refl, sym, ap, subst, ◌∙◌, arith}
 use Rattle.std.specs.Prelude.{Result}
 use Rattle.std.specs.List.{slice_get}
 use Rattle.std.proofs.lemmas.List.Sums.{sum_by-cons}
 use Rattle.warc_value.specs.Dates.{Instant}
-use Rattle.warc_frame.specs.Failing.{HasFailedBy, MayHaveFailedBy}
-use Rattle.warc_frame.specs.Seen.{AsksOnly, Tapped}
+use Rattle.warc_frame.specs.Effects.{ReadsOnly}
+use Rattle.warc_frame.proofs.EffectLemmas.{reads_both, reads_none, reads_within}
+use Rattle.warc_frame.specs.Seen.{AsksOnly, Seen, SeenSource}
 use Rattle.warc_frame.specs.Send.{sent_of}
 use Rattle.warc_record.specs.Readings.{reading_of}
 use Rattle.std.proofs.lemmas.List.{length-append, length-map}
@@ -23,14 +24,17 @@ use Rattle.warc_segment.specs.declared.place.Place.{Place}
 use Rattle.warc_answer.specs.Answers.{index_of, path_at, path_for, path_from, path_of}
 use Rattle.warc_answer.specs.Laws.{EndsInside, IsFound, PlacesAreAsLong}
 use Rattle.warc_answer.specs.Payloads.{read_record}
-use Rattle.warc_answer.specs.Places.{IsInOne, len_of}
+use Rattle.warc_answer.specs.Origins.{body_reads}
+use Rattle.warc_answer.specs.Places.{IsInOne, ReadsPlaces, len_of}
+use Rattle.warc_answer.specs.Replays.{WritesLate}
+use Rattle.warc_answer.specs.declared.answer.ReplayFault.TheVariants.{Out}
 use Rattle.warc_answer.specs.declared.answer.Path.{Path}
 use Rattle.warc_reading.specs.Archive.{SpellsFrom, contents}
-use Rattle.warc_reading.specs.Rereading.{HasFailed, IsInHead, MayHaveFailed, ReadsHeads, ended_by, heads_len}
+use Rattle.warc_reading.specs.Rereading.{IsInHead, ReadsHeads, ended_by, heads_len}
 use Rattle.warc_reading.specs.Indexed.{indexed_record, place_of, placed_record}
-use Rattle.warc.specs.Replaying.{IsJoined, IsOfOrigin, IsOnPath, joined_len, origin_reads, path_reads}
+use Rattle.warc.specs.Replaying.{IsJoined, IsJoinedTo, IsOfOrigin, IsOnPath, joined_len, origin_joined, origin_reads, path_reads}
 use Rattle.warc_reading.specs.Row.{Placed, Row, row_of}
-use Rattle.warc.specs.Standing.{IsOrigin, IsWritten}
+use Rattle.warc.specs.Standing.{IsOrigin, IsPlacedIn}
 use Rattle.warc_reading.specs.declared.rereading.RereadFault.{RereadFault}
 use Rattle.warc_reading.specs.declared.rereading.RereadFault.TheVariants.{Read, Memory}
 use Rattle.warc_reading.proofs.ReadLemmas.{one_row}
@@ -41,11 +45,11 @@ abbrev pub read_all : List Placed → List ReadRecord
 read_all records = map read_record (contents records)
 
 -- the block of a record that stands in the bytes is at its place
-place_here : (bytes : List ℕ) (p : Placed) → IsWritten bytes p → IsPlaceOf bytes (place_of p) (read_record p.content)
+place_here : (bytes : List ℕ) (p : Placed) → IsPlacedIn bytes p → IsPlaceOf bytes (place_of p) (read_record p.content)
 place_here bytes p has = record { within = omega (arith, has.end, has.within); block = has.block; verdict = refl; truncated = refl }
 
 -- all records, by place and by block
-stored_by : (bytes : List ℕ) (records : List Placed) → ((i : ℕ) (p : Placed) → slice_get records i ≡ Some p → IsWritten bytes p)
+stored_by : (bytes : List ℕ) (records : List Placed) → ((i : ℕ) (p : Placed) → slice_get records i ≡ Some p → IsPlacedIn bytes p)
     → AreStored bytes (map placed_record records) (read_all records)
 stored_by bytes [] all = tt
 stored_by bytes (p ∷ ps) all = (refl, place_here bytes p (all 0 p refl), stored_by bytes ps (λ i q is. all (suc i) q is))
@@ -61,7 +65,7 @@ read_at (x ∷ xs) zero p is = let same : x ≡ p = cc is in ap (λ (q : Placed)
 read_at (x ∷ xs) (suc i) p is = read_at xs i p is
 
 module _ (bytes : List ℕ) (records : List Placed) (found : Result Path Unfound) (path : Path) (p : Placed) (is : IsOrigin bytes records found path p) where
-  there : IsWritten bytes p
+  there : IsPlacedIn bytes p
   there = written bytes records is.spelled path.given p is.stands
 
   joined_as : (q : PlacedRecord) → q.head ≡ reading_of p.content.fields → q.place ≡ place_of p → PlacesAreOfRecords
@@ -96,12 +100,22 @@ module _ (bytes : List ℕ) (records : List Placed) (found : Result Path Unfound
   places_are q places head place law same =
       by_places _ places (subst (λ x. ArePlacesJoined bytes x (joined_records (read_all records) (read_record p.content))) same (joined_as q head place law))
 
-  -- the places are as long as what is joined
-  pub reads_are : (places : List Place) (joined : List ReadRecord) (old new : ℕ) → PlacesAreAsLong → joined_records (read_all records) (read_record p.content) ≡ Ok joined
-      → ArePlacesOf bytes places joined → new ≤ old + 2 * len_of places → new ≤ old + 2 * joined_len (joined_records (read_all records) (read_record p.content))
-  reads_are places joined old new law same are bound =
-      let size : len_of places ≡ joined_len (joined_records (read_all records) (read_record p.content)) = law bytes places joined are ∙ ap joined_len (sym same) in
-      omega (arith, bound, size)
+  in_joined : (q : PlacedRecord) (items places : List Place) (at : ℕ) → q.head ≡ reading_of p.content.fields → q.place ≡ place_of p
+      → joined_places (map placed_record records) q ≡ Ok items → places ≡ items → IsInOne places at → IsJoinedTo records p at
+  in_joined q items places at head place is same in_ =
+      let by_head : ◌≡◌ {A = PlacedRecord} q (record { head = reading_of p.content.fields; place = q.place }) = ap (λ h. let x : PlacedRecord = record { head = h; place = q.place } in x) head in
+      let by_place : ◌≡◌ {A = PlacedRecord} (record { head = reading_of p.content.fields; place = q.place }) (placed_record p) = ap (λ y. let x : PlacedRecord = record { head = reading_of p.content.fields; place = y } in x) place in
+      let whole : joined_places (map placed_record records) (placed_record p) ≡ Ok items = ap (joined_places (map placed_record records)) (sym (by_head ∙ by_place)) ∙ is in
+      subst (λ r. IsJoined r at) (sym whole) (subst (λ (l : List Place). IsInOne l at) same in_)
+
+  -- what is read at the places is what is joined to the origin
+  pub reads_joined : (q : PlacedRecord) (items places : List Place) (joined : List ReadRecord) (most : ℕ) {old new : SeenSource}
+      → q.head ≡ reading_of p.content.fields → q.place ≡ place_of p → joined_places (map placed_record records) q ≡ Ok items → places ≡ items
+      → PlacesAreAsLong → joined_records (read_all records) (read_record p.content) ≡ Ok joined → ArePlacesOf bytes places joined
+      → most ≤ 2 * len_of places → ReadsPlaces places most old new → ReadsOnly (IsJoinedTo records p) (2 * origin_joined records p) old new
+  reads_joined q items places joined most {old} {new} head place from same law whole are within has =
+      let size : len_of places ≡ joined_len (joined_records (read_all records) (read_record p.content)) = law bytes places joined are ∙ ap joined_len (sym whole) in
+      reads_within (λ at in_. in_joined q items places at head place from same in_) (omega (arith, within, size)) has
 
 -- the place that a row says is the place of its record's block
 pub place_by_row : (p : Placed) (row : Row) → row ≡ row_of p → ◌≡◌ {A = Place} (record { start = row.block_start; len = row.block_len; verdict = row.verdict; truncated = row.is_truncated }) (place_of p)
@@ -112,19 +126,14 @@ pub ended_sent : (fault : RereadFault) → sent_of (ended_by fault 0) ≡ 0
 ended_sent Read = refl
 ended_sent Memory = refl
 
-pub ended_failed : (fault : RereadFault) (old new : ℕ) → HasFailed fault old new → HasFailedBy {X = Unit {0}} (Err (ended_by fault 0)) old new
-ended_failed Read old new is = is
-ended_failed Memory old new is = is
+-- nothing goes out before it
+pub ended_late : {X : Type 0} (fault : RereadFault) (o : Seen) → WritesLate {X = X} (Err (Out (ended_by fault 0))) o o
+ended_late {X} Read o = record { silent = tt; cause = refl }
+ended_late {X} Memory o = record { silent = (refl, refl); cause = refl }
 
-pub ended_may : (fault : RereadFault) (old new : ℕ) → MayHaveFailed fault old new → MayHaveFailedBy {X = Unit {0}} (Err (ended_by fault 0)) old new
-ended_may Read old new is = is
-ended_may Memory old new is = is
-
--- the reads of a head, and of what is joined
-pub row_reads : (p : Placed) (row : Row) (old mid new n : ℕ) → row ≡ row_of p → mid ≤ old + heads_len (row ∷ []) → new ≤ mid + 2 * n → new ≤ old + (p.block_start - p.offset + 2 * n)
-row_reads p row old mid new n same head rest =
-    let one : row.block_start - row.offset ≡ p.block_start - p.offset = ap (λ (r : Row). r.block_start - r.offset) same in
-    omega (arith, head, rest, one, sum_by-cons (λ (r : Row). r.block_start - r.offset) row [])
+pub body_within : (http : Bool) (places : List Place) → body_reads http places ≤ 2 * len_of places
+body_within true places = omega arith
+body_within false places = omega arith
 
 pub in_list : {X : Type 0} (xs : List X) (i : ℕ) (x : X) → slice_get xs i ≡ Some x → i < length xs
 in_list [] i x is = absurd (cc is)
@@ -161,45 +170,48 @@ row_missing records found path is inside none =
 pub join_gap : {A : Type 0} (r : Result (Vec Place A) JoinFault) (gap : Gap) (joined : Result (List Place) Gap) → r ≡ Err (IsGap gap) → IsJoin r joined → joined ≡ Err gap
 join_gap {A} r gap joined is join = let P : Result (Vec Place A) JoinFault → Type 0 = λ x. IsJoin x joined in subst P is join
 
--- the most reads, where there is an origin
-pub most_is : (records : List Placed) (found : Result Path Unfound) (path : Path) (p : Placed) → found ≡ Ok path → slice_get records path.given ≡ Some p
-    → path_reads records found ≡ origin_reads records (Some p)
-most_is records found path p is there = ap (path_reads records) is ∙ ap (origin_reads records) there
-
--- a source that watches none of these offsets has been asked for none that it watches
-abbrev Asks : (ℕ → Type 0) → (ℕ → Bool) → ℕ → ℕ → Type 0
-Asks These watches old new = ((at : ℕ) → These at → watches at ≡ false) → new ≡ old
-
--- the bytes at the joined places are those of the blocks that are joined to the origin
-pub near_joined : (records : List Placed) (p : Placed) (q : PlacedRecord) (places items : List Place) (watches : ℕ → Bool) (old new : ℕ) → q.head ≡ reading_of p.content.fields → q.place ≡ place_of p
-    → joined_places (map placed_record records) q ≡ Ok items → places ≡ items → Asks (IsInOne places) watches old new
-    → Asks (IsJoined (joined_places (map placed_record records) (placed_record p))) watches old new
-near_joined records p q places items watches old new head place is same near =
-    let by_head : ◌≡◌ {A = PlacedRecord} q (record { head = reading_of p.content.fields; place = q.place }) = ap (λ h. let x : PlacedRecord = record { head = h; place = q.place } in x) head in
-    let by_place : ◌≡◌ {A = PlacedRecord} (record { head = reading_of p.content.fields; place = q.place }) (placed_record p) = ap (λ y. let x : PlacedRecord = record { head = reading_of p.content.fields; place = y } in x) place in
-    let whole : joined_places (map placed_record records) (placed_record p) ≡ Ok items = ap (joined_places (map placed_record records)) (sym (by_head ∙ by_place)) ∙ is in
-    λ off. near (λ at in_. off at (subst (λ r. IsJoined r at) (sym whole) (subst (λ (l : List Place). IsInOne l at) same in_)))
-
 in_own_head : (p : Placed) (row : Row) (at : ℕ) → row ≡ row_of p → IsInHead (row ∷ []) at → (p.offset ≤ at) × (at < p.block_start)
 in_own_head p row at same in_ =
     let other = one_row row in_.row in_.place in_.is in
     (omega (arith, in_.from, ap (λ (r : Row). r.offset) (sym other ∙ same)), omega (arith, in_.to, ap (λ (r : Row). r.block_start) (sym other ∙ same)))
 
--- a head that isn't read again: no other byte was asked for
-pub near_head : (records : List Placed) (p : Placed) (row : Row) (old new : Tapped) → row ≡ row_of p → ReadsHeads (row ∷ []) old new → AsksOnly (IsOfOrigin records (Some p)) old new
-near_head records p row old new same head = λ off. head.near (λ at in_. off at (inl (in_own_head p row at same in_)))
+head_len_of : (p : Placed) (row : Row) → row ≡ row_of p → heads_len (row ∷ []) ≡ p.block_start - p.offset
+head_len_of p row same =
+    let one : row.block_start - row.offset ≡ p.block_start - p.offset = ap (λ (r : Row). r.block_start - r.offset) same in
+    omega (arith, one, sum_by-cons (λ (r : Row). r.block_start - r.offset) row [])
+
+-- the head of an origin, which is read again
+pub reads_of_head : (records : List Placed) (p : Placed) (row : Row) {old new : SeenSource} → row ≡ row_of p → ReadsHeads (row ∷ []) old new
+    → ReadsOnly (IsOfOrigin records (Some p)) (origin_reads records (Some p)) old new
+reads_of_head records p row {old} {new} same has =
+    reads_within (λ at in_. inl (in_own_head p row at same in_)) (omega (arith, head_len_of p row same)) has
 
 -- the head, and then the joined blocks
-pub near_origin : (records : List Placed) (p : Placed) (row : Row) (old mid : Tapped) (new : ℕ) → row ≡ row_of p → ReadsHeads (row ∷ []) old mid
-    → Asks (IsJoined (joined_places (map placed_record records) (placed_record p))) mid.watches mid.strays new → Asks (IsOfOrigin records (Some p)) old.watches old.strays new
-near_origin records p row old mid new same head joined =
-    λ off. joined (λ at in_. ap (λ (w : ℕ → Bool). w at) head.watched ∙ off at (inr in_)) ∙ near_head records p row old mid same head off
+pub reads_of_origin : (records : List Placed) (p : Placed) (row : Row) {old mid new : SeenSource} → row ≡ row_of p → ReadsHeads (row ∷ []) old mid
+    → ReadsOnly (IsJoinedTo records p) (2 * origin_joined records p) mid new
+    → ReadsOnly (IsOfOrigin records (Some p)) (origin_reads records (Some p)) old new
+reads_of_origin records p row {old} {mid} {new} same head joined =
+    let first : ReadsOnly (IsOfOrigin records (Some p)) (heads_len (row ∷ [])) old mid =
+    reads_within (λ at in_. inl (in_own_head p row at same in_)) (omega arith) head in
+    let second : ReadsOnly (IsOfOrigin records (Some p)) (2 * origin_joined records p) mid new =
+    reads_within (λ at in_. inr in_) (omega arith) joined in
+    reads_within (λ at in_. in_) (omega (arith, head_len_of p row same)) (reads_both first second)
 
--- what is read for the origin is wanted
-pub near_path : (records : List Placed) (found : Result Path Unfound) (path : Path) (p : Placed) (watches : ℕ → Bool) (old new : ℕ) → found ≡ Ok path
-    → slice_get records path.given ≡ Some p → Asks (IsOfOrigin records (Some p)) watches old new → Asks (IsOnPath records found) watches old new
-near_path records found path p watches old new is there near =
-    λ off. near (λ at in_. off at (subst (λ r. IsOnPath records r at) (sym is) (subst (λ o. IsOfOrigin records o at) (sym there) in_)))
+-- what is read for the origin is read on the path
+pub reads_on_path : (records : List Placed) (found : Result Path Unfound) (path : Path) (p : Placed) {old new : SeenSource} → found ≡ Ok path
+    → slice_get records path.given ≡ Some p → ReadsOnly (IsOfOrigin records (Some p)) (origin_reads records (Some p)) old new
+    → ReadsOnly (IsOnPath records found) (path_reads records found) old new
+reads_on_path records found path p {old} {new} is there has =
+    let whole : path_reads records found ≡ origin_reads records (Some p) = ap (path_reads records) is ∙ ap (origin_reads records) there in
+    reads_within (λ at in_. subst (λ r. IsOnPath records r at) (sym is) (subst (λ o. IsOfOrigin records o at) (sym there) in_)) (omega (arith, whole)) has
+
+-- nothing is read
+pub reads_nothing : {These : ℕ → Type 0} {most : ℕ} {s : SeenSource} → ReadsOnly These most s s
+reads_nothing {These} {most} {s} = reads_within (λ at in_. in_) (omega arith) reads_none
+
+-- a source that watches none of these offsets has been asked for none that it watches
+abbrev Asks : (ℕ → Type 0) → (ℕ → Bool) → ℕ → ℕ → Type 0
+Asks These watches old new = ((at : ℕ) → These at → watches at ≡ false) → new ≡ old
 
 -- ---- what a source is asked for, whatever it gives
 
@@ -246,11 +258,11 @@ module _ (bytes : List ℕ) (records : List Placed) (found : Result Path Unfound
       λ off. near (λ at in_. off at (in_all (length bytes) at items all (subst (λ (l : List Place). IsInOne l at) same in_)))
 
   -- and so does its head
-  pub head_inside : (row : Row) (old new : Tapped) → row ≡ row_of p → ReadsHeads (row ∷ []) old new → AsksOnly (λ at. at < length bytes) old new
+  pub head_inside : (row : Row) (old new : SeenSource) → row ≡ row_of p → ReadsHeads (row ∷ []) old new → AsksOnly (λ at. at < length bytes) old new
   head_inside row old new same head =
       let has = written bytes records is.spelled path.given p is.stands in
       λ off. head.near (λ at in_. off at (omega (arith, has.end, has.within, (in_own_head p row at same in_).1)))
 
 -- the head, and then what is joined
-pub asks_both : (These : ℕ → Type 0) (old mid : Tapped) (new : ℕ) → mid.watches ≡ old.watches → AsksOnly These old mid → Asks These mid.watches mid.strays new → Asks These old.watches old.strays new
+pub asks_both : (These : ℕ → Type 0) (old mid : SeenSource) (new : ℕ) → mid.watches ≡ old.watches → AsksOnly These old mid → Asks These mid.watches mid.watched_reads new → Asks These old.watches old.watched_reads new
 asks_both These old mid new watched first then = λ off. then (λ at in_. ap (λ (w : ℕ → Bool). w at) watched ∙ off at in_) ∙ first off

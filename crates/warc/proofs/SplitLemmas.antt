@@ -7,9 +7,9 @@ use Rattle.std.specs.List.{range_with_len}
 use Rattle.sha1.specs.Sha1.{sha1}
 use Rattle.warc_field.specs.Area.{Pair, canonical_fields}
 use Rattle.warc_field.specs.Lines.{crlf}
-use Rattle.warc_frame.specs.Ranges.{HasFilled}
+use Rattle.warc_frame.specs.Effects.{ReadsRange}
 use Rattle.warc_frame.specs.Record.{Record, head_text}
-use Rattle.warc_frame.specs.Seen.{Tapped}
+use Rattle.warc_frame.specs.Seen.{SeenSource}
 use Rattle.warc_frame.specs.Spelling.{canonical}
 use Rattle.warc_write.specs.Cutting.{HasParts, part_with, records_by, split_or_whole}
 use Rattle.warc_write.specs.Rendering.{canonical_texts}
@@ -20,12 +20,15 @@ use Rattle.warc_frame.specs.declared.version.Version.{Version}
 use Rattle.warc_value.specs.Digests.{is_bad}
 use Rattle.warc_reading.specs.Row.{Placed, Row, row_of}
 use Rattle.warc.specs.Copied.{IsCopy, IsTextWith}
-use Rattle.warc.specs.Forms.{IsInBlock, ReadsOnly, split_text}
+use Rattle.warc_frame.specs.Effects.{ReadsOnly}
+use Rattle.warc_frame.specs.Seen.{IsInRange}
+use Rattle.warc.specs.Forms.{split_text}
 use Rattle.warc.specs.Segments.{AreSegmentTexts, IsCutOf, IsSegmentText}
 use Rattle.warc.specs.declared.copying.Copied.{Copied}
 use Rattle.warc.specs.declared.segments.Cut.{Cut}
 use Rattle.warc_reading.specs.Rereading.{IsHeadReadOf}
-use Rattle.warc.proofs.EmitLemmas.{Begins, InTurn, reads_both, reads_within}
+use Rattle.warc.proofs.EmitLemmas.{Begins, InTurn}
+use Rattle.warc_frame.proofs.EffectLemmas.{reads_both, reads_within}
 use Rattle.warc.proofs.WholeLemmas.{copy_of}
 
 -- ---- a segment
@@ -169,18 +172,17 @@ whole_of_row {A} copy size row head bytes text version fields start len by (is, 
 -- ---- what is read for them
 
 -- a piece of a block
-pub reads_piece : (start len gone n most : ℕ) {old new : Tapped} → gone + n ≤ len → n ≤ most → ReadsOnly (IsInBlock (start + gone) n) n old new
-    → ReadsOnly (IsInBlock start len) most old new
+pub reads_piece : (start len gone n most : ℕ) {old new : SeenSource} → gone + n ≤ len → n ≤ most → ReadsOnly (IsInRange (start + gone) n) n old new
+    → ReadsOnly (IsInRange start len) most old new
 reads_piece start len gone n most {old} {new} within le has =
     reads_within (λ at in_. (omega (arith, in_.0), omega (arith, in_.1, within))) le has
 
 -- one more piece of a range
-pub reads_more : (at done n m : ℕ) {old mid new : Tapped} → m ≡ n → ReadsOnly (IsInBlock at done) done old mid → HasFilled (at + done) m mid new
-    → ReadsOnly (IsInBlock at (done + n)) (done + n) old new
+pub reads_more : (at done n m : ℕ) {old mid new : SeenSource} → m ≡ n → ReadsRange at done old mid
+    → ReadsRange (at + done) m mid new → ReadsRange at (done + n) old new
 reads_more at done n m {old} {mid} {new} same first has =
-    let front : ReadsOnly (IsInBlock at (done + n)) done old mid = reads_within (λ q in_. (in_.0, omega (arith, in_.1))) (omega arith) first in
-    reads_both front (record {
-      near = λ off. has.near (λ q in_. off q (omega (arith, in_.0), omega (arith, in_.1, same)));
-      bound = omega (arith, has.bound, same);
-      watched = has.watched;
-    })
+    let front : ReadsOnly (IsInRange at (done + n)) done old mid =
+    reads_within (λ q in_. (in_.0, omega (arith, in_.1))) (omega arith) first in
+    let last : ReadsOnly (IsInRange at (done + n)) n mid new =
+    reads_within (λ q in_. (omega (arith, in_.0), omega (arith, in_.1, same))) (omega (arith, same)) has in
+    reads_both front last

@@ -7,7 +7,7 @@ use Rattle.warc_frame.specs.Record.{head_text}
 use Rattle.warc_frame.specs.Spelling.{Spells}
 use Rattle.warc_reading.specs.Archive.{SpellsFrom}
 use Rattle.warc_reading.specs.Row.{Placed}
-use Rattle.warc.specs.Standing.{IsWritten}
+use Rattle.warc.specs.Standing.{IsPlacedIn}
 
 front_len : (head block : List ℕ) → length (head ++ block ++ crlf ++ crlf) ≡ length head + length block + 4
 front_len head block = simp length-append (omega arith)
@@ -23,7 +23,7 @@ block_behind before head block rest start e =
     ∙ take-append_seam block (crlf ++ crlf ++ rest)))
 
 written_here : (q : ℕ) (p : Placed) (before front rest : List ℕ) → q ≡ length before → Spells p.content front → p.offset ≡ q → p.block_start + length p.content.block + 4 ≡ q + length front
-    → IsWritten (before ++ (front ++ rest)) p
+    → IsPlacedIn (before ++ (front ++ rest)) p
 written_here q p before front rest q_is one here start =
     let head = head_text p.content.version one.area in
     let block = p.content.block in
@@ -41,18 +41,18 @@ written_here q p before front rest q_is one here start =
     }
 
 written_from : (q : ℕ) (before : List ℕ) (records : List Placed) (text : List ℕ) → q ≡ length before → SpellsFrom q records text → (i : ℕ) (p : Placed) → slice_get records i ≡ Some p
-    → IsWritten (before ++ text) p
+    → IsPlacedIn (before ++ text) p
 written_from q before [] text q_is spelled i p is = absurd (cc is)
 written_from q before (r ∷ rs) text q_is (front, rest, one, at, start, text_is, more) zero p is =
     let same : r ≡ p = cc is in
-    let P : List ℕ → Type 0 = λ t. IsWritten (before ++ t) p in
-    let Q : Placed → Type 0 = λ s. IsWritten (before ++ (front ++ rest)) s in
+    let P : List ℕ → Type 0 = λ t. IsPlacedIn (before ++ t) p in
+    let Q : Placed → Type 0 = λ s. IsPlacedIn (before ++ (front ++ rest)) s in
     subst P (sym text_is) (subst Q same (written_here q r before front rest q_is one at start))
 written_from q before (r ∷ rs) text q_is (front, rest, one, at, start, text_is, more) (suc i) p is =
     let size : q + length front ≡ length (before ++ front) = sym (length-append before front ∙ ap (λ n. n + length front) (sym q_is)) in
     let whole : (before ++ front) ++ rest ≡ before ++ text = append_assoc before front rest ∙ ap (λ t. before ++ t) (sym text_is) in
-    let P : List ℕ → Type 0 = λ t. IsWritten t p in
+    let P : List ℕ → Type 0 = λ t. IsPlacedIn t p in
     subst P whole (written_from (q + length front) (before ++ front) rs rest size more i p is)
 
-pub written : (bytes : List ℕ) (records : List Placed) → SpellsFrom 0 records bytes → (i : ℕ) (p : Placed) → slice_get records i ≡ Some p → IsWritten bytes p
+pub written : (bytes : List ℕ) (records : List Placed) → SpellsFrom 0 records bytes → (i : ℕ) (p : Placed) → slice_get records i ≡ Some p → IsPlacedIn bytes p
 written bytes records spelled i p is = written_from 0 [] records bytes refl spelled i p is

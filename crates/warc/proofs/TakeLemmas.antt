@@ -2,24 +2,25 @@
 use Rattle.std.proofs.Common.{◌≡◌, ◌≢◌, ℕ, zero, suc, ◌+◌, ◌<◌, ◌≤◌, ◌^◌, inl, List, [], ◌∷◌, length, map, take, drop, Option, Some, None, Result, Ok, Err, IfOk, IfErr, MatchResult, refl, sym, ap, subst, ◌∙◌, arith}
 use Rattle.std.specs.List.{slice_get}
 use Rattle.warc_frame.specs.Failing.{HasFailedBy, MayHaveFailedBy}
-use Rattle.warc_frame.specs.Ranges.{HasFilled}
+use Rattle.warc_frame.specs.Effects.{FailsBy, ReadsRange}
+use Rattle.warc_frame.proofs.EffectLemmas.{fails_more, reads_none, reads_within}
 use Rattle.warc_frame.specs.Reading.{OrMemory}
 use Rattle.warc_frame.specs.Record.{Record, max_archive}
-use Rattle.warc_frame.specs.Seen.{Tapped}
+use Rattle.warc_frame.specs.Seen.{SeenSource}
 use Rattle.warc_frame.specs.Spelling.{Spells}
 use Rattle.warc_frame.specs.declared.fault.Fault.{Fault}
 use Rattle.warc_frame.specs.declared.fault.FaultKind.{FaultKind}
 use Rattle.warc_frame.specs.declared.fault.FaultKind.TheVariants.{Memory as NoMemory}
 use Rattle.warc_reading.specs.Row.{Placed, Row, row_of}
-use Rattle.warc.specs.Standing.{IsEnd, IsWritten}
-use Rattle.warc.specs.Taking.{IsSpelledIn, IsTaken, ReadsRecord, Takes, record_len, take_result}
+use Rattle.warc.specs.Standing.{HasRecordOf, IsUntaken, IsPlacedIn}
+use Rattle.warc.specs.Taking.{IsSpelledIn, IsTaken, ReadsRecord, GivesRecord, record_len, take_result}
 use Rattle.warc.specs.declared.fault.TakeFault.{TakeFault}
 use Rattle.warc.specs.declared.fault.TakeFault.TheVariants.{NoRecord, Read, Memory}
 use Rattle.warc_reading.proofs.PlacedLemmas.{placed}
 use Rattle.warc.proofs.StandLemmas.{written}
 
 -- the text that is read where the row says spells the record
-pub spells_there : (bytes text : List ℕ) (p : Placed) (row : Row) (len : ℕ) → IsWritten bytes p → row ≡ row_of p → row.offset + len ≡ row.block_start + row.block_len + 4
+pub spells_there : (bytes text : List ℕ) (p : Placed) (row : Row) (len : ℕ) → IsPlacedIn bytes p → row ≡ row_of p → row.offset + len ≡ row.block_start + row.block_len + 4
     → text ≡ take len (drop row.offset bytes) → Spells p.content text
 spells_there bytes text p row len has same end text_is =
     let at : row.offset ≡ p.offset = ap (λ (r : Row). r.offset) same in
@@ -35,21 +36,18 @@ memory_told NoMemory offset P never is = refl
 memory_told kind offset P never is = absurd (never is)
 
 -- where it stands, and that it ends before offset 2^64
-pub end_by_row : (bytes : List ℕ) (p : Placed) (row : Row) (has : IsWritten bytes p) → row ≡ row_of p → row.offset + has.len ≡ row.block_start + row.block_len + 4
+pub end_by_row : (bytes : List ℕ) (p : Placed) (row : Row) (has : IsPlacedIn bytes p) → row ≡ row_of p → row.offset + has.len ≡ row.block_start + row.block_len + 4
 end_by_row bytes p row has same = omega (arith, ap (λ (r : Row). r.offset) same, ap (λ (r : Row). r.block_start) same, ap (λ (r : Row). r.block_len) same, has.end)
 
-pub end_below : (bytes : List ℕ) (p : Placed) (row : Row) (has : IsWritten bytes p) → row ≡ row_of p → length bytes ≤ max_archive → row.offset + has.len < 2 ^ 64
+pub end_below : (bytes : List ℕ) (p : Placed) (row : Row) (has : IsPlacedIn bytes p) → row ≡ row_of p → length bytes ≤ max_archive → row.offset + has.len < 2 ^ 64
 end_below bytes p row has same short = omega (arith, ap (λ (r : Row). r.offset) same, has.within, short)
 
 -- what reading it asks of the source
-pub reads_record : (row : Row) (len : ℕ) (old new : Tapped) → row.offset + len ≡ row.block_start + row.block_len + 4 → HasFilled row.offset len old new → ReadsRecord (Some row) old new
-reads_record row len old new end has = record {
-  near = λ off. has.near (λ q in_. off q (in_.0, omega (arith, in_.1, end)));
-  bound = omega (arith, has.bound, end);
-  watched = has.watched;
-}
+pub reads_record : (row : Row) (len : ℕ) (old new : SeenSource) → row.offset + len ≡ row.block_start + row.block_len + 4 → ReadsRange row.offset len old new → ReadsRecord (Some row) old new
+reads_record row len old new end has =
+    reads_within (λ q in_. (in_.0, omega (arith, in_.1, end))) (omega (arith, end)) has
 
-pub taken_by : (r : Result Record TakeFault) (p : Placed) → IfOk r (λ x. x ≡ p.content) → IfErr r IsEnd → IsTaken (Some p) r
+pub taken_by : (r : Result Record TakeFault) (p : Placed) → IfOk r (λ x. x ≡ p.content) → IfErr r IsUntaken → IsTaken (Some p) r
 taken_by (Ok x) p is end = (p, refl, is)
 taken_by (Err NoRecord) p is end = absurd end
 taken_by (Err Read) p is end = refl
@@ -66,7 +64,7 @@ failed_by_none (Err NoRecord) wanted old new is same = same
 failed_by_none (Err Read) wanted old new is same = cc is
 failed_by_none (Err Memory) wanted old new is same = same
 
-pub may_take : (r : Result Record TakeFault) (old new : ℕ) → IfErr r IsEnd → new ≡ old → MayHaveFailedBy (take_result r) old new
+pub may_take : (r : Result Record TakeFault) (old new : ℕ) → IfErr r IsUntaken → new ≡ old → MayHaveFailedBy (take_result r) old new
 may_take (Ok x) old new is same = same
 may_take (Err NoRecord) old new is same = same
 may_take (Err Read) old new is same = inl same
@@ -78,18 +76,16 @@ absent [] i is = refl
 absent (x ∷ xs) zero is = absurd (cc is)
 absent (x ∷ xs) (suc i) is = absent xs i is
 
-pub takes_none : (rows : List Row) (i : ℕ) (s : Tapped) → slice_get rows i ≡ None → Takes rows i s s (Err NoRecord)
+pub takes_none : (rows : List Row) (i : ℕ) (s : SeenSource) → slice_get rows i ≡ None → GivesRecord rows i s s (Err NoRecord)
 takes_none rows i s none = record {
   taken = λ bytes held is. absent is.are.records i (ap (λ l. slice_get l i) (sym is.are.rows_are) ∙ none);
-  failed = λ bytes held is. refl;
   whole = tt;
   absent = (λ is. none, λ is. refl);
-  kept = refl;
-  may = refl;
-  reads = record { near = λ off. refl; bound = omega arith; watched = refl };
+  reads = reads_within (λ at in_. in_) (omega arith) reads_none;
+  fails = record { may = refl; failed = λ bytes held is. refl };
 }
 
-is_end : (r : Result Record TakeFault) → IfErr r IsEnd → r ≢ Err NoRecord
+is_end : (r : Result Record TakeFault) → IfErr r IsUntaken → r ≢ Err NoRecord
 is_end (Ok x) is e = cc e
 is_end (Err NoRecord) is e = is
 is_end (Err Read) is e = cc e
@@ -99,21 +95,21 @@ taken_at : (o : Option Placed) (p : Placed) (r : Result Record TakeFault) → o 
 taken_at o p r is taken = subst (λ x. IsTaken x r) (sym is) taken
 
 -- what giving the record of a row promises
-pub takes_row : (rows : List Row) (i : ℕ) (row : Row) (old new : Tapped) (r : Result Record TakeFault) → slice_get rows i ≡ Some row
-    → ((bytes : List ℕ) (p : Placed) → old.holds ≡ Some bytes → length bytes ≤ max_archive → IsWritten bytes p → row ≡ row_of p → IsTaken (Some p) r × HasFailedBy (take_result r) old.faults new.faults)
-    → IfErr r IsEnd → IfOk r (IsSpelledIn (record_len (Some row))) → new.holds ≡ old.holds → MayHaveFailedBy (take_result r) old.faults new.faults → ReadsRecord (Some row) old new → Takes rows i old new r
-takes_row rows i row old new r at given end whole kept may reads = record {
+pub takes_row : (rows : List Row) (i : ℕ) (row : Row) (old new : SeenSource) (r : Result Record TakeFault) → slice_get rows i ≡ Some row
+    → ((bytes : List ℕ) → old.holds ≡ Some bytes → (is : HasRecordOf row bytes) → IsTaken (Some is.placed) r)
+    → IfErr r IsUntaken → IfOk r (IsSpelledIn (record_len (Some row))) → ReadsRecord (Some row) old new
+    → FailsBy (HasRecordOf row) (take_result r) old new → GivesRecord rows i old new r
+takes_row rows i row old new r at given end whole reads fails = record {
   taken = λ bytes held is.
       let (p, there, same) = placed is.are.records i row (sym (ap (λ l. slice_get l i) is.are.rows_are) ∙ at) in
-      taken_at (slice_get is.are.records i) p r there (given bytes p held is.short (written bytes is.are.records is.are.spelled i p there) same).0;
-  failed = λ bytes held is.
-      let (p, there, same) = placed is.are.records i row (sym (ap (λ l. slice_get l i) is.are.rows_are) ∙ at) in
-      (given bytes p held is.short (written bytes is.are.records is.are.spelled i p there) same).1;
+      taken_at (slice_get is.are.records i) p r there
+      (given bytes held (record { placed = p; short = is.short; written = written bytes is.are.records is.are.spelled i p there; row_is = same }));
   whole = subst (λ o. IfOk r (IsSpelledIn (record_len o))) (sym at) whole;
   absent = (λ e. absurd (is_end r end e), λ none. let no : Some row ≡ None = sym at ∙ none in absurd (cc no));
-  kept = kept;
-  may = may;
   reads = subst (λ o. ReadsRecord o old new) (sym at) reads;
+  fails = fails_more (λ bytes held is.
+      let (p, there, same) = placed is.are.records i row (sym (ap (λ l. slice_get l i) is.are.rows_are) ∙ at) in
+      record { placed = p; short = is.short; written = written bytes is.are.records is.are.spelled i p there; row_is = same }) fails;
 }
 
 -- what was found is this

@@ -1,12 +1,12 @@
 -- The records that bytes spell stand among them whole, and the texts that are written of them.
-use Rattle.std.proofs.Common.{◌≡◌, ℕ, ◌+◌, ◌-◌, ◌^◌, ◌<◌, ◌≤◌, List, [], ◌∷◌, ◌++◌, length, map, take, drop, None, Some, append_assoc, length-append, refl, sym, ap, subst, ◌∙◌, arith}
+use Rattle.std.proofs.Common.{◌≡◌, ℕ, ◌+◌, ◌-◌, ◌^◌, ◌<◌, ◌≤◌, List, [], ◌∷◌, ◌++◌, length, map, take, drop, None, Some, Result, append_assoc, length-append, refl, sym, ap, subst, ◌∙◌, arith}
 use Rattle.std.proofs.Math.Seq.{drop-append_seam, take-append_seam}
 use Rattle.std.proofs.lemmas.List.{append-nil, take-append-drop}
 use Rattle.std.proofs.lemmas.List.Sums.{sum_by-cons, sum_by-take-le, sum_by_push}
 use Rattle.std.specs.List.{AllByRecursion, flat_map, slice_get, sum_by}
 use Rattle.warc_field.specs.Area.{Pair, canonical_fields}
 use Rattle.warc_field.specs.Lines.{crlf}
-use Rattle.warc_frame.specs.Copying.{HasRange}
+use Rattle.warc_frame.specs.Effects.{HasRange}
 use Rattle.warc_frame.specs.Faults.{AllAccepted}
 use Rattle.warc_frame.specs.Record.{Record, head_text}
 use Rattle.warc_frame.specs.Spelling.{Spells, canonical}
@@ -16,14 +16,18 @@ use Rattle.warc_record.specs.Heads.{head_fault}
 use Rattle.warc_write.specs.Conversion.{converted, converted_fields}
 use Rattle.warc_reading.specs.Archive.{IsArchiveOf, SpellsFrom, contents}
 use Rattle.warc.specs.Copied.{AreTextsOf, HasWhole, IsCopiedOf, IsCopy, IsTextOf}
-use Rattle.warc.specs.Forms.{IsInBlock, IsInRecord, IsInRow, ReadsOnly, text_as}
+use Rattle.warc_frame.specs.Effects.{ReadsOnly, Sends}
+use Rattle.warc_frame.specs.Seen.{IsInRange, Seen}
+use Rattle.warc_frame.specs.declared.fault.OutFault.{OutFault}
+use Rattle.warc.specs.Forms.{IsInAnyRow, IsInRow, IsOutputOf, text_as}
 use Rattle.warc_reading.specs.Rereading.{ReadsHeads}
-use Rattle.warc_frame.specs.Seen.{Tapped}
+use Rattle.warc_frame.specs.Seen.{SeenSource}
 use Rattle.warc_reading.specs.Row.{Placed, Row, row_of}
 use Rattle.warc.specs.declared.copying.Copied.{Copied}
 use Rattle.warc.specs.declared.copying.Form.{Form}
 use Rattle.warc.specs.declared.copying.Form.TheVariants.{Canonical, Converted}
-use Rattle.warc.proofs.EmitLemmas.{Begins, InTurn, reads_both, reads_within}
+use Rattle.warc.proofs.EmitLemmas.{Begins, InTurn}
+use Rattle.warc_frame.proofs.EffectLemmas.{fails_more, reads_both, reads_within}
 use Rattle.warc_reading.proofs.GoodLemmas.{accepted}
 use Rattle.warc_reading.proofs.PlaceLemmas.{HeadsAreRead, head_here}
 use Rattle.warc_reading.proofs.ReadLemmas.{one_row}
@@ -77,6 +81,20 @@ texts_of_archive law text_of bytes rows seen is same = record {
   rows_are = same ∙ is.are.rows_are;
   is = refl;
 }
+
+-- what is sent as the texts of rows is the output of an archive of these rows
+pub output_texts : HeadsAreRead → (text_of : Record → List ℕ) (rows seen : List Row) {old new : SeenSource} {before after : Seen}
+    {answer : Result (Unit {0}) OutFault} → rows ≡ seen → Sends (AreTextsOf text_of rows) old new before after answer
+    → Sends (IsOutputOf text_of seen) old new before after answer
+output_texts law text_of rows seen {old} {new} {before} {after} {answer} same sends =
+    let are : (bytes text : List ℕ) → IsOutputOf text_of seen bytes text → AreTextsOf text_of rows bytes text =
+    λ bytes text it. subst (λ t. AreTextsOf text_of rows bytes t) (sym it.text_is) (texts_of_archive law text_of bytes rows seen it.is same) in
+    record {
+      out = λ bytes text held it. sends.out bytes text held (are bytes text it);
+      cut = λ bytes text held it. sends.cut bytes text held (are bytes text it);
+      cause = sends.cause;
+      fails = fails_more (λ bytes held it. (it.0, are bytes it.0 it.1)) sends.fails;
+    }
 
 -- ---- the texts of rows, one behind another
 
@@ -214,31 +232,31 @@ converted_copy {A} form p row c form_is row_is version fields start len = record
 -- ---- what is read for it
 
 -- a head of a row
-pub reads_head_of : (row : Row) {old new : Tapped} → ReadsHeads (row ∷ []) old new → ReadsOnly (IsInRow row) (row.block_start - row.offset) old new
-reads_head_of row {old} {new} has = record {
-  near = λ off. has.near (λ at in_.
-      let same = one_row row in_.row in_.place in_.is in
-      off at (omega (arith, in_.from, ap (λ (r : Row). r.offset) same), omega (arith, in_.to, ap (λ (r : Row). r.block_start) same)));
-  bound = omega (arith, has.bound, sum_by-cons (λ (r : Row). r.block_start - r.offset) row []);
-  watched = has.watched;
-}
+pub reads_head_of : (row : Row) {old new : SeenSource} → ReadsHeads (row ∷ []) old new
+    → ReadsOnly (IsInRow row) (row.block_start - row.offset) old new
+reads_head_of row {old} {new} has =
+    reads_within
+    (λ at in_.
+    let same = one_row row in_.row in_.place in_.is in
+    (omega (arith, in_.from, ap (λ (r : Row). r.offset) same), omega (arith, in_.to, ap (λ (r : Row). r.block_start) same)))
+    (omega (arith, sum_by-cons (λ (r : Row). r.block_start - r.offset) row [])) has
 
 -- the block of a row's record
-pub reads_block_of : (row : Row) (most : ℕ) {old new : Tapped} → row.offset ≤ row.block_start
-    → ReadsOnly (IsInBlock row.block_start row.block_len) most old new → ReadsOnly (IsInRow row) most old new
+pub reads_block_of : (row : Row) (most : ℕ) {old new : SeenSource} → row.offset ≤ row.block_start
+    → ReadsOnly (IsInRange row.block_start row.block_len) most old new → ReadsOnly (IsInRow row) most old new
 reads_block_of row most {old} {new} order reads = reads_within (λ at in_. (omega (arith, in_.0, order), in_.1)) (omega arith) reads
 
 -- the records of the first rows, and of one more
-pub reads_row : (len_of : Row → ℕ) (rows : List Row) (i : ℕ) (row : Row) {old mid new : Tapped} → slice_get rows i ≡ Some row
-    → ReadsOnly (IsInRecord rows) (sum_by len_of (take i rows)) old mid → ReadsOnly (IsInRow row) (len_of row) mid new
-    → ReadsOnly (IsInRecord rows) (sum_by len_of (take (i + 1) rows)) old new
+pub reads_row : (len_of : Row → ℕ) (rows : List Row) (i : ℕ) (row : Row) {old mid new : SeenSource} → slice_get rows i ≡ Some row
+    → ReadsOnly (IsInAnyRow rows) (sum_by len_of (take i rows)) old mid → ReadsOnly (IsInRow row) (len_of row) mid new
+    → ReadsOnly (IsInAnyRow rows) (sum_by len_of (take (i + 1) rows)) old new
 reads_row len_of rows i row {old} {mid} {new} is first one =
     let whole : sum_by len_of (take (i + 1) rows) ≡ sum_by len_of (take i rows) + len_of row =
     ap (sum_by len_of) (take_one rows i row is) ∙ sum_by_push len_of (take i rows) row in
-    let last : ReadsOnly (IsInRecord rows) (len_of row) mid new =
+    let last : ReadsOnly (IsInAnyRow rows) (len_of row) mid new =
     reads_within (λ at in_. record { place = i; row = row; is = is; inside = in_ }) (omega arith) one in
     reads_within (λ at in_. in_) (omega (arith, whole)) (reads_both first last)
 
-pub reads_rows : (len_of : Row → ℕ) (rows : List Row) (n : ℕ) {old new : Tapped} → ReadsOnly (IsInRecord rows) (sum_by len_of (take n rows)) old new
-    → ReadsOnly (IsInRecord rows) (sum_by len_of rows) old new
+pub reads_rows : (len_of : Row → ℕ) (rows : List Row) (n : ℕ) {old new : SeenSource} → ReadsOnly (IsInAnyRow rows) (sum_by len_of (take n rows)) old new
+    → ReadsOnly (IsInAnyRow rows) (sum_by len_of rows) old new
 reads_rows len_of rows n {old} {new} reads = reads_within (λ at in_. in_) (sum_by-take-le len_of rows n) reads

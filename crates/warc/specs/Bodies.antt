@@ -1,8 +1,9 @@
 -- What the record at a position gives, and what it reads of the source. This project's own notion.
 use Rattle.std.specs.Prelude.{◌≡◌, ℕ, ◌+◌, ◌<◌, ◌≤◌, List, codes, length, slice_get, Option, Some, None, Result, Ok, Err, IsTrue, IsFalse}
-use Rattle.warc_frame.specs.Failing.{HasFailedBy, MayHaveFailedBy, failed_by}
+use Rattle.warc_frame.specs.Effects.{FailsBy, Preserves, ReadsOnly}
+use Rattle.warc_frame.specs.Failing.{failed_by}
 use Rattle.warc_frame.specs.Record.{Record}
-use Rattle.warc_frame.specs.Seen.{AsksOnly, IfHeld, Seen, Tapped}
+use Rattle.warc_frame.specs.Seen.{AsksOnly, IfHeld, Seen, SeenSource}
 use Rattle.warc_frame.specs.declared.fault.OutFault.{OutFault}
 use Rattle.warc_record.specs.Readings.{kind_of}
 use Rattle.warc_index.specs.Captures.{is_capture}
@@ -15,7 +16,7 @@ use Rattle.warc_answer.specs.declared.answer.Answer.{Answer}
 use Rattle.warc_reading.specs.Archive.{IsArchiveOf, contents}
 use Rattle.warc_reading.specs.Indexed.{AreOf}
 use Rattle.warc_reading.specs.Row.{Row}
-use Rattle.warc.specs.Replaying.{IsOnPath, path_reads}
+use Rattle.warc.specs.Replaying.{IsIndexedBy, IsOnPath, path_reads}
 use Rattle.warc.specs.declared.fault.BodyFault.{BodyFault}
 use Rattle.warc.specs.declared.fault.BodyFault.TheVariants.{NoRecord, NoCapture, Replay}
 
@@ -63,23 +64,17 @@ IsSilentAt (Err NoCapture) old new = new ≡ old
 IsSilentAt (Err (Replay fault)) old new = IsSilent {X = Answer} (Err fault) old new
 
 -- The body of the capture at a position, by rows, an index and parts. Where the archive's source holds its bytes, what
--- goes out and what is answered are as the definition says of its records, in no more reads than the length of the
--- origin's head and twice that of its joined block, of these alone, and the source has failed once more exactly where a
--- read is told. Any source is asked for no byte behind the archive's, and still holds and watches what it did
-pub record GivesBodyAt (rows : List Row) (index : Indexes) (parts : Parts) (position : ℕ) (old new : Tapped)
+-- goes out and what is answered are as the definition says of its records, and the origin's head and the joined blocks
+-- alone are read, in at most `path_reads` reads. Any source is asked for no byte behind the archive's
+pub record GivesBodyAt (rows : List Row) (index : Indexes) (parts : Parts) (position : ℕ) (old new : SeenSource)
     (before after : Seen) (answer : Result Answer BodyFault) : Type 0 where
   pub told : IfHeld old.holds (λ bytes. (is : IsArchiveOf bytes rows) → AreOf is.are.records index parts
       → IsBodyAt (contents is.are.records) position answer before.tells after.tells)
-  pub failed : IfHeld old.holds (λ bytes. (is : IsArchiveOf bytes rows) → AreOf is.are.records index parts
-      → HasFailedBy (body_result answer) old.faults new.faults)
-  pub cost : IfHeld old.holds (λ bytes. (is : IsArchiveOf bytes rows) → AreOf is.are.records index parts
-      → new.reads ≤ old.reads + path_reads is.are.records (path_at (contents is.are.records) position))
-  pub near : IfHeld old.holds (λ bytes. (is : IsArchiveOf bytes rows) → AreOf is.are.records index parts
-      → AsksOnly (IsOnPath is.are.records (path_at (contents is.are.records) position)) old new)
-  pub inside : (bytes : List ℕ) (is : IsArchiveOf bytes rows) → AreOf is.are.records index parts
-      → AsksOnly (λ at. at < length bytes) old new
+  pub reads : IfHeld old.holds (λ bytes. (is : IsArchiveOf bytes rows) → AreOf is.are.records index parts
+      → ReadsOnly (IsOnPath is.are.records (path_at (contents is.are.records) position))
+      (path_reads is.are.records (path_at (contents is.are.records) position)) old new)
+  pub inside : (bytes : List ℕ) → IsIndexedBy rows index parts bytes → AsksOnly (λ at. at < length bytes) old new
+  pub keeps : Preserves old new
   pub silent : IsSilentAt answer before.tells after.tells
-  pub kept : new.holds ≡ old.holds
-  pub watched : new.watches ≡ old.watches
-  pub may : MayHaveFailedBy (body_result answer) old.faults new.faults
+  pub fails : FailsBy (IsIndexedBy rows index parts) (body_result answer) old new
   pub cause : after.faults ≡ failed_by (body_result answer) before.faults

@@ -3,7 +3,7 @@ use Rattle.std.specs.Prelude.{◌≡◌, ◌⊎◌, ℕ, ◌+◌, ◌≤◌, Lis
 use Rattle.std.specs.List.{AllByRecursion}
 use Rattle.warc_frame.specs.Failing.{MayHaveFailedBy}
 use Rattle.warc_frame.specs.Record.{Record}
-use Rattle.warc_frame.specs.Seen.{IfHeld, Tapped}
+use Rattle.warc_frame.specs.Seen.{IfHeld, SeenSource}
 use Rattle.warc_frame.specs.declared.fault.OutFault.{OutFault}
 use Rattle.std.specs.declared.vec.Vec.{Vec}
 use Rattle.warc_index.specs.Orders.{Indexes}
@@ -31,7 +31,7 @@ outcomes_seen outcomes = map outcome_seen outcomes.items
 -- What is answered of the captures at positions, by rows, an index and parts. Where the archive's source holds its
 -- bytes, these are the outcomes of its records. A fault comes before anything is written
 pub record JudgesAll {A B : Type 0} (rows : List Row) (index : Indexes) (parts : Parts) (positions : List ℕ)
-    (old new : Tapped) (answer : Result (Vec (Outcome A) B) OutFault) : Type 0 where
+    (old new : SeenSource) (answer : Result (Vec (Outcome A) B) OutFault) : Type 0 where
   pub told : IfHeld old.holds (λ bytes. (is : IsArchiveOf bytes rows) → AreOf is.are.records index parts
       → IfOk answer (λ outcomes. AreOutcomes (contents is.are.records) positions (outcomes_seen outcomes)))
   pub early : IfErr answer (λ e. IsEarly (Out e))
@@ -53,7 +53,8 @@ Recalls {A} records slots outcomes = (origin : ℕ) (o : Outcome A) → IsRecall
     → IsStoredAt records origin (judged_seen o.stored)
 
 pub record JudgesOne {A : Type 0} (rows : List Row) (parts : Parts) (origin : ℕ) (slots : List ℕ)
-    (outcomes : List (Outcome A)) (old new : Tapped) (answer : Result (Result (Stored A) Why) OutFault) : Type 0 where
+    (outcomes : List (Outcome A)) (old new : SeenSource) (answer : Result (Result (Stored A) Why) OutFault)
+    : Type 0 where
   pub told : IfHeld old.holds (λ bytes. (is : IsArchiveOf bytes rows) → ArePartsOf is.are.records parts
       → Recalls (contents is.are.records) slots outcomes
       → IfOk answer (λ judged. IsStoredAt (contents is.are.records) origin (judged_seen judged)))
@@ -62,7 +63,7 @@ pub record JudgesOne {A : Type 0} (rows : List Row) (parts : Parts) (origin : �
   pub may : MayHaveFailedBy answer old.faults new.faults
 
 pub record JudgesNext {A : Type 0} (rows : List Row) (index : Indexes) (parts : Parts) (position : ℕ) (slots : List ℕ)
-    (outcomes : List (Outcome A)) (old new : Tapped) (answer : Result (Outcome A) OutFault) : Type 0 where
+    (outcomes : List (Outcome A)) (old new : SeenSource) (answer : Result (Outcome A) OutFault) : Type 0 where
   pub told : IfHeld old.holds (λ bytes. (is : IsArchiveOf bytes rows) → AreOf is.are.records index parts
       → Recalls (contents is.are.records) slots outcomes
       → IfOk answer (λ o. IsOutcome (contents is.are.records) (outcome_seen o)))

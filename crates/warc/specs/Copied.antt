@@ -3,7 +3,7 @@ use Rattle.std.specs.Prelude.{◌≡◌, ℕ, List, ◌++◌, length, map, take,
 use Rattle.std.specs.List.{AllByRecursion, flat_map}
 use Rattle.warc_field.specs.Area.{canonical_fields}
 use Rattle.warc_field.specs.Lines.{crlf}
-use Rattle.warc_frame.specs.Copying.{HasRange}
+use Rattle.warc_frame.specs.Effects.{HasRange}
 use Rattle.warc_frame.specs.Record.{Record, head_text}
 use Rattle.warc_frame.specs.declared.reading.Head.{Head}
 use Rattle.warc_reading.specs.Archive.{contents}
@@ -11,8 +11,8 @@ use Rattle.warc_reading.specs.Rereading.{HasHead, IsHeadReadOf}
 use Rattle.warc.specs.Forms.{read_len, split_len, split_text, text_as}
 use Rattle.warc_reading.specs.Row.{Placed, Row, row_of}
 use Rattle.warc.specs.declared.copying.Copied.{Copied}
-use Rattle.warc.specs.declared.anew.Manner.{Manner}
-use Rattle.warc.specs.declared.anew.Manner.TheVariants.{As, Split}
+use Rattle.warc.specs.declared.rewriting.Replacement.{Replacement}
+use Rattle.warc.specs.declared.rewriting.Replacement.TheVariants.{As, Split}
 
 -- the text of a record whose block is copied, where the bytes have the block
 pub record IsCopy {A : Type 0} (c : Copied A) (bytes text : List ℕ) : Type 0 where
@@ -50,11 +50,11 @@ pub record AreTextsOf (text_of : Record → List ℕ) (rows : List Row) (bytes t
 abbrev pub IsTextWith : {A : Type 0} → (Record → List ℕ) → Row → Head A → List ℕ → List ℕ → Type 0
 IsTextWith text_of row head bytes text = (is : IsTextOf text_of row bytes text) × IsHeadReadOf is.placed.content head
 
--- what is written of a record in a manner, and how many bytes are read for it
-abbrev pub text_by : Manner → Record → List ℕ
+-- what replaces a record, and how many bytes are read for it
+abbrev pub text_by : Replacement → Record → List ℕ
 text_by (As form) = text_as form
 text_by (Split size) = split_text size
 
-abbrev pub len_by : Manner → Row → ℕ
+abbrev pub len_by : Replacement → Row → ℕ
 len_by (As form) = read_len form
 len_by (Split size) = split_len

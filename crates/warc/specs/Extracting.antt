@@ -1,8 +1,9 @@
 -- What extracting a block answers, what goes out, and what is read of the source. That the first record with an id
 -- counts, whatever its kind, is this project's own notion.
 use Rattle.std.specs.Prelude.{◌≡◌, ℕ, List, [], map, slice_get, Option, option_and_then, option_map, Result, Err}
-use Rattle.warc_frame.specs.Failing.{HasFailedBy, MayHaveFailedBy, failed_by}
-use Rattle.warc_frame.specs.Seen.{IfHeld, Seen, Tapped}
+use Rattle.warc_frame.specs.Effects.{FailsBy}
+use Rattle.warc_frame.specs.Failing.{failed_by}
+use Rattle.warc_frame.specs.Seen.{IfHeld, Seen, SeenSource}
 use Rattle.warc_record.specs.Ids.{id_key}
 use Rattle.warc_index.specs.Referents.{first_with}
 use Rattle.warc_reading.specs.Indexed.{Archived, IsIndexed, indexed_record}
@@ -24,19 +25,16 @@ extracted all id = option_and_then (slice_get all) (position_with all id)
 abbrev pub IsExtract : Option Placed → Result ℕ ExtractFault → Option (List ℕ) → Option (List ℕ) → Type 0
 IsExtract found answer old new = IsGiven (option_map (λ p. part_text Block [] p) found) answer old new
 
--- extracting from an archive. Where its source holds the archive's bytes, the block of the first record with the id
--- goes out, that block alone is read, and the source has failed once more exactly where a read is told. Any source
--- still holds what it held, and of it at most one block is read; where there is no record nothing goes out
-pub record Extracts {S : Type 0} (archive : Archived S) (id : List ℕ) (old new : Tapped) (before after : Seen)
+-- Extracting from an archive. Where its source holds the archive's bytes, the block of the first record with the id
+-- goes out, and that block alone is read. Of any source at most one block is read; where there is no record nothing
+-- goes out
+pub record Extracts {S : Type 0} (archive : Archived S) (id : List ℕ) (old new : SeenSource) (before after : Seen)
     (answer : Result ℕ ExtractFault) : Type 0 where
   pub told : IfHeld old.holds (λ bytes. (is : IsIndexed bytes archive)
       → IsExtract (extracted is.listed.are.records id) answer before.tells after.tells)
   pub reads : IfHeld old.holds (λ bytes. (is : IsIndexed bytes archive)
       → ReadsPart Block (option_map row_of (extracted is.listed.are.records id)) old new)
-  pub failed : IfHeld old.holds (λ bytes. IsIndexed bytes archive
-      → HasFailedBy (extract_result answer) old.faults new.faults)
   pub silent : answer ≡ Err NoRecord → after.tells ≡ before.tells
-  pub kept : new.holds ≡ old.holds
   pub near : (place : ℕ) × ReadsPart Block (slice_get archive.listing.rows place) old new
-  pub may : MayHaveFailedBy (extract_result answer) old.faults new.faults
+  pub fails : FailsBy (λ bytes. IsIndexed bytes archive) (extract_result answer) old new
   pub cause : after.faults ≡ failed_by (extract_result answer) before.faults

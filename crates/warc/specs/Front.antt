@@ -2,7 +2,7 @@
 use Rattle.std.specs.Prelude.{◌≡◌, ℕ, ◌+◌, ◌^◌, ◌<◌, ◌≤◌, List, ◌++◌, length, take, Option, Some, None, Result, Ok, Err, IfErr, IfOk, OnOk}
 use Rattle.std.specs.Io.KnownBytes.{append_known}
 use Rattle.warc_frame.specs.Failing.{HasFailedBy, MayHaveFailedBy, failed_by}
-use Rattle.warc_frame.specs.Seen.{AsksOnly, IfHeld, Seen, Tapped}
+use Rattle.warc_frame.specs.Seen.{AsksOnly, IfHeld, Seen, SeenSource}
 use Rattle.warc_frame.specs.Send.{WentOut, sent_of}
 use Rattle.warc_frame.specs.declared.fault.Fault.{Fault}
 use Rattle.warc_frame.specs.declared.fault.OutFault.{OutFault}
@@ -28,19 +28,19 @@ pub record Fronted (S : Type 0) : Type 0 where
 
 -- Opening the good front of a source. The fault is the one by which opening the whole refuses it, and where the source
 -- holds bytes, the rows are those of the longest list of good records that they begin with.
-pub record OpensFront {S : Type 0} (old new : Tapped) (front : Fronted S) : Type 0 where
+pub record OpensFront {S : Type 0} (old new : SeenSource) (front : Fronted S) : Type 0 where
   pub opens : Opens IsArchiveOf old new (refused_by front.fault front.listing.rows)
   pub rows_are : IfHeld old.holds (λ bytes. AreRowsOfFront bytes front.fault front.listing.rows)
 
 -- a fact about the bytes of an archive of these rows, with which those begin that a source holds, fewer than 2^64
-abbrev pub IfBegun : Tapped → List Row → (List ℕ → Type 0) → Type 0
+abbrev pub IfBegun : SeenSource → List Row → (List ℕ → Type 0) → Type 0
 IfBegun source rows P = (text more : List ℕ) → source.holds ≡ Some (text ++ more) → length (text ++ more) < 2 ^ 64
     → IsArchiveOf text rows → P text
 
 -- Writing the bytes of the good records at the front of a source. Where it holds them, they go out and are counted, or
 -- a front of them does, the source has failed once more exactly where a read is told, and no other byte is asked for.
 -- Any source still holds what it held.
-pub record CopiesFront (rows : List Row) (old new : Tapped) (before after : Seen) (answer : Result ℕ OutFault)
+pub record CopiesFront (rows : List Row) (old new : SeenSource) (before after : Seen) (answer : Result ℕ OutFault)
     : Type 0 where
   pub told : IfBegun old rows (λ text.
       OnOk answer (after.tells ≡ append_known before.tells text) × IfOk answer (λ n. n ≡ length text))

@@ -1,8 +1,8 @@
 -- What giving a head again answers, and what it reads of the source. This project's own notion.
 use Rattle.std.specs.Prelude.{◌≡◌, ◌↔◌, ℕ, ◌+◌, List, length, slice_get, Option, Some, None, IsSome, Result, Ok, Err}
 use Rattle.std.specs.Option.{option_to_list}
-use Rattle.warc_frame.specs.Failing.{HasFailedBy, MayHaveFailedBy}
-use Rattle.warc_frame.specs.Seen.{IfHeld, Tapped}
+use Rattle.warc_frame.specs.Effects.{FailsBy}
+use Rattle.warc_frame.specs.Seen.{IfHeld, SeenSource}
 use Rattle.warc_frame.specs.declared.reading.Head.{Head}
 use Rattle.warc_reading.specs.Rereading.{ReadsHeads}
 use Rattle.warc_reading.specs.Archive.{IsArchiveOf}
@@ -26,17 +26,13 @@ IsHeadTaken found (Err NoRecord) = found ≡ None
 IsHeadTaken found (Err Read) = IsSome found
 IsHeadTaken found (Err Memory) = IsSome found
 
--- giving the head of the record at a position of an archive of these rows. Where its source holds the archive's bytes
--- it is that of the records that they spell, and the source has failed once more exactly where a failed read is
--- reported. Any source still holds what it held, is asked for no byte outside the head, and read at most once for each
--- of its bytes; that there is no record is reported exactly where there is no row, and then nothing is read
-pub record TakesHead {A : Type 0} (rows : List Row) (position : ℕ) (old new : Tapped)
+-- Giving the head of the record at a position of an archive of these rows. Where its source holds the archive's bytes
+-- it is that of the records that they spell. Of any source the head alone is read. That there is no record is reported
+-- exactly where there is no row, and then nothing is read
+pub record GivesHead {A : Type 0} (rows : List Row) (position : ℕ) (old new : SeenSource)
     (answer : Result (Head A) TakeFault) : Type 0 where
   pub taken : IfHeld old.holds (λ bytes. (is : IsArchiveOf bytes rows)
       → IsHeadTaken (slice_get is.are.records position) answer)
-  pub failed : IfHeld old.holds (λ bytes. IsArchiveOf bytes rows
-      → HasFailedBy (take_result answer) old.faults new.faults)
   pub absent : (answer ≡ Err NoRecord) ↔ (slice_get rows position ≡ None)
-  pub kept : new.holds ≡ old.holds
-  pub may : MayHaveFailedBy (take_result answer) old.faults new.faults
   pub reads : ReadsHeads (option_to_list (slice_get rows position)) old new
+  pub fails : FailsBy (λ bytes. IsArchiveOf bytes rows) (take_result answer) old new

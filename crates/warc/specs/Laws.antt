@@ -4,7 +4,7 @@ use Rattle.warc_value.specs.Dates.{Instant}
 use Rattle.warc_frame.specs.Record.{Record, max_archive}
 use Rattle.warc_frame.specs.Spelling.{SpellsAll}
 use Rattle.warc_frame.specs.declared.fault.Fault.{Fault}
-use Rattle.warc_frame.specs.Seen.{Tapped}
+use Rattle.warc_frame.specs.Seen.{SeenSource}
 use Rattle.warc_frame.specs.declared.fault.FaultKind.TheVariants.{Memory, Truncated}
 use Rattle.warc_answer.specs.Answers.{Given, IsAnswer}
 use Rattle.warc_answer.specs.Replays.{IsReplay}
@@ -42,7 +42,7 @@ RecordsAreTheSame = (bytes : List ℕ) (rows others : List Row) (is : IsArchiveO
 
 -- a source that holds its bytes and never fails is refused for want of memory, or for the first fault of its bytes
 abbrev pub RefusedForFault : Type 0
-RefusedForFault = (bytes : List ℕ) (old new : Tapped) (f : Fault) → old.holds ≡ Some bytes → old.faults ≡ 0
+RefusedForFault = (bytes : List ℕ) (old new : SeenSource) (f : Fault) → old.holds ≡ Some bytes → old.faults ≡ 0
     → new.faults ≡ 0 → new.faults ≡ faults_after f.kind old.faults → IsRefusalOf bytes old new f
     → (f.kind ≡ Memory) ⊎ IsFaultOf bytes f
 

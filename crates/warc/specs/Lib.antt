@@ -2,7 +2,6 @@ pub mod Bodies
 pub mod Bounds
 pub mod Capturing
 pub mod Captures
-pub mod Emitting
 pub mod Fixity
 pub mod Forms
 pub mod Copied

@@ -1,9 +1,9 @@
 -- Where the body of a replay lies in the source, and what finding it reads. This project's own notion.
-use Rattle.std.specs.Prelude.{◌≡◌, ℕ, ◌+◌, ◌≤◌, List, slice_get, None, Result, Ok, Err}
+use Rattle.std.specs.Prelude.{◌≡◌, ℕ, List, slice_get, None, Result, Ok, Err}
 use Rattle.warc_value.specs.Dates.{Instant}
-use Rattle.warc_frame.specs.Failing.{HasFailedBy, MayHaveFailedBy}
+use Rattle.warc_frame.specs.Effects.{FailsBy, Preserves, ReadsOnly}
 use Rattle.warc_frame.specs.Record.{Record}
-use Rattle.warc_frame.specs.Seen.{AsksOnly, IfHeld, Tapped}
+use Rattle.warc_frame.specs.Seen.{IfHeld, SeenSource}
 use Rattle.warc_frame.specs.declared.fault.OutFault.{OutFault}
 use Rattle.warc_index.specs.Orders.{Indexes}
 use Rattle.warc_index.specs.declared.unfound.Unfound.{Unfound}
@@ -17,38 +17,27 @@ use Rattle.warc_reading.specs.Archive.{IsArchiveOf, contents}
 use Rattle.warc_reading.specs.Indexed.{AreOf}
 use Rattle.warc_reading.specs.Row.{Placed, Row}
 use Rattle.warc.specs.Bodies.{IsCaptureAt, IsOtherAt}
-use Rattle.warc.specs.Replaying.{IsOnPath, path_reads}
+use Rattle.warc.specs.Replaying.{IsIndexedBy, IsOnPath, path_reads}
 use Rattle.warc.specs.declared.fault.BodyFault.{BodyFault}
 use Rattle.warc.specs.declared.fault.BodyFault.TheVariants.{NoRecord, NoCapture, Replay}
 
--- In at most `most` reads, of these bytes alone. The source has failed once more exactly where a read is reported.
-pub record ReadsAtMost (most : ℕ) (These : ℕ → Type 0) (result : Result (Unit {0}) OutFault) (old new : Tapped)
-    : Type 0 where
-  pub failed : HasFailedBy result old.faults new.faults
-  pub cost : new.reads ≤ old.reads + most
-  pub near : AsksOnly These old new
-
--- any source still holds what it held, and has failed at most once more
-pub record KeepsSource (result : Result (Unit {0}) OutFault) (old new : Tapped) : Type 0 where
-  pub kept : new.holds ≡ old.holds
-  pub may : MayHaveFailedBy result old.faults new.faults
-
 -- what is located of records on a path, over bytes that the source holds
-pub record Locates (bytes : List ℕ) (records : List Placed) (found : Result Path Unfound) (old new : Tapped)
+pub record Locates (bytes : List ℕ) (records : List Placed) (found : Result Path Unfound) (old new : SeenSource)
     (answer : Result Location ReplayFault) : Type 0 where
   pub located : IsLocatedOn bytes (contents records) found answer
-  pub reads : ReadsAtMost (path_reads records found) (IsOnPath records found) (out_result answer) old new
+  pub reads : ReadsOnly (IsOnPath records found) (path_reads records found) old new
 
 -- A body located on a way from records to a path, by rows, an index and parts: where the archive's source holds its
 -- bytes, the body that a replay on that way gives.
 pub record LocatesOn (rows : List Row) (index : Indexes) (parts : Parts) (way : List Record → Result Path Unfound)
-    (old new : Tapped) (answer : Result Location ReplayFault) : Type 0 where
+    (old new : SeenSource) (answer : Result Location ReplayFault) : Type 0 where
   pub held : IfHeld old.holds (λ bytes. (is : IsArchiveOf bytes rows) → AreOf is.are.records index parts
       → Locates bytes is.are.records (way (contents is.are.records)) old new answer)
-  pub keeps : KeepsSource (out_result answer) old new
+  pub keeps : Preserves old new
+  pub fails : FailsBy (IsIndexedBy rows index parts) (out_result answer) old new
 
 -- the body that a replay gives for a URI as of a moment
-abbrev pub LocatesFor : List Row → Indexes → Parts → List ℕ → Instant → Tapped → Tapped
+abbrev pub LocatesFor : List Row → Indexes → Parts → List ℕ → Instant → SeenSource → SeenSource
     → Result Location ReplayFault → Type 0
 LocatesFor rows index parts uri moment = LocatesOn rows index parts (λ records. path_for records uri moment)
 
@@ -68,12 +57,13 @@ location_result (Err NoRecord) = Ok tt
 location_result (Err NoCapture) = Ok tt
 location_result (Err (Replay fault)) = out_result {X = Location} (Err fault)
 
--- The body of the capture at a position, located by rows, an index and parts.
-pub record LocatesAt (rows : List Row) (index : Indexes) (parts : Parts) (position : ℕ) (old new : Tapped)
+-- the body of the capture at a position, located by rows, an index and parts
+pub record LocatesAt (rows : List Row) (index : Indexes) (parts : Parts) (position : ℕ) (old new : SeenSource)
     (answer : Result Location BodyFault) : Type 0 where
   pub located : IfHeld old.holds (λ bytes. (is : IsArchiveOf bytes rows) → AreOf is.are.records index parts
       → IsLocatedAt bytes (contents is.are.records) position answer)
   pub reads : IfHeld old.holds (λ bytes. (is : IsArchiveOf bytes rows) → AreOf is.are.records index parts
-      → ReadsAtMost (path_reads is.are.records (path_at (contents is.are.records) position))
-      (IsOnPath is.are.records (path_at (contents is.are.records) position)) (location_result answer) old new)
-  pub keeps : KeepsSource (location_result answer) old new
+      → ReadsOnly (IsOnPath is.are.records (path_at (contents is.are.records) position))
+      (path_reads is.are.records (path_at (contents is.are.records) position)) old new)
+  pub keeps : Preserves old new
+  pub fails : FailsBy (IsIndexedBy rows index parts) (location_result answer) old new

@@ -1,9 +1,10 @@
 -- What is stored of an origin, and where. States of the code: no public clause cites them.
 use Rattle.std.specs.Prelude.{◌≡◌, ℕ, ◌<◌, List, length, map, Option, Result, Ok, Err, IfErr, IfOk, ⊤}
 use Rattle.std.specs.Io.KnownBytes.{append_known}
-use Rattle.warc_frame.specs.Failing.{HasFailedBy, MayHaveFailedBy, failed_by}
+use Rattle.warc_frame.specs.Effects.{FailsBy, Preserves}
+use Rattle.warc_frame.specs.Failing.{failed_by}
 use Rattle.warc_frame.specs.Record.{Record}
-use Rattle.warc_frame.specs.Seen.{IfHeld, Seen, Tapped}
+use Rattle.warc_frame.specs.Seen.{IfHeld, Seen, SeenSource}
 use Rattle.warc_frame.specs.Send.{sent_of}
 use Rattle.warc_frame.specs.declared.fault.OutFault.{OutFault}
 use Rattle.warc_segment.specs.Kept.{Kept as Parts, kept_in}
@@ -34,16 +35,19 @@ IsLook bytes records position (Err (Out e)) = ⊤
 abbrev pub ArePartsOf : List Placed → Parts → Type 0
 ArePartsOf records parts = parts ≡ kept_in (map placed_record records)
 
+-- the rows and the parts are those of an archive of these bytes, and the position is that of a record
+abbrev pub IsRecordAt : List Row → Parts → ℕ → List ℕ → Type 0
+IsRecordAt rows parts position bytes = (is : IsArchiveOf bytes rows) × ArePartsOf is.are.records parts
+    × (position < length (contents is.are.records))
+
 -- the same by rows and parts: where the source holds the archive's bytes, and the position is that of a record
-pub record Looks {A : Type 0} (rows : List Row) (parts : Parts) (position : ℕ) (old new : Tapped)
+pub record Looks {A : Type 0} (rows : List Row) (parts : Parts) (position : ℕ) (old new : SeenSource)
     (answer : Result (Look A) ReplayFault) : Type 0 where
   pub told : IfHeld old.holds (λ bytes. (is : IsArchiveOf bytes rows) → ArePartsOf is.are.records parts
       → IsLook bytes (contents is.are.records) position answer)
-  pub failed : IfHeld old.holds (λ bytes. (is : IsArchiveOf bytes rows) → ArePartsOf is.are.records parts
-      → position < length (contents is.are.records) → HasFailedBy (out_result answer) old.faults new.faults)
   pub early : IfErr answer IsEarly
-  pub kept : new.holds ≡ old.holds
-  pub may : MayHaveFailedBy (out_result answer) old.faults new.faults
+  pub keeps : Preserves old new
+  pub fails : FailsBy (IsRecordAt rows parts position) (out_result answer) old new
 
 -- a fault that is a reason
 abbrev pub IsReason : ReplayFault → Type 0
@@ -51,15 +55,13 @@ IsReason (Reason why) = ⊤
 IsReason (Out e) = ⊥
 
 -- the same without the places
-pub record Judges {A : Type 0} (rows : List Row) (parts : Parts) (position : ℕ) (old new : Tapped)
+pub record Judges {A : Type 0} (rows : List Row) (parts : Parts) (position : ℕ) (old new : SeenSource)
     (answer : Result (Result (Stored A) Why) OutFault) : Type 0 where
   pub told : IfHeld old.holds (λ bytes. (is : IsArchiveOf bytes rows) → ArePartsOf is.are.records parts
       → IfOk answer (λ judged. IsStoredAt (contents is.are.records) position (judged_seen judged)))
-  pub failed : IfHeld old.holds (λ bytes. (is : IsArchiveOf bytes rows) → ArePartsOf is.are.records parts
-      → position < length (contents is.are.records) → HasFailedBy answer old.faults new.faults)
   pub early : IfErr answer (λ e. IsEarly (Out e))
-  pub kept : new.holds ≡ old.holds
-  pub may : MayHaveFailedBy answer old.faults new.faults
+  pub keeps : Preserves old new
+  pub fails : FailsBy (IsRecordAt rows parts position) answer old new
 
 -- what went out of what is stored of the origin at a position
 abbrev pub IsSent : {A : Type 0} → List Record → ℕ → Result (Stored A) ReplayFault → Option (List ℕ) → Option (List ℕ)
@@ -71,13 +73,11 @@ IsSent records position (Err (Reason why)) old new = IsStoredAt records position
 IsSent records position (Err (Out e)) old new = IsFrontAt records position (sent_of e) old new
 
 -- the same by rows and parts
-pub record Sends {A : Type 0} (rows : List Row) (parts : Parts) (position : ℕ) (old new : Tapped) (before after : Seen)
-    (answer : Result (Stored A) ReplayFault) : Type 0 where
+pub record SendsStored {A : Type 0} (rows : List Row) (parts : Parts) (position : ℕ) (old new : SeenSource)
+    (before after : Seen) (answer : Result (Stored A) ReplayFault) : Type 0 where
   pub told : IfHeld old.holds (λ bytes. (is : IsArchiveOf bytes rows) → ArePartsOf is.are.records parts
       → IsSent (contents is.are.records) position answer before.tells after.tells)
-  pub failed : IfHeld old.holds (λ bytes. (is : IsArchiveOf bytes rows) → ArePartsOf is.are.records parts
-      → position < length (contents is.are.records) → HasFailedBy (out_result answer) old.faults new.faults)
   pub silent : IfErr answer (λ fault. IsReason fault → after.tells ≡ before.tells)
-  pub kept : new.holds ≡ old.holds
-  pub may : MayHaveFailedBy (out_result answer) old.faults new.faults
+  pub keeps : Preserves old new
+  pub fails : FailsBy (IsRecordAt rows parts position) (out_result answer) old new
   pub cause : after.faults ≡ failed_by (out_result answer) before.faults

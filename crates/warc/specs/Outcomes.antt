@@ -2,9 +2,10 @@
 -- own notion.
 use Rattle.std.specs.Prelude.{◌≡◌, ℕ, ◌<◌, ◌⊎◌, List, drop, length, slice_get, Option, Some, None, Result, Ok, Err, IfErr, IfOk}
 use Rattle.std.specs.Io.KnownBytes.{append_known}
-use Rattle.warc_frame.specs.Failing.{HasFailedBy, MayHaveFailedBy, failed_by}
+use Rattle.warc_frame.specs.Effects.{FailsBy, Preserves}
+use Rattle.warc_frame.specs.Failing.{failed_by}
 use Rattle.warc_frame.specs.Record.{Record}
-use Rattle.warc_frame.specs.Seen.{IfHeld, Seen, Tapped}
+use Rattle.warc_frame.specs.Seen.{IfHeld, Seen, SeenSource}
 use Rattle.warc_frame.specs.Send.{WentOut, sent_of}
 use Rattle.warc_frame.specs.declared.fault.OutFault.{OutFault}
 use Rattle.warc_index.specs.Orders.{Indexes}
@@ -23,6 +24,7 @@ use Rattle.warc_reading.specs.Archive.{IsArchiveOf, contents}
 use Rattle.warc_reading.specs.Indexed.{AreOf}
 use Rattle.warc_reading.specs.Row.{Row}
 use Rattle.warc.specs.Bodies.{IsCaptureAt, IsOtherAt}
+use Rattle.warc.specs.Replaying.{IsIndexedBy}
 use Rattle.warc.specs.declared.fault.BodyFault.{BodyFault}
 use Rattle.warc.specs.declared.fault.BodyFault.TheVariants.{NoRecord, NoCapture, Replay}
 use Rattle.warc.specs.declared.outcome.Outcome.{Outcome}
@@ -69,16 +71,13 @@ fault_result (Err NoCapture) = Ok tt
 fault_result (Err (Replay fault)) = out_result {X = Unit {0}} (Err fault)
 
 -- What is answered of the capture at a position, by rows, an index and parts. Where the archive's source holds its
--- bytes, it is the outcome of its records, and the source has failed once more exactly where a read is told. Any source
--- still holds what it held
-pub record JudgesAt {A : Type 0} (rows : List Row) (index : Indexes) (parts : Parts) (position : ℕ) (old new : Tapped)
-    (answer : Result (Outcome A) BodyFault) : Type 0 where
+-- bytes, it is the outcome of its records
+pub record JudgesAt {A : Type 0} (rows : List Row) (index : Indexes) (parts : Parts) (position : ℕ)
+    (old new : SeenSource) (answer : Result (Outcome A) BodyFault) : Type 0 where
   pub told : IfHeld old.holds (λ bytes. (is : IsArchiveOf bytes rows) → AreOf is.are.records index parts
       → IsOutcomeAt (contents is.are.records) position answer)
-  pub failed : IfHeld old.holds (λ bytes. (is : IsArchiveOf bytes rows) → AreOf is.are.records index parts
-      → HasFailedBy (fault_result answer) old.faults new.faults)
-  pub kept : new.holds ≡ old.holds
-  pub may : MayHaveFailedBy (fault_result answer) old.faults new.faults
+  pub keeps : Preserves old new
+  pub fails : FailsBy (IsIndexedBy rows index parts) (fault_result answer) old new
 
 -- what is said of a body that is written as it is stored
 pub record StoredAnswer : Type 0 where
@@ -126,15 +125,12 @@ IsSilentBefore (Err (Replay (Reason why))) old new = new ≡ old
 IsSilentBefore (Err (Replay (Out e))) old new = Unit {0}
 
 -- What is stored of the origin of the capture at a position is written, by rows, an index and parts. Where the
--- archive's source holds its bytes, what goes out and what is answered are as the definition says of its records, and
--- the source has failed once more exactly where a read is told. Any source still holds what it held
-pub record GivesStoredAt (rows : List Row) (index : Indexes) (parts : Parts) (position : ℕ) (old new : Tapped)
+-- archive's source holds its bytes, what goes out and what is answered are as the definition says of its records
+pub record GivesStoredAt (rows : List Row) (index : Indexes) (parts : Parts) (position : ℕ) (old new : SeenSource)
     (before after : Seen) (answer : Result StoredAnswer BodyFault) : Type 0 where
   pub told : IfHeld old.holds (λ bytes. (is : IsArchiveOf bytes rows) → AreOf is.are.records index parts
       → IsStoredOut (contents is.are.records) position answer before.tells after.tells)
-  pub failed : IfHeld old.holds (λ bytes. (is : IsArchiveOf bytes rows) → AreOf is.are.records index parts
-      → HasFailedBy (fault_result answer) old.faults new.faults)
   pub silent : IsSilentBefore answer before.tells after.tells
-  pub kept : new.holds ≡ old.holds
-  pub may : MayHaveFailedBy (fault_result answer) old.faults new.faults
+  pub keeps : Preserves old new
+  pub fails : FailsBy (IsIndexedBy rows index parts) (fault_result answer) old new
   pub cause : after.faults ≡ failed_by (fault_result answer) before.faults

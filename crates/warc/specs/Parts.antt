@@ -1,8 +1,9 @@
 -- What giving a part of a record writes: its head or its block, as the archive has it; and what it reads for that.
 use Rattle.std.specs.Prelude.{◌≡◌, ◌↔◌, ℕ, ◌+◌, ◌-◌, ◌<◌, ◌≤◌, List, length, slice_get, slice_range, Option, Some, None, option_map, Result, Ok, Err}
 use Rattle.std.specs.Io.KnownBytes.{append_known}
-use Rattle.warc_frame.specs.Failing.{HasFailedBy, MayHaveFailedBy, failed_by}
-use Rattle.warc_frame.specs.Seen.{AsksOnly, IfHeld, Seen, Tapped}
+use Rattle.warc_frame.specs.Effects.{FailsBy, ReadsOnly}
+use Rattle.warc_frame.specs.Failing.{failed_by}
+use Rattle.warc_frame.specs.Seen.{IfHeld, Seen, SeenSource}
 use Rattle.warc_frame.specs.Send.{WentOut}
 use Rattle.warc_frame.specs.declared.fault.OutFault.{OutFault}
 use Rattle.warc_frame.specs.declared.fault.OutFault.TheVariants as outs
@@ -55,25 +56,19 @@ abbrev pub found_len : Part → Option Row → ℕ
 found_len part None = 0
 found_len part (Some row) = part_len part row
 
--- no other offsets are asked for than the part's, and at most a read for each of its bytes is made
-pub record ReadsPart (part : Part) (found : Option Row) (old new : Tapped) : Type 0 where
-  pub near : AsksOnly (IsInPart part found) old new
-  pub bound : new.reads ≤ old.reads + found_len part found
-  pub watched : new.watches ≡ old.watches
+-- at most one read for each byte of the part, and no other byte
+abbrev pub ReadsPart : Part → Option Row → SeenSource → SeenSource → Type 0
+ReadsPart part found old new = ReadsOnly (IsInPart part found) (found_len part found) old new
 
--- giving a part of the record at a position of an archive of these rows. Where its source holds the archive's bytes,
--- that part goes out, and the source has failed once more exactly where a read is told. Any source still holds what it
--- held, and of it that part alone is read; where there is no record nothing goes out
-pub record GivesPart (part : Part) (rows : List Row) (position : ℕ) (old new : Tapped) (before after : Seen)
+-- Giving a part of the record at a position of an archive of these rows. Where its source holds the archive's bytes,
+-- that part goes out. Of any source that part alone is read; where there is no record nothing goes out
+pub record GivesPart (part : Part) (rows : List Row) (position : ℕ) (old new : SeenSource) (before after : Seen)
     (answer : Result ℕ ExtractFault) : Type 0 where
   pub told : IfHeld old.holds (λ bytes. (is : IsArchiveOf bytes rows)
       → IsGiven (option_map (λ p. part_text part bytes p) (slice_get is.are.records position)) answer before.tells
       after.tells)
-  pub failed : IfHeld old.holds (λ bytes. IsArchiveOf bytes rows
-      → HasFailedBy (extract_result answer) old.faults new.faults)
   pub silent : answer ≡ Err NoRecord → after.tells ≡ before.tells
   pub absent : (answer ≡ Err NoRecord) ↔ (slice_get rows position ≡ None)
-  pub kept : new.holds ≡ old.holds
   pub reads : ReadsPart part (slice_get rows position) old new
-  pub may : MayHaveFailedBy (extract_result answer) old.faults new.faults
+  pub fails : FailsBy (λ bytes. IsArchiveOf bytes rows) (extract_result answer) old new
   pub cause : after.faults ≡ failed_by (extract_result answer) before.faults

@@ -1,9 +1,9 @@
 -- What a replay from an archive answers, what goes out, and how often the source is read.
 use Rattle.std.specs.Prelude.{◌≡◌, ℕ, ◌+◌, ◌-◌, ◌*◌, ◌<◌, ◌≤◌, ◌⊎◌, List, length, map, slice_get, Option, Some, None, Result, Ok, Err}
 use Rattle.warc_value.specs.Dates.{Instant}
-use Rattle.warc_frame.specs.Failing.{HasFailedBy, MayHaveFailedBy, failed_by}
+use Rattle.warc_frame.specs.Effects.{FailsBy, Preserves, ReadsOnly}
 use Rattle.warc_frame.specs.Record.{Record}
-use Rattle.warc_frame.specs.Seen.{AsksOnly, IfHeld, Seen, Tapped}
+use Rattle.warc_frame.specs.Seen.{AsksOnly, IfHeld, Seen, SeenSource}
 use Rattle.warc_index.specs.declared.unfound.Unfound.{Unfound}
 use Rattle.warc_segment.specs.Joined.{ReadRecord, joined_places, joined_records}
 use Rattle.warc_segment.specs.declared.gap.Gap.{Gap}
@@ -11,7 +11,7 @@ use Rattle.warc_segment.specs.declared.place.Place.{Place}
 use Rattle.warc_answer.specs.Answers.{path_for}
 use Rattle.warc_answer.specs.Payloads.{read_record, whole_block}
 use Rattle.warc_answer.specs.Places.{IsInOne}
-use Rattle.warc_answer.specs.Replays.{IsReplayOn, IsSilent, out_result}
+use Rattle.warc_answer.specs.Replays.{IsReplayOn, WritesLate, out_result}
 use Rattle.warc_answer.specs.declared.answer.Answer.{Answer}
 use Rattle.warc_answer.specs.declared.answer.Path.{Path}
 use Rattle.warc_answer.specs.declared.answer.ReplayFault.{ReplayFault}
@@ -45,41 +45,41 @@ abbrev pub IsJoined : Result (List Place) Gap → ℕ → Type 0
 IsJoined (Ok places) at = IsInOne places at
 IsJoined (Err gap) at = ⊥
 
+-- of a block that is joined to an origin
+abbrev pub IsJoinedTo : List Placed → Placed → ℕ → Type 0
+IsJoinedTo all p at = IsJoined (joined_places (map placed_record all) (placed_record p)) at
+
 -- the offset of a byte of an origin's head, or of a block that is joined to its own
 abbrev pub IsOfOrigin : List Placed → Option Placed → ℕ → Type 0
 IsOfOrigin all None at = ⊥
 IsOfOrigin all (Some p) at =
-    ((p.offset ≤ at) × (at < p.block_start)) ⊎ IsJoined (joined_places (map placed_record all) (placed_record p)) at
+    ((p.offset ≤ at) × (at < p.block_start)) ⊎ IsJoinedTo all p at
 
 -- of none where there is no origin
 abbrev pub IsOnPath : List Placed → Result Path Unfound → ℕ → Type 0
 IsOnPath all (Ok path) at = IsOfOrigin all (slice_get all path.given) at
 IsOnPath all (Err unfound) at = ⊥
 
+-- the rows, the index and the parts are those of an archive of these bytes
+abbrev pub IsIndexedBy : List Row → Indexes → Parts → List ℕ → Type 0
+IsIndexedBy rows index parts bytes = (is : IsArchiveOf bytes rows) × AreOf is.are.records index parts
+
 -- A replay on a way from records to a path, by rows, an index and parts. Where the archive's source holds its bytes,
--- what goes out and what is answered are as the definition of the answer says of its records, in at most `path_reads`
--- reads, of the origin's head and the joined blocks alone, and the source has failed once more exactly where a read is
--- told. Any source is asked for no byte behind the archive's, and still holds and watches what it did; before a reason
--- nothing goes out
+-- what goes out and what is answered are as the definition of the answer says of its records, and the origin's head and
+-- the joined blocks alone are read, in at most `path_reads` reads. Any source is asked for no byte behind the archive's
 pub record ReplaysOn (rows : List Row) (index : Indexes) (parts : Parts) (way : List Record → Result Path Unfound)
-    (old new : Tapped) (before after : Seen) (answer : Result Answer ReplayFault) : Type 0 where
+    (old new : SeenSource) (before after : Seen) (answer : Result Answer ReplayFault) : Type 0 where
   pub told : IfHeld old.holds (λ bytes. (is : IsArchiveOf bytes rows) → AreOf is.are.records index parts
       → IsReplayOn (contents is.are.records) (way (contents is.are.records)) answer before.tells after.tells)
-  pub failed : IfHeld old.holds (λ bytes. (is : IsArchiveOf bytes rows) → AreOf is.are.records index parts
-      → HasFailedBy (out_result answer) old.faults new.faults)
-  pub cost : IfHeld old.holds (λ bytes. (is : IsArchiveOf bytes rows) → AreOf is.are.records index parts
-      → new.reads ≤ old.reads + path_reads is.are.records (way (contents is.are.records)))
-  pub near : IfHeld old.holds (λ bytes. (is : IsArchiveOf bytes rows) → AreOf is.are.records index parts
-      → AsksOnly (IsOnPath is.are.records (way (contents is.are.records))) old new)
-  pub inside : (bytes : List ℕ) (is : IsArchiveOf bytes rows) → AreOf is.are.records index parts
-      → AsksOnly (λ at. at < length bytes) old new
-  pub silent : IsSilent answer before.tells after.tells
-  pub kept : new.holds ≡ old.holds
-  pub watched : new.watches ≡ old.watches
-  pub may : MayHaveFailedBy (out_result answer) old.faults new.faults
-  pub cause : after.faults ≡ failed_by (out_result answer) before.faults
+  pub reads : IfHeld old.holds (λ bytes. (is : IsArchiveOf bytes rows) → AreOf is.are.records index parts
+      → ReadsOnly (IsOnPath is.are.records (way (contents is.are.records)))
+      (path_reads is.are.records (way (contents is.are.records))) old new)
+  pub inside : (bytes : List ℕ) → IsIndexedBy rows index parts bytes → AsksOnly (λ at. at < length bytes) old new
+  pub keeps : Preserves old new
+  pub late : WritesLate answer before after
+  pub fails : FailsBy (IsIndexedBy rows index parts) (out_result answer) old new
 
 -- a replay for a URI as of a moment
-abbrev pub Replays : List Row → Indexes → Parts → List ℕ → Instant → Tapped → Tapped → Seen → Seen
+abbrev pub Replays : List Row → Indexes → Parts → List ℕ → Instant → SeenSource → SeenSource → Seen → Seen
     → Result Answer ReplayFault → Type 0
 Replays rows index parts uri moment = ReplaysOn rows index parts (λ records. path_for records uri moment)

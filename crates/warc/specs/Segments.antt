@@ -1,7 +1,7 @@
 -- The texts of segments whose pieces are copied from a source. States of the code: no public clause cites them.
 use Rattle.std.specs.Prelude.{◌≡◌, ℕ, List, take, drop, map}
 use Rattle.std.specs.List.{range_with_len}
-use Rattle.warc_frame.specs.Copying.{HasRange}
+use Rattle.warc_frame.specs.Effects.{HasRange}
 use Rattle.warc_frame.specs.Record.{Record}
 use Rattle.warc_frame.specs.Spelling.{canonical}
 use Rattle.warc_write.specs.Rendering.{canonical_texts}

@@ -1,8 +1,8 @@
 -- What giving a record again answers, and what it reads of the source. This project's own notion.
 use Rattle.std.specs.Prelude.{◌≡◌, ◌↔◌, ℕ, ◌+◌, ◌-◌, ◌<◌, ◌≤◌, List, length, slice_get, Option, Some, None, IsSome, Result, Ok, Err, IfOk}
-use Rattle.warc_frame.specs.Failing.{HasFailedBy, MayHaveFailedBy}
+use Rattle.warc_frame.specs.Effects.{FailsBy, ReadsOnly}
 use Rattle.warc_frame.specs.Record.{Record}
-use Rattle.warc_frame.specs.Seen.{AsksOnly, IfHeld, Tapped}
+use Rattle.warc_frame.specs.Seen.{IfHeld, SeenSource}
 use Rattle.warc_frame.specs.Spelling.{Spells}
 use Rattle.warc_frame.specs.declared.fault.OutFault.{OutFault}
 use Rattle.warc_frame.specs.declared.fault.OutFault.TheVariants as outs
@@ -40,23 +40,18 @@ record_len (Some row) = row.block_start + row.block_len + 4 - row.offset
 abbrev pub IsSpelledIn : ℕ → Record → Type 0
 IsSpelledIn len r = (text : List ℕ) × Spells r text × (length text ≡ len)
 
--- no other offsets are asked for than the record's, and at most a read for each of its bytes is made
-pub record ReadsRecord (found : Option Row) (old new : Tapped) : Type 0 where
-  pub near : AsksOnly (IsInRecord found) old new
-  pub bound : new.reads ≤ old.reads + record_len found
-  pub watched : new.watches ≡ old.watches
+-- at most one read for each byte of the record, and no other byte
+abbrev pub ReadsRecord : Option Row → SeenSource → SeenSource → Type 0
+ReadsRecord found old new = ReadsOnly (IsInRecord found) (record_len found) old new
 
--- giving the record at a position of an archive of these rows. Where its source holds the archive's bytes it is that
--- of the records that they spell, and the source has failed once more exactly where a read is told. What any source
--- gives is spelled by a text as long as the row says. It still holds what it held, is asked for no byte outside the
--- record, and read at most once for each of its bytes; that there is no record is told exactly where there is no row
-pub record Takes (rows : List Row) (position : ℕ) (old new : Tapped) (answer : Result Record TakeFault) : Type 0 where
+-- Giving the record at a position of an archive of these rows. Where its source holds the archive's bytes it is that of
+-- the records that they spell. What any source gives is spelled by a text as long as the row says, and the record alone
+-- is read. That there is no record is reported exactly where there is no row
+pub record GivesRecord (rows : List Row) (position : ℕ) (old new : SeenSource) (answer : Result Record TakeFault)
+    : Type 0 where
   pub taken : IfHeld old.holds (λ bytes. (is : IsArchiveOf bytes rows)
       → IsTaken (slice_get is.are.records position) answer)
-  pub failed : IfHeld old.holds (λ bytes. IsArchiveOf bytes rows
-      → HasFailedBy (take_result answer) old.faults new.faults)
   pub whole : IfOk answer (IsSpelledIn (record_len (slice_get rows position)))
   pub absent : (answer ≡ Err NoRecord) ↔ (slice_get rows position ≡ None)
-  pub kept : new.holds ≡ old.holds
-  pub may : MayHaveFailedBy (take_result answer) old.faults new.faults
   pub reads : ReadsRecord (slice_get rows position) old new
+  pub fails : FailsBy (λ bytes. IsArchiveOf bytes rows) (take_result answer) old new

@@ -20,7 +20,7 @@ ghost use Rattle.warc_reading.specs.Growing.{Grows, grown, source_grown, without
 ghost use Rattle.warc_reading.specs.Opening.{Opens};
 ghost use Rattle.warc.specs.Replaying.{Replays};
 ghost use Rattle.warc_reading.specs.Row.{Placed};
-ghost use Rattle.warc.specs.Taking.{Takes};
+ghost use Rattle.warc.specs.Taking.{GivesRecord};
 
 use crate::capture_line::list_outcomes;
 use crate::capturing::capture_positions;
@@ -35,7 +35,7 @@ use std::mem;
 use warc_answer::{Answer, Located, Path, ReplayFault};
 use warc_frame::{Fault, Framed, OutFault, Sink, Source};
 use warc_index::Unfound;
-use warc_reading::{Gathering, Lookup, Row, Rows, read_on};
+use warc_reading::{Lookup, Row, Rows, UnorderedLookup, read_on};
 use warc_record::id_key;
 use warc_value::Moment;
 
@@ -102,10 +102,10 @@ impl<S: Source, A: Allocator + Copy> Archive<S, A> {
     /// Reads the source as a listing is read, and keeps beside the rows what finds the records and what joins them. It
     /// is put in order when all is read, which takes no memory.
     pub fn open(alloc: A, source: S) -> Result<Archive<S, A>, (Fault, S)>
-        ensures { Opens IsIndexed (S.tapped source) (S.tapped (source_left result)) (archive_of result) }
+        ensures { Opens IsIndexed (S.seen source) (S.seen (source_left result)) (archive_of result) }
     {
         let mut source = source;
-        let gathering = Gathering::new(alloc);
+        let gathering = UnorderedLookup::new(alloc);
         let (answer, rows, gathering) = read_on(alloc, &mut source, Rows::new(alloc), gathering);
         match answer {
             Ok(()) => Ok(Archive {
@@ -121,7 +121,7 @@ impl<S: Source, A: Allocator + Copy> Archive<S, A> {
     pub fn grow(&mut self, source: S) -> Result<(), (Fault, S)>
     where
         S: Drop,
-        ensures grows { Grows IsIndexed self.old (S.tapped source) (S.tapped
+        ensures grows { Grows IsIndexed self.old (S.seen source) (S.seen
             (source_grown result self.new.listing.source)) (grown (without_source result) self.new) }
         ensures refused { OnErr result (self.new.listing ≡ self.old.listing) }
         ensures stays { (bytes : List ℕ) → IsIndexed bytes self.old → OnErr result (IsIndexed bytes self.new) }
@@ -149,8 +149,8 @@ impl<S: Source, A: Allocator + Copy> Archive<S, A> {
 
     /// The record at a position, as a listing gives it.
     pub fn record(&mut self, position: usize) -> Result<Framed<A>, TakeFault>
-        ensures takes { Takes self.old.listing.rows position (S.tapped self.old.listing.source)
-            (S.tapped self.new.listing.source) result }
+        ensures takes { GivesRecord self.old.listing.rows position (S.seen self.old.listing.source)
+            (S.seen self.new.listing.source) result }
         ensures rows { self.new.listing.rows ≡ self.old.listing.rows }
         ensures index { self.new.index ≡ self.old.index }
         ensures parts { self.new.parts ≡ self.old.parts }
@@ -176,8 +176,8 @@ impl<S: Source, A: Allocator + Copy> Archive<S, A> {
     /// A read that fails, or a source that no longer gives what it gave at opening, is `Read`; a write that fails is
     /// `Write`. Each tells how many bytes went out, which are the first of the block. `Memory` comes before any byte.
     pub fn extract<W: Sink>(&mut self, id: &[u8], out: &mut W) -> Result<u64, ExtractFault>
-        ensures extracts { Extracts self.old id.now (S.tapped self.old.listing.source)
-            (S.tapped self.new.listing.source) (W.seen out.old) (W.seen out.new) result }
+        ensures extracts { Extracts self.old id.now (S.seen self.old.listing.source)
+            (S.seen self.new.listing.source) (W.seen out.old) (W.seen out.new) result }
         ensures rows { self.new.listing.rows ≡ self.old.listing.rows }
         ensures index { self.new.index ≡ self.old.index }
         ensures parts { self.new.parts ≡ self.old.parts }
@@ -213,7 +213,7 @@ impl<S: Source, A: Allocator + Copy> Archive<S, A> {
     /// blocks where an HTTP head is looked for. A refusal is that of `replay` before anything is written.
     pub fn locate(&mut self, uri: &[u8], moment: &Moment) -> Result<Located<A>, ReplayFault>
         ensures locates { LocatesFor self.old.listing.rows self.old.index self.old.parts uri.now moment.now
-            (S.tapped self.old.listing.source) (S.tapped self.new.listing.source) result }
+            (S.seen self.old.listing.source) (S.seen self.new.listing.source) result }
         ensures rows { self.new.listing.rows ≡ self.old.listing.rows }
         ensures index { self.new.index ≡ self.old.index }
         ensures parts { self.new.parts ≡ self.old.parts }
@@ -225,7 +225,7 @@ impl<S: Source, A: Allocator + Copy> Archive<S, A> {
     /// where the record there is no capture `NoCapture`.
     pub fn locate_at(&mut self, position: usize) -> Result<Located<A>, BodyFault>
         ensures locates { LocatesAt self.old.listing.rows self.old.index self.old.parts position
-            (S.tapped self.old.listing.source) (S.tapped self.new.listing.source) result }
+            (S.seen self.old.listing.source) (S.seen self.new.listing.source) result }
         ensures rows { self.new.listing.rows ≡ self.old.listing.rows }
         ensures index { self.new.index ≡ self.old.index }
         ensures parts { self.new.parts ≡ self.old.parts }
@@ -247,7 +247,7 @@ impl<S: Source, A: Allocator + Copy> Archive<S, A> {
         out: &mut W,
     ) -> Result<Answer, ReplayFault>
         ensures replays { Replays self.old.listing.rows self.old.index self.old.parts uri.now moment.now
-            (S.tapped self.old.listing.source) (S.tapped self.new.listing.source) (W.seen out.old) (W.seen out.new)
+            (S.seen self.old.listing.source) (S.seen self.new.listing.source) (W.seen out.old) (W.seen out.new)
             result }
         ensures rows { self.new.listing.rows ≡ self.old.listing.rows }
         ensures index { self.new.index ≡ self.old.index }
@@ -264,7 +264,7 @@ impl<S: Source, A: Allocator + Copy> Archive<S, A> {
     /// `Write`. Each tells how many bytes went out, which are the first of the body. `Memory` comes before any byte.
     pub fn replay_at<W: Sink>(&mut self, position: usize, out: &mut W) -> Result<Answer, BodyFault>
         ensures gives { GivesBodyAt self.old.listing.rows self.old.index self.old.parts position
-            (S.tapped self.old.listing.source) (S.tapped self.new.listing.source) (W.seen out.old) (W.seen out.new)
+            (S.seen self.old.listing.source) (S.seen self.new.listing.source) (W.seen out.old) (W.seen out.new)
             result }
         ensures rows { self.new.listing.rows ≡ self.old.listing.rows }
         ensures index { self.new.index ≡ self.old.index }
@@ -278,7 +278,7 @@ impl<S: Source, A: Allocator + Copy> Archive<S, A> {
     /// again, and at most 65,536 bytes of the joined blocks. `Memory` and `Read` come without a byte written.
     pub fn outcome_at(&mut self, position: usize) -> Result<Outcome<A>, BodyFault>
         ensures judges { JudgesAt self.old.listing.rows self.old.index self.old.parts position
-            (S.tapped self.old.listing.source) (S.tapped self.new.listing.source) result }
+            (S.seen self.old.listing.source) (S.seen self.new.listing.source) result }
         ensures rows { self.new.listing.rows ≡ self.old.listing.rows }
         ensures index { self.new.index ≡ self.old.index }
         ensures parts { self.new.parts ≡ self.old.parts }
@@ -294,7 +294,7 @@ impl<S: Source, A: Allocator + Copy> Archive<S, A> {
         out: &mut W,
     ) -> Result<StoredAt<A>, BodyFault>
         ensures gives { GivesStoredAt self.old.listing.rows self.old.index self.old.parts position
-            (S.tapped self.old.listing.source) (S.tapped self.new.listing.source) (W.seen out.old) (W.seen out.new)
+            (S.seen self.old.listing.source) (S.seen self.new.listing.source) (W.seen out.old) (W.seen out.new)
             (answer_seen result) }
         ensures rows { self.new.listing.rows ≡ self.old.listing.rows }
         ensures index { self.new.index ≡ self.old.index }
@@ -314,7 +314,7 @@ impl<S: Source, A: Allocator + Copy> Archive<S, A> {
     /// judged once, however many of them lead to it. `Memory` and `Read` come without an outcome.
     pub fn outcomes(&mut self, positions: &[usize]) -> Result<Vec<Outcome<A>, A>, OutFault>
         ensures judges { JudgesAll self.old.listing.rows self.old.index self.old.parts positions.now
-            (S.tapped self.old.listing.source) (S.tapped self.new.listing.source) result }
+            (S.seen self.old.listing.source) (S.seen self.new.listing.source) result }
         ensures rows { self.new.listing.rows ≡ self.old.listing.rows }
         ensures index { self.new.index ≡ self.old.index }
         ensures parts { self.new.parts ≡ self.old.parts }
@@ -363,8 +363,8 @@ impl<S: Source, A: Allocator + Copy> Archive<S, A> {
 
     /// Writes a line for each finding, as a listing does, and answers how many there are.
     pub fn check<W: Sink>(&mut self, out: &mut W) -> Result<usize, OutFault>
-        ensures checks { Checks self.old.listing.rows (S.tapped self.old.listing.source)
-            (S.tapped self.new.listing.source) (W.seen out.old) (W.seen out.new) result }
+        ensures checks { Checks self.old.listing.rows (S.seen self.old.listing.source)
+            (S.seen self.new.listing.source) (W.seen out.old) (W.seen out.new) result }
 
         // The rows stay, and so does what finds and joins the records.
         ensures rows { self.new.listing.rows ≡ self.old.listing.rows }

@@ -60,8 +60,8 @@ pub(crate) fn give_body<S: Source, W: Sink, A: Allocator + Copy>(
     position: usize,
     out: &mut W,
 ) -> Result<Answer, BodyFault>
-    ensures { GivesBodyAt rows.now lookup.now.index lookup.now.parts position (S.tapped source.old)
-        (S.tapped source.new) (W.seen out.old) (W.seen out.new) result }
+    ensures { GivesBodyAt rows.now lookup.now.index lookup.now.parts position (S.seen source.old)
+        (S.seen source.new) (W.seen out.old) (W.seen out.new) result }
 {
     reasons_are_answers();
     paths_end_inside();

@@ -5,7 +5,7 @@ ghost use Rattle.warc_frame.specs.Count.{raised};
 ghost use Rattle.warc_frame.specs.Send.{WentOut, sent_of};
 ghost use Rattle.std.specs.List.{prefix_len};
 ghost use Rattle.warc_answer.specs.Seen.{stored_seen};
-ghost use Rattle.warc_frame.specs.Putting.{Puts};
+ghost use Rattle.warc_frame.specs.Effects.{Puts};
 ghost use Rattle.warc_segment.specs.GapText.{digits_of};
 ghost use Rattle.warc.specs.Captures.{capture_line, captures_text, columns_line, columns_of, date_front, line_by, number_shown, reason_shown};
 ghost use Rattle.warc.specs.Outcomes.{judged_seen, outcome_seen};

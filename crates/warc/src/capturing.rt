@@ -106,8 +106,8 @@ fn judge_once<S: Source, A: Allocator + Copy>(
     slots: &[usize],
     outcomes: &[Outcome<A>],
 ) -> Result<Result<Stored<A>, Reason>, OutFault>
-    ensures { JudgesOne rows.now lookup.now.parts origin slots.now outcomes.now (S.tapped source.old)
-        (S.tapped source.new) result }
+    ensures { JudgesOne rows.now lookup.now.parts origin slots.now outcomes.now (S.seen source.old)
+        (S.seen source.new) result }
 {
     match recalled(slots, outcomes, origin) {
         Some(outcome) => judged_again(rows.allocator(), &outcome.stored),
@@ -125,7 +125,7 @@ fn outcome_once<S: Source, A: Allocator + Copy>(
     outcomes: &[Outcome<A>],
 ) -> Result<Outcome<A>, OutFault>
     ensures { JudgesNext rows.now lookup.now.index lookup.now.parts position slots.now outcomes.now
-        (S.tapped source.old) (S.tapped source.new) result }
+        (S.seen source.old) (S.seen source.new) result }
 {
     match path_from(lookup, position) {
         Ok(path) => match judge_once(source, rows, lookup, path.given, slots, outcomes) {
@@ -144,7 +144,7 @@ fn outcome_once<S: Source, A: Allocator + Copy>(
     }
 }
 
-/// Keeps for an origin which outcome it was judged for.
+/// Preserves for an origin which outcome it was judged for.
 fn remember<A: Allocator>(slots: &mut Vec<usize, A>, origin: Option<usize>, slot: usize)
     ensures { Remembers slots.old.items slots.new.items origin slot }
 {
@@ -174,8 +174,8 @@ pub(crate) fn judge_all<S: Source, A: Allocator + Copy>(
     lookup: &Lookup<A>,
     positions: &[usize],
 ) -> Result<Vec<Outcome<A>, A>, OutFault>
-    ensures { JudgesAll rows.now lookup.now.index lookup.now.parts positions.now (S.tapped source.old)
-        (S.tapped source.new) result }
+    ensures { JudgesAll rows.now lookup.now.index lookup.now.parts positions.now (S.seen source.old)
+        (S.seen source.new) result }
 {
     let alloc = rows.allocator();
     let Ok(mut slots) = vec![in alloc; 0usize; rows.len()] else {

@@ -1,9 +1,11 @@
 //! Records of an archive written in a form: each head from its fields, each block copied from the source.
 ghost use Rattle.std.specs.Prelude.{◌≡◌, ◌<◌, IfOk, length};
 ghost use Rattle.warc.specs.Copied.{IsCopiedOf, IsCopy, IsTextWith};
-ghost use Rattle.warc.specs.Emitting.{Emits};
+ghost use Rattle.warc_frame.specs.Effects.{Emits};
 ghost use Rattle.warc_reading.specs.Rereading.{IsHeadReadOf};
-ghost use Rattle.warc.specs.Forms.{IsInBlock, ReadsOnly, text_as};
+ghost use Rattle.warc_frame.specs.Effects.{ReadsOnly};
+ghost use Rattle.warc_frame.specs.Seen.{IsInRange};
+ghost use Rattle.warc.specs.Forms.{text_as};
 ghost use Rattle.warc_reading.specs.Row.{Placed, row_of};
 
 use std::alloc::{AllocError, Allocator};
@@ -40,10 +42,10 @@ pub(crate) fn put_copied<S: Source, A: Allocator, W: Sink>(
     out: &mut W,
 ) -> Result<(), OutFault>
     requires { 0 < length scratch.old }
-    ensures emits { Emits (IsCopy copy.now) (S.tapped source.old) (S.tapped source.new) (W.seen out.old)
+    ensures emits { Emits (IsCopy copy.now) (S.seen source.old) (S.seen source.new) (W.seen out.old)
         (W.seen out.new) buffer.old buffer.new result }
-    ensures reads { ReadsOnly (IsInBlock copy.now.block_start copy.now.block_len) copy.now.block_len
-        (S.tapped source.old) (S.tapped source.new) }
+    ensures reads { ReadsOnly (IsInRange copy.now.block_start copy.now.block_len) copy.now.block_len
+        (S.seen source.old) (S.seen source.new) }
 {
     match put_head(copy.version, &copy.fields, buffer, out) {
         Ok(()) => {}
@@ -100,10 +102,10 @@ pub(crate) fn put_as<S: Source, A: Allocator + Copy, W: Sink>(
     out: &mut W,
 ) -> Result<(), OutFault>
     requires { 0 < length scratch.old }
-    ensures emits { Emits (IsTextWith (text_as form) row.now head) (S.tapped source.old) (S.tapped source.new)
+    ensures emits { Emits (IsTextWith (text_as form) row.now head) (S.seen source.old) (S.seen source.new)
         (W.seen out.old) (W.seen out.new) buffer.old buffer.new result }
-    ensures reads { ReadsOnly (IsInBlock row.now.block_start row.now.block_len) row.now.block_len (S.tapped source.old)
-        (S.tapped source.new) }
+    ensures reads { ReadsOnly (IsInRange row.now.block_start row.now.block_len) row.now.block_len (S.seen source.old)
+        (S.seen source.new) }
 {
     let Ok(copy) = copy_as(alloc, form, row, head) else {
         return Err(OutFault::Memory(buffer.sent()));

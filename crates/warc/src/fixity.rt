@@ -2,7 +2,7 @@
 ghost use Rattle.std.specs.Prelude.{◌≡◌, [], codes, IfErr, OnErr, OnOk, is_err, map, slice_get, unwrap_or, if◌then◌else◌};
 ghost use Rattle.std.specs.Io.KnownBytes.{append_known};
 ghost use Rattle.warc_frame.specs.Count.{raised};
-ghost use Rattle.warc_frame.specs.Putting.{Puts};
+ghost use Rattle.warc_frame.specs.Effects.{Puts};
 ghost use Rattle.warc_frame.specs.Send.{WentOut, sent_of};
 ghost use Rattle.warc_reading.specs.Opening.{Opens};
 ghost use Rattle.warc.specs.Fixity.{IsDigested, counts_line, counts_of, digest_kept, digest_value, fixity_text, digested_of, source_digested};
@@ -103,7 +103,7 @@ impl<A: Allocator + Copy> Keep<A> for Digests<A> {
         Ok(())
     }
 
-    fn forget_after(&mut self, count: usize) {
+    fn truncate(&mut self, count: usize) {
         self.values.truncate(count);
     }
 }
@@ -249,7 +249,7 @@ impl<S: Source, A: Allocator + Copy> Fixity<S, A> {
     /// Reads the source as a listing is read, and keeps beside the rows the values of the digests by which blocks
     /// aren't good.
     pub fn open(alloc: A, source: S) -> Result<Fixity<S, A>, (Fault, S)>
-        ensures { Opens IsDigested (S.tapped source) (S.tapped (source_digested result)) (digested_of result) }
+        ensures { Opens IsDigested (S.seen source) (S.seen (source_digested result)) (digested_of result) }
     {
         let mut source = source;
         let kept = Digests::new(alloc);

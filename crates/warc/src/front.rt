@@ -33,7 +33,7 @@ impl<S: Source, A: Allocator> Model for Front<S, A> {
 /// behind these by which the whole is refused, if it is. After a failed read, or want of memory, these are the whole
 /// records before it. Nothing is skipped, and nothing is mended.
 pub fn open_front<S: Source, A: Allocator + Copy>(alloc: A, source: S) -> Front<S, A>
-    ensures { OpensFront (S.tapped source) (S.tapped result.listing.source) result }
+    ensures { OpensFront (S.seen source) (S.seen result.listing.source) result }
 {
     let mut source = source;
     let (answer, rows) = read_front(alloc, &mut source);
@@ -98,8 +98,8 @@ impl<S: Source, A: Allocator> Front<S, A> {
     /// A read that fails, or a source that no longer gives what it gave at opening, is `Read`; a write that fails is
     /// `Write`. Each tells how many bytes went out, which are the first of these records.
     pub fn copy_to<W: Sink>(&mut self, out: &mut W) -> Result<u64, OutFault>
-        ensures copies { CopiesFront self.old.listing.rows (S.tapped self.old.listing.source)
-            (S.tapped self.new.listing.source) (W.seen out.old) (W.seen out.new) result }
+        ensures copies { CopiesFront self.old.listing.rows (S.seen self.old.listing.source)
+            (S.seen self.new.listing.source) (W.seen out.old) (W.seen out.new) result }
 
         // The rows and the fault stay.
         ensures rows { self.new.listing.rows ≡ self.old.listing.rows }
@@ -112,7 +112,7 @@ impl<S: Source, A: Allocator> Front<S, A> {
 impl<S: Source, A: Allocator> Listing<S, A> {
     /// Writes the bytes of all rows' records as the source has them, which may hold more.
     fn copy_front<W: Sink>(&mut self, out: &mut W) -> Result<u64, OutFault>
-        ensures copies { CopiesFront self.old.rows (S.tapped self.old.source) (S.tapped self.new.source)
+        ensures copies { CopiesFront self.old.rows (S.seen self.old.source) (S.seen self.new.source)
             (W.seen out.old) (W.seen out.new) result }
         ensures rows { self.new.rows ≡ self.old.rows }
     {

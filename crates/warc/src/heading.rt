@@ -1,10 +1,10 @@
 //! Heads of records, read again through the source.
-ghost use Rattle.std.specs.Prelude.{◌≡◌, ℕ, ◌∷◌, [], List, Some, IfErr};
-ghost use Rattle.warc_reading.specs.Rereading.{HasHead, ReadsHeads};
-ghost use Rattle.warc_frame.specs.Failing.{HasFailedBy, MayHaveFailedBy};
-ghost use Rattle.warc_reading.specs.Row.{Placed, row_of};
+ghost use Rattle.std.specs.Prelude.{◌∷◌, [], Some, IfErr};
+ghost use Rattle.warc_frame.specs.Effects.{FailsBy};
+ghost use Rattle.warc_frame.specs.Seen.{IfHeld};
+ghost use Rattle.warc_reading.specs.Rereading.{HasHeadOf, ReadsHeads};
 ghost use Rattle.warc.specs.Heading.{IsHeadTaken};
-ghost use Rattle.warc.specs.Standing.{IsEnd};
+ghost use Rattle.warc.specs.Standing.{IsUntaken};
 ghost use Rattle.warc.specs.Taking.{take_result};
 
 use crate::fault::TakeFault;
@@ -18,15 +18,11 @@ pub(crate) fn take_head<S: Source, A: Allocator + Copy>(
     source: &mut S,
     row: &Row<'_>,
 ) -> Result<Head<A>, TakeFault>
-    ensures taken { (bytes : List ℕ) (p : Placed) → (S.tapped source.old).holds ≡ Some bytes → HasHead bytes p → row.now
-        ≡ row_of p → IsHeadTaken (Some p) result }
-    ensures failed { (bytes : List ℕ) (p : Placed) → (S.tapped source.old).holds ≡ Some bytes → HasHead bytes p →
-        row.now ≡ row_of p → HasFailedBy (take_result result) (S.tapped source.old).faults
-        (S.tapped source.new).faults }
-    ensures is { IfErr result IsEnd }
-    ensures kept { (S.tapped source.new).holds ≡ (S.tapped source.old).holds }
-    ensures may { MayHaveFailedBy (take_result result) (S.tapped source.old).faults (S.tapped source.new).faults }
-    ensures reads { ReadsHeads (row.now ∷ []) (S.tapped source.old) (S.tapped source.new) }
+    ensures taken { IfHeld (S.seen source.old).holds (λ bytes. (is : HasHeadOf row.now bytes) →
+        IsHeadTaken (Some is.placed) result) }
+    ensures is { IfErr result IsUntaken }
+    ensures reads { ReadsHeads (row.now ∷ []) (S.seen source.old) (S.seen source.new) }
+    ensures fails { FailsBy (HasHeadOf row.now) (take_result result) (S.seen source.old) (S.seen source.new) }
 {
     let Ok(mut buf) = head_buffer(alloc) else {
         return Err(TakeFault::Memory);

@@ -1,7 +1,6 @@
 //! WARC archives read as streams: their records, what is wrong with them, and what they answer.
 #![tactic(auto)]
 
-mod anew;
 mod archives;
 mod blocks;
 mod bodies;
@@ -20,11 +19,12 @@ mod looking;
 mod outcome;
 mod part;
 mod reader;
+mod records;
 mod replay;
+mod rewriting;
 mod row;
 mod segments;
 mod summary;
-mod taking;
 
 pub use archives::Archive;
 pub use copying::Form;

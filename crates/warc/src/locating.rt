@@ -1,19 +1,15 @@
 //! Where a body lies in the source, for callers that hold its bytes.
-ghost use Rattle.std.specs.Prelude.{◌≡◌, ℕ, ◌*◌, ◌≤◌, List, length, map, Some, Result};
+ghost use Rattle.std.specs.Prelude.{◌≡◌, ◌*◌, ◌≤◌, List, length, Result};
+ghost use Rattle.warc_frame.specs.Effects.{FailsBy, Preserves, ReadsOnly};
 ghost use Rattle.warc_frame.specs.Record.{Record, max_head};
-ghost use Rattle.warc_record.specs.Readings.{reading_of};
+ghost use Rattle.warc_frame.specs.Seen.{IfHeld};
 ghost use Rattle.warc_record.specs.Seen.{said};
-ghost use Rattle.warc_segment.specs.Joined.{joined_places};
-ghost use Rattle.warc_segment.specs.Kept.{kept_in};
 ghost use Rattle.warc_answer.specs.Located.{IsLocatedOn};
 ghost use Rattle.warc_answer.specs.Replays.{out_result};
 ghost use Rattle.warc_reading.specs.Archive.{contents};
-ghost use Rattle.warc_reading.specs.Indexed.{place_of, placed_record};
-ghost use Rattle.warc_reading.specs.Rereading.{HasHead};
-ghost use Rattle.warc.specs.Locating.{KeepsSource, Locates, LocatesAt, LocatesFor, LocatesOn, ReadsAtMost};
-ghost use Rattle.warc.specs.Replaying.{IsJoined, origin_joined};
-ghost use Rattle.warc_reading.specs.Row.{Placed, row_of};
-ghost use Rattle.warc.specs.Standing.{IsOrigin, LeadsTo};
+ghost use Rattle.warc.specs.Locating.{Locates, LocatesAt, LocatesFor, LocatesOn};
+ghost use Rattle.warc.specs.Replaying.{IsJoinedTo, origin_joined};
+ghost use Rattle.warc.specs.Standing.{IsReached, IsRowReached, LeadsTo};
 
 use crate::bodies::{Found, find};
 use crate::fault::BodyFault;
@@ -41,16 +37,16 @@ fn locate_origin<S: Source, A: Allocator + Copy>(
     origin: &Typed<A>,
     place: Place,
 ) -> Result<Located<A>, ReplayFault>
-    ensures located { (bytes : List ℕ) (records : List Placed) (found : Result Path Unfound) (p : Placed) →
-        (S.tapped source.old).holds ≡ Some bytes → IsOrigin bytes records found path p → parts.now ≡ kept_in
-        (map placed_record records) → said origin.now ≡ reading_of p.content.fields → place ≡ place_of p →
-        IsLocatedOn bytes (contents records) found result }
-    ensures reads { (bytes : List ℕ) (records : List Placed) (found : Result Path Unfound) (p : Placed) →
-        (S.tapped source.old).holds ≡ Some bytes → IsOrigin bytes records found path p → parts.now ≡ kept_in
-        (map placed_record records) → said origin.now ≡ reading_of p.content.fields → place ≡ place_of p →
-        ReadsAtMost (2 * origin_joined records p) (IsJoined (joined_places (map placed_record records)
-        (placed_record p))) (out_result result) (S.tapped source.old) (S.tapped source.new) }
-    ensures keeps { KeepsSource (out_result result) (S.tapped source.old) (S.tapped source.new) }
+    ensures located { IfHeld (S.seen source.old).holds (λ bytes.
+        (is : IsReached bytes path parts.now (said origin.now) place) →
+        IsLocatedOn bytes (contents is.at.records) is.at.found result) }
+    ensures reads { IfHeld (S.seen source.old).holds (λ bytes.
+        (is : IsReached bytes path parts.now (said origin.now) place) →
+        ReadsOnly (IsJoinedTo is.at.records is.at.placed) (2 * origin_joined is.at.records is.at.placed)
+        (S.seen source.old) (S.seen source.new)) }
+    ensures keeps { Preserves (S.seen source.old) (S.seen source.new) }
+    ensures fails { FailsBy (λ bytes. IsReached bytes path parts.now (said origin.now) place) (out_result result)
+        (S.seen source.old) (S.seen source.new) }
 {
     reasons_are_answers();
     fails_before_all();
@@ -75,11 +71,11 @@ fn locate_row<S: Source, A: Allocator + Copy>(
     buf: &mut [u8],
 ) -> Result<Located<A>, ReplayFault>
     requires { max_head ≤ length buf.old }
-    ensures located { (bytes : List ℕ) (records : List Placed) (found : Result Path Unfound) (p : Placed) →
-        (S.tapped source.old).holds ≡ Some bytes → IsOrigin bytes records found path p → HasHead bytes p → row.now
-        ≡ row_of p → parts.now ≡ kept_in (map placed_record records) → Locates bytes records found
-        (S.tapped source.old) (S.tapped source.new) result }
-    ensures keeps { KeepsSource (out_result result) (S.tapped source.old) (S.tapped source.new) }
+    ensures located { IfHeld (S.seen source.old).holds (λ bytes. (is : IsRowReached bytes path parts.now row.now) →
+        Locates bytes is.at.records is.at.found (S.seen source.old) (S.seen source.new) result) }
+    ensures keeps { Preserves (S.seen source.old) (S.seen source.new) }
+    ensures fails { FailsBy (λ bytes. IsRowReached bytes path parts.now row.now) (out_result result)
+        (S.seen source.old) (S.seen source.new) }
 {
     fails_before_all();
     let origin = match read_again(alloc, source, row, buf) {
@@ -103,7 +99,7 @@ fn locate_on<S: Source, A: Allocator + Copy>(
     path: Path,
 ) -> Result<Located<A>, ReplayFault>
     ensures { (way : List Record → Result Path Unfound) → LeadsTo way path rows.now lookup.now.index lookup.now.parts →
-        LocatesOn rows.now lookup.now.index lookup.now.parts way (S.tapped source.old) (S.tapped source.new) result }
+        LocatesOn rows.now lookup.now.index lookup.now.parts way (S.seen source.old) (S.seen source.new) result }
 {
     head_of_spelled();
     fails_before_all();
@@ -125,8 +121,8 @@ pub(crate) fn locate_for<S: Source, A: Allocator + Copy>(
     uri: &[u8],
     moment: &Moment,
 ) -> Result<Located<A>, ReplayFault>
-    ensures { LocatesFor rows.now lookup.now.index lookup.now.parts uri.now moment.now (S.tapped source.old)
-        (S.tapped source.new) result }
+    ensures { LocatesFor rows.now lookup.now.index lookup.now.parts uri.now moment.now (S.seen source.old)
+        (S.seen source.new) result }
 {
     reasons_are_answers();
     paths_end_inside();
@@ -143,7 +139,7 @@ pub(crate) fn locate_at<S: Source, A: Allocator + Copy>(
     lookup: &Lookup<A>,
     position: usize,
 ) -> Result<Located<A>, BodyFault>
-    ensures { LocatesAt rows.now lookup.now.index lookup.now.parts position (S.tapped source.old) (S.tapped source.new)
+    ensures { LocatesAt rows.now lookup.now.index lookup.now.parts position (S.seen source.old) (S.seen source.new)
         result }
 {
     reasons_are_answers();

@@ -1,19 +1,16 @@
 //! What is stored of an origin, and where: its head is read again, and its segments are joined.
-ghost use Rattle.std.specs.Prelude.{◌≡◌, ℕ, ◌≤◌, List, length, map, Some, Result, Ok, IfErr};
-ghost use Rattle.warc_frame.specs.Failing.{HasFailedBy, MayHaveFailedBy};
+ghost use Rattle.std.specs.Prelude.{◌≡◌, ◌≤◌, List, length, IfErr};
+ghost use Rattle.warc_frame.specs.Effects.{FailsBy, Preserves};
 ghost use Rattle.warc_frame.specs.Record.{max_head};
-ghost use Rattle.warc_record.specs.Readings.{reading_of};
+ghost use Rattle.warc_frame.specs.Seen.{IfHeld};
 ghost use Rattle.warc_record.specs.Seen.{said};
-ghost use Rattle.warc_segment.specs.Kept.{kept_in};
 ghost use Rattle.warc_answer.specs.Replays.{out_result};
 ghost use Rattle.warc_answer.specs.Seen.{IsEarly};
 ghost use Rattle.warc_answer.specs.Stored.{own_type};
+ghost use Rattle.warc_answer.specs.declared.answer.Path.{Path as GhostPath};
 ghost use Rattle.warc_reading.specs.Archive.{contents};
-ghost use Rattle.warc_reading.specs.Indexed.{place_of, placed_record};
-ghost use Rattle.warc_reading.specs.Row.{Placed, row_of};
-ghost use Rattle.warc_reading.specs.Rereading.{HasHead};
-ghost use Rattle.warc.specs.Looking.{IsLook, Judges, Looks, Sends};
-ghost use Rattle.warc.specs.Standing.{IsOrigin};
+ghost use Rattle.warc.specs.Looking.{IsLook, Judges, Looks, SendsStored};
+ghost use Rattle.warc.specs.Standing.{IsReached, IsRowReached};
 
 use std::alloc::Allocator;
 use warc_answer::{Path, Reason, ReplayFault, Stored, judge_joined, send_blocks};
@@ -49,17 +46,13 @@ fn look_origin<S: Source, A: Allocator + Copy>(
     origin: &Reread<A>,
     place: Place,
 ) -> Result<Look<A>, ReplayFault>
-    ensures told { (bytes : List ℕ) (records : List Placed) (path : Path) (p : Placed) → (S.tapped source.old).holds ≡
-        Some bytes → IsOrigin bytes records (Ok path) path p → parts.now ≡ kept_in (map placed_record records) →
-        said origin.now.typed ≡ reading_of p.content.fields → origin.now.fields ≡ p.content.fields → place ≡ place_of p
-        → IsLook bytes (contents records) path.given result }
-    ensures failed { (bytes : List ℕ) (records : List Placed) (path : Path) (p : Placed) → (S.tapped source.old).holds ≡
-        Some bytes → IsOrigin bytes records (Ok path) path p → parts.now ≡ kept_in (map placed_record records) →
-        said origin.now.typed ≡ reading_of p.content.fields → place ≡ place_of p → HasFailedBy (out_result result)
-        (S.tapped source.old).faults (S.tapped source.new).faults }
+    ensures told { IfHeld (S.seen source.old).holds (λ bytes. (path : GhostPath)
+        (is : IsReached bytes path parts.now (said origin.now.typed) place) →
+        origin.now.fields ≡ is.at.placed.content.fields → IsLook bytes (contents is.at.records) path.given result) }
     ensures early { IfErr result IsEarly }
-    ensures kept { (S.tapped source.new).holds ≡ (S.tapped source.old).holds }
-    ensures may { MayHaveFailedBy (out_result result) (S.tapped source.old).faults (S.tapped source.new).faults }
+    ensures keeps { Preserves (S.seen source.old) (S.seen source.new) }
+    ensures fails { FailsBy (λ bytes. (path : GhostPath) × IsReached bytes path parts.now (said origin.now.typed) place)
+        (out_result result) (S.seen source.old) (S.seen source.new) }
 {
     places_are_of_records();
     let places = match parts.join(&origin.typed, place) {
@@ -83,16 +76,12 @@ fn look_row<S: Source, A: Allocator + Copy>(
     buf: &mut [u8],
 ) -> Result<Look<A>, ReplayFault>
     requires { max_head ≤ length buf.old }
-    ensures told { (bytes : List ℕ) (records : List Placed) (path : Path) (p : Placed) → (S.tapped source.old).holds ≡
-        Some bytes → IsOrigin bytes records (Ok path) path p → HasHead bytes p → row.now ≡ row_of p → parts.now ≡
-        kept_in (map placed_record records) → IsLook bytes (contents records) path.given result }
-    ensures failed { (bytes : List ℕ) (records : List Placed) (path : Path) (p : Placed) → (S.tapped source.old).holds ≡
-        Some bytes → IsOrigin bytes records (Ok path) path p → HasHead bytes p → row.now ≡ row_of p → parts.now ≡
-        kept_in (map placed_record records) → HasFailedBy (out_result result) (S.tapped source.old).faults
-        (S.tapped source.new).faults }
+    ensures told { IfHeld (S.seen source.old).holds (λ bytes. (path : GhostPath)
+        (is : IsRowReached bytes path parts.now row.now) → IsLook bytes (contents is.at.records) path.given result) }
     ensures early { IfErr result IsEarly }
-    ensures kept { (S.tapped source.new).holds ≡ (S.tapped source.old).holds }
-    ensures may { MayHaveFailedBy (out_result result) (S.tapped source.old).faults (S.tapped source.new).faults }
+    ensures keeps { Preserves (S.seen source.old) (S.seen source.new) }
+    ensures fails { FailsBy (λ bytes. (path : GhostPath) × IsRowReached bytes path parts.now row.now)
+        (out_result result) (S.seen source.old) (S.seen source.new) }
 {
     let origin = match read_again(alloc, source, row, buf) {
         Ok(origin) => origin,
@@ -114,7 +103,7 @@ pub(crate) fn look_at<S: Source, A: Allocator + Copy>(
     lookup: &Lookup<A>,
     position: usize,
 ) -> Result<Look<A>, ReplayFault>
-    ensures { Looks rows.now lookup.now.parts position (S.tapped source.old) (S.tapped source.new) result }
+    ensures { Looks rows.now lookup.now.parts position (S.seen source.old) (S.seen source.new) result }
 {
     head_of_spelled();
     let alloc = rows.allocator();
@@ -134,7 +123,7 @@ pub(crate) fn judge_origin<S: Source, A: Allocator + Copy>(
     lookup: &Lookup<A>,
     position: usize,
 ) -> Result<Result<Stored<A>, Reason>, OutFault>
-    ensures { Judges rows.now lookup.now.parts position (S.tapped source.old) (S.tapped source.new) result }
+    ensures { Judges rows.now lookup.now.parts position (S.seen source.old) (S.seen source.new) result }
 {
     match look_at(source, rows, lookup, position) {
         Ok(look) => Ok(Ok(look.stored)),
@@ -151,8 +140,8 @@ pub(crate) fn send_origin<S: Source, W: Sink, A: Allocator + Copy>(
     position: usize,
     out: &mut W,
 ) -> Result<Stored<A>, ReplayFault>
-    ensures { Sends rows.now lookup.now.parts position (S.tapped source.old) (S.tapped source.new) (W.seen out.old)
-        (W.seen out.new) result }
+    ensures { SendsStored rows.now lookup.now.parts position (S.seen source.old) (S.seen source.new)
+        (W.seen out.old) (W.seen out.new) result }
 {
     let look = match look_at(source, rows, lookup, position) {
         Ok(look) => look,

@@ -38,7 +38,7 @@ pub(crate) fn judge_at<S: Source, A: Allocator + Copy>(
     lookup: &Lookup<A>,
     position: usize,
 ) -> Result<Outcome<A>, BodyFault>
-    ensures { JudgesAt rows.now lookup.now.index lookup.now.parts position (S.tapped source.old) (S.tapped source.new)
+    ensures { JudgesAt rows.now lookup.now.index lookup.now.parts position (S.seen source.old) (S.seen source.new)
         result }
 {
     paths_end_inside();
@@ -72,8 +72,8 @@ pub(crate) fn send_at<S: Source, W: Sink, A: Allocator + Copy>(
     position: usize,
     out: &mut W,
 ) -> Result<StoredAt<A>, BodyFault>
-    ensures { GivesStoredAt rows.now lookup.now.index lookup.now.parts position (S.tapped source.old)
-        (S.tapped source.new) (W.seen out.old) (W.seen out.new) (answer_seen result) }
+    ensures { GivesStoredAt rows.now lookup.now.index lookup.now.parts position (S.seen source.old)
+        (S.seen source.new) (W.seen out.old) (W.seen out.new) (answer_seen result) }
 {
     paths_end_inside();
     let path = match find(rows, lookup, position) {

@@ -17,10 +17,9 @@ ghost use Rattle.warc_reading.specs.Growing.{Grows, grown, source_grown, without
 ghost use Rattle.warc_reading.specs.Opening.{Opens};
 ghost use Rattle.warc_reading.specs.Stream.{IsKeptOf};
 ghost use Rattle.warc.specs.Replaying.{Replays};
-ghost use Rattle.warc.specs.Heading.{TakesHead};
-ghost use Rattle.warc.specs.Taking.{Takes};
+ghost use Rattle.warc.specs.Heading.{GivesHead};
+ghost use Rattle.warc.specs.Taking.{GivesRecord};
 
-use crate::anew::{Manner, write_rows};
 use crate::blocks::send_range;
 use crate::bodies::give_body;
 use crate::capturing::judge_all;
@@ -31,9 +30,10 @@ use crate::iterating::RowIter;
 use crate::locating::{locate_at, locate_for};
 use crate::outcome::{Outcome, StoredAt, judge_at, send_at};
 use crate::part::Part;
+use crate::records::take_record;
 use crate::replay::replay_rows;
+use crate::rewriting::{Replacement, write_rows};
 use crate::row::put_line;
-use crate::taking::take_record;
 use std::alloc::{Allocator, Global};
 use std::marker::Model;
 use std::mem;
@@ -41,7 +41,7 @@ use warc_answer::{Answer, Located, ReplayFault};
 use warc_checking::check_rows;
 use warc_frame::laws::head_of_spelled;
 use warc_frame::{Fault, Framed, Head, OutBuffer, OutFault, Sink, Source};
-use warc_reading::{Keep, Lookup, Nothing, Row, Rows, read_on};
+use warc_reading::{Keep, Lookup, Row, Rows, RowsAlone, read_on};
 use warc_value::Moment;
 
 /// What is listed of an archive, and the source of its bytes. Contracts see the source, and a row for each record.
@@ -119,10 +119,10 @@ impl<S: Source, A: Allocator + Copy> Listing<S, A> {
     /// no block. A refusal hands the source back: `Read` where a read failed, at the offset that was asked
     /// for, `Memory` at the record for which it didn't suffice, and else the first fault of the bytes.
     pub fn open(alloc: A, source: S) -> Result<Listing<S, A>, (Fault, S)>
-        ensures { Opens IsArchiveOf (S.tapped source) (S.tapped (source_of result)) (rows_of result) }
+        ensures { Opens IsArchiveOf (S.seen source) (S.seen (source_of result)) (rows_of result) }
     {
         let mut source = source;
-        let (answer, rows, Nothing) = read_on(alloc, &mut source, Rows::new(alloc), Nothing);
+        let (answer, rows, RowsAlone) = read_on(alloc, &mut source, Rows::new(alloc), RowsAlone);
         match answer {
             Ok(()) => Ok(Listing { source, rows }),
             Err(fault) => Err((fault, source)),
@@ -136,11 +136,11 @@ impl<S: Source, A: Allocator + Copy> Listing<S, A> {
     pub fn grow(&mut self, source: S) -> Result<(), (Fault, S)>
     where
         S: Drop,
-        ensures grows { Grows IsArchiveOf self.old.rows (S.tapped source) (S.tapped
+        ensures grows { Grows IsArchiveOf self.old.rows (S.seen source) (S.seen
             (source_grown result self.new.source)) (grown (without_source result) self.new.rows) }
         ensures refused { OnErr result (self.new ≡ self.old) }
     {
-        let (answer, Nothing) = self.grow_with(source, Nothing);
+        let (answer, RowsAlone) = self.grow_with(source, RowsAlone);
         answer
     }
 
@@ -157,7 +157,7 @@ impl<S: Source, A: Allocator + Copy> Listing<S, A> {
     ) -> (Result<(), (Fault, S)>, L)
     where
         S: Drop,
-        ensures grows { Grows (IsKeptOf L.keeps) (self.old.rows, beside) (S.tapped source) (S.tapped
+        ensures grows { Grows (IsKeptOf L.keeps) (self.old.rows, beside) (S.seen source) (S.seen
             (source_grown result.0 self.new.source)) (grown (without_source result.0) (self.new.rows, result.1)) }
         ensures refused { OnErr result.0 (self.new ≡ self.old) }
         ensures beside { (bytes : List ℕ) → IsKeptOf L.keeps bytes (self.old.rows, beside)
@@ -180,7 +180,8 @@ impl<S: Source, A: Allocator + Copy> Listing<S, A> {
     /// The record at a position, read again: its version, its fields and its block, which take as much memory twice as
     /// the record is long. A read that fails, or a source that no longer gives what it gave at opening, is `Read`.
     pub fn record(&mut self, position: usize) -> Result<Framed<A>, TakeFault>
-        ensures takes { Takes self.old.rows position (S.tapped self.old.source) (S.tapped self.new.source) result }
+        ensures takes { GivesRecord self.old.rows position (S.seen self.old.source) (S.seen self.new.source)
+            result }
 
         // The rows stay.
         ensures rows { self.new.rows ≡ self.old.rows }
@@ -195,7 +196,7 @@ impl<S: Source, A: Allocator + Copy> Listing<S, A> {
     /// The head of the record at a position, read again: its version, its fields, its length and that of its block. No
     /// other byte is read. A read that fails, or a source that no longer gives what it gave at opening, is `Read`.
     pub fn head(&mut self, position: usize) -> Result<Head<A>, TakeFault>
-        ensures takes { TakesHead self.old.rows position (S.tapped self.old.source) (S.tapped self.new.source) result }
+        ensures takes { GivesHead self.old.rows position (S.seen self.old.source) (S.seen self.new.source) result }
 
         // The rows stay.
         ensures rows { self.new.rows ≡ self.old.rows }
@@ -219,7 +220,7 @@ impl<S: Source, A: Allocator + Copy> Listing<S, A> {
         part: Part,
         out: &mut W,
     ) -> Result<u64, ExtractFault>
-        ensures gives { GivesPart part self.old.rows position (S.tapped self.old.source) (S.tapped self.new.source)
+        ensures gives { GivesPart part self.old.rows position (S.seen self.old.source) (S.seen self.new.source)
             (W.seen out.old) (W.seen out.new) result }
 
         // The rows stay.
@@ -238,8 +239,8 @@ impl<S: Source, A: Allocator + Copy> Listing<S, A> {
     /// Writes the head of the record at a position, from its version line to its empty line, byte for byte, as
     /// `part_to` does.
     pub fn head_to<W: Sink>(&mut self, position: usize, out: &mut W) -> Result<u64, ExtractFault>
-        ensures gives { GivesPart Part.Head self.old.rows position (S.tapped self.old.source)
-            (S.tapped self.new.source) (W.seen out.old) (W.seen out.new) result }
+        ensures gives { GivesPart Part.Head self.old.rows position (S.seen self.old.source)
+            (S.seen self.new.source) (W.seen out.old) (W.seen out.new) result }
 
         // The rows stay.
         ensures rows { self.new.rows ≡ self.old.rows }
@@ -249,8 +250,8 @@ impl<S: Source, A: Allocator + Copy> Listing<S, A> {
 
     /// Writes the block of the record at a position, byte for byte, as `part_to` does.
     pub fn block_to<W: Sink>(&mut self, position: usize, out: &mut W) -> Result<u64, ExtractFault>
-        ensures gives { GivesPart Part.Block self.old.rows position (S.tapped self.old.source)
-            (S.tapped self.new.source) (W.seen out.old) (W.seen out.new) result }
+        ensures gives { GivesPart Part.Block self.old.rows position (S.seen self.old.source)
+            (S.seen self.new.source) (W.seen out.old) (W.seen out.new) result }
 
         // The rows stay.
         ensures rows { self.new.rows ≡ self.old.rows }
@@ -267,7 +268,7 @@ impl<S: Source, A: Allocator + Copy> Listing<S, A> {
         out: &mut W,
     ) -> Result<Answer, ReplayFault>
         ensures replays { Replays self.old.rows lookup.now.index lookup.now.parts uri.now moment.now
-            (S.tapped self.old.source) (S.tapped self.new.source) (W.seen out.old) (W.seen out.new) result }
+            (S.seen self.old.source) (S.seen self.new.source) (W.seen out.old) (W.seen out.new) result }
         ensures rows { self.new.rows ≡ self.old.rows }
     {
         replay_rows(&mut self.source, &self.rows, lookup, uri, moment, out)
@@ -280,8 +281,8 @@ impl<S: Source, A: Allocator + Copy> Listing<S, A> {
         position: usize,
         out: &mut W,
     ) -> Result<Answer, BodyFault>
-        ensures gives { GivesBodyAt self.old.rows lookup.now.index lookup.now.parts position (S.tapped self.old.source)
-            (S.tapped self.new.source) (W.seen out.old) (W.seen out.new) result }
+        ensures gives { GivesBodyAt self.old.rows lookup.now.index lookup.now.parts position (S.seen self.old.source)
+            (S.seen self.new.source) (W.seen out.old) (W.seen out.new) result }
         ensures rows { self.new.rows ≡ self.old.rows }
     {
         give_body(&mut self.source, &self.rows, lookup, position, out)
@@ -293,8 +294,8 @@ impl<S: Source, A: Allocator + Copy> Listing<S, A> {
         lookup: &Lookup<A>,
         position: usize,
     ) -> Result<Outcome<A>, BodyFault>
-        ensures judges { JudgesAt self.old.rows lookup.now.index lookup.now.parts position (S.tapped self.old.source)
-            (S.tapped self.new.source) result }
+        ensures judges { JudgesAt self.old.rows lookup.now.index lookup.now.parts position (S.seen self.old.source)
+            (S.seen self.new.source) result }
         ensures rows { self.new.rows ≡ self.old.rows }
     {
         judge_at(&mut self.source, &self.rows, lookup, position)
@@ -307,7 +308,7 @@ impl<S: Source, A: Allocator + Copy> Listing<S, A> {
         positions: &[usize],
     ) -> Result<Vec<Outcome<A>, A>, OutFault>
         ensures judges { JudgesAll self.old.rows lookup.now.index lookup.now.parts positions.now
-            (S.tapped self.old.source) (S.tapped self.new.source) result }
+            (S.seen self.old.source) (S.seen self.new.source) result }
         ensures rows { self.new.rows ≡ self.old.rows }
     {
         judge_all(&mut self.source, &self.rows, lookup, positions)
@@ -321,7 +322,7 @@ impl<S: Source, A: Allocator + Copy> Listing<S, A> {
         out: &mut W,
     ) -> Result<StoredAt<A>, BodyFault>
         ensures gives { GivesStoredAt self.old.rows lookup.now.index lookup.now.parts position
-            (S.tapped self.old.source) (S.tapped self.new.source) (W.seen out.old) (W.seen out.new)
+            (S.seen self.old.source) (S.seen self.new.source) (W.seen out.old) (W.seen out.new)
             (answer_seen result) }
         ensures rows { self.new.rows ≡ self.old.rows }
     {
@@ -336,7 +337,7 @@ impl<S: Source, A: Allocator + Copy> Listing<S, A> {
         moment: &Moment,
     ) -> Result<Located<A>, ReplayFault>
         ensures locates { LocatesFor self.old.rows lookup.now.index lookup.now.parts uri.now moment.now
-            (S.tapped self.old.source) (S.tapped self.new.source) result }
+            (S.seen self.old.source) (S.seen self.new.source) result }
         ensures rows { self.new.rows ≡ self.old.rows }
     {
         locate_for(&mut self.source, &self.rows, lookup, uri, moment)
@@ -348,8 +349,8 @@ impl<S: Source, A: Allocator + Copy> Listing<S, A> {
         lookup: &Lookup<A>,
         position: usize,
     ) -> Result<Located<A>, BodyFault>
-        ensures locates { LocatesAt self.old.rows lookup.now.index lookup.now.parts position (S.tapped self.old.source)
-            (S.tapped self.new.source) result }
+        ensures locates { LocatesAt self.old.rows lookup.now.index lookup.now.parts position (S.seen self.old.source)
+            (S.seen self.new.source) result }
         ensures rows { self.new.rows ≡ self.old.rows }
     {
         locate_at(&mut self.source, &self.rows, lookup, position)
@@ -363,7 +364,7 @@ impl<S: Source, A: Allocator + Copy> Listing<S, A> {
     /// write that fails is `Write`, and a refused growth of the memory `Memory`. Each tells how many
     /// bytes went out, which are the first of the output.
     pub fn check<W: Sink>(&mut self, out: &mut W) -> Result<usize, OutFault>
-        ensures checks { Checks self.old.rows (S.tapped self.old.source) (S.tapped self.new.source) (W.seen out.old)
+        ensures checks { Checks self.old.rows (S.seen self.old.source) (S.seen self.new.source) (W.seen out.old)
             (W.seen out.new) result }
 
         // The rows stay.
@@ -380,13 +381,13 @@ impl<S: Source, A: Allocator + Copy> Listing<S, A> {
     /// `Write`, and a refused growth of the memory `Memory`. Each tells how many bytes went out, which are the first of
     /// the output.
     pub fn write_as<W: Sink>(&mut self, form: Form, out: &mut W) -> Result<(), OutFault>
-        ensures writes { Writes form self.old.rows (S.tapped self.old.source) (S.tapped self.new.source)
+        ensures writes { Writes form self.old.rows (S.seen self.old.source) (S.seen self.new.source)
             (W.seen out.old) (W.seen out.new) result }
 
         // The rows stay.
         ensures rows { self.new.rows ≡ self.old.rows }
     {
-        self.write_each(Manner::As(form), out)
+        self.write_each(Replacement::As(form), out)
     }
 
     /// Writes the records anew, in their order, each split into segments of `size` bytes, the last one shorter or
@@ -397,23 +398,23 @@ impl<S: Source, A: Allocator + Copy> Listing<S, A> {
     /// `Write`, and a refused growth of the memory `Memory`. Each tells how many bytes went out, which are the first of
     /// the output, up to 2^64 - 1.
     pub fn split<W: Sink>(&mut self, size: u64, out: &mut W) -> Result<(), OutFault>
-        ensures writes { WritesSplit size self.old.rows (S.tapped self.old.source) (S.tapped self.new.source)
+        ensures writes { WritesSplit size self.old.rows (S.seen self.old.source) (S.seen self.new.source)
             (W.seen out.old) (W.seen out.new) result }
 
         // The rows stay.
         ensures rows { self.new.rows ≡ self.old.rows }
     {
-        self.write_each(Manner::Split(size), out)
+        self.write_each(Replacement::Split(size), out)
     }
 
-    /// Writes the records anew in a manner.
-    fn write_each<W: Sink>(&mut self, manner: Manner, out: &mut W) -> Result<(), OutFault>
-        ensures writes { WritesEach (text_by manner) (len_by manner) self.old.rows (S.tapped self.old.source)
-            (S.tapped self.new.source) (W.seen out.old) (W.seen out.new) result }
+    /// Writes what replaces each record.
+    fn write_each<W: Sink>(&mut self, replacement: Replacement, out: &mut W) -> Result<(), OutFault>
+        ensures writes { WritesEach (text_by replacement) (len_by replacement) self.old.rows (S.seen self.old.source)
+            (S.seen self.new.source) (W.seen out.old) (W.seen out.new) result }
         ensures rows { self.new.rows ≡ self.old.rows }
     {
         head_of_spelled();
         let alloc = self.rows.allocator();
-        write_rows(alloc, &mut self.source, manner, &self.rows, out)
+        write_rows(alloc, &mut self.source, replacement, &self.rows, out)
     }
 }

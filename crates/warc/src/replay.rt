@@ -1,21 +1,16 @@
 //! What an archive gives for a URI as of a moment.
-ghost use Rattle.std.specs.Prelude.{◌≡◌, ℕ, ◌+◌, ◌-◌, ◌*◌, ◌<◌, ◌≤◌, List, length, map, Some, Result};
-ghost use Rattle.warc_frame.specs.Failing.{HasFailedBy, MayHaveFailedBy, failed_by};
+ghost use Rattle.std.specs.Prelude.{◌≡◌, ℕ, ◌*◌, ◌<◌, ◌≤◌, List, length, map, Some, Result};
+ghost use Rattle.warc_frame.specs.Effects.{FailsBy, Preserves, ReadsOnly};
 ghost use Rattle.warc_frame.specs.Record.{Record, max_head};
-ghost use Rattle.warc_frame.specs.Seen.{AsksOnly};
-ghost use Rattle.warc_record.specs.Readings.{reading_of};
+ghost use Rattle.warc_frame.specs.Seen.{AsksOnly, IfHeld};
 ghost use Rattle.warc_record.specs.Seen.{said};
-ghost use Rattle.warc_segment.specs.Joined.{joined_places, joined_records};
-ghost use Rattle.warc_segment.specs.Kept.{kept_in};
 ghost use Rattle.warc_answer.specs.Answers.{path_from, path_of};
-ghost use Rattle.warc_answer.specs.Payloads.{read_record};
-ghost use Rattle.warc_answer.specs.Replays.{IsReplayOn, IsSilent, out_result};
+ghost use Rattle.warc_answer.specs.Replays.{IsReplayOn, WritesLate, out_result};
 ghost use Rattle.warc_reading.specs.Archive.{contents};
-ghost use Rattle.warc_reading.specs.Indexed.{AreOf, indexed_record, place_of, placed_record};
-ghost use Rattle.warc_reading.specs.Rereading.{HasHead};
-ghost use Rattle.warc.specs.Replaying.{IsJoined, IsOfOrigin, Replays, ReplaysOn, joined_len};
-ghost use Rattle.warc_reading.specs.Row.{Placed, row_of};
-ghost use Rattle.warc.specs.Standing.{IsOrigin, LeadsTo};
+ghost use Rattle.warc_reading.specs.Indexed.{AreOf, indexed_record};
+ghost use Rattle.warc_reading.specs.Row.{Placed};
+ghost use Rattle.warc.specs.Replaying.{IsJoinedTo, IsOfOrigin, Replays, ReplaysOn, origin_joined, origin_reads};
+ghost use Rattle.warc.specs.Standing.{IsAtEnd, IsReached, IsRowAtEnd, IsRowReached, LeadsTo};
 
 use std::alloc::Allocator;
 use warc_answer::laws::{
@@ -69,32 +64,19 @@ fn replay_origin<S: Source, W: Sink, A: Allocator + Copy>(
     place: Place,
     out: &mut W,
 ) -> Result<Answer, ReplayFault>
-    ensures told { (bytes : List ℕ) (records : List Placed) (found : Result Path Unfound) (p : Placed) →
-        (S.tapped source.old).holds ≡ Some bytes → IsOrigin bytes records found path p → parts.now ≡ kept_in
-        (map placed_record records) → said origin.now ≡ reading_of p.content.fields → place ≡ place_of p → IsReplayOn
-        (contents records) found result (W.seen out.old).tells (W.seen out.new).tells }
-    ensures failed { (bytes : List ℕ) (records : List Placed) (found : Result Path Unfound) (p : Placed) →
-        (S.tapped source.old).holds ≡ Some bytes → IsOrigin bytes records found path p → parts.now ≡ kept_in
-        (map placed_record records) → said origin.now ≡ reading_of p.content.fields → place ≡ place_of p → HasFailedBy
-        (out_result result) (S.tapped source.old).faults (S.tapped source.new).faults }
-    ensures cost { (bytes : List ℕ) (records : List Placed) (found : Result Path Unfound) (p : Placed) →
-        (S.tapped source.old).holds ≡ Some bytes → IsOrigin bytes records found path p → parts.now ≡ kept_in
-        (map placed_record records) → said origin.now ≡ reading_of p.content.fields → place ≡ place_of p →
-        (S.tapped source.new).reads ≤ (S.tapped source.old).reads + 2 * joined_len (joined_records (map read_record
-        (contents records)) (read_record p.content)) }
-    ensures near { (bytes : List ℕ) (records : List Placed) (found : Result Path Unfound) (p : Placed) →
-        (S.tapped source.old).holds ≡ Some bytes → IsOrigin bytes records found path p → parts.now ≡ kept_in
-        (map placed_record records) → said origin.now ≡ reading_of p.content.fields → place ≡ place_of p → AsksOnly
-        (IsJoined (joined_places (map placed_record records) (placed_record p))) (S.tapped source.old)
-        (S.tapped source.new) }
-    ensures inside { (bytes : List ℕ) (records : List Placed) (found : Result Path Unfound) (p : Placed) →
-        IsOrigin bytes records found path p → parts.now ≡ kept_in (map placed_record records) → place ≡ place_of p →
-        AsksOnly (λ at. at < length bytes) (S.tapped source.old) (S.tapped source.new) }
-    ensures silent { IsSilent result (W.seen out.old).tells (W.seen out.new).tells }
-    ensures kept { (S.tapped source.new).holds ≡ (S.tapped source.old).holds }
-    ensures watched { (S.tapped source.new).watches ≡ (S.tapped source.old).watches }
-    ensures may { MayHaveFailedBy (out_result result) (S.tapped source.old).faults (S.tapped source.new).faults }
-    ensures cause { (W.seen out.new).faults ≡ failed_by (out_result result) (W.seen out.old).faults }
+    ensures told { IfHeld (S.seen source.old).holds (λ bytes.
+        (is : IsReached bytes path parts.now (said origin.now) place) →
+        IsReplayOn (contents is.at.records) is.at.found result (W.seen out.old).tells (W.seen out.new).tells) }
+    ensures reads { IfHeld (S.seen source.old).holds (λ bytes.
+        (is : IsReached bytes path parts.now (said origin.now) place) →
+        ReadsOnly (IsJoinedTo is.at.records is.at.placed) (2 * origin_joined is.at.records is.at.placed)
+        (S.seen source.old) (S.seen source.new)) }
+    ensures inside { (bytes : List ℕ) → IsAtEnd bytes path parts.now place →
+        AsksOnly (λ at. at < length bytes) (S.seen source.old) (S.seen source.new) }
+    ensures keeps { Preserves (S.seen source.old) (S.seen source.new) }
+    ensures late { WritesLate result (W.seen out.old) (W.seen out.new) }
+    ensures fails { FailsBy (λ bytes. IsReached bytes path parts.now (said origin.now) place) (out_result result)
+        (S.seen source.old) (S.seen source.new) }
 {
     reasons_are_answers();
     fails_before_all();
@@ -120,31 +102,17 @@ fn replay_row<S: Source, W: Sink, A: Allocator + Copy>(
     out: &mut W,
 ) -> Result<Answer, ReplayFault>
     requires { max_head ≤ length buf.old }
-    ensures told { (bytes : List ℕ) (records : List Placed) (found : Result Path Unfound) (p : Placed) →
-        (S.tapped source.old).holds ≡ Some bytes → IsOrigin bytes records found path p → HasHead bytes p → row.now
-        ≡ row_of p → parts.now ≡ kept_in (map placed_record records) → IsReplayOn (contents records) found result
-        (W.seen out.old).tells (W.seen out.new).tells }
-    ensures failed { (bytes : List ℕ) (records : List Placed) (found : Result Path Unfound) (p : Placed) →
-        (S.tapped source.old).holds ≡ Some bytes → IsOrigin bytes records found path p → HasHead bytes p → row.now
-        ≡ row_of p → parts.now ≡ kept_in (map placed_record records) → HasFailedBy (out_result result)
-        (S.tapped source.old).faults (S.tapped source.new).faults }
-    ensures cost { (bytes : List ℕ) (records : List Placed) (found : Result Path Unfound) (p : Placed) →
-        (S.tapped source.old).holds ≡ Some bytes → IsOrigin bytes records found path p → HasHead bytes p → row.now
-        ≡ row_of p → parts.now ≡ kept_in (map placed_record records) → (S.tapped source.new).reads ≤
-        (S.tapped source.old).reads + (p.block_start - p.offset + 2 * joined_len (joined_records (map read_record
-        (contents records)) (read_record p.content))) }
-    ensures near { (bytes : List ℕ) (records : List Placed) (found : Result Path Unfound) (p : Placed) →
-        (S.tapped source.old).holds ≡ Some bytes → IsOrigin bytes records found path p → HasHead bytes p → row.now
-        ≡ row_of p → parts.now ≡ kept_in (map placed_record records) → AsksOnly (IsOfOrigin records (Some p))
-        (S.tapped source.old) (S.tapped source.new) }
-    ensures inside { (bytes : List ℕ) (records : List Placed) (found : Result Path Unfound) (p : Placed) →
-        IsOrigin bytes records found path p → row.now ≡ row_of p → parts.now ≡ kept_in (map placed_record records) →
-        AsksOnly (λ at. at < length bytes) (S.tapped source.old) (S.tapped source.new) }
-    ensures silent { IsSilent result (W.seen out.old).tells (W.seen out.new).tells }
-    ensures kept { (S.tapped source.new).holds ≡ (S.tapped source.old).holds }
-    ensures watched { (S.tapped source.new).watches ≡ (S.tapped source.old).watches }
-    ensures may { MayHaveFailedBy (out_result result) (S.tapped source.old).faults (S.tapped source.new).faults }
-    ensures cause { (W.seen out.new).faults ≡ failed_by (out_result result) (W.seen out.old).faults }
+    ensures told { IfHeld (S.seen source.old).holds (λ bytes. (is : IsRowReached bytes path parts.now row.now) →
+        IsReplayOn (contents is.at.records) is.at.found result (W.seen out.old).tells (W.seen out.new).tells) }
+    ensures reads { IfHeld (S.seen source.old).holds (λ bytes. (is : IsRowReached bytes path parts.now row.now) →
+        ReadsOnly (IsOfOrigin is.at.records (Some is.at.placed)) (origin_reads is.at.records (Some is.at.placed))
+        (S.seen source.old) (S.seen source.new)) }
+    ensures inside { (bytes : List ℕ) → IsRowAtEnd bytes path parts.now row.now →
+        AsksOnly (λ at. at < length bytes) (S.seen source.old) (S.seen source.new) }
+    ensures keeps { Preserves (S.seen source.old) (S.seen source.new) }
+    ensures late { WritesLate result (W.seen out.old) (W.seen out.new) }
+    ensures fails { FailsBy (λ bytes. IsRowReached bytes path parts.now row.now) (out_result result)
+        (S.seen source.old) (S.seen source.new) }
 {
     fails_before_all();
     let origin = match read_again(alloc, source, row, buf) {
@@ -169,7 +137,7 @@ pub(crate) fn replay_on<S: Source, W: Sink, A: Allocator + Copy>(
     out: &mut W,
 ) -> Result<Answer, ReplayFault>
     ensures { (way : List Record → Result Path Unfound) → LeadsTo way path rows.now lookup.now.index lookup.now.parts →
-        ReplaysOn rows.now lookup.now.index lookup.now.parts way (S.tapped source.old) (S.tapped source.new)
+        ReplaysOn rows.now lookup.now.index lookup.now.parts way (S.seen source.old) (S.seen source.new)
         (W.seen out.old) (W.seen out.new) result }
 {
     head_of_spelled();
@@ -193,8 +161,8 @@ pub(crate) fn replay_rows<S: Source, W: Sink, A: Allocator + Copy>(
     moment: &Moment,
     out: &mut W,
 ) -> Result<Answer, ReplayFault>
-    ensures { Replays rows.now lookup.now.index lookup.now.parts uri.now moment.now (S.tapped source.old)
-        (S.tapped source.new) (W.seen out.old) (W.seen out.new) result }
+    ensures { Replays rows.now lookup.now.index lookup.now.parts uri.now moment.now (S.seen source.old)
+        (S.seen source.new) (W.seen out.old) (W.seen out.new) result }
 {
     reasons_are_answers();
     paths_end_inside();

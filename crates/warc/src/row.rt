@@ -1,7 +1,7 @@
 //! The line that `list` writes for a record.
 ghost use Rattle.std.specs.Prelude.{◌≡◌};
 ghost use Rattle.warc.specs.Listing.{line_of, shown};
-ghost use Rattle.warc_frame.specs.Putting.{Puts};
+ghost use Rattle.warc_frame.specs.Effects.{Puts};
 
 use itoa::Buffer;
 use warc_frame::{OutBuffer, SendFault, Sink, put_columns};

@@ -1,15 +1,14 @@
 //! Records of an archive that are split into segments, whose blocks are copied from the source.
-ghost use Rattle.std.specs.Prelude.{◌≡◌, ℕ, ◌+◌, ◌-◌, ◌*◌, ◌^◌, ◌<◌, ◌≤◌, ◌⊎◌, Bool, List, length, take, drop, min, Some, IfOk, IfSome, OnOk, OnErr};
+ghost use Rattle.std.specs.Prelude.{◌≡◌, ◌+◌, ◌-◌, ◌*◌, ◌^◌, ◌<◌, length, take, drop, min, IfOk, IfSome};
 ghost use Rattle.sha1.specs.Sha1.{sha1};
-ghost use Rattle.warc_frame.specs.Copying.{HasRange};
-ghost use Rattle.warc_frame.specs.Count.{raised};
+ghost use Rattle.warc_frame.specs.Effects.{Emits, FailsBy, HasRange, ReadsOnly, ReadsRange, read_result};
 ghost use Rattle.warc_frame.specs.Record.{Record};
 ghost use Rattle.warc_value.specs.Digests.{is_bad};
 ghost use Rattle.warc_write.specs.Cutting.{HasParts, records_by, split_or_whole};
 ghost use Rattle.warc_write.specs.Splitting.{segment_count};
 ghost use Rattle.warc.specs.Copied.{IsTextWith};
-ghost use Rattle.warc.specs.Emitting.{Emits};
-ghost use Rattle.warc.specs.Forms.{IsInBlock, ReadsOnly, split_text};
+ghost use Rattle.warc_frame.specs.Seen.{IfHeld, IsInRange};
+ghost use Rattle.warc.specs.Forms.{split_text};
 ghost use Rattle.warc.specs.Segments.{AreSegmentTexts, IsSegmentText};
 
 use crate::copying::{Copied, put_copied};
@@ -44,15 +43,10 @@ fn digest_range<S: Source>(
     scratch: &mut [u8],
 ) -> Result<[u8; 20], ReadFault>
     requires { 0 < length scratch.old }
-    ensures digest { (bytes : List ℕ) → (S.tapped source.old).holds ≡ Some bytes → IfOk result (λ digest. digest ≡ sha1
-        (take len (drop at bytes))) }
-    ensures kept { (S.tapped source.new).holds ≡ (S.tapped source.old).holds }
-    ensures sound { OnOk result ((S.tapped source.new).faults ≡ (S.tapped source.old).faults) }
-    ensures reads { ReadsOnly (IsInBlock at len) len (S.tapped source.old) (S.tapped source.new) }
-    ensures may { OnErr result (((S.tapped source.new).faults ≡ (S.tapped source.old).faults) ⊎
-        ((S.tapped source.new).faults ≡ raised (S.tapped source.old).faults)) }
-    ensures failed { (bytes : List ℕ) → (S.tapped source.old).holds ≡ Some bytes → HasRange at len bytes → OnErr result
-        ((S.tapped source.new).faults ≡ raised (S.tapped source.old).faults) }
+    ensures digest { IfHeld (S.seen source.old).holds (λ bytes.
+        IfOk result (λ digest. digest ≡ sha1 (take len (drop at bytes)))) }
+    ensures reads { ReadsRange at len (S.seen source.old) (S.seen source.new) }
+    ensures fails { FailsBy (HasRange at len) (read_result result) (S.seen source.old) (S.seen source.new) }
 {
     if len > u64::MAX - at {
         return Err(ReadFault);
@@ -87,10 +81,10 @@ fn put_segment<S: Source, A: Allocator + Copy, W: Sink>(
     requires some { 0 < cut.now.size }
     requires inside { at * cut.now.size < cut.now.block_len }
     requires end { cut.now.block_start + cut.now.block_len < 2 ^ 64 }
-    ensures emits { Emits (IsSegmentText cut.now at) (S.tapped source.old) (S.tapped source.new) (W.seen out.old)
+    ensures emits { Emits (IsSegmentText cut.now at) (S.seen source.old) (S.seen source.new) (W.seen out.old)
         (W.seen out.new) buffer.old buffer.new result }
-    ensures reads { ReadsOnly (IsInBlock cut.now.block_start cut.now.block_len) (2 * min cut.now.size
-        (cut.now.block_len - at * cut.now.size)) (S.tapped source.old) (S.tapped source.new) }
+    ensures reads { ReadsOnly (IsInRange cut.now.block_start cut.now.block_len) (2 * min cut.now.size
+        (cut.now.block_len - at * cut.now.size)) (S.seen source.old) (S.seen source.new) }
 {
     let gone = at * cut.size;
     let start = cut.block_start + gone;
@@ -123,10 +117,10 @@ fn put_segments<S: Source, A: Allocator + Copy, W: Sink>(
     requires room { 0 < length scratch.old }
     requires some { 0 < cut.now.size }
     requires more { 0 < cut.now.block_len }
-    ensures emits { Emits (AreSegmentTexts cut.now (segment_count cut.now.size cut.now.block_len)) (S.tapped source.old)
-        (S.tapped source.new) (W.seen out.old) (W.seen out.new) buffer.old buffer.new result }
-    ensures reads { ReadsOnly (IsInBlock cut.now.block_start cut.now.block_len) (2 * cut.now.block_len)
-        (S.tapped source.old) (S.tapped source.new) }
+    ensures emits { Emits (AreSegmentTexts cut.now (segment_count cut.now.size cut.now.block_len)) (S.seen source.old)
+        (S.seen source.new) (W.seen out.old) (W.seen out.new) buffer.old buffer.new result }
+    ensures reads { ReadsOnly (IsInRange cut.now.block_start cut.now.block_len) (2 * cut.now.block_len)
+        (S.seen source.old) (S.seen source.new) }
 {
     if cut.block_len > u64::MAX - cut.block_start {
         return Err(OutFault::Read(buffer.sent()));
@@ -180,10 +174,10 @@ pub(crate) fn put_split<S: Source, A: Allocator + Copy, W: Sink>(
     out: &mut W,
 ) -> Result<(), OutFault>
     requires { 0 < length scratch.old }
-    ensures emits { Emits (IsTextWith (split_text size) row.now head) (S.tapped source.old) (S.tapped source.new)
+    ensures emits { Emits (IsTextWith (split_text size) row.now head) (S.seen source.old) (S.seen source.new)
         (W.seen out.old) (W.seen out.new) buffer.old buffer.new result }
-    ensures reads { ReadsOnly (IsInBlock row.now.block_start row.now.block_len) (2 * row.now.block_len)
-        (S.tapped source.old) (S.tapped source.new) }
+    ensures reads { ReadsOnly (IsInRange row.now.block_start row.now.block_len) (2 * row.now.block_len)
+        (S.seen source.old) (S.seen source.new) }
 {
     let Ok(uuid) = cut_or_whole(alloc, size, row, &head) else {
         return Err(OutFault::Memory(buffer.sent()));

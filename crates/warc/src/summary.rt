@@ -3,7 +3,7 @@ ghost use Rattle.std.specs.Prelude.{◌≡◌, [], IfErr, OnErr, OnOk, is_err, m
 ghost use Rattle.std.specs.Io.KnownBytes.{append_known};
 ghost use Rattle.std.specs.List.{concat};
 ghost use Rattle.warc_frame.specs.Count.{raised};
-ghost use Rattle.warc_frame.specs.Putting.{Puts};
+ghost use Rattle.warc_frame.specs.Effects.{Puts};
 ghost use Rattle.warc_frame.specs.Send.{WentOut, sent_of};
 ghost use Rattle.warc_index.specs.Captures.{is_earlier};
 ghost use Rattle.warc_reading.specs.Opening.{Opens};
@@ -110,7 +110,7 @@ impl<A: Allocator + Copy> Keep<A> for Segmented<A> {
         Ok(())
     }
 
-    fn forget_after(&mut self, count: usize) {
+    fn truncate(&mut self, count: usize) {
         self.flags.truncate(count);
     }
 }
@@ -348,7 +348,7 @@ impl<S: Source, A: Allocator> Summarized<S, A> {
 impl<S: Source, A: Allocator + Copy> Summarized<S, A> {
     /// Reads the source as a listing is read, and keeps beside the rows which records are segments.
     pub fn open(alloc: A, source: S) -> Result<Summarized<S, A>, (Fault, S)>
-        ensures { Opens IsSummarized (S.tapped source) (S.tapped (source_summarized result)) (summarized_of result) }
+        ensures { Opens IsSummarized (S.seen source) (S.seen (source_summarized result)) (summarized_of result) }
     {
         let mut source = source;
         let kept = Segmented::new(alloc);

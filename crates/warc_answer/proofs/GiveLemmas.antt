@@ -12,7 +12,9 @@ use Rattle.warc_index.specs.declared.unfound.Unfound.{Unfound}
 use Rattle.warc_value.specs.Digests.{is_bad}
 use Rattle.warc_field.specs.Area.{Pair}
 use Rattle.warc_field.specs.Decimal.{decimal_of, number_of}
-use Rattle.warc_frame.specs.Failing.{HasFailedBy}
+use Rattle.warc_frame.specs.Effects.{FailsBy}
+use Rattle.warc_frame.specs.Seen.{SeenSource}
+use Rattle.warc_frame.proofs.EffectLemmas.{fails_more, reads_both, reads_within}
 use Rattle.warc_frame.specs.Record.{Record, max_archive}
 use Rattle.warc_frame.specs.Send.{WentOut, sent_of}
 use Rattle.warc_frame.specs.declared.fault.OutFault.{OutFault}
@@ -27,7 +29,8 @@ use Rattle.warc_answer.specs.Answers.{Given, IsAnswerOn, is_truncated, given_by}
 use Rattle.warc_answer.specs.Giving.{BeginsAt, BeginsNowhere, IsStart}
 use Rattle.warc_answer.specs.Laws.{FailsBeforeAll, IsFound, PlacesAreAsLong}
 use Rattle.warc_answer.specs.Payloads.{Payload, IsBehindHead, IsPayload, has_bad_block, is_http_response, read_record, whole_block}
-use Rattle.warc_answer.specs.Places.{LieIn, len_of, text_at}
+use Rattle.warc_answer.specs.Origins.{AreBlocksIn, body_reads, front_reads}
+use Rattle.warc_answer.specs.Places.{LieIn, ReadsPlaces, len_of, text_at}
 use Rattle.warc_answer.specs.Replays.{IsReplayOn, body_of, given, out_result}
 use Rattle.warc_answer.specs.declared.answer.Path.{Path}
 use Rattle.warc_answer.specs.declared.answer.Reason.{Reason as Why}
@@ -295,14 +298,55 @@ answer_of_body bytes records way path origin joined ps http start truncated len 
 
 -- ---- failures
 
-pub same_failed : (X Y : Type 0) (fault : ReplayFault) (old new : ℕ) → HasFailedBy (out_result {X = X} (Err fault)) old new
-    → HasFailedBy (out_result {X = Y} (Err fault)) old new
-same_failed X Y (Reason why) old new has = has
-same_failed X Y (Out e) old new has = has
+-- places of blocks of records lie among the bytes
+pub blocks_lie : (bytes : List ℕ) (ps : List Place) → AreBlocksIn ps bytes → LieIn ps bytes
+blocks_lie bytes ps are = places_lie bytes ps are.joined are.short are.places_are
 
-pub failed_from : (e : OutFault) (old mid new : ℕ) → mid ≡ old → HasFailedBy {X = Unit {0}} (Err e) mid new
-    → HasFailedBy {X = Unit {0}} (Err e) old new
-failed_from e old mid new same has = subst (λ (n : ℕ). HasFailedBy {X = Unit {0}} (Err e) n new) same has
+-- the same failure, with another value where nothing fails
+fault_as : (X Y : Type 0) (fault : ReplayFault) {Expected : List ℕ → Type 0} {old new : SeenSource}
+    → FailsBy Expected (out_result {X = X} (Err fault)) old new → FailsBy Expected (out_result {X = Y} (Err fault)) old new
+fault_as X Y (Reason why) has = has
+fault_as X Y (Out e) has = has
+
+pub fails_of_blocks : (X Y : Type 0) (fault : ReplayFault) (ps : List Place) {old new : SeenSource}
+    → FailsBy (LieIn ps) (out_result {X = X} (Err fault)) old new
+    → FailsBy (AreBlocksIn ps) (out_result {X = Y} (Err fault)) old new
+fails_of_blocks X Y fault ps has = fails_more (λ bytes held are. blocks_lie bytes ps are) (fault_as X Y fault has)
+
+pub fails_of_fault : (X Y : Type 0) (fault : ReplayFault) {Expected : List ℕ → Type 0} {old new : SeenSource}
+    → FailsBy Expected (out_result {X = X} (Err fault)) old new
+    → FailsBy Expected (out_result {X = Y} (Err fault)) old new
+fails_of_fault X Y fault has = fault_as X Y fault has
+
+-- ---- how often places are read
+
+pub front_reads_of : (http : Bool) (places : List Place) {old new : SeenSource} → http ≡ true
+    → ReadsPlaces places (len_of places) old new → ReadsPlaces places (front_reads http places) old new
+front_reads_of true places is has = has
+front_reads_of false places is has = absurd (cc)
+
+front_then_body : (http : Bool) (places : List Place) → front_reads http places + len_of places ≡ body_reads http places
+front_then_body true places = omega arith
+front_then_body false places = omega arith
+
+front_before_body : (http : Bool) (places : List Place) → front_reads http places ≤ body_reads http places
+front_before_body true places = omega arith
+front_before_body false places = omega arith
+
+pub front_within : (http : Bool) (places : List Place) → front_reads http places ≤ len_of places
+front_within true places = omega arith
+front_within false places = omega arith
+
+pub reads_front : (http : Bool) (places : List Place) {old new : SeenSource}
+    → ReadsPlaces places (front_reads http places) old new → ReadsPlaces places (body_reads http places) old new
+reads_front http places has = reads_within (λ q in_. in_) (front_before_body http places) has
+
+pub reads_body : (http : Bool) (places : List Place) {old mid new : SeenSource}
+    → ReadsPlaces places (front_reads http places) old mid → ReadsPlaces places (len_of places) mid new
+    → ReadsPlaces places (body_reads http places) old new
+reads_body http places has rest =
+    let sum : front_reads http places + len_of places ≡ body_reads http places = front_then_body http places in
+    reads_within (λ q in_. in_) (omega (arith, sum)) (reads_both has rest)
 
 -- ---- laws
 

@@ -9,12 +9,13 @@ use Rattle.std.proofs.lemmas.Bool.{cases_lt}
 use Rattle.std.proofs.lemmas.Slice.{take-put_mid}
 use borrow.Rule.Slice.PartMut.{put_mid, mid_of}
 use Rattle.warc_frame.specs.Device.{Staged}
-use Rattle.warc_frame.specs.Ranges.{HasFilled}
-use Rattle.warc_frame.specs.Seen.{Tapped}
+use Rattle.warc_frame.specs.Effects.{ReadsRange}
+use Rattle.warc_frame.specs.Seen.{IsInRange, SeenSource}
 use Rattle.warc_frame.specs.Send.{IsStaged, WentOut}
+use Rattle.warc_frame.proofs.EffectLemmas.{reads_both, reads_within}
 use Rattle.warc_frame.proofs.LawLemmas.{went_out_of_longer}
 use Rattle.warc_segment.specs.declared.place.Place.{Place}
-use Rattle.warc_answer.specs.Places.{bytes_at, text_at, len_of, LieIn, HasRead}
+use Rattle.warc_answer.specs.Places.{IsInOne, LieIn, ReadsPlaces, bytes_at, len_of, text_at}
 
 -- the same output
 pub same_out : {start now : Option (List ℕ)} {a b : List ℕ} {sent : ℕ} → a ≡ b → WentOut start a now sent
@@ -189,41 +190,21 @@ filled_front buf part filled k within size =
 
 -- ---- what is asked of the source
 
-pub read_none : (places : List Place) (s : Tapped) → HasRead 0 places s s
-read_none places s = record { near = λ off. refl; bound = omega arith; watched = refl }
-
 -- a part of the block at i was read
-pub read_more : (places : List Place) (i at n : ℕ) (d : Place) (old mid new : Tapped) → i < length places
+pub read_more : (places : List Place) (i at n : ℕ) (d : Place) (old mid new : SeenSource) → i < length places
     → (get_or places i d).start ≤ at → at + n ≤ (get_or places i d).start + (get_or places i d).len
-    → HasRead (len_of (take i places)) places old mid → HasFilled at n mid new
-    → HasRead (len_of (take (i + 1) places)) places old new
-read_more places i at n d old mid new lt behind before has filled = record {
-  near = λ off. filled.near (λ q in_.
-      ap (λ (w : ℕ → _). w q) has.watched ∙ off q (get_or places i d, All-contains_itself places i d lt, omega (arith, in_.0), omega (arith, in_.1)))
-      ∙ has.near off;
-  bound = omega (arith, has.bound, filled.bound, len_more places i d lt);
-  watched = filled.watched ∙ has.watched;
-}
+    → ReadsPlaces places (len_of (take i places)) old mid → ReadsRange at n mid new
+    → ReadsPlaces places (len_of (take (i + 1) places)) old new
+read_more places i at n d old mid new lt behind before has filled =
+    let inside : (q : ℕ) → IsInRange at n q → IsInOne places q =
+    λ q in_. (get_or places i d, All-contains_itself places i d lt, omega (arith, in_.0), omega (arith, in_.1)) in
+    let part : ReadsPlaces places n mid new = reads_within inside (omega arith) filled in
+    reads_within (λ q in_. in_) (omega (arith, len_more places i d lt)) (reads_both has part)
 
-pub read_no_more : (places : List Place) (most more : ℕ) (old new : Tapped) → most ≤ more → HasRead most places old new
-    → HasRead more places old new
-read_no_more places most more old new le has =
-    record { near = has.near; bound = omega (arith, has.bound); watched = has.watched }
-
--- twice
-pub read_twice : (places : List Place) (n m : ℕ) (old mid new : Tapped) → HasRead n places old mid
-    → HasRead m places mid new → HasRead (n + m) places old new
-read_twice places n m old mid new has then = record {
-  near = λ off. then.near (λ q at. ap (λ (w : ℕ → _). w q) has.watched ∙ off q at) ∙ has.near off;
-  bound = omega (arith, has.bound, then.bound);
-  watched = then.watched ∙ has.watched;
-}
+pub read_no_more : (places : List Place) (most more : ℕ) (old new : SeenSource) → most ≤ more
+    → ReadsPlaces places most old new → ReadsPlaces places more old new
+read_no_more places most more old new le has = reads_within (λ q in_. in_) le has
 
 -- what was read of the first blocks was read of all
 pub len_front : (places : List Place) (n : ℕ) → len_of (take n places) ≤ len_of places
 len_front places n = sum_by-take-le (λ (p : Place). p.len) places n
-
--- what holds of a result that is Ok
-pub of_ok : {X E P : Type 0} (r : Result X E) → is_ok r ≡ true → OnOk r P → P
-of_ok (Ok x) is p = p
-of_ok (Err e) is p = absurd (cc)

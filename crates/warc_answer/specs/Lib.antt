@@ -4,6 +4,7 @@ pub mod Answers
 pub mod Places
 pub mod Replays
 pub mod Laws
+pub mod Origins
 pub mod Giving
 pub mod Stored
 pub mod Seen

@@ -1,7 +1,8 @@
 -- The bytes at places of a source, one behind another, and what reading them asks of it. This project's own notion.
 use Rattle.std.specs.Prelude.{◌≡◌, ℕ, ◌+◌, ◌^◌, ◌<◌, ◌≤◌, List, length, take, drop, sum_by, All, Contains}
 use Rattle.std.specs.List.{flat_map}
-use Rattle.warc_frame.specs.Seen.{AsksOnly, Tapped}
+use Rattle.warc_frame.specs.Effects.{IsTakenFrom, ReadsOnly}
+use Rattle.warc_frame.specs.Seen.{SeenSource}
 use Rattle.warc_segment.specs.declared.place.Place.{Place}
 
 -- the bytes at a place
@@ -24,8 +25,10 @@ pub record LieIn (places : List Place) (bytes : List ℕ) : Type 0 where
 abbrev pub IsInOne : List Place → ℕ → Type 0
 IsInOne places q = (p : Place) × Contains places p × (p.start ≤ q) × (q < p.start + p.len)
 
--- of a source no bytes but those at the places were asked for, in so many reads at most
-pub record HasRead (most : ℕ) (places : List Place) (old new : Tapped) : Type 0 where
-  pub near : AsksOnly (IsInOne places) old new
-  pub bound : new.reads ≤ old.reads + most
-  pub watched : new.watches ≡ old.watches
+-- the text is what the bytes have at places, without `skip` of them at the front
+abbrev pub IsPlacedText : List Place → ℕ → List ℕ → List ℕ → Type 0
+IsPlacedText places skip bytes text = IsTakenFrom (λ all. drop skip (text_at places all)) (LieIn places) bytes text
+
+-- at most so many reads, of the bytes at places alone
+abbrev pub ReadsPlaces : List Place → ℕ → SeenSource → SeenSource → Type 0
+ReadsPlaces places most old new = ReadsOnly (IsInOne places) most old new

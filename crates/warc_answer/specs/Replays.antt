@@ -2,8 +2,10 @@
 use Rattle.std.specs.Prelude.{◌≡◌, ℕ, List, [], Option, Result, Ok, Err, ⊤}
 use Rattle.std.specs.Io.KnownBytes.{append_known}
 use Rattle.warc_value.specs.Dates.{Instant}
-use Rattle.warc_frame.specs.Copying.{IsOfDevice}
+use Rattle.warc_frame.specs.Effects.{IsOfDevice}
+use Rattle.warc_frame.specs.Failing.{failed_by}
 use Rattle.warc_frame.specs.Record.{Record}
+use Rattle.warc_frame.specs.Seen.{Seen}
 use Rattle.warc_frame.specs.Send.{WentOut, sent_of}
 use Rattle.warc_frame.specs.declared.fault.OutFault.{OutFault}
 use Rattle.warc_frame.specs.declared.fault.OutFault.TheVariants as outs
@@ -52,6 +54,12 @@ abbrev pub out_result : {X : Type 0} → Result X ReplayFault → Result (Unit {
 out_result (Ok x) = Ok tt
 out_result (Err (Reason why)) = Ok tt
 out_result (Err (Out e)) = Err e
+
+-- whatever the source holds, nothing goes out before a reason or before memory is refused, and the sink has failed once
+-- more exactly by a failed write
+pub record WritesLate {X : Type 0} (answer : Result X ReplayFault) (before after : Seen) : Type 0 where
+  pub silent : IsSilent answer before.tells after.tells
+  pub cause : after.faults ≡ failed_by (out_result answer) before.faults
 
 -- a reason, or a failed read or write
 abbrev pub WantsNoMemory : ReplayFault → Type 0

@@ -1,12 +1,8 @@
 //! Joined blocks, read from their places in a source.
-ghost use Rattle.std.specs.Prelude.{◌≡◌, ℕ, ◌+◌, ◌^◌, ◌<◌, ◌≤◌, ◌⊎◌, List, length, take, drop, Some, IfErr, IfOk, OnOk, OnErr};
-ghost use Rattle.std.specs.Io.KnownBytes.{append_known};
-ghost use Rattle.warc_frame.specs.Copying.{Copies, IsOfDevice};
-ghost use Rattle.warc_frame.specs.Count.{raised};
-ghost use Rattle.warc_frame.specs.Failing.{HasFailedBy, MayHaveFailedBy, failed_by};
-ghost use Rattle.warc_frame.specs.Ranges.{HasFilled};
-ghost use Rattle.warc_frame.specs.Send.{WentOut, sent_of};
-ghost use Rattle.warc_answer.specs.Places.{HasRead, LieIn, len_of, text_at};
+ghost use Rattle.std.specs.Prelude.{◌≡◌, ◌<◌, ◌≤◌, length, take, drop, IfErr, IfOk, OnOk};
+ghost use Rattle.warc_frame.specs.Effects.{Emits, FailsBy, HasRange, IsOfDevice, ReadsRange, Sends, read_result};
+ghost use Rattle.warc_frame.specs.Seen.{IfHeld};
+ghost use Rattle.warc_answer.specs.Places.{IsPlacedText, LieIn, ReadsPlaces, len_of, text_at};
 
 use warc_frame::laws::went_out_of_longer;
 use warc_frame::{OutBuffer, OutFault, ReadFault, Sink, Source, put_range, read_range};
@@ -18,15 +14,11 @@ const PIECE: usize = 8_192;
 /// Fills the buffer with the bytes at an offset. It fails where a read does, where the source ends too early, and where
 /// the bytes don't end before offset 2^64.
 fn read_bytes<S: Source>(source: &mut S, at: u64, buf: &mut [u8]) -> Result<(), ReadFault>
-    ensures bytes { (bytes : List ℕ) → (S.tapped source.old).holds ≡ Some bytes → OnOk result (buf.new ≡ take
-        (length buf.old) (drop at bytes)) }
-    ensures kept { (S.tapped source.new).holds ≡ (S.tapped source.old).holds }
-    ensures sound { OnOk result ((S.tapped source.new).faults ≡ (S.tapped source.old).faults) }
-    ensures filled { HasFilled at (length buf.old) (S.tapped source.old) (S.tapped source.new) }
-    ensures may { OnErr result (((S.tapped source.new).faults ≡ (S.tapped source.old).faults) ⊎
-        ((S.tapped source.new).faults ≡ raised (S.tapped source.old).faults)) }
-    ensures failed { (bytes : List ℕ) → (S.tapped source.old).holds ≡ Some bytes → at + length buf.old ≤ length bytes →
-        length bytes < 2 ^ 64 → OnErr result ((S.tapped source.new).faults ≡ raised (S.tapped source.old).faults) }
+    ensures bytes { IfHeld (S.seen source.old).holds (λ bytes.
+        OnOk result (buf.new ≡ take (length buf.old) (drop at bytes))) }
+    ensures reads { ReadsRange at (length buf.old) (S.seen source.old) (S.seen source.new) }
+    ensures fails { FailsBy (HasRange at (length buf.old)) (read_result result) (S.seen source.old)
+        (S.seen source.new) }
 {
     if buf.len() as u64 > u64::MAX - at {
         return Err(ReadFault);
@@ -41,22 +33,15 @@ pub(crate) fn read_front<S: Source>(
     front: &mut [u8],
 ) -> Result<usize, ReadFault>
     ensures within { IfOk result (λ n. n ≤ length front.new) }
-    ensures bytes { (bytes : List ℕ) → (S.tapped source.old).holds ≡ Some bytes → LieIn places.now bytes → IfOk result
-        (λ n. take n front.new ≡ take (length front.old) (text_at places.now bytes)) }
-    ensures kept { (S.tapped source.new).holds ≡ (S.tapped source.old).holds }
-    ensures sound { OnOk result ((S.tapped source.new).faults ≡ (S.tapped source.old).faults) }
-    ensures read { HasRead (len_of places.now) places.now (S.tapped source.old) (S.tapped source.new) }
-    ensures may { OnErr result (((S.tapped source.new).faults ≡ (S.tapped source.old).faults) ⊎
-        ((S.tapped source.new).faults ≡ raised (S.tapped source.old).faults)) }
-    ensures failed { (bytes : List ℕ) → (S.tapped source.old).holds ≡ Some bytes → LieIn places.now bytes → OnErr result
-        ((S.tapped source.new).faults ≡ raised (S.tapped source.old).faults) }
+    ensures bytes { IfHeld (S.seen source.old).holds (λ bytes. LieIn places.now bytes →
+        IfOk result (λ n. take n front.new ≡ take (length front.old) (text_at places.now bytes))) }
+    ensures reads { ReadsPlaces places.now (len_of places.now) (S.seen source.old) (S.seen source.new) }
+    ensures fails { FailsBy (LieIn places.now) (read_result result) (S.seen source.old) (S.seen source.new) }
 {
     let mut filled = 0;
     'reading: for place in places {
         let want = (front.len() - filled).min(place.len as usize);
-        if read_bytes(source, place.start, &mut front[filled..filled + want]).is_err() {
-            return Err(ReadFault);
-        }
+        read_bytes(source, place.start, &mut front[filled..filled + want])?;
         filled += want;
     }
     Ok(filled)
@@ -72,9 +57,10 @@ fn put_blocks<S: Source, W: Sink>(
     out: &mut W,
 ) -> Result<(), OutFault>
     requires { 0 < length scratch.old }
-    ensures copied { Copies (λ bytes. drop skip (text_at places.now bytes)) (LieIn places.now) (S.tapped source.old)
-        (S.tapped source.new) (W.seen out.old) (W.seen out.new) buffer.old buffer.new result }
-    ensures read { HasRead (len_of places.now) places.now (S.tapped source.old) (S.tapped source.new) }
+    ensures emits { Emits (IsPlacedText places.now skip) (S.seen source.old) (S.seen source.new) (W.seen out.old)
+        (W.seen out.new) buffer.old buffer.new result }
+    ensures device { IfErr result IsOfDevice }
+    ensures reads { ReadsPlaces places.now (len_of places.now) (S.seen source.old) (S.seen source.new) }
 {
     went_out_of_longer();
     let mut left = skip;
@@ -96,17 +82,10 @@ pub fn send_blocks<S: Source, W: Sink>(
     skip: u64,
     out: &mut W,
 ) -> Result<(), OutFault>
-    ensures told { (bytes : List ℕ) → (S.tapped source.old).holds ≡ Some bytes → LieIn places.now bytes → OnOk result
-        ((W.seen out.new).tells ≡ append_known (W.seen out.old).tells (drop skip (text_at places.now bytes))) }
-    ensures cut { (bytes : List ℕ) → (S.tapped source.old).holds ≡ Some bytes → LieIn places.now bytes → IfErr result (λ
-        e. WentOut (W.seen out.old).tells (drop skip (text_at places.now bytes)) (W.seen out.new).tells (sent_of e)) }
+    ensures sends { Sends (IsPlacedText places.now skip) (S.seen source.old) (S.seen source.new) (W.seen out.old)
+        (W.seen out.new) result }
     ensures device { IfErr result IsOfDevice }
-    ensures cause { (W.seen out.new).faults ≡ failed_by result (W.seen out.old).faults }
-    ensures kept { (S.tapped source.new).holds ≡ (S.tapped source.old).holds }
-    ensures may { MayHaveFailedBy result (S.tapped source.old).faults (S.tapped source.new).faults }
-    ensures failed { (bytes : List ℕ) → (S.tapped source.old).holds ≡ Some bytes → LieIn places.now bytes → HasFailedBy
-        result (S.tapped source.old).faults (S.tapped source.new).faults }
-    ensures read { HasRead (len_of places.now) places.now (S.tapped source.old) (S.tapped source.new) }
+    ensures reads { ReadsPlaces places.now (len_of places.now) (S.seen source.old) (S.seen source.new) }
 {
     let mut scratch = [0; PIECE];
     let mut buffer = OutBuffer::new();

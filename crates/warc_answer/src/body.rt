@@ -1,10 +1,13 @@
 //! Where the body begins in the joined blocks of an origin.
-ghost use Rattle.std.specs.Prelude.{◌≡◌, ℕ, List, false, length, Some, IfErr};
-ghost use Rattle.warc_frame.specs.Failing.{HasFailedBy, MayHaveFailedBy, failed_by};
+ghost use Rattle.std.specs.Prelude.{◌≡◌, ℕ, length, IfErr};
+ghost use Rattle.warc_frame.specs.Effects.{FailsBy};
+ghost use Rattle.warc_frame.specs.Failing.{failed_by};
+ghost use Rattle.warc_frame.specs.Seen.{IfHeld};
 ghost use Rattle.warc_record.specs.Seen.{said};
 ghost use Rattle.warc_answer.specs.Giving.{IsStart};
+ghost use Rattle.warc_answer.specs.Origins.{front_reads};
 ghost use Rattle.warc_answer.specs.Payloads.{is_http, is_http_response};
-ghost use Rattle.warc_answer.specs.Places.{HasRead, LieIn, len_of, text_at};
+ghost use Rattle.warc_answer.specs.Places.{LieIn, ReadsPlaces, text_at};
 ghost use Rattle.warc_answer.specs.Replays.{WantsNoMemory, out_result};
 
 use crate::answer::{Reason, ReplayFault};
@@ -54,16 +57,12 @@ fn start_through<S: Source>(
     front: &mut [u8],
 ) -> Result<BodyStart, ReplayFault>
     requires { length front.old ≡ 65536 }
-    ensures begun { (bytes : List ℕ) → (S.tapped source.old).holds ≡ Some bytes → LieIn places.now bytes → IsStart http
-        (text_at places.now bytes) result }
+    ensures begun { IfHeld (S.seen source.old).holds (λ bytes. LieIn places.now bytes →
+        IsStart http (text_at places.now bytes) result) }
     ensures unwritten { (n : ℕ) → failed_by (out_result result) n ≡ n }
     ensures device { IfErr result WantsNoMemory }
-    ensures kept { (S.tapped source.new).holds ≡ (S.tapped source.old).holds }
-    ensures may { MayHaveFailedBy (out_result result) (S.tapped source.old).faults (S.tapped source.new).faults }
-    ensures failed { (bytes : List ℕ) → (S.tapped source.old).holds ≡ Some bytes → LieIn places.now bytes → HasFailedBy
-        (out_result result) (S.tapped source.old).faults (S.tapped source.new).faults }
-    ensures read { HasRead (len_of places.now) places.now (S.tapped source.old) (S.tapped source.new) }
-    ensures unread { http ≡ false → S.tapped source.new ≡ S.tapped source.old }
+    ensures reads { ReadsPlaces places.now (front_reads http places.now) (S.seen source.old) (S.seen source.new) }
+    ensures fails { FailsBy (LieIn places.now) (out_result result) (S.seen source.old) (S.seen source.new) }
 {
     front_tells_head();
     front_tells_no_head();
@@ -92,16 +91,12 @@ pub(crate) fn find_body<S: Source>(
     http: bool,
     places: &[Place],
 ) -> Result<BodyStart, ReplayFault>
-    ensures begun { (bytes : List ℕ) → (S.tapped source.old).holds ≡ Some bytes → LieIn places.now bytes → IsStart http
-        (text_at places.now bytes) result }
+    ensures begun { IfHeld (S.seen source.old).holds (λ bytes. LieIn places.now bytes →
+        IsStart http (text_at places.now bytes) result) }
     ensures unwritten { (n : ℕ) → failed_by (out_result result) n ≡ n }
     ensures device { IfErr result WantsNoMemory }
-    ensures kept { (S.tapped source.new).holds ≡ (S.tapped source.old).holds }
-    ensures may { MayHaveFailedBy (out_result result) (S.tapped source.old).faults (S.tapped source.new).faults }
-    ensures failed { (bytes : List ℕ) → (S.tapped source.old).holds ≡ Some bytes → LieIn places.now bytes → HasFailedBy
-        (out_result result) (S.tapped source.old).faults (S.tapped source.new).faults }
-    ensures read { HasRead (len_of places.now) places.now (S.tapped source.old) (S.tapped source.new) }
-    ensures unread { http ≡ false → S.tapped source.new ≡ S.tapped source.old }
+    ensures reads { ReadsPlaces places.now (front_reads http places.now) (S.seen source.old) (S.seen source.new) }
+    ensures fails { FailsBy (LieIn places.now) (out_result result) (S.seen source.old) (S.seen source.new) }
 {
     let mut front = [0; MOST_HEAD_BYTES];
     start_through(source, http, places, &mut front)

@@ -1,14 +1,13 @@
 //! Where the body of an origin lies in a source, without reading the body.
-ghost use Rattle.std.specs.Prelude.{◌≡◌, ℕ, ◌*◌, ◌≤◌, List, length, drop, map, slice_get, Option, Some, Result, Ok, IfErr, IfOk};
-ghost use Rattle.warc_frame.specs.Failing.{HasFailedBy, MayHaveFailedBy};
-ghost use Rattle.warc_frame.specs.Record.{Record, max_archive};
+ghost use Rattle.std.specs.Prelude.{◌≡◌, ℕ, List, length, drop, slice_get, Result, IfOk};
+ghost use Rattle.warc_frame.specs.Effects.{FailsBy};
+ghost use Rattle.warc_frame.specs.Record.{Record};
+ghost use Rattle.warc_frame.specs.Seen.{IfHeld};
 ghost use Rattle.warc_record.specs.Seen.{said};
 ghost use Rattle.warc_index.specs.declared.unfound.Unfound.{Unfound};
-ghost use Rattle.warc_segment.specs.Joined.{ReadRecord, ArePlacesOf};
-ghost use Rattle.warc_answer.specs.Laws.{IsFound};
 ghost use Rattle.warc_answer.specs.Located.{AreInside, IsLocatedOn, spans_text};
-ghost use Rattle.warc_answer.specs.Payloads.{read_record};
-ghost use Rattle.warc_answer.specs.Places.{HasRead, LieIn, len_of, text_at};
+ghost use Rattle.warc_answer.specs.Origins.{AreBlocksIn, IsJoinedOn};
+ghost use Rattle.warc_answer.specs.Places.{LieIn, ReadsPlaces, len_of, text_at};
 ghost use Rattle.warc_answer.specs.Replays.{out_result};
 
 use crate::answer::{Answer, Path, ReplayFault};
@@ -102,20 +101,11 @@ pub fn locate_joined<S: Source, A: Allocator + Copy>(
     origin: &Typed<A>,
     places: &[Place],
 ) -> Result<Located<A>, ReplayFault>
-    ensures located { (bytes : List ℕ) (records : List Record) (found : Result Path Unfound) (read : ReadRecord)
-        (joined : List ReadRecord) → (S.tapped source.old).holds ≡ Some bytes → length bytes ≤ max_archive → IsFound
-        (map read_record records) found path read (Ok joined) → said origin.now ≡ read.head → ArePlacesOf bytes
-        places.now joined → IsLocatedOn bytes records found result }
-
-    // The source has failed once more exactly where the answer is `Read`, unless it gives other bytes than it gave.
-    ensures kept { (S.tapped source.new).holds ≡ (S.tapped source.old).holds }
-    ensures may { MayHaveFailedBy (out_result result) (S.tapped source.old).faults (S.tapped source.new).faults }
-    ensures failed { (bytes : List ℕ) (joined : List ReadRecord) → (S.tapped source.old).holds ≡ Some bytes → length
-        bytes ≤ max_archive → ArePlacesOf bytes places.now joined → HasFailedBy (out_result result)
-        (S.tapped source.old).faults (S.tapped source.new).faults }
-
-    // It asks for no byte but those of the joined blocks, and reads at most once for each.
-    ensures read { HasRead (len_of places.now) places.now (S.tapped source.old) (S.tapped source.new) }
+    ensures located { IfHeld (S.seen source.old).holds (λ bytes. (records : List Record)
+        (found : Result Path Unfound) → IsJoinedOn bytes records found path (said origin.now) places.now →
+        IsLocatedOn bytes records found result) }
+    ensures reads { ReadsPlaces places.now (len_of places.now) (S.seen source.old) (S.seen source.new) }
+    ensures fails { FailsBy (AreBlocksIn places.now) (out_result result) (S.seen source.old) (S.seen source.new) }
 {
     let begun = match begin_body(source, path, origin, places) {
         Ok(begun) => begun,

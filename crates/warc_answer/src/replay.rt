@@ -1,18 +1,19 @@
 //! The end of a replay, behind the look-up of the capture and of its origin, and the joining of its segments.
-ghost use Rattle.std.specs.Prelude.{◌≡◌, ℕ, ◌+◌, ◌*◌, ◌≤◌, List, false, length, drop, map, Option, Some, Result, Ok, Err, IfErr, IfOk};
+ghost use Rattle.std.specs.Prelude.{◌≡◌, ℕ, List, drop, Option, Result, Err, IfErr, IfOk};
 ghost use Rattle.std.specs.List.{list_any};
 ghost use Rattle.warc_value.specs.Digests.{is_bad};
 ghost use Rattle.warc_frame.specs.Count.{capped};
-ghost use Rattle.warc_frame.specs.Failing.{HasFailedBy, MayHaveFailedBy, failed_by};
-ghost use Rattle.warc_frame.specs.Record.{Record, max_archive};
+ghost use Rattle.warc_frame.specs.Effects.{FailsBy};
+ghost use Rattle.warc_frame.specs.Failing.{failed_by};
+ghost use Rattle.warc_frame.specs.Record.{Record};
+ghost use Rattle.warc_frame.specs.Seen.{IfHeld};
 ghost use Rattle.warc_record.specs.Seen.{said};
 ghost use Rattle.warc_index.specs.declared.unfound.Unfound.{Unfound};
-ghost use Rattle.warc_segment.specs.Joined.{ReadRecord, ArePlacesOf};
 ghost use Rattle.warc_answer.specs.Answers.{IsAnswerOn};
-ghost use Rattle.warc_answer.specs.Laws.{IsFound};
-ghost use Rattle.warc_answer.specs.Payloads.{is_http_response, read_record};
-ghost use Rattle.warc_answer.specs.Places.{HasRead, len_of, text_at};
-ghost use Rattle.warc_answer.specs.Replays.{IsReplayOn, IsSilent, WantsNoMemory, given, out_result};
+ghost use Rattle.warc_answer.specs.Origins.{AreBlocksIn, IsJoinedOn, body_reads, front_reads};
+ghost use Rattle.warc_answer.specs.Payloads.{is_http_response};
+ghost use Rattle.warc_answer.specs.Places.{ReadsPlaces, len_of, text_at};
+ghost use Rattle.warc_answer.specs.Replays.{IsReplayOn, WantsNoMemory, WritesLate, given, out_result};
 
 use crate::answer::{Answer, Path, Reason, ReplayFault};
 use crate::blocks::send_blocks;
@@ -63,25 +64,17 @@ pub(crate) fn begin_body<S: Source, A: Allocator>(
     origin: &Typed<A>,
     places: &[Place],
 ) -> Result<Begun, ReplayFault>
-    ensures begun { (bytes : List ℕ) (records : List Record) (found : Result Path Unfound) (read : ReadRecord)
-        (joined : List ReadRecord) → (S.tapped source.old).holds ≡ Some bytes → length bytes ≤ max_archive → IsFound
-        (map read_record records) found path read (Ok joined) → said origin.now ≡ read.head → ArePlacesOf bytes
-        places.now joined → IfOk result (λ b. IsAnswerOn records found (given b.answer (drop b.skip (text_at places.now
-        bytes)))) }
-    ensures refused { (bytes : List ℕ) (records : List Record) (found : Result Path Unfound) (read : ReadRecord)
-        (joined : List ReadRecord) → (S.tapped source.old).holds ≡ Some bytes → length bytes ≤ max_archive → IsFound
-        (map read_record records) found path read (Ok joined) → said origin.now ≡ read.head → ArePlacesOf bytes
-        places.now joined → IfErr result (λ fault. (told : Option (List ℕ)) → IsReplayOn records found (Err fault) told
-        told) }
+    ensures begun { IfHeld (S.seen source.old).holds (λ bytes. (records : List Record)
+        (found : Result Path Unfound) → IsJoinedOn bytes records found path (said origin.now) places.now →
+        IfOk result (λ b. IsAnswerOn records found (given b.answer (drop b.skip (text_at places.now bytes))))) }
+    ensures refused { IfHeld (S.seen source.old).holds (λ bytes. (records : List Record)
+        (found : Result Path Unfound) → IsJoinedOn bytes records found path (said origin.now) places.now →
+        IfErr result (λ fault. (told : Option (List ℕ)) → IsReplayOn records found (Err fault) told told)) }
     ensures unwritten { (n : ℕ) → failed_by (out_result result) n ≡ n }
     ensures device { IfErr result WantsNoMemory }
-    ensures kept { (S.tapped source.new).holds ≡ (S.tapped source.old).holds }
-    ensures may { MayHaveFailedBy (out_result result) (S.tapped source.old).faults (S.tapped source.new).faults }
-    ensures failed { (bytes : List ℕ) (joined : List ReadRecord) → (S.tapped source.old).holds ≡ Some bytes → length
-        bytes ≤ max_archive → ArePlacesOf bytes places.now joined → HasFailedBy (out_result result)
-        (S.tapped source.old).faults (S.tapped source.new).faults }
-    ensures read { HasRead (len_of places.now) places.now (S.tapped source.old) (S.tapped source.new) }
-    ensures unread { is_http_response (said origin.now) ≡ false → S.tapped source.new ≡ S.tapped source.old }
+    ensures reads { ReadsPlaces places.now (front_reads (is_http_response (said origin.now)) places.now)
+        (S.seen source.old) (S.seen source.new) }
+    ensures fails { FailsBy (AreBlocksIn places.now) (out_result result) (S.seen source.old) (S.seen source.new) }
 {
     one_of_three();
     joined_has_total();
@@ -115,29 +108,16 @@ pub fn replay_joined<S: Source, W: Sink, A: Allocator>(
     places: &[Place],
     out: &mut W,
 ) -> Result<Answer, ReplayFault>
-    ensures replayed { (bytes : List ℕ) (records : List Record) (found : Result Path Unfound) (read : ReadRecord)
-        (joined : List ReadRecord) → (S.tapped source.old).holds ≡ Some bytes → length bytes ≤ max_archive → IsFound
-        (map read_record records) found path read (Ok joined) → said origin.now ≡ read.head → ArePlacesOf bytes
-        places.now joined → IsReplayOn records found result (W.seen out.old).tells (W.seen out.new).tells }
-
-    // Nothing is written before a reason, whatever the source holds; and no memory is wanted.
-    ensures silent { IsSilent result (W.seen out.old).tells (W.seen out.new).tells }
+    ensures replayed { IfHeld (S.seen source.old).holds (λ bytes. (records : List Record)
+        (found : Result Path Unfound) → IsJoinedOn bytes records found path (said origin.now) places.now →
+        IsReplayOn records found result (W.seen out.old).tells (W.seen out.new).tells) }
+    ensures late { WritesLate result (W.seen out.old) (W.seen out.new) }
     ensures device { IfErr result WantsNoMemory }
 
-    // The sink has failed once more exactly where the answer is `Write`, and the source where it is `Read`, unless it
-    // gives other bytes than it gave.
-    ensures cause { (W.seen out.new).faults ≡ failed_by (out_result result) (W.seen out.old).faults }
-    ensures kept { (S.tapped source.new).holds ≡ (S.tapped source.old).holds }
-    ensures may { MayHaveFailedBy (out_result result) (S.tapped source.old).faults (S.tapped source.new).faults }
-    ensures failed { (bytes : List ℕ) (joined : List ReadRecord) → (S.tapped source.old).holds ≡ Some bytes → length
-        bytes ≤ max_archive → ArePlacesOf bytes places.now joined → HasFailedBy (out_result result)
-        (S.tapped source.old).faults (S.tapped source.new).faults }
-
-    // It asks for no byte but those of the joined blocks, and reads at most twice for each; at most once where the
-    // origin is no HTTP response, since then no front is read first.
-    ensures read { HasRead (2 * len_of places.now) places.now (S.tapped source.old) (S.tapped source.new) }
-    ensures once { is_http_response (said origin.now) ≡ false → HasRead (len_of places.now) places.now
-        (S.tapped source.old) (S.tapped source.new) }
+    // The joined blocks alone are read, at most once for each byte, and of an HTTP response twice: first its head.
+    ensures reads { ReadsPlaces places.now (body_reads (is_http_response (said origin.now)) places.now)
+        (S.seen source.old) (S.seen source.new) }
+    ensures fails { FailsBy (AreBlocksIn places.now) (out_result result) (S.seen source.old) (S.seen source.new) }
 {
     let begun = match begin_body(source, path, origin, places) {
         Ok(begun) => begun,

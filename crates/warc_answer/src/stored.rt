@@ -1,16 +1,15 @@
 //! What is stored of an origin, coded or not.
-ghost use Rattle.std.specs.Prelude.{◌≡◌, ℕ, ◌≤◌, List, length, map, Some, Result, Ok, IfErr, false, true};
+ghost use Rattle.std.specs.Prelude.{◌≡◌, ℕ, List, length, IfErr, false, true};
 ghost use Rattle.warc_field.specs.Area.{Pair};
-ghost use Rattle.warc_frame.specs.Failing.{HasFailedBy, MayHaveFailedBy};
-ghost use Rattle.warc_frame.specs.Record.{Record, max_archive};
-ghost use Rattle.warc_index.specs.declared.unfound.Unfound.{Unfound};
+ghost use Rattle.warc_frame.specs.Effects.{FailsBy};
+ghost use Rattle.warc_frame.specs.Record.{Record};
+ghost use Rattle.warc_frame.specs.Seen.{IfHeld};
 ghost use Rattle.warc_record.specs.Readings.{reading_of};
 ghost use Rattle.warc_record.specs.Seen.{said};
-ghost use Rattle.warc_segment.specs.Joined.{ReadRecord, ArePlacesOf};
+ghost use Rattle.warc_segment.specs.Joined.{ReadRecord};
 ghost use Rattle.warc_answer.specs.Judging.{IsHeadIn, IsSeenIn};
-ghost use Rattle.warc_answer.specs.Laws.{IsFound};
-ghost use Rattle.warc_answer.specs.Payloads.{read_record};
-ghost use Rattle.warc_answer.specs.Places.{HasRead, LieIn, len_of, text_at};
+ghost use Rattle.warc_answer.specs.Origins.{AreBlocksIn, IsContentOn};
+ghost use Rattle.warc_answer.specs.Places.{LieIn, ReadsPlaces, len_of, text_at};
 ghost use Rattle.warc_answer.specs.Replays.{out_result};
 ghost use Rattle.warc_answer.specs.Seen.{IsEarly, IsJudged};
 ghost use Rattle.warc_answer.specs.Stored.{own_type};
@@ -60,14 +59,11 @@ fn head_through<S: Source, A: Allocator + Copy>(
     front: &mut [u8],
 ) -> Result<StoredHead<A>, ReplayFault>
     requires { length front.old ≡ 65536 }
-    ensures begins { (bytes : List ℕ) → (S.tapped source.old).holds ≡ Some bytes → LieIn places.now bytes →
-        IsHeadIn (text_at places.now bytes) result }
+    ensures begins { IfHeld (S.seen source.old).holds (λ bytes. LieIn places.now bytes →
+        IsHeadIn (text_at places.now bytes) result) }
     ensures early { IfErr result IsEarly }
-    ensures kept { (S.tapped source.new).holds ≡ (S.tapped source.old).holds }
-    ensures may { MayHaveFailedBy (out_result result) (S.tapped source.old).faults (S.tapped source.new).faults }
-    ensures failed { (bytes : List ℕ) → (S.tapped source.old).holds ≡ Some bytes → LieIn places.now bytes → HasFailedBy
-        (out_result result) (S.tapped source.old).faults (S.tapped source.new).faults }
-    ensures read { HasRead (len_of places.now) places.now (S.tapped source.old) (S.tapped source.new) }
+    ensures reads { ReadsPlaces places.now (len_of places.now) (S.seen source.old) (S.seen source.new) }
+    ensures fails { FailsBy (LieIn places.now) (out_result result) (S.seen source.old) (S.seen source.new) }
 {
     front_tells_head();
     front_tells_no_head();
@@ -87,14 +83,11 @@ fn find_head<S: Source, A: Allocator + Copy>(
     source: &mut S,
     places: &[Place],
 ) -> Result<StoredHead<A>, ReplayFault>
-    ensures begins { (bytes : List ℕ) → (S.tapped source.old).holds ≡ Some bytes → LieIn places.now bytes →
-        IsHeadIn (text_at places.now bytes) result }
+    ensures begins { IfHeld (S.seen source.old).holds (λ bytes. LieIn places.now bytes →
+        IsHeadIn (text_at places.now bytes) result) }
     ensures early { IfErr result IsEarly }
-    ensures kept { (S.tapped source.new).holds ≡ (S.tapped source.old).holds }
-    ensures may { MayHaveFailedBy (out_result result) (S.tapped source.old).faults (S.tapped source.new).faults }
-    ensures failed { (bytes : List ℕ) → (S.tapped source.old).holds ≡ Some bytes → LieIn places.now bytes → HasFailedBy
-        (out_result result) (S.tapped source.old).faults (S.tapped source.new).faults }
-    ensures read { HasRead (len_of places.now) places.now (S.tapped source.old) (S.tapped source.new) }
+    ensures reads { ReadsPlaces places.now (len_of places.now) (S.seen source.old) (S.seen source.new) }
+    ensures fails { FailsBy (LieIn places.now) (out_result result) (S.seen source.old) (S.seen source.new) }
 {
     let mut front = [0; MOST_HEAD_BYTES];
     head_through(alloc, source, places, &mut front)
@@ -106,14 +99,11 @@ fn judge_http<S: Source, A: Allocator + Copy>(
     source: &mut S,
     places: &[Place],
 ) -> Result<Stored<A>, ReplayFault>
-    ensures seen { (bytes : List ℕ) (fields : List Pair) → (S.tapped source.old).holds ≡ Some bytes → LieIn places.now
-        bytes → IsSeenIn true fields (text_at places.now bytes) places.now result }
+    ensures seen { IfHeld (S.seen source.old).holds (λ bytes. (fields : List Pair) → LieIn places.now bytes →
+        IsSeenIn true fields (text_at places.now bytes) places.now result) }
     ensures early { IfErr result IsEarly }
-    ensures kept { (S.tapped source.new).holds ≡ (S.tapped source.old).holds }
-    ensures may { MayHaveFailedBy (out_result result) (S.tapped source.old).faults (S.tapped source.new).faults }
-    ensures failed { (bytes : List ℕ) → (S.tapped source.old).holds ≡ Some bytes → LieIn places.now bytes → HasFailedBy
-        (out_result result) (S.tapped source.old).faults (S.tapped source.new).faults }
-    ensures read { HasRead (len_of places.now) places.now (S.tapped source.old) (S.tapped source.new) }
+    ensures reads { ReadsPlaces places.now (len_of places.now) (S.seen source.old) (S.seen source.new) }
+    ensures fails { FailsBy (LieIn places.now) (out_result result) (S.seen source.old) (S.seen source.new) }
 {
     let head = match find_head(alloc, source, places) {
         Ok(head) => head,
@@ -166,18 +156,12 @@ pub fn judge_joined<S: Source, A: Allocator + Copy>(
     own: &[u8],
     places: &[Place],
 ) -> Result<Stored<A>, ReplayFault>
-    ensures judged { (bytes : List ℕ) (records : List Record) (found : Result Path Unfound) (path : Path)
-        (content : Record) (joined : List ReadRecord) → (S.tapped source.old).holds ≡ Some bytes → length bytes ≤
-        max_archive → IsFound (map read_record records) found path (read_record content) (Ok joined) → said origin.now
-        ≡ reading_of content.fields → own.now ≡ own_type content.fields → ArePlacesOf bytes places.now joined →
-        IsJudged content joined result }
+    ensures judged { IfHeld (S.seen source.old).holds (λ bytes. (content : Record) (joined : List ReadRecord) →
+        IsContentOn bytes content joined places.now → said origin.now ≡ reading_of content.fields →
+        own.now ≡ own_type content.fields → IsJudged content joined result) }
     ensures early { IfErr result IsEarly }
-    ensures kept { (S.tapped source.new).holds ≡ (S.tapped source.old).holds }
-    ensures may { MayHaveFailedBy (out_result result) (S.tapped source.old).faults (S.tapped source.new).faults }
-    ensures failed { (bytes : List ℕ) (joined : List ReadRecord) → (S.tapped source.old).holds ≡ Some bytes → length
-        bytes ≤ max_archive → ArePlacesOf bytes places.now joined → HasFailedBy (out_result result)
-        (S.tapped source.old).faults (S.tapped source.new).faults }
-    ensures read { HasRead (len_of places.now) places.now (S.tapped source.old) (S.tapped source.new) }
+    ensures reads { ReadsPlaces places.now (len_of places.now) (S.seen source.old) (S.seen source.new) }
+    ensures fails { FailsBy (AreBlocksIn places.now) (out_result result) (S.seen source.old) (S.seen source.new) }
 {
     joined_has_total();
     if any_bad(places) {

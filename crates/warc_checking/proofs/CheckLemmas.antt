@@ -4,7 +4,7 @@ use Rattle.std.proofs.lemmas.Grind.{flat_map-append}
 use Rattle.std.proofs.lemmas.List.{append-nil, map-append, take-append-drop, take_more}
 use Rattle.std.specs.List.{concat, flat_map}
 use Rattle.warc_frame.specs.Device.{Staged}
-use Rattle.warc_frame.specs.Putting.{Puts}
+use Rattle.warc_frame.specs.Effects.{Puts}
 use Rattle.warc_frame.specs.Seen.{Seen}
 use Rattle.warc_frame.specs.declared.send.SendFault.{SendFault}
 use Rattle.warc_record.specs.Findings.{Found}

@@ -5,7 +5,7 @@ use Rattle.std.proofs.lemmas.List.{append-nil, length-map, length-take-le, take-
 use Rattle.std.specs.Result.{IsErrAnd}
 use Rattle.std.specs.List.{enumerate_from, flat_map, slice_get}
 use Rattle.warc_field.specs.Area.{Pair}
-use Rattle.warc_frame.specs.Count.{capped, raised}
+use Rattle.warc_frame.specs.Count.{capped}
 use Rattle.warc_frame.specs.Send.{sent_of}
 use Rattle.warc_frame.specs.declared.fault.OutFault.{OutFault}
 use Rattle.warc_frame.specs.declared.fault.OutFault.TheVariants.{Read as ReadFailed, Write as WriteFailed, Memory as OutOfMemory}
@@ -13,7 +13,7 @@ use Rattle.warc_frame.specs.Record.{Record}
 use Rattle.warc_record.specs.declared.checks.ArchiveFacts.{ArchiveFacts}
 use Rattle.warc_reading.specs.Archive.{contents}
 use Rattle.warc_checking.specs.Checking.{Line, findings_at, findings_behind, findings_of_records, line_text}
-use Rattle.warc_reading.specs.Rereading.{AreCheckable, HasFailed, ended_by}
+use Rattle.warc_reading.specs.Rereading.{AreCheckable, ended_by}
 use Rattle.warc_checking.specs.Examining.{IsExamined, findings_of_first, first_text, findings_by_facts, record_lines, records_text}
 use Rattle.warc_frame.specs.Failing.{HasFailedBy, MayHaveFailedBy, is_read}
 use Rattle.warc_reading.specs.declared.rereading.RereadFault.{RereadFault}
@@ -100,10 +100,6 @@ first_all bytes records rows n can past =
 pub sent_ended : (fault : RereadFault) (e : OutFault) (n m : ℕ) → e ≡ ended_by fault n → n ≡ m → m ≡ sent_of e
 sent_ended Read e n m is same = sym (ap sent_of is ∙ same)
 sent_ended Memory e n m is same = sym (ap sent_of is ∙ same)
-
-pub failed_ended : (X : Type 0) (fault : RereadFault) (e : OutFault) (n old before new : ℕ) → e ≡ ended_by fault n → before ≡ old → HasFailed fault before new → HasFailedBy {X = X} (Err e) old new
-failed_ended X Read e n old before new is same has = let P : OutFault → Type 0 = λ f. HasFailedBy {X = X} (Err f) old new in subst P (sym is) (has ∙ ap raised same)
-failed_ended X Memory e n old before new is same has = let P : OutFault → Type 0 = λ f. HasFailedBy {X = X} (Err f) old new in subst P (sym is) (has ∙ same)
 
 -- an output that ended by no read over a source that hasn't failed
 -- the source has failed as often as before by an end that tells no read

@@ -6,10 +6,11 @@ use Rattle.warc_frame.specs.Record.{Record}
 use Rattle.warc_frame.specs.declared.fault.OutFault.{OutFault}
 use Rattle.warc_reading.specs.Archive.{IsArchiveOf, contents}
 use Rattle.warc_checking.specs.Checking.{check_text, findings_of_archive}
-use Rattle.warc_frame.specs.Failing.{HasFailedBy, MayHaveFailedBy, failed_by}
+use Rattle.warc_frame.specs.Effects.{FailsBy}
+use Rattle.warc_frame.specs.Failing.{failed_by}
 use Rattle.warc_reading.specs.Rereading.{ReadsHeads}
 use Rattle.warc_reading.specs.Row.{Row}
-use Rattle.warc_frame.specs.Seen.{IfHeld, Seen, Tapped}
+use Rattle.warc_frame.specs.Seen.{IfHeld, Seen, SeenSource}
 
 -- a line was written for each finding of the records, or a front of the lines; and how many they are
 abbrev pub AreTold : List Record → Result ℕ OutFault → Seen → Seen → Type 0
@@ -22,22 +23,19 @@ abbrev pub AreCutOff : List Record → Result ℕ OutFault → Seen → Seen →
 AreCutOff records answer before after =
     IfErr answer (λ e. WentOut before.tells (check_text records) after.tells (sent_of e))
 
--- checking an archive of these rows. Where its source holds the archive's bytes, a line is written for each
--- finding of the records that they spell, and counted, or a front of the lines is; and the source has failed
--- once more exactly where a read is told. Any source still holds what it held, is asked for no byte outside the
--- heads, and read at most once for each of theirs; where a read is told it has failed once more, unless it told
--- of other bytes than it held
-pub record Checks (rows : List Row) (old new : Tapped) (before after : Seen) (answer : Result ℕ OutFault) : Type 0 where
+-- Checking an archive of these rows. Where its source holds the archive's bytes, a line is written for each finding of
+-- the records that they spell, and counted, or a front of the lines is. Of any source the heads alone are read, at most
+-- once for each byte of theirs
+pub record Checks (rows : List Row) (old new : SeenSource) (before after : Seen) (answer : Result ℕ OutFault)
+    : Type 0 where
   pub told : IfHeld old.holds (λ bytes. (is : IsArchiveOf bytes rows)
       → AreTold (contents is.are.records) answer before after)
   pub number : IfHeld old.holds (λ bytes. (is : IsArchiveOf bytes rows)
       → AreCounted (contents is.are.records) answer)
   pub cut : IfHeld old.holds (λ bytes. (is : IsArchiveOf bytes rows)
       → AreCutOff (contents is.are.records) answer before after)
-  pub failed : IfHeld old.holds (λ bytes. IsArchiveOf bytes rows → HasFailedBy answer old.faults new.faults)
-  pub kept : new.holds ≡ old.holds
-  pub heads : ReadsHeads rows old new
-  pub may : MayHaveFailedBy answer old.faults new.faults
+  pub reads : ReadsHeads rows old new
+  pub fails : FailsBy (λ bytes. IsArchiveOf bytes rows) answer old new
   pub cause : after.faults ≡ failed_by answer before.faults
 
 -- telling what was found of records as they were read: a line is written for each finding, and counted, or a front of

@@ -5,17 +5,17 @@ ghost use Rattle.warc_frame.specs.Record.{Record, max_head};
 ghost use Rattle.warc_frame.specs.Send.{IsStaged, WentOut, sent_of};
 ghost use Rattle.warc_record.specs.Findings.{finding_seen};
 ghost use Rattle.warc_reading.specs.Archive.{contents};
-ghost use Rattle.warc_reading.specs.Row.{Placed, row_of};
+ghost use Rattle.warc_reading.specs.Row.{Placed};
 ghost use Rattle.warc_checking.specs.Checks.{AreCutOff, AreTold, Checks};
 ghost use Rattle.warc_checking.specs.Checking.{about_record, findings_of_archive, line_text, numbered_line};
-ghost use Rattle.warc_reading.specs.Rereading.{AreCheckable, HasFailed, HasHead, MayHaveFailed, ReadsHeads};
+ghost use Rattle.warc_reading.specs.Rereading.{AreCheckable, HasHeadOf, HasHeadsOf, ReadsHeads, reread_result};
 ghost use Rattle.warc_checking.specs.Examining.{IsExamined, PutsCheck, PutsFindingsOf, PutsLines};
 ghost use Rattle.warc_checking.specs.Examining.{findings_by_facts, record_lines};
 ghost use Rattle.warc_checking.specs.UsedIds.{HoldsIdsOf, IsAlone, IsTally};
 ghost use Rattle.warc_record.specs.Ids.{id_key};
-ghost use Rattle.warc_frame.specs.Putting.{Puts};
+ghost use Rattle.warc_frame.specs.Effects.{FailsBy, Puts};
 ghost use Rattle.warc_frame.specs.Seen.{IfHeld};
-ghost use Rattle.warc_frame.specs.Failing.{HasFailedBy, MayHaveFailedBy, failed_by, is_read};
+ghost use Rattle.warc_frame.specs.Failing.{failed_by, is_read};
 
 use crate::used_ids::UsedIds;
 use itoa::Buffer;
@@ -43,20 +43,14 @@ fn examine<S: Source, A: Allocator + Copy>(
     buf: &mut [u8],
 ) -> Result<Examined<A>, RereadFault>
     requires { max_head ≤ length buf.old }
-    ensures read { (bytes : List ℕ) (p : Placed) (before : List Record) → (S.tapped source.old).holds ≡ Some bytes →
-        HasHead bytes p → row.now ≡ row_of p → HoldsIdsOf before ids.old → IsAlone before ids.old (id_key row.now.id) →
-        IfOk result (λ x. IsExamined before p.content x.fields x.facts) }
-    ensures ids { (bytes : List ℕ) (p : Placed) (before : List Record) → (S.tapped source.old).holds ≡ Some bytes →
-        HasHead bytes p → row.now ≡ row_of p → HoldsIdsOf before ids.old →
-        OnOk result (HoldsIdsOf (before ++ p.content ∷ []) ids.new) }
+    ensures read { IfHeld (S.seen source.old).holds (λ bytes. (is : HasHeadOf row.now bytes) (before : List Record) →
+        HoldsIdsOf before ids.old → IsAlone before ids.old (id_key row.now.id) →
+        IfOk result (λ x. IsExamined before is.placed.content x.fields x.facts)) }
+    ensures ids { IfHeld (S.seen source.old).holds (λ bytes. (is : HasHeadOf row.now bytes) (before : List Record) →
+        HoldsIdsOf before ids.old → OnOk result (HoldsIdsOf (before ++ is.placed.content ∷ []) ids.new)) }
     ensures counts { ids.new.counts ≡ ids.old.counts }
-    ensures kept { (S.tapped source.new).holds ≡ (S.tapped source.old).holds }
-    ensures sound { OnOk result ((S.tapped source.new).faults ≡ (S.tapped source.old).faults) }
-    ensures heads { ReadsHeads (row.now ∷ []) (S.tapped source.old) (S.tapped source.new) }
-    ensures may { IfErr result (λ e. MayHaveFailed e (S.tapped source.old).faults (S.tapped source.new).faults) }
-    ensures failed { (bytes : List ℕ) (p : Placed) → (S.tapped source.old).holds ≡ Some bytes → HasHead bytes p →
-        row.now ≡ row_of p → IfErr result (λ e. HasFailed e (S.tapped source.old).faults
-        (S.tapped source.new).faults) }
+    ensures reads { ReadsHeads (row.now ∷ []) (S.seen source.old) (S.seen source.new) }
+    ensures fails { FailsBy (HasHeadOf row.now) (reread_result result) (S.seen source.old) (S.seen source.new) }
 {
     good_heads_read();
     let reread = match read_again(alloc, source, row, buf) {
@@ -179,15 +173,12 @@ fn put_records<S: Source, A: Allocator + Copy, W: Sink>(
     requires head { max_head ≤ length head.old }
     requires tally { IsTally (length rows.now) rows.now ids.old.counts }
     requires ids { HoldsIdsOf [] ids.old }
-    ensures puts { IfHeld (S.tapped source.old).holds (λ bytes. (records : List Placed)
+    ensures puts { IfHeld (S.seen source.old).holds (λ bytes. (records : List Placed)
         → AreCheckable bytes records rows.now
         → PutsFindingsOf (contents records) (W.seen out.old) (W.seen out.new) buffer.old buffer.new result) }
-    ensures kept { (S.tapped source.new).holds ≡ (S.tapped source.old).holds }
     ensures cause { (W.seen out.new).faults ≡ failed_by result (W.seen out.old).faults }
-    ensures heads { ReadsHeads rows.now (S.tapped source.old) (S.tapped source.new) }
-    ensures may { MayHaveFailedBy result (S.tapped source.old).faults (S.tapped source.new).faults }
-    ensures failed { (bytes : List ℕ) (records : List Placed) → (S.tapped source.old).holds ≡ Some bytes → AreCheckable
-        bytes records rows.now → HasFailedBy result (S.tapped source.old).faults (S.tapped source.new).faults }
+    ensures reads { ReadsHeads rows.now (S.seen source.old) (S.seen source.new) }
+    ensures fails { FailsBy (HasHeadsOf rows.now) result (S.seen source.old) (S.seen source.new) }
 {
     staged_went_out();
     went_out_of_longer();
@@ -227,15 +218,12 @@ fn put_archive<S: Source, A: Allocator + Copy, W: Sink>(
     buffer: &mut OutBuffer,
     out: &mut W,
 ) -> Result<usize, OutFault>
-    ensures puts { IfHeld (S.tapped source.old).holds (λ bytes. (records : List Placed)
+    ensures puts { IfHeld (S.seen source.old).holds (λ bytes. (records : List Placed)
         → AreCheckable bytes records rows.now
         → PutsCheck (contents records) (W.seen out.old) (W.seen out.new) buffer.old buffer.new result) }
-    ensures kept { (S.tapped source.new).holds ≡ (S.tapped source.old).holds }
     ensures cause { (W.seen out.new).faults ≡ failed_by result (W.seen out.old).faults }
-    ensures heads { ReadsHeads rows.now (S.tapped source.old) (S.tapped source.new) }
-    ensures may { MayHaveFailedBy result (S.tapped source.old).faults (S.tapped source.new).faults }
-    ensures failed { (bytes : List ℕ) (records : List Placed) → (S.tapped source.old).holds ≡ Some bytes → AreCheckable
-        bytes records rows.now → HasFailedBy result (S.tapped source.old).faults (S.tapped source.new).faults }
+    ensures reads { ReadsHeads rows.now (S.seen source.old) (S.seen source.new) }
+    ensures fails { FailsBy (HasHeadsOf rows.now) result (S.seen source.old) (S.seen source.new) }
 {
     staged_went_out();
     went_out_of_longer();
@@ -259,18 +247,15 @@ fn tell_reread<S: Source, A: Allocator + Copy, W: Sink>(
     rows: &Rows<A>,
     out: &mut W,
 ) -> Result<usize, OutFault>
-    ensures told { (bytes : List ℕ) (records : List Placed) → (S.tapped source.old).holds ≡ Some bytes → AreCheckable
+    ensures told { (bytes : List ℕ) (records : List Placed) → (S.seen source.old).holds ≡ Some bytes → AreCheckable
         bytes records rows.now → AreTold (contents records) result (W.seen out.old) (W.seen out.new) }
-    ensures number { (bytes : List ℕ) (records : List Placed) → (S.tapped source.old).holds ≡ Some bytes → AreCheckable
+    ensures number { (bytes : List ℕ) (records : List Placed) → (S.seen source.old).holds ≡ Some bytes → AreCheckable
         bytes records rows.now → IfOk result (λ n. n ≡ capped (length (findings_of_archive (contents records)))) }
-    ensures cut { (bytes : List ℕ) (records : List Placed) → (S.tapped source.old).holds ≡ Some bytes → AreCheckable
+    ensures cut { (bytes : List ℕ) (records : List Placed) → (S.seen source.old).holds ≡ Some bytes → AreCheckable
         bytes records rows.now → AreCutOff (contents records) result (W.seen out.old) (W.seen out.new) }
-    ensures kept { (S.tapped source.new).holds ≡ (S.tapped source.old).holds }
     ensures cause { (W.seen out.new).faults ≡ failed_by result (W.seen out.old).faults }
-    ensures heads { ReadsHeads rows.now (S.tapped source.old) (S.tapped source.new) }
-    ensures may { MayHaveFailedBy result (S.tapped source.old).faults (S.tapped source.new).faults }
-    ensures failed { (bytes : List ℕ) (records : List Placed) → (S.tapped source.old).holds ≡ Some bytes → AreCheckable
-        bytes records rows.now → HasFailedBy result (S.tapped source.old).faults (S.tapped source.new).faults }
+    ensures reads { ReadsHeads rows.now (S.seen source.old) (S.seen source.new) }
+    ensures fails { FailsBy (HasHeadsOf rows.now) result (S.seen source.old) (S.seen source.new) }
 {
     let mut buffer = OutBuffer::new();
     let number = put_archive(alloc, source, rows, &mut buffer, out)?;
@@ -291,7 +276,7 @@ pub fn check_rows<S: Source, A: Allocator + Copy, W: Sink>(
     rows: &Rows<A>,
     out: &mut W,
 ) -> Result<usize, OutFault>
-    ensures { Checks rows.now (S.tapped source.old) (S.tapped source.new) (W.seen out.old) (W.seen out.new) result }
+    ensures { Checks rows.now (S.seen source.old) (S.seen source.new) (W.seen out.old) (W.seen out.new) result }
 {
     head_of_spelled();
     tell_reread(alloc, source, rows, out)

@@ -181,7 +181,7 @@ impl<S: Source, A: Allocator + Copy> Checked<S, A> {
     /// Reads the source as a listing is read, and keeps beside each row what its record has wrong: 16 bytes for each
     /// record, and for each finding 24 bytes and its field's name.
     pub fn open(alloc: A, source: S) -> Result<Checked<S, A>, (Fault, S)>
-        ensures { Opens IsJudgedOf (S.tapped source) (S.tapped (source_judged result)) (judged_of result) }
+        ensures { Opens IsJudgedOf (S.seen source) (S.seen (source_judged result)) (judged_of result) }
     {
         let mut source = source;
         let findings = OwnFindings::new(alloc);

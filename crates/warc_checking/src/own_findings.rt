@@ -2,7 +2,7 @@
 ghost use Rattle.std.specs.Prelude.{◌≡◌, ℕ, ◌+◌, false, List, [], ◌∷◌, ◌++◌, length, map, OnErr, OnOk, IfOk, if◌then◌else◌};
 ghost use Rattle.std.specs.List.{filter};
 ghost use Rattle.warc_frame.specs.Count.{capped};
-ghost use Rattle.warc_frame.specs.Putting.{Puts};
+ghost use Rattle.warc_frame.specs.Effects.{Puts};
 ghost use Rattle.warc_reading.specs.Archive.{contents};
 ghost use Rattle.warc_record.specs.Findings.{Found, IdUsed, finding_seen, findings_of, once};
 ghost use Rattle.warc_checking.specs.Examining.{record_lines};
@@ -436,7 +436,7 @@ impl<A: Allocator + Copy> Keep<A> for OwnFindings<A> {
         add_part(alloc, &mut self.findings, &mut self.parts, fields, place)
     }
 
-    fn forget_after(&mut self, count: usize) {
+    fn truncate(&mut self, count: usize) {
         // The findings of the others stay, in no part.
         self.parts.truncate(count);
     }

@@ -8,7 +8,7 @@ use Rattle.std.proofs.lemmas.Bool.{lt-ltb}
 use Rattle.warc_frame.specs.Count.{raised}
 use Rattle.warc_frame.specs.Failing.{MayHaveFailedBy}
 use Rattle.warc_frame.specs.Send.{WentOut}
-use Rattle.warc_frame.specs.Seen.{Seen, Tapped}
+use Rattle.warc_frame.specs.Seen.{Seen, SeenSource}
 use Rattle.warc_frame.specs.declared.fault.OutFault.{OutFault}
 use Rattle.warc_frame.specs.declared.fault.OutFault.TheVariants as outs
 use Rattle.warc_reading.specs.Indexed.{Archived, IsIndexed}
@@ -40,7 +40,7 @@ lines_by : (rows other : List Row) (captures : List CaptureSeen) (out out' err e
 lines_by rows other captures out out' err err' status same ends = subst (λ (l : List Row). LinesEnd l captures out out' err err' status) same ends
 
 -- how the command ends, by what was judged and what was written
-pub captures_end : {S A B : Type 0} (uri : Option (List ℕ)) (archive after : Archived S) (answer : Result (Vec (Outcome A) B) OutFault) (old mid last new : Tapped) (out out' err err' : Seen) (status : ℕ)
+pub captures_end : {S A B : Type 0} (uri : Option (List ℕ)) (archive after : Archived S) (answer : Result (Vec (Outcome A) B) OutFault) (old mid last new : SeenSource) (out out' err err' : Seen) (status : ℕ)
     → Opens IsIndexed old mid (Ok archive) → JudgesListed archive after uri mid last answer → new.faults ≡ last.faults
     → ListedEnds after.listing.rows (result_map_both outcomes_seen (λ e. e) answer) out out' err err' status
     → CapturesEnds uri (devices old out err) (devices new out' err') status
@@ -115,7 +115,7 @@ starved ends None old new status is = inr is
 starved ends (Some x) old new status is = inr is
 
 -- nothing was read, since the digits name nothing or memory is wanting
-pub uri_refused : {X : Type 0} (ends : X → Devices → Devices → ℕ → Type 0) (o : Option X) (fault : UriFault) (source : Tapped) (out err err' : Seen) (status : ℕ)
+pub uri_refused : {X : Type 0} (ends : X → Devices → Devices → ℕ → Type 0) (o : Option X) (fault : UriFault) (source : SeenSource) (out err err' : Seen) (status : ℕ)
     → (fault ≡ Digits → o ≡ None) → Tells (told_line (uri_fault_text fault)) err err' → status ≡ 3
     → UriEnds ends o (devices source out err) (devices source out err') status
 uri_refused ends o Digits source out err err' status none tells is =

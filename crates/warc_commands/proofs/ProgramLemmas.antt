@@ -14,7 +14,7 @@ use Rattle.warc_commands.specs.Devices.{devices}
 use Rattle.warc_reading.specs.Opening.{Opens}
 use Rattle.warc_commands.specs.Program.{AreGoodRecordsOf, IsCutOff, IsNotOpened, IsWritten, Tells, fault_line, status_of_findings, status_of_kind, told_line}
 use Rattle.warc_reading.specs.Row.{Row}
-use Rattle.warc_frame.specs.Seen.{Seen, Tapped}
+use Rattle.warc_frame.specs.Seen.{Seen, SeenSource}
 use Rattle.warc_reading.proofs.StreamLemmas.{spells_all}
 
 -- the records of an archive
@@ -22,7 +22,7 @@ pub good_records_of : {bytes : List ℕ} {rows : List Row} (is : IsArchiveOf byt
 good_records_of {bytes} is = record { short = is.short; spelled = spells_all 0 is.are.records bytes is.are.spelled; good = is.are.good }
 
 -- an archive that isn't opened
-pub not_opened : {X : Type 0} (Is : List ℕ → X → Type 0) (old new : Tapped) (out err told : Seen) (fault : Fault) (status : ℕ) → Opens Is old new (Err fault) → Tells (fault_line fault) err told
+pub not_opened : {X : Type 0} (Is : List ℕ → X → Type 0) (old new : SeenSource) (out err told : Seen) (fault : Fault) (status : ℕ) → Opens Is old new (Err fault) → Tells (fault_line fault) err told
     → status ≡ status_of_kind fault.kind → IsNotOpened (devices old out err) (devices new out told) status
 not_opened Is old new out err told fault status opens tells is = record {
   fault = fault;
@@ -61,7 +61,7 @@ may_have_failed f old new other now a b is =
     subst P a (subst Q b is)
 
 -- an archive of which a text was written
-pub all_written : {text_of : Record → List ℕ} {len_of : Row → ℕ} {rows : List Row} {old mid last new : Tapped} {before after err : Seen} {u : Unit {0}}
+pub all_written : {text_of : Record → List ℕ} {len_of : Row → ℕ} {rows : List Row} {old mid last new : SeenSource} {before after err : Seen} {u : Unit {0}}
     → Opens IsArchiveOf old mid (Ok rows) → WritesEach text_of len_of rows mid last before after (Ok u) → new.faults ≡ last.faults
     → IsWritten (flat_map text_of) (devices old before err) (devices new after err) 0
 all_written opened writes same = record {
@@ -70,16 +70,16 @@ all_written opened writes same = record {
       record {
         records = contents archive.are.records;
         are = good_records_of archive;
-        told = writes.told bytes (opened.reads.kept ∙ held) archive;
+        told = writes.sends.out bytes _ (opened.reads.kept ∙ held) (record { is = archive; text_is = refl });
       };
-  unfailed = writes.cause;
-  sound = same ∙ writes.may ∙ opened.reads.cause;
+  unfailed = writes.sends.cause;
+  sound = same ∙ writes.sends.fails.may ∙ opened.reads.cause;
   silent = refl;
   status_is = refl;
 }
 
 -- an archive of which a front of a text was written
-pub part_written : {text_of : Record → List ℕ} {len_of : Row → ℕ} {rows : List Row} {old mid last new : Tapped} {before after err told : Seen} {status : ℕ} (e : OutFault)
+pub part_written : {text_of : Record → List ℕ} {len_of : Row → ℕ} {rows : List Row} {old mid last new : SeenSource} {before after err told : Seen} {status : ℕ} (e : OutFault)
     → Opens IsArchiveOf old mid (Ok rows) → WritesEach text_of len_of rows mid last before after (Err e) → new.faults ≡ last.faults
     → Tells (told_line (out_fault_text e)) err told → status ≡ 3 → IsCutOff (flat_map text_of) (devices old before err) (devices new after told) status
 part_written e opened writes same tells is = record {
@@ -89,11 +89,11 @@ part_written e opened writes same tells is = record {
       record {
         records = contents archive.are.records;
         are = good_records_of archive;
-        front = writes.cut bytes (opened.reads.kept ∙ held) archive;
-        source = has_failed e _ _ _ _ opened.reads.cause (sym same) (writes.failed bytes (opened.reads.kept ∙ held) archive);
+        front = writes.sends.cut bytes _ (opened.reads.kept ∙ held) (record { is = archive; text_is = refl });
+        source = has_failed e _ _ _ _ opened.reads.cause (sym same) (writes.sends.fails.failed bytes (opened.reads.kept ∙ held) (_, record { is = archive; text_is = refl }));
       };
-  source = may_have_failed e _ _ _ _ opened.reads.cause (sym same) writes.may;
-  failed = writes.cause;
+  source = may_have_failed e _ _ _ _ opened.reads.cause (sym same) writes.sends.fails.may;
+  failed = writes.sends.cause;
   told = tells;
   status_is = is;
 }

@@ -5,17 +5,19 @@ use Rattle.std.proofs.lemmas.List.Sums.{sum_by-cons}
 use Rattle.warc_frame.specs.Count.{raised}
 use Rattle.warc_frame.specs.Ranges.{IsReadAt}
 use Rattle.warc_frame.specs.Record.{max_archive, max_block}
-use Rattle.warc_frame.specs.Seen.{AsksOnly, IfHeld, IsInRange, Tapped}
+use Rattle.warc_frame.specs.Seen.{AsksOnly, IfHeld, IsInRange, SeenSource}
 use Rattle.warc_frame.specs.declared.fault.Fault.{Fault}
 use Rattle.warc_reading.specs.Archive.{IsArchiveOf, SpellsFrom}
-use Rattle.warc_reading.specs.Indexed.{AreOf, Archived, IsIndexed}
+use Rattle.warc_reading.specs.Indexed.{Archived, IsIndexed}
 use Rattle.warc_reading.specs.Opening.{Opens}
 use Rattle.warc_reading.specs.Row.{Placed, Row, row_of}
 use Rattle.warc_reading.proofs.FitLemmas.{front_size}
 use Rattle.warc_reading.proofs.SourceLemmas.{raised_by_one}
 use Rattle.warc_reading.proofs.PlacedLemmas.{placed}
-use Rattle.warc.specs.Forms.{IsInRecord, ReadsOnly, read_len, split_len}
+use Rattle.warc_frame.specs.Effects.{ReadsOnly}
+use Rattle.warc.specs.Forms.{IsInAnyRow, read_len, split_len}
 use Rattle.warc.specs.Parts.{IsInPart, ReadsPart, found_len}
+use Rattle.warc.specs.Replaying.{IsIndexedBy}
 use Rattle.warc.specs.declared.copying.Form.{Form}
 use Rattle.warc.specs.declared.part.Part.{Part}
 use Rattle.warc.specs.declared.part.Part.TheVariants.{Head, Block}
@@ -24,7 +26,7 @@ use Rattle.warc_commands.specs.Asking.{AsksFar, HasAsked, HasReadFront, ReadsFro
 use Rattle.warc_commands.specs.Reads.{AsksNear, ReadsForRecord, ReadsTimes}
 
 -- one more read, of these bytes alone
-asks_more : (These : ℕ → Type 0) (old mid new : Tapped) (at len : ℕ) → mid.watches ≡ old.watches → AsksOnly These old mid → AsksOnly (IsInRange at len) mid new → ((q : ℕ) → IsInRange at len q → These q)
+asks_more : (These : ℕ → Type 0) (old mid new : SeenSource) (at len : ℕ) → mid.watches ≡ old.watches → AsksOnly These old mid → AsksOnly (IsInRange at len) mid new → ((q : ℕ) → IsInRange at len q → These q)
     → AsksOnly These old new
 asks_more These old mid new at len watched first then wanted =
     λ off. then (λ q in_. ap (λ (w : ℕ → Bool). w q) watched ∙ off q (wanted q in_)) ∙ first off
@@ -34,10 +36,10 @@ asks_more These old mid new at len watched first then wanted =
 pub front_within : (bytes items : List ℕ) → items ≡ take (length items) bytes → length items ≤ length bytes
 front_within bytes items is = omega (arith, ap (λ (l : List ℕ). length l) is ∙ length-take (length items) bytes)
 
-pub front_none : (most room : ℕ) (items : List ℕ) (s : Tapped) → HasReadFront most room items s s
+pub front_none : (most room : ℕ) (items : List ℕ) (s : SeenSource) → HasReadFront most room items s s
 front_none most room items s = record { near = λ off. refl; close = λ bytes held off. refl; cost = omega arith; watched = refl }
 
-pub front_done : (most room : ℕ) (items : List ℕ) (old new : Tapped) → HasReadFront most room items old new → ((bytes : List ℕ) → old.holds ≡ Some bytes → length items ≤ length bytes) → ReadsFront most room old new
+pub front_done : (most room : ℕ) (items : List ℕ) (old new : SeenSource) → HasReadFront most room items old new → ((bytes : List ℕ) → old.holds ≡ Some bytes → length items ≤ length bytes) → ReadsFront most room old new
 front_done most room items old new has within = record {
   near = has.near;
   close = has.close;
@@ -45,7 +47,7 @@ front_done most room items old new has within = record {
   watched = has.watched;
 }
 
-module _ (most room : ℕ) (items : List ℕ) (old mid new : Tapped) (at len : ℕ) (has : HasReadFront most room items old mid) (watched : new.watches ≡ mid.watches) (counted : new.reads ≡ raised mid.reads)
+module _ (most room : ℕ) (items : List ℕ) (old mid new : SeenSource) (at len : ℕ) (has : HasReadFront most room items old mid) (watched : new.watches ≡ mid.watches) (counted : new.reads ≡ raised mid.reads)
     (asks : AsksOnly (IsInRange at len) mid new) (here : at ≡ length items) (fits : at + len ≤ most) (few : len ≤ room) (within : (bytes : List ℕ) → old.holds ≡ Some bytes → length items ≤ length bytes) where
   near_front : AsksOnly (λ q. q < most) old new
   near_front = asks_more (λ q. q < most) old mid new at len has.watched has.near asks (λ q in_. omega (arith, in_.1, fits))
@@ -73,10 +75,10 @@ module _ (most room : ℕ) (items : List ℕ) (old mid new : Tapped) (at len : �
 
 -- ---- single bytes
 
-pub asked_none : (s : Tapped) → HasAsked 65536 s s
+pub asked_none : (s : SeenSource) → HasAsked 65536 s s
 asked_none s = record { near = λ off. refl; close = λ bytes held off. refl; far = λ bytes held. omega arith; cost = omega arith; watched = refl }
 
-module _ (place next : ℕ) (old mid new : Tapped) (failed : Bool) (has : HasAsked next old mid) (read : IsReadAt place 1 failed mid new) (here : place ≤ next) (low : place ≤ max_block) where
+module _ (place next : ℕ) (old mid new : SeenSource) (failed : Bool) (has : HasAsked next old mid) (read : IsReadAt place 1 failed mid new) (here : place ≤ next) (low : place ≤ max_block) where
   near_asked : AsksOnly (λ q. q ≤ max_block) old new
   near_asked = asks_more (λ q. q ≤ max_block) old mid new place 1 has.watched has.near read.asks (λ q in_. omega (arith, in_.1, low))
 
@@ -104,10 +106,10 @@ module _ (place next : ℕ) (old mid new : Tapped) (failed : Bool) (has : HasAsk
 
 -- ---- a file of which a record is made
 
-pub far_alone : (old new : Tapped) → AsksFar old new → ReadsForRecord old new
+pub far_alone : (old new : SeenSource) → AsksFar old new → ReadsForRecord old new
 far_alone old new far = record { near = far.near; close = far.close; cost = λ bytes held. omega (arith, far.cost bytes held) }
 
-pub far_then_front : (old mid new : Tapped) → AsksFar old mid → mid.holds ≡ old.holds → ReadsFront (max_block + 1) 65536 mid new → ReadsForRecord old new
+pub far_then_front : (old mid new : SeenSource) → AsksFar old mid → mid.holds ≡ old.holds → ReadsFront (max_block + 1) 65536 mid new → ReadsForRecord old new
 far_then_front old mid new far kept front = record {
   near = λ off. front.near (λ q low. ap (λ (w : ℕ → Bool). w q) far.watched ∙ off q (omega (arith, low))) ∙ far.near off;
   close = λ bytes held off.
@@ -118,23 +120,23 @@ far_then_front old mid new far kept front = record {
 -- ---- an archive
 
 -- as opening reads it
-pub opened : {X : Type 0} {Is : List ℕ → X → Type 0} {old mid new : Tapped} {answer : Result X Fault} → Opens Is old mid answer → new ≡ mid → ReadsTimes 1 old new
+pub opened : {X : Type 0} {Is : List ℕ → X → Type 0} {old mid new : SeenSource} {answer : Result X Fault} → Opens Is old mid answer → new ≡ mid → ReadsTimes 1 old new
 opened {X} {Is} {old} {mid} {new} {answer} opens same =
     let once : ReadsTimes 1 old mid = record { near = opens.reads.near; cost = λ bytes held. omega (arith, opens.cost bytes held) } in
-    let P : Tapped → Type 0 = λ t. ReadsTimes 1 old t in
+    let P : SeenSource → Type 0 = λ t. ReadsTimes 1 old t in
     subst P (sym same) once
 
-pub unread : (s : Tapped) → ReadsTimes 1 s s
+pub unread : (s : SeenSource) → ReadsTimes 1 s s
 unread s = record { near = λ off. refl; cost = λ bytes held. omega arith }
 
-pub twice_at_most : {old new : Tapped} → ReadsTimes 1 old new → ReadsTimes 2 old new
+pub twice_at_most : {old new : SeenSource} → ReadsTimes 1 old new → ReadsTimes 2 old new
 twice_at_most is = record { near = is.near; cost = λ bytes held. omega (arith, is.cost bytes held) }
 
-pub thrice_at_most : {old new : Tapped} → ReadsTimes 1 old new → ReadsTimes 3 old new
+pub thrice_at_most : {old new : SeenSource} → ReadsTimes 1 old new → ReadsTimes 3 old new
 thrice_at_most is = record { near = is.near; cost = λ bytes held. omega (arith, is.cost bytes held) }
 
 -- then of other bytes, which lie in it
-near_then : (These : ℕ → Type 0) (old mid new : Tapped) → mid.watches ≡ old.watches → AsksNear old mid → ((q : ℕ) → These q → q ≤ max_archive) → AsksOnly These mid new → AsksNear old new
+near_then : (These : ℕ → Type 0) (old mid new : SeenSource) → mid.watches ≡ old.watches → AsksNear old mid → ((q : ℕ) → These q → q ≤ max_archive) → AsksOnly These mid new → AsksNear old new
 near_then These old mid new watched first inside then = λ off. then (λ q in_. ap (λ (w : ℕ → Bool). w q) watched ∙ off q (inside q in_)) ∙ first off
 
 -- where the record of a row lies
@@ -172,9 +174,9 @@ rows_short_twice q [] text is = omega arith
 rows_short_twice q (p ∷ ps) text (front, rest, one, at, behind, whole, more) =
     omega (arith, rows_short_twice (q + length front) ps rest more, sum_by-cons split_len (row_of p) (map row_of ps), front_size q q p front one at behind, at, behind, ap length whole, length-append front rest)
 
-module _ {X : Type 0} {Is : List ℕ → X → Type 0} {old mid last new : Tapped} {x : X} (rows : List Row) (of : (bytes : List ℕ) → Is bytes x → IsArchiveOf bytes rows) (opens : Opens Is old mid (Ok x)) (same : new ≡ last) where
+module _ {X : Type 0} {Is : List ℕ → X → Type 0} {old mid last new : SeenSource} {x : X} (rows : List Row) (of : (bytes : List ℕ) → Is bytes x → IsArchiveOf bytes rows) (opens : Opens Is old mid (Ok x)) (same : new ≡ last) where
   left : (times : ℕ) → ReadsTimes times old last → ReadsTimes times old new
-  left times is = let P : Tapped → Type 0 = λ t. ReadsTimes times old t in subst P (sym same) is
+  left times is = let P : SeenSource → Type 0 = λ t. ReadsTimes times old t in subst P (sym same) is
 
   pub part_read : (part : Part) (place : ℕ) → ReadsPart part (slice_get rows place) mid last → ReadsTimes 2 old new
   part_read part place reads = left 2 (record {
@@ -182,32 +184,32 @@ module _ {X : Type 0} {Is : List ℕ → X → Type 0} {old mid last new : Tappe
     cost = λ bytes held. omega (arith, opens.cost bytes held, reads.bound, part_short part bytes rows (of bytes (opens.accepted bytes held)) place (slice_get rows place) refl);
   })
 
-  in_rows : (q : ℕ) → IsInRecord rows q → q ≤ max_archive
+  in_rows : (q : ℕ) → IsInAnyRow rows q → q ≤ max_archive
   in_rows q in_ =
       let is = of opens.some.0 opens.some.1 in
       let lies = row_lies opens.some.0 rows is in_.place in_.row in_.is in
       omega (arith, in_.inside.1, lies.end, is.short)
 
-  each_near : (most : ℕ) → ReadsOnly (IsInRecord rows) most mid last → AsksNear old last
-  each_near most reads = near_then (IsInRecord rows) old mid last opens.reads.watched opens.reads.near in_rows reads.near
+  each_near : (most : ℕ) → ReadsOnly (IsInAnyRow rows) most mid last → AsksNear old last
+  each_near most reads = near_then (IsInAnyRow rows) old mid last opens.reads.watched opens.reads.near in_rows reads.near
 
-  pub each_read : (form : Form) → ReadsOnly (IsInRecord rows) (sum_by (read_len form) rows) mid last → ReadsTimes 2 old new
+  pub each_read : (form : Form) → ReadsOnly (IsInAnyRow rows) (sum_by (read_len form) rows) mid last → ReadsTimes 2 old new
   each_read form reads = left 2 (record {
     near = each_near _ reads;
     cost = λ bytes held. let is = of bytes (opens.accepted bytes held) in omega (arith, opens.cost bytes held, reads.bound, ap (sum_by (read_len form)) is.are.rows_are, rows_short form 0 is.are.records bytes is.are.spelled);
   })
 
-  pub each_read_twice : ReadsOnly (IsInRecord rows) (sum_by split_len rows) mid last → ReadsTimes 3 old new
+  pub each_read_twice : ReadsOnly (IsInAnyRow rows) (sum_by split_len rows) mid last → ReadsTimes 3 old new
   each_read_twice reads = left 3 (record {
     near = each_near _ reads;
     cost = λ bytes held. let is = of bytes (opens.accepted bytes held) in omega (arith, opens.cost bytes held, reads.bound, ap (sum_by split_len) is.are.rows_are, rows_short_twice 0 is.are.records bytes is.are.spelled);
   })
 
 -- what a replay asks for lies in the archive
-pub replay_near : {S : Type 0} {old mid last new : Tapped} {archive : Archived S} → Opens IsIndexed old mid (Ok archive) → new ≡ last
-    → ((bytes : List ℕ) (is : IsArchiveOf bytes archive.listing.rows) → AreOf is.are.records archive.index archive.parts → AsksOnly (λ at. at < length bytes) mid last) → AsksNear old new
+pub replay_near : {S : Type 0} {old mid last new : SeenSource} {archive : Archived S} → Opens IsIndexed old mid (Ok archive) → new ≡ last
+    → ((bytes : List ℕ) → IsIndexedBy archive.listing.rows archive.index archive.parts bytes → AsksOnly (λ at. at < length bytes) mid last) → AsksNear old new
 replay_near {S} {old} {mid} {last} {new} {archive} opens same inside =
     let is = opens.some.1 in
-    let near : AsksNear old last = near_then (λ at. at < length opens.some.0) old mid last opens.reads.watched opens.reads.near (λ q low. omega (arith, low, is.listed.short)) (inside opens.some.0 is.listed is.kept) in
-    let P : Tapped → Type 0 = λ t. AsksNear old t in
+    let near : AsksNear old last = near_then (λ at. at < length opens.some.0) old mid last opens.reads.watched opens.reads.near (λ q low. omega (arith, low, is.listed.short)) (inside opens.some.0 (is.listed, is.kept)) in
+    let P : SeenSource → Type 0 = λ t. AsksNear old t in
     subst P (sym same) near

@@ -1,7 +1,7 @@
 -- How `salvage` ends, from what its calls answered.
 use Rattle.std.proofs.Common.{◌≡◌, ℕ, ◌^◌, ◌<◌, List, ◌++◌, length, Option, Some, Ok, Err, refl, sym, ap, subst, ◌∙◌, arith}
 use Rattle.warc_frame.specs.FaultText.{out_fault_text}
-use Rattle.warc_frame.specs.Seen.{Seen, Tapped}
+use Rattle.warc_frame.specs.Seen.{Seen, SeenSource}
 use Rattle.warc_frame.specs.declared.fault.Fault.{Fault}
 use Rattle.warc_frame.specs.declared.fault.OutFault.{OutFault}
 use Rattle.warc_reading.specs.Row.{Row}
@@ -23,7 +23,7 @@ amount_as found given kept n rows was bytes err told a b size same tells =
 pub status_as : {found given kept : Option Fault} {status : ℕ} → found ≡ given → given ≡ kept → status ≡ salvage_status found → status ≡ salvage_status kept
 status_as a b is = is ∙ ap salvage_status (a ∙ b)
 
-module _ {S : Type 0} (front : Fronted S) (old mid last new : Tapped) (before after err told : Seen) (status : ℕ) (opened : OpensFront old mid front) where
+module _ {S : Type 0} (front : Fronted S) (old mid last new : SeenSource) (before after err told : Seen) (status : ℕ) (opened : OpensFront old mid front) where
   pub salvaged : (n : ℕ) → CopiesFront front.listing.rows mid last before after (Ok n) → new.faults ≡ last.faults → TellsAmount front.fault (length front.listing.rows) n err told
       → status ≡ salvage_status front.fault → IsSalvaged (devices old before err) (devices new after told) status
   salvaged n copies same tells is = record {

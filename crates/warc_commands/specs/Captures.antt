@@ -4,7 +4,7 @@ use Rattle.std.specs.Io.KnownBytes.{append_known}
 use Rattle.warc_frame.specs.Count.{raised}
 use Rattle.warc_frame.specs.Failing.{MayHaveFailedBy}
 use Rattle.warc_frame.specs.FaultText.{out_fault_text}
-use Rattle.warc_frame.specs.Seen.{IfHeld, Seen, Tapped}
+use Rattle.warc_frame.specs.Seen.{IfHeld, Seen, SeenSource}
 use Rattle.warc_frame.specs.Send.{WentOut}
 use Rattle.warc_frame.specs.declared.fault.OutFault.{OutFault}
 use Rattle.warc_frame.specs.declared.fault.OutFault.TheVariants.{Write}
@@ -36,7 +36,7 @@ pub record AreCapturesIn (uri : Option (List ℕ)) (bytes : List ℕ) (rows : Li
   pub outcomes : AreOutcomes (contents is.are.records) positions captures
 
 -- what judging the captures that are listed answers, of an archive: their outcomes; the archive stays
-pub record JudgesListed {S A B : Type 0} (old new : Archived S) (uri : Option (List ℕ)) (before after : Tapped)
+pub record JudgesListed {S A B : Type 0} (old new : Archived S) (uri : Option (List ℕ)) (before after : SeenSource)
     (answer : Result (Vec (Outcome A) B) OutFault) : Type 0 where
   pub told : IfHeld before.holds (λ bytes. IsIndexed bytes old
       → IfOk answer (λ outcomes. AreCapturesIn uri bytes old.listing.rows (outcomes_seen outcomes)))

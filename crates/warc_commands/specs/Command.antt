@@ -48,23 +48,23 @@ abbrev pub asked_by : Request → Asked
 asked_by r = record { command = view_of r.command; flags = flags_of r.command; quiet = r.quiet }
 
 -- the path of the file that it reads; empty if it reads none
-abbrev pub path_of : Command → Text
-path_of (command.List archive) = archive.now
-path_of (command.Check archive) = archive.now
-path_of (command.Extract archive id) = archive.now
-path_of (command.Replay archive uri date hex) = archive.now
-path_of (command.Body archive position stored) = archive.now
-path_of (command.Captures archive uri hex) = archive.now
-path_of (command.Rewrite archive) = archive.now
-path_of (command.Convert archive) = archive.now
-path_of (command.Split archive size) = archive.now
-path_of (command.Write draft file) = file.now
-path_of (command.Head archive position) = archive.now
-path_of (command.Block archive position) = archive.now
-path_of (command.Fixity archive) = archive.now
-path_of (command.Salvage archive) = archive.now
-path_of (command.Summary archive) = archive.now
-path_of (command.Explain number) = []
+abbrev pub path_word : Command → Text
+path_word (command.List archive) = archive.now
+path_word (command.Check archive) = archive.now
+path_word (command.Extract archive id) = archive.now
+path_word (command.Replay archive uri date hex) = archive.now
+path_word (command.Body archive position stored) = archive.now
+path_word (command.Captures archive uri hex) = archive.now
+path_word (command.Rewrite archive) = archive.now
+path_word (command.Convert archive) = archive.now
+path_word (command.Split archive size) = archive.now
+path_word (command.Write draft file) = file.now
+path_word (command.Head archive position) = archive.now
+path_word (command.Block archive position) = archive.now
+path_word (command.Fixity archive) = archive.now
+path_word (command.Salvage archive) = archive.now
+path_word (command.Summary archive) = archive.now
+path_word (command.Explain number) = []
 
 -- whether it asks for each offset once, in order
 abbrev pub reads_once : Command → Bool

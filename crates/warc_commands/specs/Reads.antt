@@ -2,29 +2,29 @@
 -- `salvage` nothing is said here.
 use Rattle.std.specs.Prelude.{◌≡◌, ℕ, ◌+◌, ◌*◌, ◌≤◌, List, length, true, false, ⊤}
 use Rattle.warc_frame.specs.Record.{max_archive, max_block}
-use Rattle.warc_frame.specs.Seen.{AsksOnly, IfHeld, Tapped}
+use Rattle.warc_frame.specs.Seen.{AsksOnly, IfHeld, SeenSource}
 use Rattle.warc_commands.specs.declared.words.Command.{Command}
 use Rattle.warc_commands.specs.declared.words.Command.TheVariants as command
 
 -- no byte above offset 2^48 is asked for
-abbrev pub AsksNear : Tapped → Tapped → Type 0
+abbrev pub AsksNear : SeenSource → SeenSource → Type 0
 AsksNear old new = AsksOnly (λ at. at ≤ max_archive) old new
 
 -- and there are at most so many reads for each byte that the source holds, and one
-pub record ReadsTimes (times : ℕ) (old new : Tapped) : Type 0 where
+pub record ReadsTimes (times : ℕ) (old new : SeenSource) : Type 0 where
   pub near : AsksNear old new
   pub cost : IfHeld old.holds (λ bytes. new.reads ≤ old.reads + times * length bytes + 1)
 
 -- a file is read of which a record is made: no byte above offset 2^40, none further out than twice the file's length
 -- and 65,536, and at most two reads for each byte, and two
-pub record ReadsForRecord (old new : Tapped) : Type 0 where
+pub record ReadsForRecord (old new : SeenSource) : Type 0 where
   pub near : AsksOnly (λ at. at ≤ max_block) old new
   pub close : IfHeld old.holds (λ bytes. AsksOnly (λ at. at ≤ 2 * length bytes + 65536) old new)
   pub cost : IfHeld old.holds (λ bytes. new.reads ≤ old.reads + 2 * length bytes + 2)
 
 -- what a run of the command reads: an archive is opened in one read for each byte, and one; what is written of it is
 -- read again, once, and blocks that are split twice
-abbrev pub CommandReads : Command → Tapped → Tapped → Type 0
+abbrev pub CommandReads : Command → SeenSource → SeenSource → Type 0
 CommandReads (command.List archive) old new = ReadsTimes 1 old new
 CommandReads (command.Check archive) old new = ReadsTimes 1 old new
 CommandReads (command.Fixity archive) old new = ReadsTimes 1 old new

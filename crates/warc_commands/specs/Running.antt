@@ -9,9 +9,9 @@ use Rattle.clap.specs.Faults.{fault_of}
 use Rattle.clap.specs.Takes.{takes}
 use Rattle.clap.specs.Walk.{Text}
 use Rattle.warc_frame.specs.FaultText.{out_fault_text}
-use Rattle.warc_frame.specs.Seen.{IfHeld, Seen, Tapped}
+use Rattle.warc_frame.specs.Seen.{IfHeld, Seen, SeenSource}
 use Rattle.warc_frame.specs.declared.fault.OutFault.TheVariants.{Memory}
-use Rattle.warc_commands.specs.Command.{asked_by, opens_nothing, path_of, reads_once}
+use Rattle.warc_commands.specs.Command.{asked_by, opens_nothing, path_word, reads_once}
 use Rattle.warc_commands.specs.CommandLine.{IsToldBy, asked_of, warc_app}
 use Rattle.warc_commands.specs.Devices.{devices}
 use Rattle.warc_commands.specs.Ends.{Ends, IsStatusOf, writes_front}
@@ -26,9 +26,9 @@ use Rattle.warc_commands.specs.declared.words.Request.{Request}
 -- what the system may give a run: for a path a file or an error; standard input as a file, if it is one; standard input
 -- as it comes
 pub data Offer : Type 0 where
-  opened : List ℕ → Result Tapped Error → Offer
-  redirected : Option Tapped → Offer
-  streamed : Tapped → Offer
+  opened : List ℕ → Result SeenSource Error → Offer
+  redirected : Option SeenSource → Offer
+  streamed : SeenSource → Offer
 
 -- the two outputs of a run
 pub record Outputs : Type 0 where
@@ -45,7 +45,7 @@ place_at path =
 
 -- where the bytes of a command are: nowhere, if it reads nothing
 abbrev pub command_place : Command → Place
-command_place command = if opens_nothing command then Nowhere else place_at (path_of command)
+command_place command = if opens_nothing command then Nowhere else place_at (path_word command)
 
 -- the most bytes of standard input that are kept in memory
 abbrev pub max_input : ℕ
@@ -63,8 +63,8 @@ pub record IsStopped (why : List ℕ) (old new : Outputs) (status : ℕ) : Type 
   pub status_is : status ≡ 3
 
 -- a command was done over a source
-pub record IsRunOver (command : Command) (source : Tapped) (old new : Outputs) (status : ℕ) : Type 0 where
-  pub last : Tapped
+pub record IsRunOver (command : Command) (source : SeenSource) (old new : Outputs) (status : ℕ) : Type 0 where
+  pub last : SeenSource
   pub kept : last.holds ≡ source.holds
   pub ends : Ends command (devices source old.out old.err) (devices last new.out new.err) status
   pub silent : writes_front command ≡ false → status ≡ 2
@@ -73,20 +73,20 @@ pub record IsRunOver (command : Command) (source : Tapped) (old new : Outputs) (
 
 -- a command reads the file at its path
 pub record ReadsFile (gives : Offer → Type 0) (command : Command) (old new : Outputs) (status : ℕ) : Type 0 where
-  pub file : Result Tapped Error
-  pub given : gives (opened (path_of command) file)
+  pub file : Result SeenSource Error
+  pub given : gives (opened (path_word command) file)
   pub ends : MatchResult file (λ source. IsRunOver command source old new status)
       (λ error. IsStopped (stop_text (codes "open failed") (error_kind error)) old new status)
 
 -- a source of bytes in memory, which nobody has read
-abbrev pub in_memory : List ℕ → Tapped
+abbrev pub in_memory : List ℕ → SeenSource
 in_memory bytes = record {
   holds = Some bytes;
   faults = 0;
   reads = 0;
   asked = 0;
   watches = λ _. false;
-  strays = 0;
+  watched_reads = 0;
   next = None;
   jumps = 0;
 }
@@ -97,8 +97,8 @@ MemoryEnds true long command bytes old new status = IsRunOver command (in_memory
 MemoryEnds false long command bytes old new status = IsStopped long old new status
 
 -- a command was done over all bytes of a source, which were read into memory, or stopped since they are too long
-pub record IsDoneInMemory (long : List ℕ) (command : Command) (source last : Tapped) (old new : Outputs) (status : ℕ)
-    : Type 0 where
+pub record IsDoneInMemory (long : List ℕ) (command : Command) (source last : SeenSource) (old new : Outputs)
+    (status : ℕ) : Type 0 where
   pub bytes : List ℕ
   pub are : IfHeld source.holds (λ all. bytes ≡ take (max_input + 1) all)
   pub sound : last.faults ≡ source.faults
@@ -107,15 +107,15 @@ pub record IsDoneInMemory (long : List ℕ) (command : Command) (source last : T
 -- a command reads standard input into memory first; where that fails the run stops
 pub record ReadsMemory (gives : Offer → Type 0) (long : List ℕ) (command : Command) (old new : Outputs) (status : ℕ)
     : Type 0 where
-  pub source : Tapped
+  pub source : SeenSource
   pub given : gives (streamed source)
-  pub last : Tapped
+  pub last : SeenSource
   pub ends : IsDoneInMemory long command source last old new status
       ⊎ IsNotRead (devices source old.out old.err) (devices last new.out new.err) status
 
 -- a command reads standard input as it comes
 pub record ReadsStream (gives : Offer → Type 0) (command : Command) (old new : Outputs) (status : ℕ) : Type 0 where
-  pub source : Tapped
+  pub source : SeenSource
   pub given : gives (streamed source)
   pub ends : IsRunOver command source old new status
 
@@ -129,7 +129,7 @@ PipeEnds false gives command old new status = ReadsMemory gives too_long command
 
 -- a command reads standard input: at any offset where it is a file
 pub record ReadsInput (gives : Offer → Type 0) (command : Command) (old new : Outputs) (status : ℕ) : Type 0 where
-  pub file : Option Tapped
+  pub file : Option SeenSource
   pub given : gives (redirected file)
   pub ends : MatchOption file (PipeEnds (reads_once command) gives command old new status)
       (λ source. IsRunOver command source old new status)

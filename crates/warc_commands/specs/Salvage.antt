@@ -3,7 +3,7 @@ use Rattle.std.specs.Prelude.{◌≡◌, ℕ, ◌^◌, ◌<◌, ◌⊎◌, List,
 use Rattle.std.specs.Io.KnownBytes.{append_known}
 use Rattle.warc_frame.specs.Failing.{MayHaveFailedBy, failed_with}
 use Rattle.warc_frame.specs.FaultText.{out_fault_text}
-use Rattle.warc_frame.specs.Seen.{IfHeld, Seen, Tapped}
+use Rattle.warc_frame.specs.Seen.{IfHeld, Seen, SeenSource}
 use Rattle.warc_frame.specs.Send.{WentOut, sent_of}
 use Rattle.warc_frame.specs.declared.fault.Fault.{Fault}
 use Rattle.warc_frame.specs.declared.fault.OutFault.{OutFault}
@@ -56,7 +56,7 @@ pub record IsSalvaged (old new : Devices) (status : ℕ) : Type 0 where
   pub rows : List Row
   pub size : ℕ
   pub found : Option Fault
-  pub mid : Tapped
+  pub mid : SeenSource
   pub opens : Opens IsArchiveOf old.source mid (refused_by found rows)
   pub is : IfHeld old.source.holds (λ bytes. length bytes < 2 ^ 64 → IsSalvageOf bytes found rows size old.out new.out)
   pub sound : new.source.faults ≡ mid.faults
@@ -67,7 +67,7 @@ pub record IsSalvaged (old new : Devices) (status : ℕ) : Type 0 where
 pub record IsSalvageCutOff (old new : Devices) (status : ℕ) : Type 0 where
   pub rows : List Row
   pub found : Option Fault
-  pub mid : Tapped
+  pub mid : SeenSource
   pub opens : Opens IsArchiveOf old.source mid (refused_by found rows)
   pub fault : OutFault
   pub is : IfHeld old.source.holds (λ bytes. length bytes < 2 ^ 64

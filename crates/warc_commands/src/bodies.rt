@@ -6,7 +6,7 @@ ghost use Rattle.warc_commands.specs.Parts.{position_of};
 ghost use Rattle.warc_commands.specs.Program.{Tells};
 ghost use Rattle.warc_commands.specs.Reads.{AsksNear};
 
-use crate::giving::tell_replay;
+use crate::extracting::tell_replay;
 use crate::parts::position_of;
 use crate::program::{FAILED, FOUND, tell, tell_refusal};
 use std::alloc::Allocator;
@@ -27,12 +27,12 @@ where
     S: Source + Drop,
     W: Sink,
     E: Sink,
-    ensures ends { BodyEnds (position_of position.now) (devices (S.tapped source) (W.seen out.old) (E.seen err.old))
-        (devices (S.tapped result.1) (W.seen out.new) (E.seen err.new)) result.0 }
+    ensures ends { BodyEnds (position_of position.now) (devices (S.seen source) (W.seen out.old) (E.seen err.old))
+        (devices (S.seen result.1) (W.seen out.new) (E.seen err.new)) result.0 }
 
     // The source still holds what it held.
-    ensures kept { (S.tapped result.1).holds ≡ (S.tapped source).holds }
-    ensures reads { AsksNear (S.tapped source) (S.tapped result.1) }
+    ensures kept { (S.seen result.1).holds ≡ (S.seen source).holds }
+    ensures reads { AsksNear (S.seen source) (S.seen result.1) }
 {
     match position_of(position.as_bytes()) {
         Some(position) => body_at(alloc, position, source, out, err),
@@ -50,12 +50,12 @@ where
     S: Source + Drop,
     W: Sink,
     E: Sink,
-    ensures ends { BodyEnds (Some position) (devices (S.tapped source) (W.seen out.old) (E.seen err.old)) (devices
-        (S.tapped result.1) (W.seen out.new) (E.seen err.new)) result.0 }
+    ensures ends { BodyEnds (Some position) (devices (S.seen source) (W.seen out.old) (E.seen err.old)) (devices
+        (S.seen result.1) (W.seen out.new) (E.seen err.new)) result.0 }
 
     // The source still holds what it held.
-    ensures kept { (S.tapped result.1).holds ≡ (S.tapped source).holds }
-    ensures reads { AsksNear (S.tapped source) (S.tapped result.1) }
+    ensures kept { (S.seen result.1).holds ≡ (S.seen source).holds }
+    ensures reads { AsksNear (S.seen source) (S.seen result.1) }
 {
     let mut archive = match Archive::open(alloc, source) {
         Ok(archive) => archive,

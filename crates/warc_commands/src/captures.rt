@@ -29,11 +29,11 @@ where
     W: Sink,
     E: Sink,
     ensures ends { UriEnds CapturesEnds (uri_listed in_hex (option_map (λ u. u.now) uri.entry))
-        (devices (S.tapped source) (W.seen out.old) (E.seen err.old))
-        (devices (S.tapped result.1) (W.seen out.new) (E.seen err.new)) result.0 }
+        (devices (S.seen source) (W.seen out.old) (E.seen err.old))
+        (devices (S.seen result.1) (W.seen out.new) (E.seen err.new)) result.0 }
 
     // The source still holds what it held.
-    ensures kept { (S.tapped result.1).holds ≡ (S.tapped source).holds }
+    ensures kept { (S.seen result.1).holds ≡ (S.seen source).holds }
 {
     if in_hex {
         return captures_in_hex(alloc, uri, source, out, err);
@@ -57,11 +57,11 @@ where
     S: Source + Drop,
     W: Sink,
     E: Sink,
-    ensures ends { UriEnds CapturesEnds (uri_listed true (option_map (λ u. u.now) uri.entry)) (devices (S.tapped source)
-        (W.seen out.old) (E.seen err.old)) (devices (S.tapped result.1) (W.seen out.new) (E.seen err.new)) result.0 }
+    ensures ends { UriEnds CapturesEnds (uri_listed true (option_map (λ u. u.now) uri.entry)) (devices (S.seen source)
+        (W.seen out.old) (E.seen err.old)) (devices (S.seen result.1) (W.seen out.new) (E.seen err.new)) result.0 }
 
     // The source still holds what it held.
-    ensures kept { (S.tapped result.1).holds ≡ (S.tapped source).holds }
+    ensures kept { (S.seen result.1).holds ≡ (S.seen source).holds }
 {
     let Some(word) = uri else {
         return (tell_fault(UriFault::Digits, err), source);
@@ -79,11 +79,11 @@ where
     S: Source + Drop,
     W: Sink,
     E: Sink,
-    ensures ends { CapturesEnds (Some uri.now) (devices (S.tapped source) (W.seen out.old) (E.seen err.old))
-        (devices (S.tapped result.1) (W.seen out.new) (E.seen err.new)) result.0 }
+    ensures ends { CapturesEnds (Some uri.now) (devices (S.seen source) (W.seen out.old) (E.seen err.old))
+        (devices (S.seen result.1) (W.seen out.new) (E.seen err.new)) result.0 }
 
     // The source still holds what it held.
-    ensures kept { (S.tapped result.1).holds ≡ (S.tapped source).holds }
+    ensures kept { (S.seen result.1).holds ≡ (S.seen source).holds }
 {
     list_captures(alloc, Some(uri), source, out, err)
 }
@@ -101,11 +101,11 @@ where
     S: Source + Drop,
     W: Sink,
     E: Sink,
-    ensures ends { CapturesEnds (option_map (λ u. u.now) uri.entry) (devices (S.tapped source) (W.seen out.old)
-        (E.seen err.old)) (devices (S.tapped result.1) (W.seen out.new) (E.seen err.new)) result.0 }
+    ensures ends { CapturesEnds (option_map (λ u. u.now) uri.entry) (devices (S.seen source) (W.seen out.old)
+        (E.seen err.old)) (devices (S.seen result.1) (W.seen out.new) (E.seen err.new)) result.0 }
 
     // The source still holds what it held.
-    ensures kept { (S.tapped result.1).holds ≡ (S.tapped source).holds }
+    ensures kept { (S.seen result.1).holds ≡ (S.seen source).holds }
 {
     let mut archive = match Archive::open(alloc, source) {
         Ok(archive) => archive,
@@ -180,7 +180,7 @@ fn judge_listed<S: Source, A: Allocator + Copy>(
     uri: Option<&[u8]>,
 ) -> Result<Vec<Outcome<A>, A>, OutFault>
     ensures { JudgesListed archive.old archive.new (option_map (λ u. u.now) uri.entry)
-        (S.tapped archive.old.listing.source) (S.tapped archive.new.listing.source) result }
+        (S.seen archive.old.listing.source) (S.seen archive.new.listing.source) result }
 {
     let Ok(positions) = positions_of(archive, uri) else {
         return Err(OutFault::Memory(0));

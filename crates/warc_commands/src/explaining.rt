@@ -14,11 +14,11 @@ where
     S: Source + Drop,
     W: Sink,
     E: Sink,
-    ensures ends { ExplainEnds (explained number.now) (devices (S.tapped source) (W.seen out.old) (E.seen err.old))
-        (devices (S.tapped result.1) (W.seen out.new) (E.seen err.new)) result.0 }
+    ensures ends { ExplainEnds (explained number.now) (devices (S.seen source) (W.seen out.old) (E.seen err.old))
+        (devices (S.seen result.1) (W.seen out.new) (E.seen err.new)) result.0 }
 
     // The source still holds what it held.
-    ensures kept { (S.tapped result.1).holds ≡ (S.tapped source).holds }
+    ensures kept { (S.seen result.1).holds ≡ (S.seen source).holds }
 {
     match explanation_of(number) {
         Some(text) => (show(text, out, err), source),

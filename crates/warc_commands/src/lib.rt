@@ -4,8 +4,8 @@
 mod bodies;
 mod captures;
 mod explaining;
+mod extracting;
 mod fixity;
-mod giving;
 mod making;
 mod numbers;
 mod parts;

@@ -28,12 +28,12 @@ fn read_through<S: Source, A: Allocator>(
     buf: &mut [u8],
 ) -> Result<Vec<u8, A>, OutFault>
     requires { 0 < length buf.old }
-    ensures bytes { (bytes : List ℕ) → (S.tapped source.old).holds ≡ Some bytes → IfOk result
+    ensures bytes { (bytes : List ℕ) → (S.seen source.old).holds ≡ Some bytes → IfOk result
         (λ read. read.items ≡ take most bytes) }
-    ensures kept { (S.tapped source.new).holds ≡ (S.tapped source.old).holds }
-    ensures failed { HasFailedBy result (S.tapped source.old).faults (S.tapped source.new).faults }
+    ensures kept { (S.seen source.new).holds ≡ (S.seen source.old).holds }
+    ensures failed { HasFailedBy result (S.seen source.old).faults (S.seen source.new).faults }
     ensures unsent { IfErr result IsUnsent }
-    ensures reads { ReadsFront most (length buf.old) (S.tapped source.old) (S.tapped source.new) }
+    ensures reads { ReadsFront most (length buf.old) (S.seen source.old) (S.seen source.new) }
 {
     let mut read = Vec::new(alloc);
     'reading: while (read.len() as u64) < most {
@@ -60,12 +60,12 @@ pub(crate) fn read_front<S: Source, A: Allocator + Copy>(
     source: &mut S,
     most: u64,
 ) -> Result<Vec<u8, A>, OutFault>
-    ensures bytes { (bytes : List ℕ) → (S.tapped source.old).holds ≡ Some bytes → IfOk result
+    ensures bytes { (bytes : List ℕ) → (S.seen source.old).holds ≡ Some bytes → IfOk result
         (λ read. read.items ≡ take most bytes) }
-    ensures kept { (S.tapped source.new).holds ≡ (S.tapped source.old).holds }
-    ensures failed { HasFailedBy result (S.tapped source.old).faults (S.tapped source.new).faults }
+    ensures kept { (S.seen source.new).holds ≡ (S.seen source.old).holds }
+    ensures failed { HasFailedBy result (S.seen source.old).faults (S.seen source.new).faults }
     ensures unsent { IfErr result IsUnsent }
-    ensures reads { ReadsFront most 65536 (S.tapped source.old) (S.tapped source.new) }
+    ensures reads { ReadsFront most 65536 (S.seen source.old) (S.seen source.new) }
 {
     let Ok(mut buf) = vec![in alloc; 0u8; PIECE] else {
         return Err(OutFault::Memory(0));
@@ -75,12 +75,12 @@ pub(crate) fn read_front<S: Source, A: Allocator + Copy>(
 
 /// Whether a byte stands at the offset of a source.
 fn has_byte_at<S: Source>(source: &mut S, at: u64) -> Result<bool, OutFault>
-    ensures stands { (bytes : List ℕ) → (S.tapped source.old).holds ≡ Some bytes → IfOk result (λ stands. stands ≡
+    ensures stands { (bytes : List ℕ) → (S.seen source.old).holds ≡ Some bytes → IfOk result (λ stands. stands ≡
         nat_lt at (length bytes)) }
-    ensures kept { (S.tapped source.new).holds ≡ (S.tapped source.old).holds }
-    ensures failed { HasFailedBy result (S.tapped source.old).faults (S.tapped source.new).faults }
+    ensures kept { (S.seen source.new).holds ≡ (S.seen source.old).holds }
+    ensures failed { HasFailedBy result (S.seen source.old).faults (S.seen source.new).faults }
     ensures unsent { IfErr result IsUnsent }
-    ensures read { IsReadAt at 1 (is_err result) (S.tapped source.old) (S.tapped source.new) }
+    ensures read { IsReadAt at 1 (is_err result) (S.seen source.old) (S.seen source.new) }
 {
     let mut byte = [0u8];
     match source.read_at(at, &mut byte) {
@@ -92,12 +92,12 @@ fn has_byte_at<S: Source>(source: &mut S, at: u64) -> Result<bool, OutFault>
 /// Whether a source has more bytes than a block may have. It is asked for single bytes, each twice as far out as the
 /// one before, so that a short file isn't asked where its file system can't seek.
 fn is_long<S: Source>(source: &mut S) -> Result<bool, OutFault>
-    ensures long { (bytes : List ℕ) → (S.tapped source.old).holds ≡ Some bytes → IfOk result (λ long. long ≡ nat_lt
+    ensures long { (bytes : List ℕ) → (S.seen source.old).holds ≡ Some bytes → IfOk result (λ long. long ≡ nat_lt
         max_block (length bytes)) }
-    ensures kept { (S.tapped source.new).holds ≡ (S.tapped source.old).holds }
-    ensures failed { HasFailedBy result (S.tapped source.old).faults (S.tapped source.new).faults }
+    ensures kept { (S.seen source.new).holds ≡ (S.seen source.old).holds }
+    ensures failed { HasFailedBy result (S.seen source.old).faults (S.seen source.new).faults }
     ensures unsent { IfErr result IsUnsent }
-    ensures reads { AsksFar (S.tapped source.old) (S.tapped source.new) }
+    ensures reads { AsksFar (S.seen source.old) (S.seen source.new) }
 {
     let mut at = PIECE as u64;
     'asking: while at < MAX_BLOCK {
@@ -114,14 +114,14 @@ fn read_block<S: Source, A: Allocator + Copy>(
     alloc: A,
     source: &mut S,
 ) -> Result<Option<Vec<u8, A>>, OutFault>
-    ensures long { (bytes : List ℕ) → (S.tapped source.old).holds ≡ Some bytes → IfOk result (λ block. is_none block ≡
+    ensures long { (bytes : List ℕ) → (S.seen source.old).holds ≡ Some bytes → IfOk result (λ block. is_none block ≡
         nat_lt max_block (length bytes)) }
-    ensures bytes { (bytes : List ℕ) → (S.tapped source.old).holds ≡ Some bytes → IfOk result (λ block. IfSome block (λ
+    ensures bytes { (bytes : List ℕ) → (S.seen source.old).holds ≡ Some bytes → IfOk result (λ block. IfSome block (λ
         read. read.items ≡ take (max_block + 1) bytes)) }
-    ensures kept { (S.tapped source.new).holds ≡ (S.tapped source.old).holds }
-    ensures failed { HasFailedBy result (S.tapped source.old).faults (S.tapped source.new).faults }
+    ensures kept { (S.seen source.new).holds ≡ (S.seen source.old).holds }
+    ensures failed { HasFailedBy result (S.seen source.old).faults (S.seen source.new).faults }
     ensures unsent { IfErr result IsUnsent }
-    ensures reads { ReadsForRecord (S.tapped source.old) (S.tapped source.new) }
+    ensures reads { ReadsForRecord (S.seen source.old) (S.seen source.new) }
 {
     if is_long(source)? {
         return Ok(None);
@@ -175,12 +175,12 @@ where
     S: Source + Drop,
     W: Sink,
     E: Sink,
-    ensures ends { MakeEnds draft.now (devices (S.tapped source) (W.seen out.old) (E.seen err.old)) (devices
-        (S.tapped result.1) (W.seen out.new) (E.seen err.new)) result.0 }
+    ensures ends { MakeEnds draft.now (devices (S.seen source) (W.seen out.old) (E.seen err.old)) (devices
+        (S.seen result.1) (W.seen out.new) (E.seen err.new)) result.0 }
 
     // The source still holds what it held.
-    ensures kept { (S.tapped result.1).holds ≡ (S.tapped source).holds }
-    ensures reads { ReadsForRecord (S.tapped source) (S.tapped result.1) }
+    ensures kept { (S.seen result.1).holds ≡ (S.seen source).holds }
+    ensures reads { ReadsForRecord (S.seen source) (S.seen result.1) }
 {
     let mut source = source;
     let block = match read_block(alloc, &mut source) {

@@ -4,7 +4,7 @@ ghost use Rattle.warc_commands.specs.Devices.{devices};
 ghost use Rattle.warc_commands.specs.Parts.{PartEnds, position_of};
 ghost use Rattle.warc_commands.specs.Reads.{ReadsTimes};
 
-use crate::giving::tell_extract;
+use crate::extracting::tell_extract;
 use crate::program::{FAILED, tell, tell_refusal};
 use std::alloc::Allocator;
 use warc::{Listing, Part};
@@ -35,12 +35,12 @@ where
     S: Source + Drop,
     W: Sink,
     E: Sink,
-    ensures ends { PartEnds part (position_of position.now) (devices (S.tapped source) (W.seen out.old)
-        (E.seen err.old)) (devices (S.tapped result.1) (W.seen out.new) (E.seen err.new)) result.0 }
+    ensures ends { PartEnds part (position_of position.now) (devices (S.seen source) (W.seen out.old)
+        (E.seen err.old)) (devices (S.seen result.1) (W.seen out.new) (E.seen err.new)) result.0 }
 
     // The source still holds what it held.
-    ensures kept { (S.tapped result.1).holds ≡ (S.tapped source).holds }
-    ensures reads { ReadsTimes 2 (S.tapped source) (S.tapped result.1) }
+    ensures kept { (S.seen result.1).holds ≡ (S.seen source).holds }
+    ensures reads { ReadsTimes 2 (S.seen source) (S.seen result.1) }
 {
     let Some(position) = position_of(position.as_bytes()) else {
         tell("warc: bad position\n", err);

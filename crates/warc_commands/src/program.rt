@@ -11,8 +11,8 @@ ghost use Rattle.warc.specs.Forms.{texts_as};
 use crate::bodies::body;
 use crate::captures::captures;
 use crate::explaining::explain;
+use crate::extracting::extract;
 use crate::fixity::fixity;
-use crate::giving::extract;
 use crate::making::write;
 use crate::parts::give;
 use crate::salvage::salvage;
@@ -60,14 +60,14 @@ where
     S: Source + Drop,
     W: Sink,
     E: Sink,
-    ensures ends { Ends command.now (devices (S.tapped source) (W.seen out.old) (E.seen err.old)) (devices
-        (S.tapped result.1) (W.seen out.new) (E.seen err.new)) result.0 }
+    ensures ends { Ends command.now (devices (S.seen source) (W.seen out.old) (E.seen err.old)) (devices
+        (S.seen result.1) (W.seen out.new) (E.seen err.new)) result.0 }
 
     // The source still holds what it held.
-    ensures kept { (S.tapped result.1).holds ≡ (S.tapped source).holds }
+    ensures kept { (S.seen result.1).holds ≡ (S.seen source).holds }
 
     // What it asks of the source.
-    ensures reads { CommandReads command.now (S.tapped source) (S.tapped result.1) }
+    ensures reads { CommandReads command.now (S.seen source) (S.seen result.1) }
 
     // Nothing is written where the archive is refused, whatever the source holds, but by `salvage`.
     ensures refused { writes_front command.now ≡ false → result.0 ≡ 2 → ((W.seen out.new).tells ≡
@@ -124,12 +124,12 @@ where
     S: Source + Drop,
     W: Sink,
     E: Sink,
-    ensures ends { ListEnds (devices (S.tapped source) (W.seen out.old) (E.seen err.old)) (devices (S.tapped result.1)
+    ensures ends { ListEnds (devices (S.seen source) (W.seen out.old) (E.seen err.old)) (devices (S.seen result.1)
         (W.seen out.new) (E.seen err.new)) result.0 }
 
     // The source still holds what it held.
-    ensures kept { (S.tapped result.1).holds ≡ (S.tapped source).holds }
-    ensures reads { ReadsTimes 1 (S.tapped source) (S.tapped result.1) }
+    ensures kept { (S.seen result.1).holds ≡ (S.seen source).holds }
+    ensures reads { ReadsTimes 1 (S.seen source) (S.seen result.1) }
 {
     let listing = match Listing::open(alloc, source) {
         Ok(listing) => listing,
@@ -147,12 +147,12 @@ where
     S: Source + Drop,
     W: Sink,
     E: Sink,
-    ensures ends { CheckEnds (devices (S.tapped source) (W.seen out.old) (E.seen err.old)) (devices (S.tapped result.1)
+    ensures ends { CheckEnds (devices (S.seen source) (W.seen out.old) (E.seen err.old)) (devices (S.seen result.1)
         (W.seen out.new) (E.seen err.new)) result.0 }
 
     // The source still holds what it held.
-    ensures kept { (S.tapped result.1).holds ≡ (S.tapped source).holds }
-    ensures reads { ReadsTimes 1 (S.tapped source) (S.tapped result.1) }
+    ensures kept { (S.seen result.1).holds ≡ (S.seen source).holds }
+    ensures reads { ReadsTimes 1 (S.seen source) (S.seen result.1) }
 {
     let checked = match Checked::open(alloc, source) {
         Ok(checked) => checked,
@@ -171,12 +171,12 @@ where
     S: Source + Drop,
     W: Sink,
     E: Sink,
-    ensures ends { WriteEnds (texts_as form) (devices (S.tapped source) (W.seen out.old) (E.seen err.old)) (devices
-        (S.tapped result.1) (W.seen out.new) (E.seen err.new)) result.0 }
+    ensures ends { WriteEnds (texts_as form) (devices (S.seen source) (W.seen out.old) (E.seen err.old)) (devices
+        (S.seen result.1) (W.seen out.new) (E.seen err.new)) result.0 }
 
     // The source still holds what it held.
-    ensures kept { (S.tapped result.1).holds ≡ (S.tapped source).holds }
-    ensures reads { ReadsTimes 2 (S.tapped source) (S.tapped result.1) }
+    ensures kept { (S.seen result.1).holds ≡ (S.seen source).holds }
+    ensures reads { ReadsTimes 2 (S.seen source) (S.seen result.1) }
 {
     let mut archive = match Listing::open(alloc, source) {
         Ok(archive) => archive,

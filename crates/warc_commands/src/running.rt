@@ -36,15 +36,15 @@ pub trait System {
 
     /// Opens the file at a path.
     fn open(&self, path: &str) -> io::Result<Self::File>
-        ensures { gives self.now (opened path.now (result_map_both Self.File.tapped (λ e. e) result)) };
+        ensures { gives self.now (opened path.now (result_map_both Self.File.seen (λ e. e) result)) };
 
     /// Standard input as a file from its first byte on, where it is one that opens.
     fn redirected(&self) -> Option<Self::File>
-        ensures { gives self.now (redirected (option_map Self.File.tapped result)) };
+        ensures { gives self.now (redirected (option_map Self.File.seen result)) };
 
     /// Standard input as it comes.
     fn stream(&self) -> Self::Stream
-        ensures { gives self.now (streamed (Self.Stream.tapped result)) };
+        ensures { gives self.now (streamed (Self.Stream.seen result)) };
 }
 
 /// Where the bytes of a command are: in the file at its path; in memory, into which standard input is read first; in
@@ -282,7 +282,7 @@ where
     S: Source + Drop,
     W: Sink,
     E: Sink,
-    ensures { IsRunOver command.now (S.tapped source) (outputs (W.seen out.old) (E.seen err.old)) (outputs
+    ensures { IsRunOver command.now (S.seen source) (outputs (W.seen out.old) (E.seen err.old)) (outputs
         (W.seen out.new) (E.seen err.new)) result }
 {
     let (status, _) = perform(alloc, command, source, out, err);

@@ -69,11 +69,11 @@ where
     S: Source + Drop,
     W: Sink,
     E: Sink,
-    ensures ends { SalvageEnds (devices (S.tapped source) (W.seen out.old) (E.seen err.old)) (devices
-        (S.tapped result.1) (W.seen out.new) (E.seen err.new)) result.0 }
+    ensures ends { SalvageEnds (devices (S.seen source) (W.seen out.old) (E.seen err.old)) (devices
+        (S.seen result.1) (W.seen out.new) (E.seen err.new)) result.0 }
 
     // The source still holds what it held.
-    ensures kept { (S.tapped result.1).holds ≡ (S.tapped source).holds }
+    ensures kept { (S.seen result.1).holds ≡ (S.seen source).holds }
 {
     let mut front = open_front(alloc, source);
     match front.copy_to(out) {

@@ -33,12 +33,12 @@ where
     S: Source + Drop,
     W: Sink,
     E: Sink,
-    ensures ends { SplitEnds (size_of size.now) (devices (S.tapped source) (W.seen out.old) (E.seen err.old)) (devices
-        (S.tapped result.1) (W.seen out.new) (E.seen err.new)) result.0 }
+    ensures ends { SplitEnds (size_of size.now) (devices (S.seen source) (W.seen out.old) (E.seen err.old)) (devices
+        (S.seen result.1) (W.seen out.new) (E.seen err.new)) result.0 }
 
     // The source still holds what it held.
-    ensures kept { (S.tapped result.1).holds ≡ (S.tapped source).holds }
-    ensures reads { ReadsTimes 3 (S.tapped source) (S.tapped result.1) }
+    ensures kept { (S.seen result.1).holds ≡ (S.seen source).holds }
+    ensures reads { ReadsTimes 3 (S.seen source) (S.seen result.1) }
 {
     let Some(size) = size_of(size.as_bytes()) else {
         tell("warc: bad size\n", err);

@@ -10,7 +10,7 @@ ghost use Rattle.warc_commands.specs.Program.{Tells, answer_text};
 ghost use Rattle.warc_commands.specs.Stored.{StoredEnds, coded_text, stored_line, stored_status};
 
 use crate::bodies::tell_body;
-use crate::giving::line_of_answer;
+use crate::extracting::line_of_answer;
 use crate::parts::position_of;
 use crate::program::{DONE, FAILED, tell, tell_refusal};
 use std::alloc::Allocator;
@@ -31,11 +31,11 @@ where
     S: Source + Drop,
     W: Sink,
     E: Sink,
-    ensures ends { StoredEnds (position_of position.now) (devices (S.tapped source) (W.seen out.old) (E.seen err.old))
-        (devices (S.tapped result.1) (W.seen out.new) (E.seen err.new)) result.0 }
+    ensures ends { StoredEnds (position_of position.now) (devices (S.seen source) (W.seen out.old) (E.seen err.old))
+        (devices (S.seen result.1) (W.seen out.new) (E.seen err.new)) result.0 }
 
     // The source still holds what it held.
-    ensures kept { (S.tapped result.1).holds ≡ (S.tapped source).holds }
+    ensures kept { (S.seen result.1).holds ≡ (S.seen source).holds }
 {
     match position_of(position.as_bytes()) {
         Some(position) => stored_at(alloc, position, source, out, err),
@@ -53,11 +53,11 @@ where
     S: Source + Drop,
     W: Sink,
     E: Sink,
-    ensures ends { StoredEnds (Some position) (devices (S.tapped source) (W.seen out.old) (E.seen err.old)) (devices
-        (S.tapped result.1) (W.seen out.new) (E.seen err.new)) result.0 }
+    ensures ends { StoredEnds (Some position) (devices (S.seen source) (W.seen out.old) (E.seen err.old)) (devices
+        (S.seen result.1) (W.seen out.new) (E.seen err.new)) result.0 }
 
     // The source still holds what it held.
-    ensures kept { (S.tapped result.1).holds ≡ (S.tapped source).holds }
+    ensures kept { (S.seen result.1).holds ≡ (S.seen source).holds }
 {
     let mut archive = match Archive::open(alloc, source) {
         Ok(archive) => archive,

@@ -16,12 +16,12 @@ where
     S: Source + Drop,
     W: Sink,
     E: Sink,
-    ensures ends { SummaryEnds (devices (S.tapped source) (W.seen out.old) (E.seen err.old)) (devices
-        (S.tapped result.1) (W.seen out.new) (E.seen err.new)) result.0 }
+    ensures ends { SummaryEnds (devices (S.seen source) (W.seen out.old) (E.seen err.old)) (devices
+        (S.seen result.1) (W.seen out.new) (E.seen err.new)) result.0 }
 
     // The source still holds what it held.
-    ensures kept { (S.tapped result.1).holds ≡ (S.tapped source).holds }
-    ensures reads { ReadsTimes 1 (S.tapped source) (S.tapped result.1) }
+    ensures kept { (S.seen result.1).holds ≡ (S.seen source).holds }
+    ensures reads { ReadsTimes 1 (S.seen source) (S.seen result.1) }
 {
     let summarized = match Summarized::open(alloc, source) {
         Ok(summarized) => summarized,

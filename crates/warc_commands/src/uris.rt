@@ -6,7 +6,7 @@ ghost use Rattle.warc_commands.specs.Program.{ReplayEnds, Tells, told_line};
 ghost use Rattle.warc_commands.specs.Reads.{AsksNear};
 ghost use Rattle.warc_commands.specs.Uris.{UriEnds, uri_fault_text, uri_named};
 
-use crate::giving::replay;
+use crate::extracting::replay;
 use crate::program::{FAILED, tell, tell_cut};
 use hex::FromHexError;
 use std::alloc::Allocator;
@@ -64,12 +64,12 @@ where
     W: Sink,
     E: Sink,
     ensures ends { UriEnds (λ bytes. ReplayEnds bytes (instant_of date.now)) (uri_named in_hex uri.now) (devices
-        (S.tapped source) (W.seen out.old) (E.seen err.old)) (devices (S.tapped result.1) (W.seen out.new)
+        (S.seen source) (W.seen out.old) (E.seen err.old)) (devices (S.seen result.1) (W.seen out.new)
         (E.seen err.new)) result.0 }
 
     // The source still holds what it held.
-    ensures kept { (S.tapped result.1).holds ≡ (S.tapped source).holds }
-    ensures reads { AsksNear (S.tapped source) (S.tapped result.1) }
+    ensures kept { (S.seen result.1).holds ≡ (S.seen source).holds }
+    ensures reads { AsksNear (S.seen source) (S.seen result.1) }
 {
     if in_hex {
         return replay_in_hex(alloc, uri, date, source, out, err);
@@ -92,12 +92,12 @@ where
     W: Sink,
     E: Sink,
     ensures ends { UriEnds (λ bytes. ReplayEnds bytes (instant_of date.now)) (uri_named true uri.now) (devices
-        (S.tapped source) (W.seen out.old) (E.seen err.old)) (devices (S.tapped result.1) (W.seen out.new)
+        (S.seen source) (W.seen out.old) (E.seen err.old)) (devices (S.seen result.1) (W.seen out.new)
         (E.seen err.new)) result.0 }
 
     // The source still holds what it held.
-    ensures kept { (S.tapped result.1).holds ≡ (S.tapped source).holds }
-    ensures reads { AsksNear (S.tapped source) (S.tapped result.1) }
+    ensures kept { (S.seen result.1).holds ≡ (S.seen source).holds }
+    ensures reads { AsksNear (S.seen source) (S.seen result.1) }
 {
     match bytes_of(alloc, uri) {
         Ok(bytes) => replay(alloc, &bytes, date, source, out, err),

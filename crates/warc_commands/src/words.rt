@@ -7,7 +7,7 @@ ghost use Rattle.clap.specs.Takes.{takes};
 ghost use Rattle.clap.specs.Values.{kind_of};
 ghost use Rattle.clap.specs.Walk.{first_of, rows_of, rule_of};
 ghost use Rattle.clap.specs.declared.builder.command.Command.TheViews.{out-Command};
-ghost use Rattle.warc_commands.specs.Command.{asked_by, draft_texts, flags_of, opens_nothing, path_of, reads_once, view_of};
+ghost use Rattle.warc_commands.specs.Command.{asked_by, draft_texts, flags_of, opens_nothing, path_word, reads_once, view_of};
 ghost use Rattle.warc_commands.specs.CommandLine.{IsToldBy, asked_in, bare_app, first_app, asked_of, command_fault_text, draft_words, flags_in, is_flagged};
 ghost use Rattle.warc_commands.specs.CommandLine.{layout_seen, named, rule_as, text_of, warc_app, with_layout, with_rules};
 
@@ -117,7 +117,7 @@ pub struct Draft<'a> {
 impl<'a> Command<'a> {
     /// The path of the file that the command reads; empty if it reads none.
     pub fn path(&self) -> &'a str
-        ensures { result.now ≡ path_of self.now }
+        ensures { result.now ≡ path_word self.now }
     {
         match self {
             Command::List { archive } => archive,

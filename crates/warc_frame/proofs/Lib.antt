@@ -25,5 +25,6 @@ pub mod StreamBridge
 pub mod StreamSteps
 pub mod StreamPieces
 pub mod RangeLemmas
+pub mod EffectLemmas
 pub mod PieceLemmas
 pub mod CopyLemmas

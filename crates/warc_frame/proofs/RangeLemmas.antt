@@ -6,8 +6,9 @@ use Rattle.std.proofs.lemmas.Slice.{take-put_mid}
 use borrow.Rule.Slice.PartMut.{put_mid, post_of}
 use Rattle.warc_frame.specs.Count.{raised}
 use Rattle.warc_frame.specs.Device.{Gives}
-use Rattle.warc_frame.specs.Ranges.{HasFilled, HasFilledTo, IsReadAt}
-use Rattle.warc_frame.specs.Seen.{AsksOnly, IsInRange, Tapped}
+use Rattle.warc_frame.specs.Effects.{ReadsOnly, ReadsRange}
+use Rattle.warc_frame.specs.Ranges.{IsReadAt}
+use Rattle.warc_frame.specs.Seen.{AsksOnly, IsInRange, SeenSource}
 
 front_of : (xs ys : List ℕ) (m n : ℕ) → length xs ≡ m → take (m + n) (xs ++ ys) ≡ xs ++ take n ys
 front_of xs ys m n size = ap (λ k. take (k + n) (xs ++ ys)) (sym size) ∙ take-append-add xs ys n
@@ -34,30 +35,32 @@ pub raised_by_one : (n : ℕ) → raised n ≤ n + 1
 raised_by_one n = elim (nat_lt (n + 1) (2 ^ 64)) as (λ b. (if b then n + 1 else n) ≤ n + 1) [ true ↦ omega arith | false ↦ omega arith ]
 
 -- one more read
-pub asks_more : (These : ℕ → Type 0) (old mid new : Tapped) (at len : ℕ) (failed : Bool) → ((q : ℕ) → IsInRange at len q → These q) → mid.watches ≡ old.watches
+pub asks_more : (These : ℕ → Type 0) (old mid new : SeenSource) (at len : ℕ) (failed : Bool) → ((q : ℕ) → IsInRange at len q → These q) → mid.watches ≡ old.watches
     → IsReadAt at len failed mid new → AsksOnly These old mid → AsksOnly These old new
 asks_more These old mid new at len failed are watched read asks = λ off.
     read.asks (λ q in_. ap (λ (w : ℕ → Bool). w q) watched ∙ off q (are q in_)) ∙ asks off
 
-pub filled_none : (at len : ℕ) (s : Tapped) → HasFilledTo at len 0 s s
-filled_none at len s = record { near = λ off. refl; bound = omega arith; watched = refl }
+pub filled_none : (at len : ℕ) (s : SeenSource) → ReadsOnly (IsInRange at len) 0 s s
+filled_none at len s = record { kept = refl; watched = refl; near = λ off. refl; bound = omega arith }
 
 -- the bytes behind some of a range, up to its end, are of it
 in_rest : (at filled asked len q : ℕ) → filled + asked ≤ len → IsInRange (at + filled) asked q → IsInRange at len q
 in_rest at filled asked len q le in_ = (omega (arith, in_.0), omega (arith, in_.1, le))
 
 -- one more read inside the range, whatever it gives
-pub filled_by : (at len filled asked more : ℕ) (old mid new : Tapped) (failed : Bool) → HasFilledTo at len filled old mid → IsReadAt (at + filled) asked failed mid new
-    → filled + asked ≤ len → 0 < more → HasFilledTo at len (filled + more) old new
+pub filled_by : (at len filled asked more : ℕ) (old mid new : SeenSource) (failed : Bool) → ReadsOnly (IsInRange at len) filled old mid → IsReadAt (at + filled) asked failed mid new
+    → filled + asked ≤ len → 0 < more → ReadsOnly (IsInRange at len) (filled + more) old new
 filled_by at len filled asked more old mid new failed has read fits some = record {
   near = asks_more (IsInRange at len) old mid new (at + filled) asked failed (λ q. in_rest at filled asked len q fits) has.watched read has.near;
   bound = omega (arith, has.bound, read.counted, raised_by_one mid.reads);
   watched = read.watched ∙ has.watched;
+  kept = read.kept ∙ has.kept;
 }
 
-pub filled_no_more : (at len filled : ℕ) (old new : Tapped) → HasFilledTo at len filled old new → filled ≤ len → HasFilled at len old new
+pub filled_no_more : (at len filled : ℕ) (old new : SeenSource) → ReadsOnly (IsInRange at len) filled old new → filled ≤ len → ReadsRange at len old new
 filled_no_more at len filled old new has le = record {
   near = has.near;
   bound = omega (arith, has.bound);
   watched = has.watched;
+  kept = has.kept;
 }

@@ -13,6 +13,6 @@ pub mod Steps
 pub mod Pieces
 pub mod Seen
 pub mod Failing
-pub mod Putting
+pub mod States
 pub mod Ranges
-pub mod Copying
+pub mod Effects

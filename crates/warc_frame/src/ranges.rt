@@ -1,8 +1,7 @@
 //! Parts of what a source holds.
-ghost use Rattle.std.specs.Prelude.{◌≡◌, ℕ, ◌+◌, ◌^◌, ◌<◌, ◌≤◌, ◌⊎◌, List, length, min, take, drop, Some, OnOk, OnErr};
-ghost use Rattle.warc_frame.specs.Copying.{Copies, HasRange};
-ghost use Rattle.warc_frame.specs.Count.{raised};
-ghost use Rattle.warc_frame.specs.Ranges.{HasFilled};
+ghost use Rattle.std.specs.Prelude.{◌≡◌, ◌+◌, ◌^◌, ◌<◌, ◌≤◌, length, min, take, drop, IfErr, OnOk};
+ghost use Rattle.warc_frame.specs.Effects.{Emits, FailsBy, IsOfDevice, IsRange, ReadsRange, read_result};
+ghost use Rattle.warc_frame.specs.Seen.{IfHeld};
 
 use crate::fault::OutFault;
 use crate::laws::{staged_went_out, went_out_of_longer};
@@ -14,19 +13,11 @@ use crate::staging::OutBuffer;
 /// ends too early.
 pub fn read_range<S: Source>(source: &mut S, at: u64, buf: &mut [u8]) -> Result<(), ReadFault>
     requires { at + length buf.old < 2 ^ 64 }
-    ensures bytes { (bytes : List ℕ) → (S.tapped source.old).holds ≡ Some bytes → OnOk result (buf.new ≡ take
-        (length buf.old) (drop at bytes)) }
-    ensures kept { (S.tapped source.new).holds ≡ (S.tapped source.old).holds }
-    ensures sound { OnOk result ((S.tapped source.new).faults ≡ (S.tapped source.old).faults) }
-
-    // It asks for no byte outside, and reads at most once for each.
-    ensures filled { HasFilled at (length buf.old) (S.tapped source.old) (S.tapped source.new) }
-
-    // An error is a failure of the source, unless it gives too little.
-    ensures may { OnErr result (((S.tapped source.new).faults ≡ (S.tapped source.old).faults) ⊎
-        ((S.tapped source.new).faults ≡ raised (S.tapped source.old).faults)) }
-    ensures failed { (bytes : List ℕ) → (S.tapped source.old).holds ≡ Some bytes → at + length buf.old ≤ length bytes →
-        OnErr result ((S.tapped source.new).faults ≡ raised (S.tapped source.old).faults) }
+    ensures bytes { IfHeld (S.seen source.old).holds (λ bytes.
+        OnOk result (buf.new ≡ take (length buf.old) (drop at bytes))) }
+    ensures reads { ReadsRange at (length buf.old) (S.seen source.old) (S.seen source.new) }
+    ensures fails { FailsBy (λ bytes. at + length buf.old ≤ length bytes) (read_result result) (S.seen source.old)
+        (S.seen source.new) }
 {
     let mut filled = 0;
     'filling: while filled < buf.len() {
@@ -63,11 +54,10 @@ pub fn put_range<S: Source, W: Sink>(
     out: &mut W,
 ) -> Result<(), OutFault>
     requires { 0 < length scratch.old }
-    ensures copied { Copies (λ bytes. take len (drop at bytes)) (HasRange at len) (S.tapped source.old)
-        (S.tapped source.new) (W.seen out.old) (W.seen out.new) buffer.old buffer.new result }
-
-    // It asks for no byte outside, and reads at most once for each.
-    ensures filled { HasFilled at len (S.tapped source.old) (S.tapped source.new) }
+    ensures emits { Emits (IsRange at len) (S.seen source.old) (S.seen source.new) (W.seen out.old) (W.seen out.new)
+        buffer.old buffer.new result }
+    ensures device { IfErr result IsOfDevice }
+    ensures reads { ReadsRange at len (S.seen source.old) (S.seen source.new) }
 {
     staged_went_out();
     went_out_of_longer();

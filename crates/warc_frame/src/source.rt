@@ -1,8 +1,9 @@
 //! Where bytes come from.
-ghost use Rattle.std.specs.Prelude.{◌≡◌, ℕ, ◌-◌, ◌<◌, ◌≤◌, List, length, take, min, Bool, false, Option, Some, None, Ok, IfOk, is_err, if◌then◌else◌};
-ghost use Rattle.warc_frame.specs.Count.{raised};
+ghost use Rattle.std.specs.Prelude.{◌≡◌, ◌-◌, ◌<◌, ◌≤◌, length, min, Some, Ok, IfOk, is_err};
 ghost use Rattle.warc_frame.specs.Device.{Gives};
-ghost use Rattle.warc_frame.specs.Seen.{AsksOnly, GoesOn, IsInRange, Tapped};
+ghost use Rattle.warc_frame.specs.Ranges.{IsReadAt};
+ghost use Rattle.warc_frame.specs.Seen.{GoesOn, IfHeld, SeenSource};
+ghost use Rattle.warc_frame.specs.States.{lent_state, opened_state, stored_state};
 
 use crate::count::raise;
 use std::alloc::{Allocator, Global};
@@ -33,20 +34,14 @@ pub trait Source {
     /// leaves the count of these reads as it was, whatever a source watches outside some offsets, asks for the bytes at
     /// those alone. A source that gives its bytes in order also has the offset of its next byte, and a count of the
     /// reads that asked elsewhere: a call that leaves this count as it was reads in order.
-    ghost tapped: { Self → Tapped };
+    ghost seen: { Self → SeenSource };
 
     /// Reads bytes at the offset into the front of the buffer, and answers how many.
     fn read_at(&mut self, at: u64, buf: &mut [u8]) -> Result<usize, ReadFault>
         ensures bound { IfOk result (λ n. n ≤ length buf.new) }
-        ensures bytes { (bytes : List ℕ) → (tapped self.old).holds ≡ Some bytes → IfOk result (Gives bytes at buf.new) }
-        ensures kept { (tapped self.new).holds ≡ (tapped self.old).holds }
-        ensures cause { (tapped self.new).faults ≡ (if is_err result then raised (tapped self.old).faults else
-            (tapped self.old).faults) }
-        ensures counted { (tapped self.new).reads ≡ raised (tapped self.old).reads }
-        ensures asked { (tapped self.new).asked ≡ at }
-        ensures watched { (tapped self.new).watches ≡ (tapped self.old).watches }
-        ensures asks { AsksOnly (IsInRange at (length buf.old)) (tapped self.old) (tapped self.new) }
-        ensures order { GoesOn at result (tapped self.old) (tapped self.new) };
+        ensures bytes { IfHeld (seen self.old).holds (λ bytes. IfOk result (Gives bytes at buf.new)) }
+        ensures read { IsReadAt at (length buf.old) (is_err result) (seen self.old) (seen self.new) }
+        ensures order { GoesOn at result (seen self.old) (seen self.new) };
 }
 
 /// Copies the bytes from an offset on into the front of the buffer, at most `most` and as many as it has room for, and
@@ -111,25 +106,13 @@ impl<A: Allocator> MemSource<A> {
 }
 
 impl<A: Allocator> Source for MemSource<A> {
-    ghost tapped = { λ s. record {
-      holds = Some s.bytes;
-      faults = 0;
-      reads = s.reads;
-      asked = s.asked;
-      watches = λ _. false;
-      strays = 0;
-      next = None;
-      jumps = 0;
-    } };
+    ghost seen = { stored_state };
 
     /// It never fails, and gives as many bytes as there are, up to `most` and the buffer's length.
     fn read_at(&mut self, at: u64, buf: &mut [u8]) -> Result<usize, ReadFault>
         ensures bound { IfOk result (λ n. n ≤ length buf.new) }
-        ensures bytes { (bytes : List ℕ) → Some self.old.bytes ≡ Some bytes → IfOk result (Gives bytes at buf.new) }
-        ensures kept { Some self.new.bytes ≡ Some self.old.bytes }
-        ensures cause { 0 ≡ (if is_err result then raised 0 else 0) }
-        ensures counted { self.new.reads ≡ raised self.old.reads }
-        ensures asked { self.new.asked ≡ at }
+        ensures bytes { IfHeld (stored_state self.old).holds (λ bytes. IfOk result (Gives bytes at buf.new)) }
+        ensures read { IsReadAt at (length buf.old) (is_err result) (stored_state self.old) (stored_state self.new) }
         ensures given { result ≡ Ok (min (length self.old.bytes - at) (min self.old.most (length buf.old))) }
         ensures most { self.new.most ≡ self.old.most }
     {
@@ -178,25 +161,13 @@ impl<'a> SliceSource<'a> {
 }
 
 impl<'a> Source for SliceSource<'a> {
-    ghost tapped = { λ s. record {
-      holds = Some s.bytes;
-      faults = 0;
-      reads = s.reads;
-      asked = s.asked;
-      watches = λ _. false;
-      strays = 0;
-      next = None;
-      jumps = 0;
-    } };
+    ghost seen = { lent_state };
 
     /// It never fails, and gives as many bytes as there are, up to the buffer's length.
     fn read_at(&mut self, at: u64, buf: &mut [u8]) -> Result<usize, ReadFault>
         ensures bound { IfOk result (λ n. n ≤ length buf.new) }
-        ensures bytes { (bytes : List ℕ) → Some self.old.bytes ≡ Some bytes → IfOk result (Gives bytes at buf.new) }
-        ensures kept { Some self.new.bytes ≡ Some self.old.bytes }
-        ensures cause { 0 ≡ (if is_err result then raised 0 else 0) }
-        ensures counted { self.new.reads ≡ raised self.old.reads }
-        ensures asked { self.new.asked ≡ at }
+        ensures bytes { IfHeld (lent_state self.old).holds (λ bytes. IfOk result (Gives bytes at buf.new)) }
+        ensures read { IsReadAt at (length buf.old) (is_err result) (lent_state self.old) (lent_state self.new) }
         ensures given { result ≡ Ok (min (length self.old.bytes - at) (length buf.old)) }
     {
         self.reads = raise(self.reads);
@@ -262,16 +233,7 @@ fn seek_and_read<F: Read + Seek>(file: &mut F, at: u64, buf: &mut [u8]) -> Resul
 }
 
 impl<F: Read + Seek> Source for FileSource<F> {
-    ghost tapped = { λ s. record {
-      holds = None;
-      faults = s.faults;
-      reads = s.reads;
-      asked = s.asked;
-      watches = λ _. false;
-      strays = 0;
-      next = None;
-      jumps = 0;
-    } };
+    ghost seen = { opened_state };
 
     /// Any error of the seek or the read is a failure, and nothing is tried again.
     fn read_at(&mut self, at: u64, buf: &mut [u8]) -> Result<usize, ReadFault> {

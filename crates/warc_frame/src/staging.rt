@@ -3,7 +3,7 @@ ghost use Rattle.std.specs.Prelude.{◌≡◌, ℕ, ◌+◌, ◌<◌, ◌≤◌,
 ghost use Rattle.std.specs.Io.KnownBytes.{append_known};
 ghost use Rattle.std.specs.List.{concat};
 ghost use Rattle.warc_frame.specs.Count.{raised, capped};
-ghost use Rattle.warc_frame.specs.Putting.{Puts};
+ghost use Rattle.warc_frame.specs.Effects.{Flushes, Puts};
 ghost use Rattle.warc_frame.specs.Send.{count_sent, WentOut, IsStaged};
 
 use crate::send::{SendFault, send_all};
@@ -82,16 +82,7 @@ impl OutBuffer {
 
     /// Sends what waits in the buffer. After a failed write the buffer is empty.
     pub fn flush<W: Sink>(&mut self, out: &mut W) -> Result<(), SendFault>
-        ensures out { (start : Option (List ℕ)) (output : List ℕ) → IsStaged start output (W.seen out.old).tells
-            self.old → OnOk result (IsStaged start output (W.seen out.new).tells self.new) }
-        ensures told { (start : Option (List ℕ)) (output : List ℕ) → IsStaged start output (W.seen out.old).tells
-            self.old → OnOk result ((W.seen out.new).tells ≡ append_known start output) }
-        ensures cut { (start : Option (List ℕ)) (output : List ℕ) → IsStaged start output (W.seen out.old).tells
-            self.old → IfErr result (λ e. WentOut start output (W.seen out.new).tells e.sent) }
-        ensures empty { self.new.bytes ≡ [] }
-        ensures failed { IfErr result (λ e. self.new ≡ record { bytes = []; sent = e.sent }) }
-        ensures cause { (W.seen out.new).faults ≡ (if is_err result then raised (W.seen out.old).faults else
-            (W.seen out.old).faults) }
+        ensures { Flushes (W.seen out.old) (W.seen out.new) self.old self.new result }
     {
         let answer = send_counted(out, &self.bytes[..self.len], &mut self.sent);
         self.len = 0;

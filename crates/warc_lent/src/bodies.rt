@@ -142,7 +142,7 @@ pub fn put_replay<S: Source, A: Allocator + Copy>(
     answer: &mut AnswerNumbers,
     spans: &mut [SpanNumbers],
 ) -> Result<usize, Problem>
-    ensures puts { IfHeld (S.tapped archive.old.listing.source).holds (λ bytes. (is : IsIndexed bytes archive.old) →
+    ensures puts { IfHeld (S.seen archive.old.listing.source).holds (λ bytes. (is : IsIndexed bytes archive.old) →
         PutsReplay bytes (contents is.listed.are.records) uri.now (instant_of date.now) result answer.old answer.new
         spans.new) }
     ensures same { OnErr result (spans.new ≡ spans.old) }
@@ -170,7 +170,7 @@ pub fn put_body<S: Source, A: Allocator + Copy>(
     answer: &mut AnswerNumbers,
     spans: &mut [SpanNumbers],
 ) -> Result<usize, Problem>
-    ensures puts { IfHeld (S.tapped archive.old.listing.source).holds (λ bytes. (is : IsIndexed bytes archive.old) →
+    ensures puts { IfHeld (S.seen archive.old.listing.source).holds (λ bytes. (is : IsIndexed bytes archive.old) →
         PutsAt bytes (contents is.listed.are.records) position result answer.old answer.new spans.new) }
     ensures same { OnErr result (spans.new ≡ spans.old) }
     ensures room { length spans.new ≡ length spans.old }

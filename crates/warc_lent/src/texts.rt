@@ -39,7 +39,7 @@ pub fn check_text<A: Allocator + Copy, S: Source>(
     alloc: A,
     archive: &mut Archive<S, A>,
 ) -> Result<Vec<u8, A>, Problem>
-    ensures findings { IfOk result (λ text. IfHeld (S.tapped archive.old.listing.source).holds (λ bytes. IsFindingsOf
+    ensures findings { IfOk result (λ text. IfHeld (S.seen archive.old.listing.source).holds (λ bytes. IsFindingsOf
         archive.old.listing.rows bytes text.items)) }
     ensures rows { archive.new.listing.rows ≡ archive.old.listing.rows }
     ensures index { archive.new.index ≡ archive.old.index }
@@ -121,7 +121,7 @@ pub fn put_check<A: Allocator + Copy, S: Source>(
     archive: &mut Archive<S, A>,
     out: &mut [u8],
 ) -> Result<usize, Problem>
-    ensures findings { IfOk result (λ answered. IfHeld (S.tapped archive.old.listing.source).holds (λ bytes.
+    ensures findings { IfOk result (λ answered. IfHeld (S.seen archive.old.listing.source).holds (λ bytes.
         (is : IsArchiveOf bytes archive.old.listing.rows) → IsTextPut (check_text (contents is.are.records)) answered
         out.new)) }
     ensures same { OnErr result (out.new ≡ out.old) }

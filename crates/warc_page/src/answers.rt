@@ -114,7 +114,7 @@ fn answer_at<S: Source, A: Allocator + Copy>(
     out: &mut [u8],
 ) -> PageAnswer
     ensures before { take start out.new ≡ take start out.old }
-    ensures answers { IfHeld (S.tapped archive.old.listing.source).holds (λ bytes. (is : IsIndexed bytes archive.old) →
+    ensures answers { IfHeld (S.seen archive.old.listing.source).holds (λ bytes. (is : IsIndexed bytes archive.old) →
         AnswersAt (contents is.listed.are.records) chosen start result (drop start out.new)) }
     ensures room { length out.new ≡ length out.old }
 {

@@ -9,7 +9,7 @@ use Rattle.warc_frame.specs.Device.{Gives}
 use Rattle.warc_frame.specs.Ranges.{IsReadAt}
 use Rattle.warc_frame.specs.Reading.{fault}
 use Rattle.warc_frame.specs.Record.{max_archive}
-use Rattle.warc_frame.specs.Seen.{GoesOn, InOrder, Tapped}
+use Rattle.warc_frame.specs.Seen.{GoesOn, InOrder, SeenSource}
 use Rattle.warc_frame.specs.Told.{Lies, Told, nothing}
 use Rattle.warc_frame.specs.declared.fault.Fault.{Fault}
 use Rattle.warc_frame.specs.declared.fault.FaultKind.TheVariants.{Memory, Read, Truncated}
@@ -128,7 +128,7 @@ begun {A} {L} K bytes d r is at none start =
 
 -- ---- what a source gives from an offset on
 
-pub given_none : (start : ℕ) (old : Tapped) → HasGivenFrom start old old []
+pub given_none : (start : ℕ) (old : SeenSource) → HasGivenFrom start old old []
 given_none start old = record {
   part = λ bytes held. refl;
   kept = refl;
@@ -138,7 +138,7 @@ given_none start old = record {
   near = λ these. refl;
 }
 
-pub given_on : (start : ℕ) (old mid new : Tapped) (taken buf : List ℕ) (n at len : ℕ) → HasGivenFrom start old mid taken → IsReadAt (start + length taken) len false mid new → start + length taken + len ≤ max_archive + 1 → 0 < length (take n buf)
+pub given_on : (start : ℕ) (old mid new : SeenSource) (taken buf : List ℕ) (n at len : ℕ) → HasGivenFrom start old mid taken → IsReadAt (start + length taken) len false mid new → start + length taken + len ≤ max_archive + 1 → 0 < length (take n buf)
     → length (taken ++ take n buf) ≡ length taken + n → at ≡ start + length taken → ((bytes : List ℕ) → old.holds ≡ Some bytes → Gives bytes at buf n) → HasGivenFrom start old new (taken ++ take n buf)
 given_on start old mid new taken buf n at len has read fits some size here gives = record {
   part = λ bytes held.
@@ -158,29 +158,29 @@ if_some : {X : Type 0} (o : Option X) (P : X → Type 0) → ((x : X) → o ≡ 
 if_some None P h = tt
 if_some (Some x) P h = h x refl
 
-goes_on : {E : Type 0} (at : ℕ) (answer : Result ℕ E) (old new : Tapped) → GoesOn at answer old new → old.next ≡ Some at
+goes_on : {E : Type 0} (at : ℕ) (answer : Result ℕ E) (old new : SeenSource) → GoesOn at answer old new → old.next ≡ Some at
     → (new.jumps ≡ old.jumps) × IfOk answer (λ n. new.next ≡ Some (capped (at + n)))
 goes_on {E} at answer old new goes is =
     let P : Option ℕ → Type 0 = λ o. IfSome o (λ next. at ≡ next → (new.jumps ≡ old.jumps) × IfOk answer (λ n. new.next ≡ Some (capped (at + n)))) in
     subst P is goes refl
 
-pub in_order : (from : ℕ) (old new : Tapped) → (old.next ≡ Some from → new.jumps ≡ old.jumps) → InOrder from old new
+pub in_order : (from : ℕ) (old new : SeenSource) → (old.next ≡ Some from → new.jumps ≡ old.jumps) → InOrder from old new
 in_order from old new h = if_some old.next _ (λ next is same. h (is ∙ ap Some (sym same)))
 
-pub order_from : (a b : ℕ) (old new : Tapped) → a ≡ b → InOrder a old new → InOrder b old new
+pub order_from : (a b : ℕ) (old new : SeenSource) → a ≡ b → InOrder a old new → InOrder b old new
 order_from a b old new same order = let P : ℕ → Type 0 = λ from. InOrder from old new in subst P same order
 
-pub follows_none : (start : ℕ) (old : Tapped) → Follows start [] old old
+pub follows_none : (start : ℕ) (old : SeenSource) → Follows start [] old old
 follows_none start old = λ is. (refl, is ∙ ap Some (let e : start ≡ start + 0 = omega arith in e))
 
 -- one more read, which failed or not
-module _ {E : Type 0} (start at : ℕ) (answer : Result ℕ E) (old mid new : Tapped) (taken : List ℕ) (here : at ≡ start + length taken) (follows : Follows start taken old mid) (goes : GoesOn at answer mid new) where
+module _ {E : Type 0} (start at : ℕ) (answer : Result ℕ E) (old mid new : SeenSource) (taken : List ℕ) (here : at ≡ start + length taken) (follows : Follows start taken old mid) (goes : GoesOn at answer mid new) where
   pub still_in_order : InOrder start old new
   still_in_order = in_order start old new (λ is.
       let was = follows is in
       (goes_on at answer mid new goes (was.1 ∙ ap Some (sym here))).0 ∙ was.0)
 
-pub follows_on : (E : Type 0) (start at n : ℕ) (old mid new : Tapped) (taken buf : List ℕ) → at ≡ start + length taken → length (taken ++ take n buf) ≡ length taken + n → at + n ≤ 2 ^ 48 + 1
+pub follows_on : (E : Type 0) (start at n : ℕ) (old mid new : SeenSource) (taken buf : List ℕ) → at ≡ start + length taken → length (taken ++ take n buf) ≡ length taken + n → at + n ≤ 2 ^ 48 + 1
     → Follows start taken old mid → GoesOn {E = E} at (Ok n) mid new → Follows start (taken ++ take n buf) old new
 follows_on E start at n old mid new taken buf here size low follows goes = λ is.
     let was = follows is in
@@ -198,11 +198,11 @@ on_err (Ok x) p = tt
 on_err (Err e) p = p
 
 -- behind the bytes that a source begins with, it gives the others
-more_given : (start : ℕ) (old new : Tapped) (taken bytes more : List ℕ) → HasGivenFrom start old new taken → start ≡ length bytes → old.holds ≡ Some (bytes ++ more) → taken ≡ take (length taken) more
+more_given : (start : ℕ) (old new : SeenSource) (taken bytes more : List ℕ) → HasGivenFrom start old new taken → start ≡ length bytes → old.holds ≡ Some (bytes ++ more) → taken ≡ take (length taken) more
 more_given start old new taken bytes more has at held =
     has.part (bytes ++ more) held ∙ ap (λ n. take (length taken) (drop n (bytes ++ more))) at ∙ ap (take (length taken)) (drop-append_seam bytes more)
 
-whole_given : (start : ℕ) (old new : Tapped) (taken bytes more : List ℕ) → HasGivenFrom start old new taken → start ≡ length bytes → old.holds ≡ Some (bytes ++ more) → HasGiven old new (bytes ++ taken)
+whole_given : (start : ℕ) (old new : SeenSource) (taken bytes more : List ℕ) → HasGivenFrom start old new taken → start ≡ length bytes → old.holds ≡ Some (bytes ++ more) → HasGiven old new (bytes ++ taken)
 whole_given start old new taken bytes more has at held = record {
   part = λ all is.
       let same : bytes ++ more ≡ all = cc (sym held ∙ is) in
@@ -226,7 +226,7 @@ finished K was text told r (Ok u) has lies short (none, spelled) =
 finished K was text told r (Err f) has lies short (is, frame) =
     (ap (λ (g : Fault). g.kind) is, judged_cut head_fault 0 text told f lies (accepts_told text told r has) (omega (arith, short)) frame)
 
-module _ (start : ℕ) (old mid new : Tapped) (taken : List ℕ) (has : HasGivenFrom start old mid taken) (failed : Bool) (len : ℕ) (read : IsReadAt (start + length taken) len failed mid new) (short : start + length taken ≤ max_archive) (fits : start + length taken + len ≤ max_archive + 1) where
+module _ (start : ℕ) (old mid new : SeenSource) (taken : List ℕ) (has : HasGivenFrom start old mid taken) (failed : Bool) (len : ℕ) (read : IsReadAt (start + length taken) len failed mid new) (short : start + length taken ≤ max_archive) (fits : start + length taken + len ≤ max_archive + 1) where
   bound : new.reads ≤ old.reads + max_archive + 1
   bound = omega (arith, has.cost, read.counted, raised_by_one mid.reads, short)
 
@@ -381,7 +381,7 @@ module _ (start : ℕ) (old mid new : Tapped) (taken : List ℕ) (has : HasGiven
 
 -- ---- the front that was read
 
-module _ (start : ℕ) (old mid : Tapped) (taken : List ℕ) (has : HasGivenFrom start old mid taken) (short : start + length taken ≤ max_archive) {A L : Type 0} (K : L → List Placed → Type 0) (was : List Row × L)
+module _ (start : ℕ) (old mid : SeenSource) (taken : List ℕ) (has : HasGivenFrom start old mid taken) (short : start + length taken ≤ max_archive) {A L : Type 0} (K : L → List Placed → Type 0) (was : List Row × L)
     (at : (bytes : List ℕ) → IsKeptOf K bytes was → start ≡ length bytes) (d : State) (r : Reading A L)
     (stands : (bytes : List ℕ) (is : IsKeptOf K bytes was) → Stands (Since K is.listed.are.records) (bytes ++ taken) d r) (lies : (text : List ℕ) (told : Told) → IsAt 0 text told d → Lies text told) where
   -- what was read is a front of less than one more record
@@ -435,7 +435,7 @@ module _ (start : ℕ) (old mid : Tapped) (taken : List ℕ) (has : HasGivenFrom
 -- ---- the whole answer
 
 -- memory was refused before the first read
-pub grows_untried : {X : Type 0} {Is : List ℕ → X → Type 0} (start : ℕ) (was : X) (old : Tapped) → ((bytes : List ℕ) → Is bytes was → start ≡ length bytes) → Grows Is was old old (Err (fault Memory start))
+pub grows_untried : {X : Type 0} {Is : List ℕ → X → Type 0} (start : ℕ) (was : X) (old : SeenSource) → ((bytes : List ℕ) → Is bytes was → start ≡ length bytes) → Grows Is was old old (Err (fault Memory start))
 grows_untried start was old at = record {
   whole = λ bytes more is held. record {
     accepted = λ all holds. tt;
@@ -468,7 +468,7 @@ grows_untried start was old at = record {
   };
 }
 
-pub opens_as : {X Y : Type 0} {Is : List ℕ → X → Type 0} {Gives : List ℕ → Y → Type 0} {start : ℕ} {old new : Tapped} (x : X) (y : Y) (r : Result (Unit {0}) Fault) → ((bytes : List ℕ) → Is bytes x → Gives bytes y)
+pub opens_as : {X Y : Type 0} {Is : List ℕ → X → Type 0} {Gives : List ℕ → Y → Type 0} {start : ℕ} {old new : SeenSource} (x : X) (y : Y) (r : Result (Unit {0}) Fault) → ((bytes : List ℕ) → Is bytes x → Gives bytes y)
     → OpensFrom start Is old new (grown r x) → OpensFrom start Gives old new (grown r y)
 opens_as x y (Ok u) gives o = opens_with x y gives o
 opens_as x y (Err f) gives o = refuses_with f o
@@ -487,7 +487,7 @@ some_as Is Gives bytes x y (Ok u) gives (more, is) = (more, gives (bytes ++ more
 some_as Is Gives bytes x y (Err f) gives some = tt
 
 -- the same growth, by what is made of what it keeps
-pub grows_as : {X Y : Type 0} {Is : List ℕ → X → Type 0} {Gives : List ℕ → Y → Type 0} {old new : Tapped} (was x : X) (seen y : Y) (r : Result (Unit {0}) Fault) → ((bytes : List ℕ) → Gives bytes seen → Is bytes was)
+pub grows_as : {X Y : Type 0} {Is : List ℕ → X → Type 0} {Gives : List ℕ → Y → Type 0} {old new : SeenSource} (was x : X) (seen y : Y) (r : Result (Unit {0}) Fault) → ((bytes : List ℕ) → Gives bytes seen → Is bytes was)
     → ((bytes : List ℕ) → Is bytes x → Gives bytes y) → Grows Is was old new (grown r x) → Grows Gives seen old new (grown r y)
 grows_as {X} {Y} {Is} {Gives} {old} {new} was x seen y r begins gives grows = record {
   whole = λ bytes more is held. opens_as x y r gives (grows.whole bytes more (begins bytes is) held);
@@ -508,7 +508,7 @@ grows_as {X} {Y} {Is} {Gives} {old} {new} was x seen y r begins gives grows = re
 }
 
 -- opening is growing of nothing
-pub opens_new : {X : Type 0} {Is : List ℕ → X → Type 0} {old new : Tapped} (was : X) (answer : Result X Fault) → Is [] was → Grows Is was old new answer → Opens Is old new answer
+pub opens_new : {X : Type 0} {Is : List ℕ → X → Type 0} {old new : SeenSource} (was : X) (answer : Result X Fault) → Is [] was → Grows Is was old new answer → Opens Is old new answer
 opens_new was answer is grows = record {
   accepted = λ bytes held. (grows.whole [] bytes is held).accepted bytes held;
   refused = λ bytes held. (grows.whole [] bytes is held).refused bytes held;
@@ -527,7 +527,7 @@ pub none_kept : {L : Type 0} (K : L → List Placed → Type 0) (l : L) → K l 
 none_kept K l is = record { listed = none_listed; beside = is }
 
 -- the rows that reading from nothing gives
-pub front_rows : {L : Type 0} {K : L → List Placed → Type 0} (old new : Tapped) (l : L) (none rows : List Row) (answer : Result (Unit {0}) Fault) → none ≡ [] → K l [] → Opens IsArchiveOf old new (grown answer rows)
+pub front_rows : {L : Type 0} {K : L → List Placed → Type 0} (old new : SeenSource) (l : L) (none rows : List Row) (answer : Result (Unit {0}) Fault) → none ≡ [] → K l [] → Opens IsArchiveOf old new (grown answer rows)
     → ((bytes more : List ℕ) → IsKeptOf K bytes (none, l) → old.holds ≡ Some (bytes ++ more) → IfErr answer (λ f. IsLongestFront (take (reach_of f) (bytes ++ more)) rows))
     → (bytes : List ℕ) → old.holds ≡ Some bytes → AreFrontRows bytes answer rows
 front_rows old new l none rows (Ok u) empty_rows begins opens stops bytes held = opens.accepted bytes held
@@ -539,7 +539,7 @@ front_rows {L} {K} old new l none rows (Err f) empty_rows begins opens stops byt
 pub front_untried : (bytes : List ℕ) (rows : List Row) → rows ≡ [] → AreFrontRows bytes (Err (fault Memory 0)) rows
 front_untried bytes rows none = let P : List Row → Type 0 = λ xs. IsLongestFront (take 0 bytes) xs in subst P (sym none) none_read
 
-pub grows_from : {L : Type 0} {Is : List ℕ → List Row × L → Type 0} {old new : Tapped} (rows now : List Row) (l m : L) (answer : Result (List Row × L) Fault) → rows ≡ now → l ≡ m → Grows Is (rows, l) old new answer → Grows Is (now, m) old new answer
+pub grows_from : {L : Type 0} {Is : List ℕ → List Row × L → Type 0} {old new : SeenSource} (rows now : List Row) (l m : L) (answer : Result (List Row × L) Fault) → rows ≡ now → l ≡ m → Grows Is (rows, l) old new answer → Grows Is (now, m) old new answer
 grows_from {L} {Is} {old} {new} rows now l m answer same also grows =
     let P : List Row → Type 0 = λ xs. Grows Is (xs, l) old new answer in
     let Q : L → Type 0 = λ x. Grows Is (now, x) old new answer in
@@ -576,7 +576,7 @@ pub contents_same : {S : Type 0} (s : S) (a b : List Row) → a ≡ b → ◌≡
 contents_same {S} s a b same = let f : List Row → Contents S = λ rows. record { source = s; rows = rows } in ap f same
 
 -- the same by what was answered, where that is known
-pub grows_by_answer : {L : Type 0} {K : L → List Placed → Type 0} {old new : Tapped} (kept was rows : List Row) (l m : L) (r answer : Result (Unit {0}) Fault) → kept ≡ was → r ≡ answer
+pub grows_by_answer : {L : Type 0} {K : L → List Placed → Type 0} {old new : SeenSource} (kept was rows : List Row) (l m : L) (r answer : Result (Unit {0}) Fault) → kept ≡ was → r ≡ answer
     → Grows (IsKeptOf K) (kept, l) old new (grown r (rows, m)) → Grows (IsKeptOf K) (was, l) old new (grown answer (rows, m))
 grows_by_answer {L} {K} {old} {new} kept was rows l m r answer same is grows =
     let P : List Row → Type 0 = λ xs. Grows (IsKeptOf K) (xs, l) old new (grown r (rows, m)) in
@@ -584,12 +584,12 @@ grows_by_answer {L} {K} {old} {new} kept was rows l m r answer same is grows =
     subst Q is (subst P same grows)
 
 -- what opening gives
-pub opens_made : {L Y : Type 0} {K : L → List Placed → Type 0} {Gives : List ℕ → Y → Type 0} {old new : Tapped} (l m : L) (none rows : List Row) (y : Y) (r answer : Result (Unit {0}) Fault) → r ≡ answer → none ≡ [] → K l []
+pub opens_made : {L Y : Type 0} {K : L → List Placed → Type 0} {Gives : List ℕ → Y → Type 0} {old new : SeenSource} (l m : L) (none rows : List Row) (y : Y) (r answer : Result (Unit {0}) Fault) → r ≡ answer → none ≡ [] → K l []
     → ((bytes : List ℕ) → IsKeptOf K bytes (rows, m) → Gives bytes y) → Grows (IsKeptOf K) (none, l) old new (grown r (rows, m)) → Opens Gives old new (grown answer y)
 opens_made {L} {Y} {K} {Gives} {old} {new} l m none rows y r answer is empty_rows begins gives grows =
     opens_as (rows, m) y answer gives (opens_new ([], l) (grown answer (rows, m)) (none_kept K l begins) (grows_by_answer none [] rows l m r answer empty_rows is grows))
 
-pub opens_failed : {L Y : Type 0} {K : L → List Placed → Type 0} {Gives : List ℕ → Y → Type 0} {old new : Tapped} (l m : L) (none rows : List Row) (r : Result (Unit {0}) Fault) (f : Fault) → r ≡ Err f → none ≡ [] → K l []
+pub opens_failed : {L Y : Type 0} {K : L → List Placed → Type 0} {Gives : List ℕ → Y → Type 0} {old new : SeenSource} (l m : L) (none rows : List Row) (r : Result (Unit {0}) Fault) (f : Fault) → r ≡ Err f → none ≡ [] → K l []
     → Grows (IsKeptOf K) (none, l) old new (grown r (rows, m)) → Opens Gives old new (Err f)
 opens_failed {L} {Y} {K} {Gives} {old} {new} l m none rows r f is empty_rows begins grows =
     let failed : Opens (IsKeptOf K) old new (Err f) = opens_new ([], l) (Err f) (none_kept K l begins) (grows_by_answer none [] rows l m r (Err f) empty_rows is grows) in

@@ -1,13 +1,17 @@
 -- What is read where a record's head stands.
-use Rattle.std.proofs.Common.{◌≡◌, ℕ, ◌+◌, ◌-◌, true, true≢false, List, length, take, drop, slice_range, Option, Some, None, Result, Ok, Err, OnOk, IfOk, IfErr, MatchResult, is_ok, sym, ap, ◌∙◌, arith}
+use Rattle.std.proofs.Common.{◌≡◌, inl, ℕ, ◌+◌, ◌-◌, ◌≤◌, List, length, take, drop, slice_range, Option, Some, None, Result, Ok, Err, IfOk, MatchResult, sym, ap, subst, ◌∙◌, arith}
 use Rattle.warc_frame.specs.Reading.{Head, any_fields, head_of}
 use Rattle.warc_frame.specs.declared.fault.Fault.{Fault}
-use Rattle.warc_reading.specs.Rereading.{HasFailed, HasHead, IsHeadBy}
+use Rattle.warc_frame.specs.Effects.{FailsBy}
+use Rattle.warc_frame.specs.Failing.{HasFailedBy, MayHaveFailedBy}
+use Rattle.warc_frame.specs.Seen.{SeenSource}
+use Rattle.warc_frame.specs.declared.fault.OutFault.{OutFault}
+use Rattle.warc_reading.specs.Rereading.{HasHead, HasHeadOf, IsHeadBy, ended_by, reread_result}
 use Rattle.warc_field.specs.Area.{Pair}
 use Rattle.warc_frame.specs.declared.version.Version.{Version}
 use Rattle.warc_reading.specs.Row.{Placed, Row, row_of}
 use Rattle.warc_reading.specs.declared.rereading.RereadFault.{RereadFault}
-use Rattle.warc_reading.specs.declared.rereading.RereadFault.TheVariants.{Memory}
+use Rattle.warc_reading.specs.declared.rereading.RereadFault.TheVariants.{Memory, Read}
 
 -- how long the head is, by the row
 pub len_by_row : (bytes : List ℕ) (p : Placed) (row : Row) (has : HasHead bytes p) → row ≡ row_of p → row.block_start ≡ row.offset + has.len
@@ -32,20 +36,42 @@ reads_head bytes text p row len has same len_is text_is size =
     let to : ℕ → ℕ → Result Head Fault = λ m k. Ok (record { version = p.content.version; fields = p.content.fields; len = m; block_len = k }) in
     ap (head_of any_fields) is ∙ has.reads ∙ ap (λ m. to m (length p.content.block)) n ∙ ap (to (length text)) (sym block)
 
--- a fact of an answer that is Ok
-pub of_ok : {X E : Type 0} (r : Result X E) {P : Type 0} → is_ok r ≡ true → OnOk r P → P
-of_ok (Ok x) is p = p
-of_ok (Err e) is p = absurd (true≢false (sym is))
-
 pub read_or_memory : {X : Type 0} (r : Result X RereadFault) (P : X → Type 0) → MatchResult r P (λ fault. fault ≡ Memory) → IfOk r P
 read_or_memory (Ok x) P is = is
 read_or_memory (Err e) P is = tt
 
 -- want of memory isn't a failure of the source
-pub only_memory : {X : Type 0} (r : Result X RereadFault) (P : X → Type 0) (old new : ℕ) → MatchResult r P (λ fault. fault ≡ Memory) → new ≡ old
-    → IfErr r (λ fault. HasFailed fault old new)
-only_memory (Ok x) P old new is same = tt
-only_memory (Err e) P old new is same = rw is same
+pub only_memory : {X : Type 0} (r : Result X RereadFault) (P : X → Type 0) (old new : ℕ)
+    → MatchResult r P (λ fault. fault ≡ Memory) → new ≡ old → HasFailedBy (reread_result r) old new
+only_memory (Ok x) P old new is same = same
+only_memory (Err e) P old new is same =
+    subst (λ (f : RereadFault). HasFailedBy {X = Unit {0}} (Err (ended_by f 0)) old new) (sym is) same
+
+-- a source that hasn't failed may give something else
+pub may_be_sound : {X : Type 0} (r : Result X RereadFault) (old new : ℕ) → new ≡ old
+    → MayHaveFailedBy (reread_result r) old new
+may_be_sound (Ok x) old new same = same
+may_be_sound (Err Read) old new same = inl same
+may_be_sound (Err Memory) old new same = same
+
+-- a head that isn't read again, as the end of an output
+pub fails_ended : {X : Type 0} {Expected : List ℕ → Type 0} {old new : SeenSource} (fault : RereadFault) (e : OutFault)
+    (n : ℕ) → e ≡ ended_by fault n → FailsBy {X = Unit {0}} Expected (Err (ended_by fault 0)) old new
+    → FailsBy {X = X} Expected (Err e) old new
+fails_ended {X} {Expected} {old} {new} Read e n is has =
+    let P : OutFault → Type 0 = λ f. FailsBy {X = X} Expected (Err f) old new in
+    subst P (sym is) (record { may = has.may; failed = has.failed })
+fails_ended {X} {Expected} {old} {new} Memory e n is has =
+    let P : OutFault → Type 0 = λ f. FailsBy {X = X} Expected (Err f) old new in
+    subst P (sym is) (record { may = has.may; failed = has.failed })
+
+-- a row's head lies among the bytes
+pub head_reaches : (bytes : List ℕ) (inside now : Row) (len n : ℕ) → inside ≡ now → n ≡ len
+    → now.offset + len ≡ now.block_start → HasHeadOf now bytes → inside.offset + n ≤ length bytes
+head_reaches bytes inside now len n same size end is =
+    let at : inside.offset ≡ now.offset = ap (λ (r : Row). r.offset) same in
+    let start : now.block_start ≡ is.placed.block_start = ap (λ (r : Row). r.block_start) is.row_is in
+    omega (arith, at, size, end, start, is.has.within)
 
 -- a text that is read as a head by a row
 pub head_by : (row now : Row) (version : Version) (fields : List Pair) (text : List ℕ) → row ≡ now → now.offset + length text ≡ now.block_start

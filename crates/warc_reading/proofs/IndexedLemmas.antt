@@ -3,7 +3,7 @@ use Rattle.std.proofs.Common.{◌≡◌, ℕ, List, [], ◌∷◌, ◌++◌, len
 use Rattle.std.proofs.Math.Seq.{take-append_seam}
 use Rattle.std.proofs.lemmas.List.{length-map, map-append, take-map}
 use Rattle.warc_frame.specs.declared.fault.Fault.{Fault}
-use Rattle.warc_frame.specs.Seen.{Tapped}
+use Rattle.warc_frame.specs.Seen.{SeenSource}
 use Rattle.warc_record.specs.Readings.{Reading, reading_of}
 use Rattle.warc_index.specs.Captures.{Indexed, indexed_of}
 use Rattle.warc_index.specs.Orders.{IsIndexOf, Indexes}
@@ -35,7 +35,7 @@ kept_more records p index parts head place is at indexed joined =
     record { index_is = index_more records p index head is indexed; parts_are = parts_more records p parts head place is at joined }
 
 -- the same opening, by what is made of its answer
-pub opens_with : {X Y : Type 0} {Is : List ℕ → X → Type 0} {Gives : List ℕ → Y → Type 0} {start : ℕ} {old new : Tapped} (x : X) (y : Y) → ((bytes : List ℕ) → Is bytes x → Gives bytes y) → OpensFrom start Is old new (Ok x)
+pub opens_with : {X Y : Type 0} {Is : List ℕ → X → Type 0} {Gives : List ℕ → Y → Type 0} {start : ℕ} {old new : SeenSource} (x : X) (y : Y) → ((bytes : List ℕ) → Is bytes x → Gives bytes y) → OpensFrom start Is old new (Ok x)
     → OpensFrom start Gives old new (Ok y)
 opens_with x y gives opens = record {
   accepted = λ bytes held. gives bytes (opens.accepted bytes held);
@@ -53,7 +53,7 @@ opens_with x y gives opens = record {
   cost = opens.cost;
 }
 
-pub refuses_with : {X Y : Type 0} {Is : List ℕ → X → Type 0} {Gives : List ℕ → Y → Type 0} {start : ℕ} {old new : Tapped} (f : Fault) → OpensFrom start Is old new (Err f) → OpensFrom start Gives old new (Err f)
+pub refuses_with : {X Y : Type 0} {Is : List ℕ → X → Type 0} {Gives : List ℕ → Y → Type 0} {start : ℕ} {old new : SeenSource} (f : Fault) → OpensFrom start Is old new (Err f) → OpensFrom start Gives old new (Err f)
 refuses_with f opens = record {
   accepted = λ bytes held. tt;
   some = tt;

@@ -18,7 +18,7 @@ use Rattle.warc_record.specs.Heads.{head_fault}
 use Rattle.warc_reading.specs.Archive.{IsFaultOf, IsRecordEnd}
 use Rattle.warc_reading.specs.Opening.{IsOnlyCut, IsUnkept, OpensFrom, RefusesFrom}
 use Rattle.warc_reading.specs.Row.{Placed}
-use Rattle.warc_frame.specs.Seen.{AsksOnly, Tapped}
+use Rattle.warc_frame.specs.Seen.{AsksOnly, SeenSource}
 use Rattle.warc_frame.specs.Ranges.{IsReadAt}
 use Rattle.warc_reading.specs.Stream.{BeginsSince, HasGiven, HasRead, StaysBy, StaysRefused, WantsSince}
 use Rattle.warc_reading.specs.declared.reading.Reading.{Reading}
@@ -91,7 +91,7 @@ pub step_wants : {A L : Type 0} {K : L → List Placed → Type 0} (text piece :
 step_wants text piece told r f has some is = λ memory. wants_by f.kind f.offset text piece told r has some is memory
 
 -- one more read, of no byte above the limit
-pub near_more : (old mid new : Tapped) (at len : ℕ) (failed : Bool) → at + len ≤ max_archive + 1 → mid.watches ≡ old.watches → IsReadAt at len failed mid new → AsksOnly (λ q. q ≤ max_archive) old mid
+pub near_more : (old mid new : SeenSource) (at len : ℕ) (failed : Bool) → at + len ≤ max_archive + 1 → mid.watches ≡ old.watches → IsReadAt at len failed mid new → AsksOnly (λ q. q ≤ max_archive) old mid
     → AsksOnly (λ q. q ≤ max_archive) old new
 near_more old mid new at len failed fits watched read asks = λ these.
     read.asks (λ q in_. ap (λ (w : ℕ → Bool). w q) watched ∙ these q (omega (arith, in_.1, fits))) ∙ asks these
@@ -103,10 +103,10 @@ near at room = min (max_archive + 1 - at) room
 pub fits_near : {at there : ℕ} (room : ℕ) → at ≡ there → at ≤ 2 ^ 48 → there + near at room ≤ max_archive + 1
 fits_near {at} {there} room same low = omega (arith, same, low, min-le_left (max_archive + 1 - at) room)
 
-pub read_there : {old new : Tapped} {failed : Bool} {at len n : ℕ} → at ≡ n → IsReadAt at len failed old new → IsReadAt n len failed old new
+pub read_there : {old new : SeenSource} {failed : Bool} {at len n : ℕ} → at ≡ n → IsReadAt at len failed old new → IsReadAt n len failed old new
 read_there {old} {new} {failed} {at} {len} same read = let P : ℕ → Type 0 = λ q. IsReadAt q len failed old new in subst P same read
 
-module _ (start : ℕ) (old mid new : Tapped) (text : List ℕ) (has : HasGiven old mid text) (failed : Bool) (len : ℕ) (read : IsReadAt (length text) len failed mid new) (short : length text ≤ max_archive) (fits : length text + len ≤ max_archive + 1) where
+module _ (start : ℕ) (old mid new : SeenSource) (text : List ℕ) (has : HasGiven old mid text) (failed : Bool) (len : ℕ) (read : IsReadAt (length text) len failed mid new) (short : length text ≤ max_archive) (fits : length text + len ≤ max_archive + 1) where
   low : (bytes : List ℕ) → old.holds ≡ Some bytes → length text ≤ length bytes
   low bytes held = omega (arith, ap length (has.part bytes held) ∙ length-take (length text) bytes)
 

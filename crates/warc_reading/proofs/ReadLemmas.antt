@@ -1,24 +1,24 @@
 -- Which offsets are asked for, and how often.
-use Rattle.std.proofs.Common.{◌≡◌, ℕ, ◌+◌, ◌-◌, Bool, false, zero, suc, List, [], ◌∷◌, ◌++◌, length, take, drop, Some, refl, ap, ◌∙◌, arith}
+use Rattle.std.proofs.Common.{◌≡◌, ℕ, ◌+◌, ◌-◌, zero, suc, List, [], ◌∷◌, ◌++◌, length, take, drop, Some, refl, ap, ◌∙◌, arith}
 use Rattle.std.proofs.Math.Seq.{take-add}
 use Rattle.std.proofs.lemmas.List.Sums.{sum_by-take-le, sum_by-cons, sum_by_push}
 use Rattle.std.specs.List.{slice_get, sum_by}
 use Rattle.warc_reading.specs.Rereading.{IsInHead, ReadsHeads, heads_len}
 use Rattle.warc_reading.specs.Row.{Row}
-use Rattle.warc_frame.specs.Seen.{AsksOnly, Tapped}
-use Rattle.warc_frame.specs.Ranges.{HasFilled}
+use Rattle.warc_frame.specs.Effects.{ReadsOnly, ReadsRange}
+use Rattle.warc_frame.specs.Seen.{SeenSource}
+use Rattle.warc_frame.proofs.EffectLemmas.{reads_both, reads_within}
 use Rattle.warc_reading.proofs.PlacedLemmas.{take_one}
 
 -- a head is read
-pub reads_one : (row : Row) (len : ℕ) (old new : Tapped) → row.offset + len ≡ row.block_start → HasFilled row.offset len old new → ReadsHeads (row ∷ []) old new
-reads_one row len old new is has = record {
-  near = λ off. has.near (λ q in_. off q (record { place = 0; row = row; is = refl; from = in_.0; to = omega (arith, in_.1, is) }));
-  bound = omega (arith, has.bound, is, sum_by-cons (λ (r : Row). r.block_start - r.offset) row []);
-  watched = has.watched;
-}
-
-pub reads_none : (rows : List Row) (s : Tapped) → ReadsHeads rows s s
-reads_none rows s = record { near = λ off. refl; bound = omega arith; watched = refl }
+pub reads_one : (row : Row) (len : ℕ) (old new : SeenSource) → row.offset + len ≡ row.block_start
+    → ReadsRange row.offset len old new → ReadsHeads (row ∷ []) old new
+reads_one row len old new is has =
+    let one : heads_len (row ∷ []) ≡ row.block_start - row.offset + 0 =
+    sum_by-cons (λ (r : Row). r.block_start - r.offset) row [] in
+    reads_within
+    (λ q in_. record { place = 0; row = row; is = refl; from = in_.0; to = omega (arith, in_.1, is) })
+    (omega (arith, is, one)) has
 
 get_take : (rows : List Row) (n i : ℕ) (row : Row) → slice_get (take n rows) i ≡ Some row → slice_get rows i ≡ Some row
 get_take [] zero i row is = is
@@ -69,25 +69,23 @@ in_more rows i at in_ = record {
 }
 
 -- the heads of the first rows, and of one more
-pub reads_more : (rows : List Row) (i : ℕ) (row : Row) (old mid new : Tapped) → slice_get rows i ≡ Some row → ReadsHeads (take i rows) old mid → ReadsHeads (row ∷ []) mid new
-    → ReadsHeads (take (i + 1) rows) old new
+pub reads_more : (rows : List Row) (i : ℕ) (row : Row) (old mid new : SeenSource) → slice_get rows i ≡ Some row
+    → ReadsHeads (take i rows) old mid → ReadsHeads (row ∷ []) mid new → ReadsHeads (take (i + 1) rows) old new
 reads_more rows i row old mid new is first one =
     let f : Row → ℕ = λ r. r.block_start - r.offset in
-    let whole : heads_len (take (i + 1) rows) ≡ heads_len (take i rows) + f row = ap (sum_by f) (take_one rows i row is) ∙ sum_by_push f (take i rows) row in
-    record {
-      near = λ off.
-          let before : AsksOnly (IsInHead (take i rows)) old mid = first.near in
-          let of_first : (at : ℕ) → IsInHead (take i rows) at → old.watches at ≡ false = λ at in_. off at (in_more rows i at in_) in
-          let of_one : (at : ℕ) → IsInHead (row ∷ []) at → mid.watches at ≡ false = λ at in_. ap (λ (w : ℕ → Bool). w at) first.watched ∙ off at (in_last rows i row at is in_) in
-          one.near of_one ∙ before of_first;
-      bound = omega (arith, first.bound, one.bound, whole, sum_by-cons f row []);
-      watched = one.watched ∙ first.watched;
-    }
+    let whole : heads_len (take (i + 1) rows) ≡ heads_len (take i rows) + f row =
+    ap (sum_by f) (take_one rows i row is) ∙ sum_by_push f (take i rows) row in
+    let single : heads_len (row ∷ []) ≡ f row + 0 = sum_by-cons f row [] in
+    let before : ReadsOnly (IsInHead (take (i + 1) rows)) (heads_len (take i rows)) old mid =
+    reads_within (λ at in_. in_more rows i at in_) (omega arith) first in
+    let last : ReadsOnly (IsInHead (take (i + 1) rows)) (heads_len (row ∷ [])) mid new =
+    reads_within (λ at in_. in_last rows i row at is in_) (omega arith) one in
+    reads_within (λ at in_. in_) (omega (arith, whole, single)) (reads_both before last)
 
 -- the heads of the first rows are among all
-pub reads_all : (rows : List Row) (n : ℕ) (old new : Tapped) → ReadsHeads (take n rows) old new → ReadsHeads rows old new
-reads_all rows n old new has = record {
-  near = λ off. has.near (λ at in_. off at (record { place = in_.place; row = in_.row; is = get_take rows n in_.place in_.row in_.is; from = in_.from; to = in_.to }));
-  bound = omega (arith, has.bound, sum_by-take-le (λ (r : Row). r.block_start - r.offset) rows n);
-  watched = has.watched;
-}
+pub reads_all : (rows : List Row) (n : ℕ) (old new : SeenSource) → ReadsHeads (take n rows) old new
+    → ReadsHeads rows old new
+reads_all rows n old new has =
+    reads_within
+    (λ at in_. record { place = in_.place; row = in_.row; is = get_take rows n in_.place in_.row in_.is; from = in_.from; to = in_.to })
+    (sum_by-take-le (λ (r : Row). r.block_start - r.offset) rows n) has

@@ -1,6 +1,6 @@
 -- What growing reads of a source, and when it is refused.
 use Rattle.std.specs.Prelude.{◌≡◌, ℕ, ◌+◌, ◌≤◌, ◌⊎◌, List, ◌++◌, length, Some, Result, Ok, Err, IfErr, IfOk, MatchResult}
-use Rattle.warc_frame.specs.Seen.{Tapped}
+use Rattle.warc_frame.specs.Seen.{SeenSource}
 use Rattle.warc_frame.specs.declared.fault.Fault.{Fault}
 use Rattle.warc_frame.specs.declared.fault.FaultKind.TheVariants.{Memory, Read}
 use Rattle.warc_reading.specs.Opening.{OpensFrom, ReadsOn}
@@ -14,7 +14,7 @@ IsDeviceFault f = (f.kind ≡ Read) ⊎ (f.kind ≡ Memory)
 -- those before it, and one. A source that isn't longer than those bytes adds nothing. What any source gives is right
 -- for those bytes with more behind them, want of memory is reported at their end or behind it, and reading is as in
 -- opening
-pub record Grows {X : Type 0} (Is : List ℕ → X → Type 0) (was : X) (old new : Tapped) (answer : Result X Fault)
+pub record Grows {X : Type 0} (Is : List ℕ → X → Type 0) (was : X) (old new : SeenSource) (answer : Result X Fault)
     : Type 0 where
   pub whole : (bytes more : List ℕ) → Is bytes was → old.holds ≡ Some (bytes ++ more)
       → OpensFrom (length bytes) Is old new answer

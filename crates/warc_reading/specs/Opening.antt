@@ -7,7 +7,7 @@ use Rattle.warc_frame.specs.declared.fault.Fault.{Fault}
 use Rattle.warc_frame.specs.declared.fault.FaultKind.{FaultKind}
 use Rattle.warc_frame.specs.declared.fault.FaultKind.TheVariants.{Read, Memory, Truncated}
 use Rattle.warc_reading.specs.Archive.{IsFaultOf, IsRecordEnd}
-use Rattle.warc_frame.specs.Seen.{AsksOnly, IfHeld, Tapped}
+use Rattle.warc_frame.specs.Seen.{AsksOnly, IfHeld, SeenSource}
 
 -- a text has no fault but that it ends too early, if that
 abbrev pub IsOnlyCut : List ℕ → Type 0
@@ -26,21 +26,21 @@ pub record IsUnkept (bytes : List ℕ) (asked offset : ℕ) : Type 0 where
   pub cut : offset < asked → IsCut (drop offset (take asked bytes))
 
 -- memory was wanted before the first read, where reading begins
-pub record IsUntried (start : ℕ) (old new : Tapped) (offset : ℕ) : Type 0 where
+pub record IsUntried (start : ℕ) (old new : SeenSource) (offset : ℕ) : Type 0 where
   pub front : offset ≡ start
   pub same : new ≡ old
 
 -- why bytes aren't read from an offset on: a read or a growth of the memory failed, or else this is their first fault
-abbrev pub RefusesFrom : ℕ → FaultKind → List ℕ → Tapped → Tapped → Fault → Type 0
+abbrev pub RefusesFrom : ℕ → FaultKind → List ℕ → SeenSource → SeenSource → Fault → Type 0
 RefusesFrom start Read bytes old new f = IsUnread bytes f.offset
 RefusesFrom start Memory bytes old new f = IsUntried start old new f.offset ⊎ IsUnkept bytes new.asked f.offset
 RefusesFrom start kind bytes old new f = IsFaultOf bytes f
 
 -- why they aren't opened
-abbrev pub RefusesBy : FaultKind → List ℕ → Tapped → Tapped → Fault → Type 0
+abbrev pub RefusesBy : FaultKind → List ℕ → SeenSource → SeenSource → Fault → Type 0
 RefusesBy kind bytes old new f = RefusesFrom 0 kind bytes old new f
 
-abbrev pub IsRefusalOf : List ℕ → Tapped → Tapped → Fault → Type 0
+abbrev pub IsRefusalOf : List ℕ → SeenSource → SeenSource → Fault → Type 0
 IsRefusalOf bytes old new f = RefusesBy f.kind bytes old new f
 
 -- how often a source has failed after a refusal
@@ -52,7 +52,7 @@ faults_after kind n = n
 -- where the refusal is a read fault, at the offset asked last. No byte at an offset above 2^48 is asked for, and at
 -- most 2^48 reads and one are made; before a read fault at most one for each byte before it, and one. It watches what
 -- it did
-pub record ReadsOn {X : Type 0} (old new : Tapped) (answer : Result X Fault) : Type 0 where
+pub record ReadsOn {X : Type 0} (old new : SeenSource) (answer : Result X Fault) : Type 0 where
   pub kept : new.holds ≡ old.holds
   pub cause : MatchResult answer (λ x. new.faults ≡ old.faults) (λ f. new.faults ≡ faults_after f.kind old.faults)
   pub asked : IfErr answer (λ f. f.kind ≡ Read → f.offset ≡ new.asked)
@@ -64,8 +64,8 @@ pub record ReadsOn {X : Type 0} (old new : Tapped) (answer : Result X Fault) : T
 -- reading a source from an offset on: it gives what is right for the bytes, or a refusal, by the bytes that the source
 -- holds, where they are known; at most one read is made for each of them, and one. What it gives of any source is right
 -- for some bytes
-pub record OpensFrom (start : ℕ) {X : Type 0} (Is : List ℕ → X → Type 0) (old new : Tapped) (answer : Result X Fault)
-    : Type 0 where
+pub record OpensFrom (start : ℕ) {X : Type 0} (Is : List ℕ → X → Type 0) (old new : SeenSource)
+    (answer : Result X Fault) : Type 0 where
   pub accepted : IfHeld old.holds (λ bytes. IfOk answer (Is bytes))
   pub refused : IfHeld old.holds (λ bytes. IfErr answer (λ f. RefusesFrom start f.kind bytes old new f))
   pub cost : IfHeld old.holds (λ bytes. new.reads ≤ old.reads + length bytes + 1)
@@ -73,5 +73,5 @@ pub record OpensFrom (start : ℕ) {X : Type 0} (Is : List ℕ → X → Type 0)
   pub reads : ReadsOn old new answer
 
 -- opening a source
-abbrev pub Opens : {X : Type 0} → (List ℕ → X → Type 0) → Tapped → Tapped → Result X Fault → Type 0
+abbrev pub Opens : {X : Type 0} → (List ℕ → X → Type 0) → SeenSource → SeenSource → Result X Fault → Type 0
 Opens Is old new answer = OpensFrom 0 Is old new answer

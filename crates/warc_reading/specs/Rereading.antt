@@ -1,12 +1,12 @@
 -- What a record's head is when it is read again by its row, which bytes are read, and what ends it. This project's own
 -- notion.
-use Rattle.std.specs.Prelude.{◌≡◌, ℕ, ◌+◌, ◌-◌, ◌<◌, ◌≤◌, ◌⊎◌, List, length, map, slice_get, slice_range, Ok, Some, None}
+use Rattle.std.specs.Prelude.{◌≡◌, ℕ, ◌+◌, ◌-◌, ◌<◌, ◌≤◌, List, length, map, slice_get, slice_range, Result, Ok, Err, Some, None}
 use Rattle.std.specs.List.{sum_by}
 use Rattle.warc_field.specs.Area.{Pair}
-use Rattle.warc_frame.specs.Count.{raised}
+use Rattle.warc_frame.specs.Effects.{ReadsOnly}
 use Rattle.warc_frame.specs.Reading.{any_fields, head_of}
 use Rattle.warc_frame.specs.Record.{Record, max_head}
-use Rattle.warc_frame.specs.Seen.{AsksOnly, Tapped}
+use Rattle.warc_frame.specs.Seen.{SeenSource}
 use Rattle.warc_frame.specs.declared.fault.FaultKind.{FaultKind}
 use Rattle.warc_frame.specs.declared.fault.FaultKind.TheVariants.{Memory as NoMemory}
 use Rattle.warc_frame.specs.declared.fault.OutFault.{OutFault}
@@ -42,6 +42,11 @@ pub record AreCheckable (bytes : List ℕ) (records : List Placed) (rows : List 
   pub heads : HaveHeads bytes records
   pub rows_are : rows ≡ map row_of records
 
+-- the heads of the rows' records stand among the bytes
+pub record HasHeadsOf (rows : List Row) (bytes : List ℕ) : Type 0 where
+  pub records : List Placed
+  pub can : AreCheckable bytes records rows
+
 -- a head that was read is this record's
 pub record IsHeadReadOf {A : Type 0} (r : Record) (h : Head A) : Type 0 where
   pub version : h.version ≡ r.version
@@ -57,16 +62,16 @@ abbrev pub ended_by : RereadFault → ℕ → OutFault
 ended_by Read sent = ReadFailed sent
 ended_by Memory sent = OutOfMemory sent
 
--- how often a source has failed after a call: once more, or else the call isn't told apart from a source that
--- gives too little
-abbrev pub MayHaveFailed : RereadFault → ℕ → ℕ → Type 0
-MayHaveFailed Read old new = (new ≡ old) ⊎ (new ≡ raised old)
-MayHaveFailed Memory old new = new ≡ old
+-- the same as the end of an output of which nothing went out
+abbrev pub reread_result : {X : Type 0} → Result X RereadFault → Result (Unit {0}) OutFault
+reread_result (Ok x) = Ok tt
+reread_result (Err e) = Err (ended_by e 0)
 
--- how often a source that holds bytes has failed after a call
-abbrev pub HasFailed : RereadFault → ℕ → ℕ → Type 0
-HasFailed Read old new = new ≡ raised old
-HasFailed Memory old new = new ≡ old
+-- the head of a row's record stands among the bytes
+pub record HasHeadOf (row : Row) (bytes : List ℕ) : Type 0 where
+  pub placed : Placed
+  pub has : HasHead bytes placed
+  pub row_is : row ≡ row_of placed
 
 -- the offset of a byte of the head of one of these rows' records
 pub record IsInHead (rows : List Row) (at : ℕ) : Type 0 where
@@ -80,11 +85,9 @@ pub record IsInHead (rows : List Row) (at : ℕ) : Type 0 where
 abbrev pub heads_len : List Row → ℕ
 heads_len rows = sum_by (λ r. r.block_start - r.offset) rows
 
--- no other offsets are asked for than theirs, and at most a read for each of their bytes is made
-pub record ReadsHeads (rows : List Row) (old new : Tapped) : Type 0 where
-  pub near : AsksOnly (IsInHead rows) old new
-  pub bound : new.reads ≤ old.reads + heads_len rows
-  pub watched : new.watches ≡ old.watches
+-- at most one read for each byte of theirs, and no other byte
+abbrev pub ReadsHeads : List Row → SeenSource → SeenSource → Type 0
+ReadsHeads rows old new = ReadsOnly (IsInHead rows) (heads_len rows) old new
 
 -- a whole head with these fields, as long as a row says, of a block as long as it says
 pub record IsHeadBy (row : Row) (fields : List Pair) : Type 0 where

@@ -19,7 +19,7 @@ use Rattle.warc_segment.specs.declared.place.Place.{Place}
 use Rattle.warc_reading.specs.Archive.{IsArchiveOf, SpellsFrom, contents, IsFaultOf, IsRecordEnd}
 use Rattle.warc_reading.specs.Fronts.{IsLongestFront, reach_of}
 use Rattle.warc_reading.specs.Row.{Placed, Row, row_of}
-use Rattle.warc_frame.specs.Seen.{AsksOnly, IfHeld, Tapped}
+use Rattle.warc_frame.specs.Seen.{AsksOnly, IfHeld, SeenSource}
 use Rattle.warc_reading.specs.declared.reading.BlockDigest.{BlockDigest}
 use Rattle.warc_reading.specs.declared.reading.Current.{Current}
 use Rattle.warc_reading.specs.declared.reading.Reading.{Reading}
@@ -143,7 +143,7 @@ abbrev pub WantsSince : List ℕ → List ℕ → ℕ → Fault → Type 0
 WantsSince text piece begin f = f.kind ≡ Memory → BeginsSince text begin f.offset × (f.offset < length (text ++ piece))
 
 -- these bytes were read of a source, from an offset on, with at most one read for each
-pub record HasGivenFrom (start : ℕ) (old new : Tapped) (taken : List ℕ) : Type 0 where
+pub record HasGivenFrom (start : ℕ) (old new : SeenSource) (taken : List ℕ) : Type 0 where
   pub part : IfHeld old.holds (λ bytes. taken ≡ take (length taken) (drop start bytes))
   pub kept : new.holds ≡ old.holds
   pub sound : new.faults ≡ old.faults
@@ -152,10 +152,10 @@ pub record HasGivenFrom (start : ℕ) (old new : Tapped) (taken : List ℕ) : Ty
   pub near : AsksOnly (λ at. at ≤ max_archive) old new
 
 -- these bytes were read of a source, from an offset on, each read where the one before ended
-abbrev pub Follows : ℕ → List ℕ → Tapped → Tapped → Type 0
+abbrev pub Follows : ℕ → List ℕ → SeenSource → SeenSource → Type 0
 Follows start taken old new = old.next ≡ Some start
     → (new.jumps ≡ old.jumps) × (new.next ≡ Some (start + length taken))
 
 -- this text was read of a source, from its front on
-abbrev pub HasGiven : Tapped → Tapped → List ℕ → Type 0
+abbrev pub HasGiven : SeenSource → SeenSource → List ℕ → Type 0
 HasGiven old new text = HasGivenFrom 0 old new text

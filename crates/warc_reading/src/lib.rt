@@ -2,13 +2,13 @@
 //! head is read again by its row.
 #![tactic(auto)]
 
-mod beside;
+mod keeping;
 mod reading;
 mod rereading;
 mod rows;
-mod spare;
+mod spare_fields;
 
-pub use beside::{Gathering, Keep, Lookup, Nothing};
+pub use keeping::{Keep, Lookup, RowsAlone, UnorderedLookup};
 pub use reading::{read_front, read_on};
 pub use rereading::{Reread, RereadFault, head_buffer, read_again, reread_head};
 pub use rows::{Row, Rows, rows_fit};

@@ -17,9 +17,9 @@ ghost use Rattle.warc_frame.specs.Told.{Told};
 ghost use Rattle.warc_reading.specs.Stream.{BeginsSince, Extends, HasSeen, WantsSince, IsHead, IsKeptOf, IsLeft, Since, Stands, StaysRefused, Stops, place_by, row_by};
 ghost use Rattle.warc_reading.specs.declared.reading.Current.{Current as Kept};
 
-use crate::beside::{Keep, Nothing};
+use crate::keeping::{Keep, RowsAlone};
 use crate::rows::{Row, Rows};
-use crate::spare::Spare;
+use crate::spare_fields::SpareFields;
 use std::alloc::{AllocError, Allocator};
 use warc_field::Fields;
 use warc_frame::{Decoder, Event, Fault, FaultKind, MAX_ARCHIVE, ReadFault, Source};
@@ -85,7 +85,7 @@ struct Reading<A: Allocator, L> {
     beside: L,
     begin: u64,
     current: Option<Current<A>>,
-    spare: Spare<A>,
+    spare: SpareFields<A>,
 }
 
 impl<A: Allocator + Copy, L: Keep<A> + Drop> Reading<A, L> {
@@ -103,18 +103,18 @@ impl<A: Allocator + Copy, L: Keep<A> + Drop> Reading<A, L> {
             beside,
             begin,
             current: None,
-            spare: Spare::none(),
+            spare: SpareFields::none(),
         }
     }
 
     /// Forgets all but the first so many records.
-    fn forget_after(&mut self, count: usize)
+    fn truncate(&mut self, count: usize)
         ensures rows { self.new.rows ≡ take count self.old.rows }
         ensures beside { (records : List Placed) → L.keeps self.old.beside records → L.keeps self.new.beside
             (take count records) }
     {
         self.rows.truncate(count);
-        self.beside.forget_after(count);
+        self.beside.truncate(count);
     }
 
     /// Reads a head, behind which a block of so many bytes begins at an offset.
@@ -293,12 +293,12 @@ fn take_piece<A: Allocator + Copy, L: Keep<A> + Drop>(
 fn read_near<S: Source>(source: &mut S, at: u64, buf: &mut [u8]) -> Result<usize, ReadFault>
     requires { at ≤ 2 ^ 48 }
     ensures bound { IfOk result (λ n. n ≤ length buf.new) }
-    ensures bytes { (bytes : List ℕ) → (S.tapped source.old).holds ≡ Some bytes
+    ensures bytes { (bytes : List ℕ) → (S.seen source.old).holds ≡ Some bytes
         → IfOk result (Gives bytes at buf.new) }
-    ensures read { IsReadAt at (min (max_archive + 1 - at) (length buf.old)) (is_err result) (S.tapped source.old)
-        (S.tapped source.new) }
+    ensures read { IsReadAt at (min (max_archive + 1 - at) (length buf.old)) (is_err result) (S.seen source.old)
+        (S.seen source.new) }
     ensures near { IfOk result (λ n. at + n ≤ 2 ^ 48 + 1) }
-    ensures order { GoesOn at result (S.tapped source.old) (S.tapped source.new) }
+    ensures order { GoesOn at result (S.seen source.old) (S.seen source.new) }
 {
     let room = (MAX_ARCHIVE + 1 - at).min(buf.len() as u64) as usize;
     source.read_at(at, &mut buf[..room])
@@ -315,15 +315,15 @@ fn read_through<S: Source, A: Allocator + Copy, L: Keep<A> + Drop>(
     requires limit { reading.old.begin ≤ 2 ^ 48 }
     requires begin { (bytes : List ℕ) → IsArchiveOf bytes reading.old.rows → reading.old.begin ≡ length bytes }
     requires current { reading.old.current ≡ None }
-    ensures grows { Grows (IsKeptOf L.keeps) (reading.old.rows, reading.old.beside) (S.tapped source.old)
-        (S.tapped source.new) (grown result (reading.new.rows, reading.new.beside)) }
+    ensures grows { Grows (IsKeptOf L.keeps) (reading.old.rows, reading.old.beside) (S.seen source.old)
+        (S.seen source.new) (grown result (reading.new.rows, reading.new.beside)) }
     ensures rows { Extends reading.old.rows reading.new.rows }
     ensures left { (bytes : List ℕ) (is : IsKeptOf L.keeps bytes (reading.old.rows, reading.old.beside))
         → OnErr result (IsLeft L.keeps is.listed.are.records reading.new.beside) }
     ensures stops { (bytes more : List ℕ) → IsKeptOf L.keeps bytes (reading.old.rows, reading.old.beside) →
-        (S.tapped source.old).holds ≡ Some (bytes ++ more) → IfErr result (λ f. IsLongestFront (take (reach_of f)
+        (S.seen source.old).holds ≡ Some (bytes ++ more) → IfErr result (λ f. IsLongestFront (take (reach_of f)
         (bytes ++ more)) reading.new.rows) }
-    ensures order { InOrder reading.old.begin (S.tapped source.old) (S.tapped source.new) }
+    ensures order { InOrder reading.old.begin (S.seen source.old) (S.seen source.new) }
 {
     let mut decoder = Decoder::new(alloc, reading.begin);
     'reading: loop {
@@ -348,13 +348,13 @@ pub fn read_on<S: Source, A: Allocator + Copy, L: Keep<A> + Drop>(
     rows: Rows<A>,
     beside: L,
 ) -> (Result<(), Fault>, Rows<A>, L)
-    ensures grows { Grows (IsKeptOf L.keeps) (rows, beside) (S.tapped source.old) (S.tapped source.new) (grown result.0
+    ensures grows { Grows (IsKeptOf L.keeps) (rows, beside) (S.seen source.old) (S.seen source.new) (grown result.0
         (result.1, result.2)) }
     ensures rows { OnErr result.0 (result.1 ≡ rows) }
     ensures beside { (bytes : List ℕ) → IsKeptOf L.keeps bytes (rows, beside)
         → OnErr result.0 (IsKeptOf L.keeps bytes (result.1, result.2)) }
     ensures order { (bytes : List ℕ) → IsArchiveOf bytes rows
-        → InOrder (length bytes) (S.tapped source.old) (S.tapped source.new) }
+        → InOrder (length bytes) (S.seen source.old) (S.seen source.new) }
 {
     let begin = rows.end();
     let Ok(mut buf) = vec![in alloc; 0u8; PIECE] else {
@@ -365,7 +365,7 @@ pub fn read_on<S: Source, A: Allocator + Copy, L: Keep<A> + Drop>(
     match read_through(alloc, source, &mut buf, &mut reading) {
         Ok(()) => (Ok(()), reading.rows, reading.beside),
         Err(fault) => {
-            reading.forget_after(count);
+            reading.truncate(count);
             (Err(fault), reading.rows, reading.beside)
         }
     }
@@ -377,14 +377,14 @@ pub fn read_front<S: Source, A: Allocator + Copy>(
     alloc: A,
     source: &mut S,
 ) -> (Result<(), Fault>, Rows<A>)
-    ensures opens { Opens IsArchiveOf (S.tapped source.old) (S.tapped source.new) (grown result.0 result.1) }
-    ensures front { IfHeld (S.tapped source.old).holds (λ bytes. AreFrontRows bytes result.0 result.1) }
-    ensures order { InOrder 0 (S.tapped source.old) (S.tapped source.new) }
+    ensures opens { Opens IsArchiveOf (S.seen source.old) (S.seen source.new) (grown result.0 result.1) }
+    ensures front { IfHeld (S.seen source.old).holds (λ bytes. AreFrontRows bytes result.0 result.1) }
+    ensures order { InOrder 0 (S.seen source.old) (S.seen source.new) }
 {
     let Ok(mut buf) = vec![in alloc; 0u8; PIECE] else {
         return (Err(FaultKind::Memory.at(0)), Rows::new(alloc));
     };
-    let mut reading = Reading::behind(Rows::new(alloc), Nothing);
+    let mut reading = Reading::behind(Rows::new(alloc), RowsAlone);
     let answer = read_through(alloc, source, &mut buf, &mut reading);
     (answer, reading.rows)
 }

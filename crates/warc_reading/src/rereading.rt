@@ -1,12 +1,13 @@
 //! The heads of records, read again through the source.
-ghost use Rattle.std.specs.Prelude.{◌≡◌, ℕ, ◌+◌, ◌-◌, ◌<◌, ◌≤◌, List, [], ◌∷◌, length, Ok, Some, None, IfOk, IfErr, IfSome, OnOk, MatchResult};
+ghost use Rattle.std.specs.Prelude.{◌≡◌, ℕ, ◌+◌, ◌≤◌, [], ◌∷◌, length, Ok, Some, None, IfOk, IfSome, MatchResult};
+ghost use Rattle.warc_frame.specs.Effects.{FailsBy};
 ghost use Rattle.warc_frame.specs.Reading.{any_fields, head_of};
 ghost use Rattle.warc_frame.specs.Record.{Record, max_head};
+ghost use Rattle.warc_frame.specs.Seen.{IfHeld};
 ghost use Rattle.warc_record.specs.Heads.{head_fault};
 ghost use Rattle.warc_record.specs.Readings.{reading_of};
 ghost use Rattle.warc_record.specs.Seen.{said};
-ghost use Rattle.warc_reading.specs.Rereading.{HasFailed, HasHead, IsHeadBy, IsHeadReadOf, MayHaveFailed, ReadsHeads, ended_by, reread_fault_of};
-ghost use Rattle.warc_reading.specs.Row.{Placed, row_of};
+ghost use Rattle.warc_reading.specs.Rereading.{HasHeadOf, IsHeadBy, IsHeadReadOf, ReadsHeads, ended_by, reread_fault_of, reread_result};
 
 use crate::rows::Row;
 use std::alloc::{AllocError, Allocator};
@@ -117,26 +118,19 @@ pub fn reread_head<S: Source, A: Allocator + Copy>(
     buf: &mut [u8],
 ) -> Result<Head<A>, RereadFault>
     requires { max_head ≤ length buf.old }
-    ensures read { (bytes : List ℕ) (p : Placed) → (S.tapped source.old).holds ≡ Some bytes → HasHead bytes p → row.now
-        ≡ row_of p → IfOk result (IsHeadReadOf p.content) }
+    ensures read { IfHeld (S.seen source.old).holds (λ bytes. (is : HasHeadOf row.now bytes) →
+        IfOk result (IsHeadReadOf is.placed.content)) }
     ensures whole { IfOk result (λ h. IsHeadBy row.now h.fields) }
-    ensures order { OnOk result (row.now.offset ≤ row.now.block_start) }
-    ensures kept { (S.tapped source.new).holds ≡ (S.tapped source.old).holds }
-    ensures sound { OnOk result ((S.tapped source.new).faults ≡ (S.tapped source.old).faults) }
-    ensures heads { ReadsHeads (row.now ∷ []) (S.tapped source.old) (S.tapped source.new) }
-    ensures may { IfErr result (λ e. MayHaveFailed e (S.tapped source.old).faults (S.tapped source.new).faults) }
-
-    // Over bytes that hold the head it stops for a failed read or for want of memory alone.
-    ensures failed { (bytes : List ℕ) (p : Placed) → (S.tapped source.old).holds ≡ Some bytes → HasHead bytes p →
-        row.now ≡ row_of p → IfErr result (λ e. HasFailed e (S.tapped source.old).faults
-        (S.tapped source.new).faults) }
+    ensures reads { ReadsHeads (row.now ∷ []) (S.seen source.old) (S.seen source.new) }
+    ensures fails { FailsBy (HasHeadOf row.now) (reread_result result) (S.seen source.old) (S.seen source.new) }
 {
     let Some(len) = head_len(row, buf.len()) else {
         return Err(RereadFault::Read);
     };
     let text = &mut buf[..len];
-    if read_range(source, row.offset, text).is_err() {
-        return Err(RereadFault::Read);
+    match read_range(source, row.offset, text) {
+        Ok(()) => {}
+        Err(_) => return Err(RereadFault::Read),
     }
     head_in(alloc, text, row.block_len)
 }
@@ -151,18 +145,11 @@ pub fn read_again<S: Source, A: Allocator + Copy>(
 ) -> Result<Reread<A>, RereadFault>
     requires { max_head ≤ length buf.old }
     ensures said { IfOk result (λ x. said x.typed ≡ reading_of x.fields) }
+    ensures read { IfHeld (S.seen source.old).holds (λ bytes. (is : HasHeadOf row.now bytes) →
+        IfOk result (λ x. x.fields ≡ is.placed.content.fields)) }
     ensures whole { IfOk result (λ x. IsHeadBy row.now x.fields) }
-    ensures read { (bytes : List ℕ) (p : Placed) → (S.tapped source.old).holds ≡ Some bytes → HasHead bytes p → row.now
-        ≡ row_of p → IfOk result (λ x. x.fields ≡ p.content.fields) }
-    ensures kept { (S.tapped source.new).holds ≡ (S.tapped source.old).holds }
-    ensures sound { OnOk result ((S.tapped source.new).faults ≡ (S.tapped source.old).faults) }
-    ensures heads { ReadsHeads (row.now ∷ []) (S.tapped source.old) (S.tapped source.new) }
-    ensures may { IfErr result (λ e. MayHaveFailed e (S.tapped source.old).faults (S.tapped source.new).faults) }
-
-    // Over bytes that hold the head it stops for a failed read or for want of memory alone.
-    ensures failed { (bytes : List ℕ) (p : Placed) → (S.tapped source.old).holds ≡ Some bytes → HasHead bytes p →
-        row.now ≡ row_of p → IfErr result (λ e. HasFailed e (S.tapped source.old).faults
-        (S.tapped source.new).faults) }
+    ensures reads { ReadsHeads (row.now ∷ []) (S.seen source.old) (S.seen source.new) }
+    ensures fails { FailsBy (HasHeadOf row.now) (reread_result result) (S.seen source.old) (S.seen source.new) }
 {
     let head = match reread_head(alloc, source, row, buf) {
         Ok(head) => head,

@@ -17,7 +17,7 @@ use Rattle.warc_segment.specs.declared.fault.JoinFault.TheVariants.{Gap as IsGap
 use Rattle.warc_segment.specs.Joining.{IsJoin}
 use Rattle.warc_segment.specs.declared.gap.Gap.{Gap}
 use Rattle.warc_segment.specs.declared.place.Place.{Place}
-use Rattle.warc_segment.specs.declared.held.Facts.{Facts}
+use Rattle.warc_segment.specs.declared.held.TotalAndPlace.{TotalAndPlace}
 use Rattle.warc_segment.specs.declared.series.Continuation.{Continuation}
 use Rattle.warc_segment.specs.Series.{Member, series_of}
 use Rattle.warc_segment.specs.Gaps.{gap_of, followers, unless_gap, joined}
@@ -42,10 +42,10 @@ blank = record {
 
 -- ---- the numbers of a series
 
-no_facts : Facts
+no_facts : TotalAndPlace
 no_facts = record { total = None; place = record { start = 0; len = 0; verdict = Unchecked; truncated = false } }
 
-from_two : (p : ℕ) (es : List Entry) (fs : List Facts) → AreHeld p es fs → (m : KeptMember)
+from_two : (p : ℕ) (es : List Entry) (fs : List TotalAndPlace) → AreHeld p es fs → (m : KeptMember)
     → Contains (side_by_side es fs) m → 2 ≤ m.number
 from_two p es fs held m at =
     let first : slice_get (side_by_side es fs) at.0 ≡ Some m =
@@ -58,7 +58,7 @@ from_two p es fs held m at =
     let two : 2 ≤ (entry_at es at.0).mark.minor = (held.numbered at.0 no_entry within).1 in
     omega arith
 
-pub ordered_series : (p : ℕ) (id : List ℕ) (es : List Entry) (fs : List Facts) (series : List Continuation)
+pub ordered_series : (p : ℕ) (id : List ℕ) (es : List Entry) (fs : List TotalAndPlace) (series : List Continuation)
     → AreHeld p es fs → IsWholeSeries id (side_by_side es fs) series → AreOrdered (numbers_in series)
 ordered_series p id es fs series held whole =
     let len : length (numbers_in series) ≡ length series = length_in series in
@@ -90,7 +90,7 @@ ordered_series p id es fs series held whole =
 
 -- ---- the series as the definition has it
 
-distinct_kept : (p : KeptMember → Bool) (es : List Entry) (fs : List Facts) → length fs ≡ length es
+distinct_kept : (p : KeptMember → Bool) (es : List Entry) (fs : List TotalAndPlace) → length fs ≡ length es
     → AllPairs (λ (a b : Entry). a.position < b.position) es
     → Distinct (map member_kept (filter p (side_by_side es fs)))
 distinct_kept p [] fs same rising = tt
@@ -143,7 +143,7 @@ of_id id origin hit = sym ((bytes_eq-Decides id origin).0 hit)
 id_of : (id origin : List ℕ) → origin ≡ id → bytes_eq id origin ≡ true
 id_of id origin is = (bytes_eq-Decides id origin).1 (sym is)
 
-same_members : (p : ℕ) (id : List ℕ) (es : List Entry) (fs : List Facts) (series : List Continuation)
+same_members : (p : ℕ) (id : List ℕ) (es : List Entry) (fs : List TotalAndPlace) (series : List Continuation)
     → AreHeld p es fs
     → IsWholeSeries id (side_by_side es fs) series
     → AreSame (map member_kept (filter (is_of id) (side_by_side es fs))) (members_of series)
@@ -192,7 +192,7 @@ places_found id all (c ∷ series) kept =
 
 -- ---- the join
 
-joined_by : (p : ℕ) (id : List ℕ) (size : ℕ) (es : List Entry) (fs : List Facts) (series : List Continuation)
+joined_by : (p : ℕ) (id : List ℕ) (size : ℕ) (es : List Entry) (fs : List TotalAndPlace) (series : List Continuation)
     (all : List PlacedRecord) → AreHeld p es fs → held_in p es fs ≡ kept_in all
     → IsWholeSeries id (side_by_side es fs) series
     → joined (Number 1) size (series_of (Some id) (map piece_placed all))
@@ -204,7 +204,7 @@ joined_by p id size es fs series all held was whole =
     ∙ joined_same size (map member_kept (filter (is_of id) (side_by_side es fs))) (members_of series)
     (same_members p id es fs series held whole)
 
-pub joined_ok : (p : ℕ) (r : PlacedRecord) (id : List ℕ) (es : List Entry) (fs : List Facts)
+pub joined_ok : (p : ℕ) (r : PlacedRecord) (id : List ℕ) (es : List Entry) (fs : List TotalAndPlace)
     (series : List Continuation) (all : List PlacedRecord) → AreHeld p es fs → held_in p es fs ≡ kept_in all
     → r.head.id ≡ Some id → r.head.segment.number ≡ Number 1 → IsWholeSeries id (side_by_side es fs) series
     → gap_of r.place.len (members_of series) ≡ None → followers (members_of series) ≡ members_of series
@@ -223,7 +223,7 @@ joined_ok p r id es fs series all held was named one whole none follow =
     (places_found id all series (subst (λ (ms : List KeptMember). All
     (IsKeptAs id ms) series) members whole.some.kept))))))
 
-pub joined_err : (p : ℕ) (r : PlacedRecord) (id : List ℕ) (es : List Entry) (fs : List Facts)
+pub joined_err : (p : ℕ) (r : PlacedRecord) (id : List ℕ) (es : List Entry) (fs : List TotalAndPlace)
     (series : List Continuation) (all : List PlacedRecord) (gap : Gap) → AreHeld p es fs
     → held_in p es fs ≡ kept_in all
     → r.head.id ≡ Some id → r.head.segment.number ≡ Number 1 → IsWholeSeries id (side_by_side es fs) series
@@ -238,7 +238,7 @@ joined_err p r id es fs series all gap held was named one whole some =
     ∙ ap (λ (o : Option Gap). with_members places r.place (unless_gap o (members_of series))) some))
 
 -- what is refused, where the series was
-pub joined_fault : {A : Type 0} (p : ℕ) (r : PlacedRecord) (id : List ℕ) (es : List Entry) (fs : List Facts)
+pub joined_fault : {A : Type 0} (p : ℕ) (r : PlacedRecord) (id : List ℕ) (es : List Entry) (fs : List TotalAndPlace)
     (all : List PlacedRecord) (o : Result (Vec Place A) JoinFault) (s : Result (Vec Continuation A) JoinFault)
     (fault : JoinFault) → AreHeld p es fs → held_in p es fs ≡ kept_in all → r.head.id ≡ Some id
     → r.head.segment.number ≡ Number 1 → o ≡ Err fault → s ≡ Err fault

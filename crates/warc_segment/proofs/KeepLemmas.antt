@@ -10,7 +10,7 @@ use Rattle.std.proofs.lemmas.List.Elements.{filter_map-append, All-cons, All-hea
 use Rattle.std.proofs.lemmas.List.Sums.{sum_by-cons, length-filter, count_by-le-length}
 use Rattle.warc_order.specs.Entries.{Entry}
 use Rattle.warc_record.specs.Kinds.{is_continuation}
-use Rattle.warc_segment.specs.declared.held.Facts.{Facts}
+use Rattle.warc_segment.specs.declared.held.TotalAndPlace.{TotalAndPlace}
 use Rattle.warc_segment.specs.Joined.{PlacedRecord}
 use Rattle.warc_segment.specs.Kept.{KeptMember, Kept, kept_of, kept_in}
 use Rattle.warc_segment.specs.Held.{kept_from, side_by_side, AreHeld, held_in}
@@ -43,7 +43,7 @@ members_more all r =
     ∙ ap (λ (k : ℕ). filter_map kept_of (enumerate_from 0 all) ++ option_to_list (kept_of (k, r))) z))
 
 -- what is held of so many records, one more
-pub kept_more : (count : ℕ) (es es' : List Entry) (fs fs' : List Facts) (all : List PlacedRecord) (r : PlacedRecord)
+pub kept_more : (count : ℕ) (es es' : List Entry) (fs fs' : List TotalAndPlace) (all : List PlacedRecord) (r : PlacedRecord)
     → held_in count es fs ≡ kept_in all
     → side_by_side es' fs' ≡ side_by_side es fs ++ option_to_list (kept_of (count, r))
     → held_in (count + 1) es' fs' ≡ kept_in (all ++ r ∷ [])
@@ -143,7 +143,7 @@ front_is_early n (e ∷ es) rising = elim (cases_lt e.position n) [
       none ∙ sym (ap (λ (l : List Entry). take (length l) (e ∷ es)) none)
 ]
 
-late_side : (n : ℕ) (es : List Entry) (fs : List Facts) → All (λ e. n ≤ e.position) es
+late_side : (n : ℕ) (es : List Entry) (fs : List TotalAndPlace) → All (λ e. n ≤ e.position) es
     → filter (early n) (side_by_side es fs) ≡ []
 late_side n [] fs late = refl
 late_side n (e ∷ es) [] late = refl
@@ -152,7 +152,7 @@ late_side n (e ∷ es) (f ∷ fs) late =
     filter_miss (early n) (kept_from e f) (side_by_side es fs) (is_late n e.position (kept_from e f) refl le)
     ∙ late_side n es fs (All-tail (λ (x : Entry). n ≤ x.position) e es late)
 
-early_side : (n : ℕ) (es : List Entry) (fs : List Facts) → length fs ≡ length es
+early_side : (n : ℕ) (es : List Entry) (fs : List TotalAndPlace) → length fs ≡ length es
     → AllPairs (λ (a b : Entry). a.position < b.position) es
     → side_by_side (filter (before_n n) es) (take (length (filter (before_n n) es)) fs)
     ≡ filter (early n) (side_by_side es fs)
@@ -199,7 +199,7 @@ rising_take (suc k) (e ∷ es) rising (suc i) (suc j) d less within =
     rising_take k es (rising_tail e es rising) i j d (omega arith) (omega arith)
 
 -- what is held of the first records
-pub held_front : (n count : ℕ) (es es' : List Entry) (fs fs' : List Facts) (len : ℕ) → AreHeld count es fs
+pub held_front : (n count : ℕ) (es es' : List Entry) (fs fs' : List TotalAndPlace) (len : ℕ) → AreHeld count es fs
     → es' ≡ filter (before_n n) es → len ≡ length es' → fs' ≡ take len fs → AreHeld n es' fs'
 held_front n count es es' fs fs' len held to_es is to_fs =
     let cut : List Entry = filter (before_n n) es in
@@ -219,7 +219,7 @@ held_front n count es es' fs fs' len held to_es is to_fs =
     } in
     subst (AreHeld n es') (sym to_fs) (subst (λ (xs : List Entry). AreHeld n xs (take len fs)) (sym to_es) front)
 
-pub kept_front : (n count : ℕ) (es es' : List Entry) (fs fs' : List Facts) (len : ℕ) (all : List PlacedRecord)
+pub kept_front : (n count : ℕ) (es es' : List Entry) (fs fs' : List TotalAndPlace) (len : ℕ) (all : List PlacedRecord)
     → AreHeld count es fs → n < count → es' ≡ filter (before_n n) es → len ≡ length es' → fs' ≡ take len fs
     → held_in count es fs ≡ kept_in all → held_in n es' fs' ≡ kept_in (take n all)
 kept_front n count es es' fs fs' len all held less to_es is to_fs was =
@@ -235,7 +235,7 @@ kept_front n count es es' fs fs' len all held less to_es is to_fs was =
     λ i. record { count = short i; members = mem i }
 
 -- all records, where no fewer are to be kept
-pub kept_whole : (n count : ℕ) (es : List Entry) (fs : List Facts) (all : List PlacedRecord) → count ≤ n
+pub kept_whole : (n count : ℕ) (es : List Entry) (fs : List TotalAndPlace) (all : List PlacedRecord) → count ≤ n
     → held_in count es fs ≡ kept_in all → held_in count es fs ≡ kept_in (take n all)
 kept_whole n count es fs all le was =
     let c : count ≡ length all = ap (λ (k : Kept). k.count) was in
@@ -243,7 +243,7 @@ kept_whole n count es fs all le was =
 
 -- ---- the bytes of the keys
 
-pub bytes_of : (es : List Entry) (fs : List Facts) → length fs ≡ length es
+pub bytes_of : (es : List Entry) (fs : List TotalAndPlace) → length fs ≡ length es
     → sum_by (λ e. length e.text) es ≡ sum_by (λ m. length m.origin) (side_by_side es fs)
 bytes_of [] fs same = refl
 bytes_of (e ∷ es) [] same = absurd (omega arith)

@@ -11,7 +11,7 @@ use Rattle.std.proofs.lemmas.Option.{slice_get-get_or, slice_get_within, get_or_
 use Rattle.warc_order.specs.declared.Found.{Found}
 use Rattle.warc_order.specs.declared.mark.Mark.{Mark}
 use Rattle.warc_order.specs.Entries.{Entry, entry_at, no_entry, mark_lt, comes_later, IsFrom, IsAfter, IsFirst, IsNone}
-use Rattle.warc_segment.specs.declared.held.Facts.{Facts}
+use Rattle.warc_segment.specs.declared.held.TotalAndPlace.{TotalAndPlace}
 use Rattle.warc_segment.specs.declared.series.Continuation.{Continuation}
 use Rattle.warc_segment.specs.Kept.{KeptMember}
 use Rattle.warc_segment.specs.Held.{kept_from, side_by_side, AreHeld, continuation_of, ComesBefore, IsKeptAs, AreInSeries, IsWholeSeries, positions_of, IsBehind, IsNext, IsDone}
@@ -83,21 +83,21 @@ none_at_start id es none e at text = absurd (none e at (record { text_is = text;
 entry_stands : (es : List Entry) (i : ℕ) → i < length es → Contains es (entry_at es i)
 entry_stands es i within = Contains-get_or es i no_entry within
 
-low : (p : ℕ) (es : List Entry) (fs : List Facts) → AreHeld p es fs → (e : Entry) → Contains es e → e.mark.major ≡ 0
+low : (p : ℕ) (es : List Entry) (fs : List TotalAndPlace) → AreHeld p es fs → (e : Entry) → Contains es e → e.mark.major ≡ 0
 low p es fs held e at =
     (All-contains (λ (x : Entry). (x.mark.major ≡ 0) × (2 ≤ x.mark.minor)) es e held.numbered at).0
 
 -- a continuation is what the entry at a place is
-pub record IsEntry (es : List Entry) (fs : List Facts) (i : ℕ) (c : Continuation) : Type 0 where
-  pub facts : Facts
+pub record IsEntry (es : List Entry) (fs : List TotalAndPlace) (i : ℕ) (c : Continuation) : Type 0 where
+  pub facts : TotalAndPlace
   pub stands : slice_get (side_by_side es fs) i ≡ Some (kept_from (entry_at es i) facts)
   pub is : c ≡ continuation_of (kept_from (entry_at es i) facts)
 
-number_of : (es : List Entry) (fs : List Facts) (i : ℕ) (c : Continuation) → IsEntry es fs i c
+number_of : (es : List Entry) (fs : List TotalAndPlace) (i : ℕ) (c : Continuation) → IsEntry es fs i c
     → c.number ≡ (entry_at es i).mark.minor
 number_of es fs i c entry = ap (λ (x : Continuation). x.number) entry.is
 
-position_of : (es : List Entry) (fs : List Facts) (i : ℕ) (c : Continuation) → IsEntry es fs i c
+position_of : (es : List Entry) (fs : List TotalAndPlace) (i : ℕ) (c : Continuation) → IsEntry es fs i c
     → c.position ≡ (entry_at es i).position
 position_of es fs i c entry = ap (λ (x : Continuation). x.position) entry.is
 
@@ -111,7 +111,7 @@ behind_next e c d number position is = record {
 kept_stands : (members : List KeptMember) (k : ℕ) (m : KeptMember) → slice_get members k ≡ Some m → Contains members m
 kept_stands members k m at = (k, slice_get_within members k m at, get_or_from_slice_get members k m m at)
 
-pub one_further : (id : List ℕ) (es : List Entry) (fs : List Facts) (series : List Continuation) (i : ℕ)
+pub one_further : (id : List ℕ) (es : List Entry) (fs : List TotalAndPlace) (series : List Continuation) (i : ℕ)
     (c : Continuation) → AreInSeries id (side_by_side es fs) series → IsNext id es series i → IsEntry es fs i c
     → AreInSeries id (side_by_side es fs) (series ++ c ∷ [])
 one_further id es fs series i c some next entry = record {
@@ -144,7 +144,7 @@ met_now series c p is =
     ∷ [])) is (Contains-push (positions_of series) c.position))
 
 -- an entry that isn't there yet is the next one, or comes after it
-left_over : (p : ℕ) (id : List ℕ) (es : List Entry) (fs : List Facts) (series : List Continuation) (i : ℕ)
+left_over : (p : ℕ) (id : List ℕ) (es : List Entry) (fs : List TotalAndPlace) (series : List Continuation) (i : ℕ)
     (c : Continuation) → AreHeld p es fs → IsNext id es series i → IsEntry es fs i c
     → (e : Entry) → Contains es e → e.text ≡ id
     → Contains (positions_of (series ++ c ∷ [])) e.position ⊎ (comes_later e (entry_at es i) ≡ true)
@@ -166,7 +166,7 @@ left_over p id es fs series i c held next entry e at text = elim (next.rest e at
   ]
 ]
 
-pub goes_on : (p : ℕ) (id : List ℕ) (es : List Entry) (fs : List Facts) (series : List Continuation) (i j : ℕ)
+pub goes_on : (p : ℕ) (id : List ℕ) (es : List Entry) (fs : List TotalAndPlace) (series : List Continuation) (i j : ℕ)
     (c : Continuation) → AreHeld p es fs → IsNext id es series i → IsEntry es fs i c → j < length es
     → IsFirst es (IsAfter (entry_at es i)) (entry_at es j) → IsNext id es (series ++ c ∷ []) j
 goes_on p id es fs series i j c held next entry within first =
@@ -201,7 +201,7 @@ goes_on p id es fs series i j c held next entry within first =
       ];
     }
 
-pub ends : (p : ℕ) (id : List ℕ) (es : List Entry) (fs : List Facts) (series : List Continuation) (i : ℕ)
+pub ends : (p : ℕ) (id : List ℕ) (es : List Entry) (fs : List TotalAndPlace) (series : List Continuation) (i : ℕ)
     (c : Continuation) → AreHeld p es fs → IsNext id es series i → IsEntry es fs i c
     → IsNone es (IsAfter (entry_at es i)) → IsDone id es (series ++ c ∷ [])
 ends p id es fs series i c held next entry none e at text =
@@ -212,7 +212,7 @@ ends p id es fs series i c held next entry none e at text =
 
 -- ---- the walk ends
 
-length_side : (es : List Entry) (fs : List Facts) → length fs ≡ length es → length (side_by_side es fs) ≡ length es
+length_side : (es : List Entry) (fs : List TotalAndPlace) → length fs ≡ length es → length (side_by_side es fs) ≡ length es
 length_side [] fs same = refl
 length_side (e ∷ es) [] same = absurd (omega arith)
 length_side (e ∷ es) (f ∷ fs) same =
@@ -241,7 +241,7 @@ distinct_series (c ∷ series) ordered = (
 )
 
 -- fewer are there than there are entries, as long as one is left
-pub one_left : (id : List ℕ) (es : List Entry) (fs : List Facts) (series : List Continuation) (i : ℕ) (g : Facts)
+pub one_left : (id : List ℕ) (es : List Entry) (fs : List TotalAndPlace) (series : List Continuation) (i : ℕ) (g : TotalAndPlace)
     → length fs ≡ length es → AreInSeries id (side_by_side es fs) series → IsNext id es series i
     → length series < length es
 one_left id es fs series i g same some next =
@@ -280,7 +280,7 @@ one_left id es fs series i g same some next =
 -- ---- all are met
 
 -- the entry of a kept one
-pub entry_of : (es : List Entry) (fs : List Facts) (k : ℕ) (m : KeptMember) → length fs ≡ length es
+pub entry_of : (es : List Entry) (fs : List TotalAndPlace) (k : ℕ) (m : KeptMember) → length fs ≡ length es
     → slice_get (side_by_side es fs) k ≡ Some m → (k < length es) × (m.position ≡ (entry_at es k).position)
     × (m.origin ≡ (entry_at es k).text)
 entry_of [] fs k m same at = absurd (cc)
@@ -293,7 +293,7 @@ entry_of (e ∷ es) (f ∷ fs) (suc k) m same at =
     (omega (arith, later.0), later.1, later.2)
 
 -- kept ones of one position are one
-one_place : (p : ℕ) (es : List Entry) (fs : List Facts) (m n : KeptMember) → AreHeld p es fs
+one_place : (p : ℕ) (es : List Entry) (fs : List TotalAndPlace) (m n : KeptMember) → AreHeld p es fs
     → Contains (side_by_side es fs) m → Contains (side_by_side es fs) n → m.position ≡ n.position → m ≡ n
 one_place p es fs m n held at there same =
     let members : List KeptMember = side_by_side es fs in
@@ -318,7 +318,7 @@ one_place p es fs m n held at there same =
       ]
     ]
 
-pub whole : (p : ℕ) (id : List ℕ) (es : List Entry) (fs : List Facts) (series : List Continuation) → AreHeld p es fs
+pub whole : (p : ℕ) (id : List ℕ) (es : List Entry) (fs : List TotalAndPlace) (series : List Continuation) → AreHeld p es fs
     → AreInSeries id (side_by_side es fs) series → IsDone id es series
     → IsWholeSeries id (side_by_side es fs) series
 whole p id es fs series held some done = record {
@@ -354,7 +354,7 @@ first_step id es None within first none series empty =
 first_step id es (Some found) within first none series empty =
     subst (λ (s : List Continuation). Waits id es s (Some found)) (sym empty) (starts id es found.index within first)
 
-pub next_step : (p : ℕ) (id : List ℕ) (es : List Entry) (fs : List Facts) (series after : List Continuation) (i : ℕ)
+pub next_step : (p : ℕ) (id : List ℕ) (es : List Entry) (fs : List TotalAndPlace) (series after : List Continuation) (i : ℕ)
     (c : Continuation) (o : Option Found) → AreHeld p es fs → IsNext id es series i → IsEntry es fs i c
     → after ≡ series ++ c ∷ [] → IfSome o (λ found. found.index < length es)
     → IfSome o (λ found. IsFirst es (IsAfter (entry_at es i)) (entry_at es found.index))

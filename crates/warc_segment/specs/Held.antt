@@ -4,13 +4,13 @@ use Rattle.std.specs.declared.vec.Vec.{Vec}
 use Rattle.warc_order.specs.Entries.{Entry, entry_at, comes_later}
 use Rattle.warc_segment.specs.declared.fault.JoinFault.{JoinFault}
 use Rattle.warc_segment.specs.declared.fault.JoinFault.TheVariants.{Gap as IsGap, Memory}
-use Rattle.warc_segment.specs.declared.held.Facts.{Facts}
+use Rattle.warc_segment.specs.declared.held.TotalAndPlace.{TotalAndPlace}
 use Rattle.warc_segment.specs.declared.series.Continuation.{Continuation}
 use Rattle.warc_segment.specs.Gaps.{gap_of, followers}
 use Rattle.warc_segment.specs.Ordered.{members_of}
 use Rattle.warc_segment.specs.Kept.{KeptMember, Kept}
 
-abbrev pub kept_from : Entry → Facts → KeptMember
+abbrev pub kept_from : Entry → TotalAndPlace → KeptMember
 kept_from e f = record {
   origin = e.text;
   position = e.position;
@@ -19,13 +19,13 @@ kept_from e f = record {
   place = f.place;
 }
 
-abbrev pub side_by_side : List Entry → List Facts → List KeptMember
+abbrev pub side_by_side : List Entry → List TotalAndPlace → List KeptMember
 side_by_side [] fs = []
 side_by_side (e ∷ es) [] = []
 side_by_side (e ∷ es) (f ∷ fs) = kept_from e f ∷ side_by_side es fs
 
 -- the entries of the first `count` records, and as many facts
-pub record AreHeld (count : ℕ) (es : List Entry) (fs : List Facts) : Type 0 where
+pub record AreHeld (count : ℕ) (es : List Entry) (fs : List TotalAndPlace) : Type 0 where
   pub same : length fs ≡ length es
   pub before : All (λ e. e.position < count) es
   pub rising : AllPairs (λ a b. a.position < b.position) es
@@ -77,7 +77,7 @@ abbrev pub IsDone : List ℕ → List Entry → List Continuation → Type 0
 IsDone id es series = (e : Entry) → Contains es e → e.text ≡ id → Contains (positions_of series) e.position
 
 -- the parts of so many records
-abbrev pub held_in : ℕ → List Entry → List Facts → Kept
+abbrev pub held_in : ℕ → List Entry → List TotalAndPlace → Kept
 held_in count es fs = record { count = count; members = side_by_side es fs }
 
 -- the series of the record with the id and a block of this length, in the order of its numbers

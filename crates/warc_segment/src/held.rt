@@ -15,7 +15,7 @@ use warc_record::{Kind, SegmentNumber, Typed};
 
 /// What the order doesn't hold of a continuation.
 #[derive(Clone, Copy, Debug)]
-pub(crate) struct Facts {
+pub(crate) struct TotalAndPlace {
     /// The total that it states, in bytes.
     pub(crate) total: Option<u64>,
 
@@ -60,7 +60,7 @@ fn find_membership<A: Allocator>(typed: &Typed<A>) -> Option<Membership<'_>>
 /// Adds what is kept of the record at a position.
 pub(crate) fn put<A: Allocator + Copy>(
     order: &mut Order<A>,
-    facts: &mut Vec<Facts, A>,
+    facts: &mut Vec<TotalAndPlace, A>,
     position: usize,
     typed: &Typed<A>,
     place: Place,
@@ -83,7 +83,7 @@ pub(crate) fn put<A: Allocator + Copy>(
     };
     facts.reserve(1)?;
     order.add(member.origin, mark, position)?;
-    facts.push_reserved(Facts {
+    facts.push_reserved(TotalAndPlace {
         total: typed.segment.total,
         place,
     });
@@ -93,7 +93,7 @@ pub(crate) fn put<A: Allocator + Copy>(
 /// The continuation that an entry and its facts are.
 fn continuation_at<A: Allocator + Copy>(
     order: &Order<A>,
-    facts: &[Facts],
+    facts: &[TotalAndPlace],
     found: Found,
 ) -> Continuation
     requires found { found.index < length order.now }
@@ -116,7 +116,7 @@ fn continuation_at<A: Allocator + Copy>(
 pub(crate) fn series_of<A: Allocator + Copy>(
     alloc: A,
     order: &Order<A>,
-    facts: &[Facts],
+    facts: &[TotalAndPlace],
     id: &[u8],
 ) -> Result<Vec<Continuation, A>, AllocError>
     requires { (count : ℕ) × AreHeld count order.now facts.now }

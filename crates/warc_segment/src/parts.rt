@@ -7,7 +7,7 @@ ghost use Rattle.warc_segment.specs.Joining.{IsJoin};
 
 use crate::fault::JoinFault;
 use crate::gap::Gap;
-use crate::held::{Facts, put, series_of};
+use crate::held::{TotalAndPlace, put, series_of};
 use crate::place::Place;
 use crate::series::{Continuation, find_gap};
 use std::alloc::{AllocError, Allocator, Global};
@@ -21,7 +21,7 @@ use warc_record::{SegmentNumber, Typed};
 pub struct Parts<A: Allocator = Global> {
     count: usize,
     order: Order<A>,
-    facts: Vec<Facts, A>,
+    facts: Vec<TotalAndPlace, A>,
 }
 
 impl<A: Allocator> Model for Parts<A> {
@@ -39,7 +39,7 @@ impl<A: Allocator> Model for Parts<A> {
 fn whole_series<A: Allocator + Copy>(
     alloc: A,
     order: &Order<A>,
-    facts: &[Facts],
+    facts: &[TotalAndPlace],
     id: &[u8],
     size: u64,
 ) -> Result<Vec<Continuation, A>, JoinFault>
@@ -101,7 +101,7 @@ impl<A: Allocator + Copy> Parts<A> {
     }
 
     /// Keeps the first `count` records. It takes no memory.
-    pub fn forget_after(&mut self, count: usize)
+    pub fn truncate(&mut self, count: usize)
         ensures { (all : List PlacedRecord) → self.old ≡ kept_in all → self.new ≡ kept_in (take count all) }
     {
         if count < self.count {

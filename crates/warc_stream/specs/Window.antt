@@ -1,7 +1,7 @@
 -- What a source that is read through a window keeps, and what it asks. This project's own notion.
 use Rattle.std.specs.Prelude.{◌≡◌, ℕ, ◌-◌, ◌≤◌, ◌⊎◌, List, length, take, drop, min}
 use Rattle.warc_frame.specs.Count.{raised}
-use Rattle.warc_frame.specs.Seen.{Tapped}
+use Rattle.warc_frame.specs.Seen.{SeenSource}
 
 -- a source, the last piece that was read of it, the offset at which this begins, how many bytes a piece may have, how
 -- often the window was read, and the offset asked for last
@@ -24,10 +24,10 @@ pub record IsCopiedFront (bytes old new : List ℕ) (count : ℕ) : Type 0 where
   pub same : take count new ≡ take count bytes
 
 -- the source was read once, at this offset
-pub record IsAskedOnce (at : ℕ) (old new : Tapped) : Type 0 where
+pub record IsAskedOnce (at : ℕ) (old new : SeenSource) : Type 0 where
   pub counted : new.reads ≡ raised old.reads
   pub asked : new.asked ≡ at
 
 -- it wasn't read, or once
-abbrev pub IsAskedAtMostOnce : ℕ → Tapped → Tapped → Type 0
+abbrev pub IsAskedAtMostOnce : ℕ → SeenSource → SeenSource → Type 0
 IsAskedAtMostOnce at old new = (new ≡ old) ⊎ IsAskedOnce at old new

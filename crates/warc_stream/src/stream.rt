@@ -86,13 +86,13 @@ impl<R: Read> StreamSource<R> {
 }
 
 impl<R: Read> Source for StreamSource<R> {
-    ghost tapped = { λ s. record {
+    ghost seen = { λ s. record {
       holds = None;
       faults = s.faults;
       reads = s.reads;
       asked = s.asked;
       watches = λ _. false;
-      strays = 0;
+      watched_reads = 0;
       next = Some s.position;
       jumps = s.jumps;
     } };

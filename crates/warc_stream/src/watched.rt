@@ -26,7 +26,7 @@ impl<'a, S: Source, W: Watcher> WatchedSource<'a, S, W> {
 }
 
 impl<'a, S: Source, W: Watcher> Source for WatchedSource<'a, S, W> {
-    ghost tapped = { λ w. S.tapped w.source };
+    ghost seen = { λ w. S.seen w.source };
 
     /// It answers what the source answers.
     fn read_at(&mut self, at: u64, buf: &mut [u8]) -> Result<usize, ReadFault> {

@@ -43,7 +43,7 @@ impl<S: Source, A: Allocator> Model for WindowSource<S, A> {
     } };
 
     ghost invariant = { λ w. (w.len ≤ length w.buffer.items)
-        × IfHeld (S.tapped w.source).holds (λ bytes. IsPieceOf bytes w.from (take w.len w.buffer.items)) };
+        × IfHeld (S.seen w.source).holds (λ bytes. IsPieceOf bytes w.from (take w.len w.buffer.items)) };
 }
 
 /// Copies the front of the bytes into that of the buffer, as much as both allow, and returns how much that is.
@@ -87,7 +87,7 @@ impl<S: Source, A: Allocator + Copy> WindowSource<S, A> {
 
     /// The bytes of the piece from an offset on.
     fn rest(&self, at: u64) -> &[u8]
-        ensures there { IfHeld (S.tapped self.now.source).holds (λ bytes. IsPieceOf bytes at result.now) }
+        ensures there { IfHeld (S.seen self.now.source).holds (λ bytes. IsPieceOf bytes at result.now) }
         ensures whole { self.now.from ≡ at → result.now ≡ self.now.piece }
     {
         if at < self.from || at - self.from >= self.len as u64 {
@@ -98,10 +98,10 @@ impl<S: Source, A: Allocator + Copy> WindowSource<S, A> {
 
     /// Reads a new piece.
     fn fill(&mut self, at: u64) -> Result<(), ReadFault>
-        ensures read { IsReadAt at self.old.room (is_err result) (S.tapped self.old.source)
-            (S.tapped self.new.source) }
+        ensures read { IsReadAt at self.old.room (is_err result) (S.seen self.old.source)
+            (S.seen self.new.source) }
         ensures from { IfOk result (λ _. self.new.from ≡ at) }
-        ensures some { (bytes : List ℕ) → (S.tapped self.old.source).holds ≡ Some bytes
+        ensures some { (bytes : List ℕ) → (S.seen self.old.source).holds ≡ Some bytes
             → IfOk result (λ _. at < length bytes → 0 < self.old.room → 0 < length self.new.piece) }
         ensures reads { self.new.reads ≡ self.old.reads }
         ensures asked { self.new.asked ≡ self.old.asked }
@@ -115,12 +115,12 @@ impl<S: Source, A: Allocator + Copy> WindowSource<S, A> {
     /// Answers a read that doesn't begin in the piece.
     fn read_anew(&mut self, at: u64, buf: &mut [u8]) -> Result<usize, ReadFault>
         ensures bound { IfOk result (λ n. n ≤ length buf.new) }
-        ensures bytes { (bytes : List ℕ) → (S.tapped self.old.source).holds ≡ Some bytes
+        ensures bytes { (bytes : List ℕ) → (S.seen self.old.source).holds ≡ Some bytes
             → IfOk result (Gives bytes at buf.new) }
-        ensures once { IsAskedOnce at (S.tapped self.old.source) (S.tapped self.new.source) }
-        ensures kept { (S.tapped self.new.source).holds ≡ (S.tapped self.old.source).holds }
-        ensures cause { (S.tapped self.new.source).faults ≡ (if is_err result then
-            raised (S.tapped self.old.source).faults else (S.tapped self.old.source).faults) }
+        ensures once { IsAskedOnce at (S.seen self.old.source) (S.seen self.new.source) }
+        ensures kept { (S.seen self.new.source).holds ≡ (S.seen self.old.source).holds }
+        ensures cause { (S.seen self.new.source).faults ≡ (if is_err result then
+            raised (S.seen self.old.source).faults else (S.seen self.old.source).faults) }
         ensures reads { self.new.reads ≡ self.old.reads }
         ensures asked { self.new.asked ≡ self.old.asked }
     {
@@ -133,13 +133,13 @@ impl<S: Source, A: Allocator + Copy> WindowSource<S, A> {
 }
 
 impl<S: Source, A: Allocator + Copy> Source for WindowSource<S, A> {
-    ghost tapped = { λ w. record {
-      holds = (S.tapped w.source).holds;
-      faults = (S.tapped w.source).faults;
+    ghost seen = { λ w. record {
+      holds = (S.seen w.source).holds;
+      faults = (S.seen w.source).faults;
       reads = w.reads;
       asked = w.asked;
       watches = λ _. false;
-      strays = 0;
+      watched_reads = 0;
       next = None;
       jumps = 0;
     } };
@@ -148,12 +148,12 @@ impl<S: Source, A: Allocator + Copy> Source for WindowSource<S, A> {
     /// buffer is shorter than the window, for a new piece.
     fn read_at(&mut self, at: u64, buf: &mut [u8]) -> Result<usize, ReadFault>
         ensures bound { IfOk result (λ n. n ≤ length buf.new) }
-        ensures bytes { (bytes : List ℕ) → (S.tapped self.old.source).holds ≡ Some bytes
+        ensures bytes { (bytes : List ℕ) → (S.seen self.old.source).holds ≡ Some bytes
             → IfOk result (Gives bytes at buf.new) }
-        ensures once { IsAskedAtMostOnce at (S.tapped self.old.source) (S.tapped self.new.source) }
-        ensures kept { (S.tapped self.new.source).holds ≡ (S.tapped self.old.source).holds }
-        ensures cause { (S.tapped self.new.source).faults ≡ (if is_err result then
-            raised (S.tapped self.old.source).faults else (S.tapped self.old.source).faults) }
+        ensures once { IsAskedAtMostOnce at (S.seen self.old.source) (S.seen self.new.source) }
+        ensures kept { (S.seen self.new.source).holds ≡ (S.seen self.old.source).holds }
+        ensures cause { (S.seen self.new.source).faults ≡ (if is_err result then
+            raised (S.seen self.old.source).faults else (S.seen self.old.source).faults) }
         ensures counted { self.new.reads ≡ raised self.old.reads }
         ensures asked { self.new.asked ≡ at }
     {

@@ -48,13 +48,13 @@ impl<A: Allocator> BrokenSource<A> {
 }
 
 impl<A: Allocator> Source for BrokenSource<A> {
-    ghost tapped = { λ s. record {
+    ghost seen = { λ s. record {
       holds = Some s.bytes;
       faults = s.faults;
       reads = s.reads;
       asked = s.asked;
       watches = λ _. false;
-      strays = 0;
+      watched_reads = 0;
       next = None;
       jumps = 0;
     } };
@@ -144,13 +144,13 @@ impl<A: Allocator> ChangingSource<A> {
 }
 
 impl<A: Allocator> Source for ChangingSource<A> {
-    ghost tapped = { λ s. record {
+    ghost seen = { λ s. record {
       holds = None;
       faults = 0;
       reads = s.reads;
       asked = s.asked;
       watches = λ _. false;
-      strays = 0;
+      watched_reads = 0;
       next = None;
       jumps = 0;
     } };

@@ -3,7 +3,7 @@ ghost use Rattle.std.specs.Prelude.{◌≡◌, OnOk, IfErr, is_err, if◌then◌
 ghost use Rattle.std.specs.Io.KnownBytes.{append_known};
 ghost use Rattle.warc_field.specs.Area.{canonical_line, canonical_fields};
 ghost use Rattle.warc_frame.specs.Count.{raised};
-ghost use Rattle.warc_frame.specs.Putting.{Puts};
+ghost use Rattle.warc_frame.specs.Effects.{Puts};
 ghost use Rattle.warc_frame.specs.Record.{head_text};
 ghost use Rattle.warc_frame.specs.Send.{WentOut, sent_of};
 ghost use Rattle.warc_frame.specs.Spelling.{canonical};

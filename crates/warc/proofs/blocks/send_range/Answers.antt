@@ -1,16 +1,34 @@
-use Rattle.std.proofs.Common.{[], take, drop}
+use Rattle.std.proofs.Common.{rules, []}
 use Rattle.warc.proofs.blocks.send_range.Goals as goal
 
-pub returns-in-Err-clause-cut : goal.returns-in-Err-clause-cut
-returns-in-Err-clause-cut g c = λ bytes held has.
-    c.in-Err.ensures.copied.cut bytes held has ((g.W.Sink.seen c.args.out.now).tells) [] (c.new-buffer.ensures.begins ((g.W.Sink.seen c.args.out.now).tells))
+pub returns-in-Err-clause-sends : goal.returns-in-Err-clause-sends
+returns-in-Err-clause-sends g c =
+    let start = (g.W.Sink.seen c.args.out.now).tells in
+    record {
+      out = λ bytes text held says. tt;
+      cut = λ bytes text held says. c.in-Err.ensures.emits.cut bytes text held says start [] (c.new-buffer.ensures.begins start);
+      cause = search rules;
+      fails = c.in-Err.ensures.emits.fails;
+    }
 
-pub returns-in-Ok-clause-told : goal.returns-in-Ok-clause-told
-returns-in-Ok-clause-told g c = λ bytes held has.
-    c.in-Ok.ensures.told ((g.W.Sink.seen c.args.out.now).tells) (take c.args.len (drop c.args.at bytes))
-    (c.in_default.ensures.copied.out bytes held has ((g.W.Sink.seen c.args.out.now).tells) [] (c.new-buffer.ensures.begins ((g.W.Sink.seen c.args.out.now).tells)))
+pub returns-in-Ok-clause-sends : goal.returns-in-Ok-clause-sends
+returns-in-Ok-clause-sends g c =
+    let start = (g.W.Sink.seen c.args.out.now).tells in
+    record {
+      out = λ bytes text held says.
+          c.in-Ok.ensures.told start _ (c.in_default.ensures.emits.out bytes text held says start [] (c.new-buffer.ensures.begins start));
+      cut = λ bytes text held says. tt;
+      cause = search rules;
+      fails = record { may = search rules; failed = λ bytes held is. search rules };
+    }
 
-pub returns-in-Err-flush-clause-cut : goal.returns-in-Err-flush-clause-cut
-returns-in-Err-flush-clause-cut g c = λ bytes held has.
-    c.in-Err-flush.ensures.cut ((g.W.Sink.seen c.args.out.now).tells) (take c.args.len (drop c.args.at bytes))
-    (c.in_default.ensures.copied.out bytes held has ((g.W.Sink.seen c.args.out.now).tells) [] (c.new-buffer.ensures.begins ((g.W.Sink.seen c.args.out.now).tells)))
+pub returns-in-Err-flush-clause-sends : goal.returns-in-Err-flush-clause-sends
+returns-in-Err-flush-clause-sends g c =
+    let start = (g.W.Sink.seen c.args.out.now).tells in
+    record {
+      out = λ bytes text held says. tt;
+      cut = λ bytes text held says.
+          c.in-Err-flush.ensures.cut start _ (c.in_default.ensures.emits.out bytes text held says start [] (c.new-buffer.ensures.begins start));
+      cause = search rules;
+      fails = record { may = search rules; failed = λ bytes held is. search rules };
+    }

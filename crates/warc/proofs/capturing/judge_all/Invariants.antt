@@ -8,10 +8,10 @@ use Rattle.warc.proofs.capturing.judge_all.Given as goal
 -- the outcomes so far, and which of them each origin was judged for
 abbrev pub invariant-judging : goal.invariant-judging
 invariant-judging g l = record {
-  told : IfHeld ((g.S.Source.tapped l.fn.source).holds) (λ bytes. (is : IsArchiveOf bytes l.rows) → AreOf is.are.records l.lookup.index l.lookup.parts
+  told : IfHeld ((g.S.Source.seen l.fn.source).holds) (λ bytes. (is : IsArchiveOf bytes l.rows) → AreOf is.are.records l.lookup.index l.lookup.parts
       → AreSoFar (contents is.are.records) l.slots.items l.outcomes.items);
   slots : AreSlots (length l.outcomes.items) l.slots.items;
   chosen : map (λ o. o.chosen) l.outcomes.items ≡ take l.position-index l.positions;
-  kept : (g.S.Source.tapped l.source).holds ≡ (g.S.Source.tapped l.fn.source).holds;
-  sound : (g.S.Source.tapped l.source).faults ≡ (g.S.Source.tapped l.fn.source).faults;
+  kept : (g.S.Source.seen l.source).holds ≡ (g.S.Source.seen l.fn.source).holds;
+  sound : (g.S.Source.seen l.source).faults ≡ (g.S.Source.seen l.fn.source).faults;
 }

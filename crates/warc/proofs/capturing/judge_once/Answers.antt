@@ -19,6 +19,6 @@ pub returns-in-None : goal.returns-in-None
 returns-in-None g c = record {
   told = λ bytes held is parts recalls. c.judge_origin.ensures.told bytes held is parts;
   early = c.judge_origin.ensures.early;
-  kept = c.judge_origin.ensures.kept;
-  may = c.judge_origin.ensures.may;
+  kept = c.judge_origin.ensures.keeps.kept;
+  may = c.judge_origin.ensures.fails.may;
 }

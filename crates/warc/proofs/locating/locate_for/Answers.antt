@@ -1,8 +1,8 @@
 use Rattle.std.proofs.Common.{refl, sym, ◌∙◌}
 use Rattle.warc_answer.specs.Answers.{path_for}
 use Rattle.warc_reading.specs.Archive.{contents}
-use Rattle.warc.proofs.LocatingLemmas.{keeps_same, reads_none}
-use Rattle.warc.proofs.ReplayLemmas.{path_by_index}
+use Rattle.warc.proofs.LocatingLemmas.{keeps_same}
+use Rattle.warc.proofs.ReplayLemmas.{path_by_index, reads_nothing}
 use Rattle.warc.proofs.locating.locate_for.Goals as goal
 
 pub returns-in-Ok : goal.returns-in-Ok
@@ -20,7 +20,8 @@ returns-in-Err g c = record {
           (sym (path_by_index is.are.records c.args.uri.now c.args.moment.now) ∙ sym (c.in-Err.ensures is.are.records are)),
       refl,
     );
-    reads = reads_none _ _ _;
+    reads = reads_nothing;
   };
   keeps = keeps_same _;
+  fails = record { may = refl; failed = λ bytes held is. refl };
 }

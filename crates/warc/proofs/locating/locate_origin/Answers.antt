@@ -1,55 +1,74 @@
 use Rattle.std.proofs.Common.{◌∙◌, ap, map, refl, subst, sym, Ok, Err, arith}
+use Rattle.warc_frame.proofs.EffectLemmas.{fails_more}
 use Rattle.warc_record.specs.Seen.{said}
 use Rattle.warc_segment.specs.Joined.{ArePlacesOf, PlacedRecord, joined_places}
 use Rattle.warc_answer.specs.Payloads.{read_record}
 use Rattle.warc_frame.specs.declared.fault.OutFault.TheVariants as outs
 use Rattle.warc_reading.specs.Archive.{contents}
 use Rattle.warc_reading.specs.Indexed.{placed_record}
-use Rattle.warc.proofs.ReplayLemmas.{found_as, gap_is, join_gap, near_joined, origin_inside, places_are, reads_are}
+use Rattle.warc.proofs.ReplayLemmas.{found_as, gap_is, join_gap, origin_inside, places_are, reads_joined, reads_nothing}
 use Rattle.warc.proofs.locating.locate_origin.Goals as goal
 
 pub returns-in-Err-Gap-clause-located : goal.returns-in-Err-Gap-clause-located
-returns-in-Err-Gap-clause-located g c = λ bytes records found p held is kept says at tells.
+returns-in-Err-Gap-clause-located g c = λ bytes held is tells.
+    let at = is.at in
     let q : PlacedRecord = record { head = said c.args.origin.now; place = c.args.place } in
-    let gap = gap_is bytes records found c.args.path p is q c.in-Err-Gap.gap says at c.places_are_of_records.ensures (join_gap c.join.result c.in-Err-Gap.gap (joined_places (map placed_record records) q) (c.in-Err-Gap.is ∙ ap Err c.in-Err-Gap.field-0-is) (c.join.ensures (map placed_record records) kept)) in
-    (rw c.in-Err-Gap.gap-is ((c.reasons_are_answers.ensures (contents records) found).1 c.args.path (read_record p.content) c.in-Err-Gap.gap (found_as bytes records found c.args.path p is (Err c.in-Err-Gap.gap) gap)), refl)
+    let gap = gap_is bytes at.records at.found c.args.path at.placed at.origin q c.in-Err-Gap.gap is.head_is at.place_is c.places_are_of_records.ensures (join_gap c.join.result c.in-Err-Gap.gap (joined_places (map placed_record at.records) q) (c.in-Err-Gap.is ∙ ap Err c.in-Err-Gap.field-0-is) (c.join.ensures (map placed_record at.records) at.parts_are)) in
+    (rw c.in-Err-Gap.gap-is ((c.reasons_are_answers.ensures (contents at.records) at.found).1 c.args.path (read_record at.placed.content) c.in-Err-Gap.gap (found_as bytes at.records at.found c.args.path at.placed at.origin (Err c.in-Err-Gap.gap) gap)), refl)
 
 pub returns-in-Err-Gap-clause-reads : goal.returns-in-Err-Gap-clause-reads
-returns-in-Err-Gap-clause-reads g c = λ bytes records found p held is kept says at.
-    record { failed = refl; cost = omega arith; near = λ off. refl }
+returns-in-Err-Gap-clause-reads g c = λ bytes held is. reads_nothing
 
 pub returns-in-Err-Gap-clause-keeps : goal.returns-in-Err-Gap-clause-keeps
-returns-in-Err-Gap-clause-keeps g c = record { kept = refl; may = refl }
+returns-in-Err-Gap-clause-keeps g c = record { kept = refl; watched = refl }
+
+pub returns-in-Err-Gap-clause-fails : goal.returns-in-Err-Gap-clause-fails
+returns-in-Err-Gap-clause-fails g c = record { may = refl; failed = λ bytes held is. refl }
 
 pub returns-in-Err-Memory-clause-located : goal.returns-in-Err-Memory-clause-located
-returns-in-Err-Memory-clause-located g c = λ bytes records found p held is kept says at tells.
-    c.fails_before_all.ensures (contents records) found tells (outs.Memory 0) (origin_inside bytes records found c.args.path p is) refl
+returns-in-Err-Memory-clause-located g c = λ bytes held is tells.
+    c.fails_before_all.ensures (contents is.at.records) is.at.found tells (outs.Memory 0) (origin_inside bytes is.at.records is.at.found c.args.path is.at.placed is.at.origin) refl
 
 pub returns-in-Err-Memory-clause-reads : goal.returns-in-Err-Memory-clause-reads
-returns-in-Err-Memory-clause-reads g c = λ bytes records found p held is kept says at.
-    record { failed = refl; cost = omega arith; near = λ off. refl }
+returns-in-Err-Memory-clause-reads g c = λ bytes held is. reads_nothing
 
 pub returns-in-Err-Memory-clause-keeps : goal.returns-in-Err-Memory-clause-keeps
-returns-in-Err-Memory-clause-keeps g c = record { kept = refl; may = refl }
+returns-in-Err-Memory-clause-keeps g c = record { kept = refl; watched = refl }
+
+pub returns-in-Err-Memory-clause-fails : goal.returns-in-Err-Memory-clause-fails
+returns-in-Err-Memory-clause-fails g c = record { may = refl; failed = λ bytes held is. refl }
 
 pub returns-clause-located : goal.returns-clause-located
-returns-clause-located g c = λ bytes records found p held is kept says at.
+returns-clause-located g c = λ bytes held is.
+    let at = is.at in
     let q : PlacedRecord = record { head = said c.args.origin.now; place = c.args.place } in
-    let (joined, same, are) = places_are bytes records found c.args.path p is q c.in-Ok.places.items says at c.places_are_of_records.ensures (c.in-Ok.ensures (map placed_record records) kept) in
-    c.locate_joined.ensures.located bytes (contents records) found (read_record p.content) joined held is.short (found_as bytes records found c.args.path p is (Ok joined) same) says
-    (subst (λ l. ArePlacesOf bytes l joined) (sym c.deref.ensures.value) are)
+    let (joined, same, are) = places_are bytes at.records at.found c.args.path at.placed at.origin q c.in-Ok.places.items is.head_is at.place_is c.places_are_of_records.ensures (c.in-Ok.ensures (map placed_record at.records) at.parts_are) in
+    c.locate_joined.ensures.located bytes held (contents at.records) at.found (record {
+      origin = read_record at.placed.content;
+      joined = joined;
+      short = at.origin.short;
+      leads = found_as bytes at.records at.found c.args.path at.placed at.origin (Ok joined) same;
+      head_is = is.head_is;
+      places_are = subst (λ l. ArePlacesOf bytes l joined) (sym c.deref.ensures.value) are;
+    })
 
 pub returns-clause-reads : goal.returns-clause-reads
-returns-clause-reads g c = λ bytes records found p held is kept says at.
+returns-clause-reads g c = λ bytes held is.
+    let at = is.at in
     let q : PlacedRecord = record { head = said c.args.origin.now; place = c.args.place } in
-    let (joined, same, items_are) = places_are bytes records found c.args.path p is q c.in-Ok.places.items says at c.places_are_of_records.ensures (c.in-Ok.ensures (map placed_record records) kept) in
-    let are = subst (λ l. ArePlacesOf bytes l joined) (sym c.deref.ensures.value) items_are in
-    record {
-      failed = c.locate_joined.ensures.failed bytes joined held is.short are;
-      cost = reads_are bytes records found c.args.path p is c.deref.result.now joined _ _ c.places_are_as_long.ensures same are
-          (omega (arith, c.locate_joined.ensures.read.bound));
-      near = near_joined records p q c.deref.result.now c.in-Ok.places.items _ _ _ says at (c.in-Ok.ensures (map placed_record records) kept) c.deref.ensures.value c.locate_joined.ensures.read.near;
-    }
+    let from = c.in-Ok.ensures (map placed_record at.records) at.parts_are in
+    let (joined, same, are) = places_are bytes at.records at.found c.args.path at.placed at.origin q c.in-Ok.places.items is.head_is at.place_is c.places_are_of_records.ensures from in
+    reads_joined bytes at.records at.found c.args.path at.placed at.origin q c.in-Ok.places.items c.deref.result.now joined _ is.head_is at.place_is from c.deref.ensures.value c.places_are_as_long.ensures same
+    (subst (λ l. ArePlacesOf bytes l joined) (sym c.deref.ensures.value) are) (omega arith) c.locate_joined.ensures.reads
 
 pub returns-clause-keeps : goal.returns-clause-keeps
-returns-clause-keeps g c = record { kept = c.locate_joined.ensures.kept; may = c.locate_joined.ensures.may }
+returns-clause-keeps g c = record { kept = c.locate_joined.ensures.reads.kept; watched = c.locate_joined.ensures.reads.watched }
+
+pub returns-clause-fails : goal.returns-clause-fails
+returns-clause-fails g c =
+    fails_more (λ bytes held is.
+    let at = is.at in
+    let q : PlacedRecord = record { head = said c.args.origin.now; place = c.args.place } in
+    let (joined, same, are) = places_are bytes at.records at.found c.args.path at.placed at.origin q c.in-Ok.places.items is.head_is at.place_is c.places_are_of_records.ensures (c.in-Ok.ensures (map placed_record at.records) at.parts_are) in
+    record { joined = joined; short = at.origin.short; places_are = subst (λ l. ArePlacesOf bytes l joined) (sym c.deref.ensures.value) are })
+    c.locate_joined.ensures.fails

@@ -1,39 +1,57 @@
-use Rattle.std.proofs.Common.{ap, ◌∙◌}
+use Rattle.std.proofs.Common.{ap, sym, ◌∙◌}
+use Rattle.warc_frame.proofs.EffectLemmas.{fails_after, fails_more}
 use Rattle.warc_record.specs.Readings.{reading_of}
+use Rattle.warc_reading.proofs.HeadLemmas.{fails_ended}
 use Rattle.warc_reading.specs.Archive.{contents}
 use Rattle.warc_reading.specs.Rereading.{ended_by}
-use Rattle.warc.proofs.LocatingLemmas.{front_is_read, head_is_read}
-use Rattle.warc.proofs.ReplayLemmas.{ended_failed, ended_may, ended_sent, origin_inside, place_by_row}
+use Rattle.warc.proofs.ReplayLemmas.{ended_sent, origin_inside, place_by_row, reads_of_head, reads_of_origin, reads_on_path}
 use Rattle.warc.proofs.locating.locate_row.Goals as goal
 
 pub returns-in-Err-clause-located : goal.returns-in-Err-clause-located
-returns-in-Err-clause-located g c = λ bytes records found p held is has same parts. record {
+returns-in-Err-clause-located g c = λ bytes held is. record {
   located = λ tells.
-      rw c.after.ensures (c.fails_before_all.ensures (contents records) found tells (ended_by c.in-Err.fault 0) (origin_inside bytes records found c.args.path p is) (ended_sent c.in-Err.fault));
-  reads = head_is_read records found c.args.path p c.args.row.now _ is.path_is is.stands same _ _
-      (rw c.after.ensures (ended_failed c.in-Err.fault _ _ (c.in-Err.ensures.failed bytes p held has same)))
-      c.in-Err.ensures.heads;
+      rw c.after.ensures (c.fails_before_all.ensures (contents is.at.records) is.at.found tells (ended_by c.in-Err.fault 0) (origin_inside bytes is.at.records is.at.found c.args.path is.at.placed is.at.origin) (ended_sent c.in-Err.fault));
+  reads = reads_on_path is.at.records is.at.found c.args.path is.at.placed is.at.origin.path_is is.at.origin.stands
+      (reads_of_head is.at.records is.at.placed c.args.row.now is.at.row_is c.in-Err.ensures.reads);
 }
 
 pub returns-in-Err-clause-keeps : goal.returns-in-Err-clause-keeps
-returns-in-Err-clause-keeps g c = record {
-  kept = c.in-Err.ensures.kept;
-  may = rw c.after.ensures (ended_may c.in-Err.fault _ _ c.in-Err.ensures.may);
-}
+returns-in-Err-clause-keeps g c = record { kept = c.in-Err.ensures.reads.kept; watched = c.in-Err.ensures.reads.watched }
+
+pub returns-in-Err-clause-fails : goal.returns-in-Err-clause-fails
+returns-in-Err-clause-fails g c =
+    fails_ended c.in-Err.fault c.after.result 0 c.after.ensures
+    (fails_more (λ bytes held is. record { placed = is.at.placed; has = is.has; row_is = is.at.row_is }) c.in-Err.ensures.fails)
 
 pub returns-clause-located : goal.returns-clause-located
-returns-clause-located g c = λ bytes records found p held is has same parts.
-    let says = c.in-Ok.ensures.said ∙ ap reading_of (c.in-Ok.ensures.read bytes p held has same) in
-    let at = place_by_row p _ (c.row.view_is ∙ same) in
-    let there = c.in-Ok.ensures.kept ∙ held in
+returns-clause-located g c = λ bytes held is.
+    let says = c.in-Ok.ensures.said ∙ ap reading_of (c.in-Ok.ensures.read bytes held (record { placed = is.at.placed; has = is.has; row_is = is.at.row_is })) in
+    let there = c.in-Ok.ensures.reads.kept ∙ held in
     record {
-      located = c.locate_origin.ensures.located bytes records found p there is parts says at;
-      reads = front_is_read records found c.args.path p c.args.row.now _ is.path_is is.stands same _ _ _
-          c.in-Ok.ensures.sound c.in-Ok.ensures.heads (c.locate_origin.ensures.reads bytes records found p there is parts says at);
+      located = c.locate_origin.ensures.located bytes there (record {
+        at = record { records = is.at.records; found = is.at.found; placed = is.at.placed; origin = is.at.origin; parts_are = is.at.parts_are; place_is = place_by_row is.at.placed _ (c.row.view_is ∙ is.at.row_is) };
+        head_is = says;
+      });
+      reads = reads_on_path is.at.records is.at.found c.args.path is.at.placed is.at.origin.path_is is.at.origin.stands
+          (reads_of_origin is.at.records is.at.placed c.args.row.now is.at.row_is c.in-Ok.ensures.reads (c.locate_origin.ensures.reads bytes there (record {
+            at = record { records = is.at.records; found = is.at.found; placed = is.at.placed; origin = is.at.origin; parts_are = is.at.parts_are; place_is = place_by_row is.at.placed _ (c.row.view_is ∙ is.at.row_is) };
+            head_is = says;
+          })));
     }
 
 pub returns-clause-keeps : goal.returns-clause-keeps
 returns-clause-keeps g c = record {
-  kept = c.locate_origin.ensures.keeps.kept ∙ c.in-Ok.ensures.kept;
-  may = rw (← c.in-Ok.ensures.sound) c.locate_origin.ensures.keeps.may;
+  kept = c.locate_origin.ensures.keeps.kept ∙ c.in-Ok.ensures.reads.kept;
+  watched = c.locate_origin.ensures.keeps.watched ∙ c.in-Ok.ensures.reads.watched;
 }
+
+pub returns-clause-fails : goal.returns-clause-fails
+returns-clause-fails g c =
+    fails_after c.in-Ok.ensures.reads.kept c.in-Ok.ensures.fails.may
+    (fails_more (λ bytes held is.
+    let before = sym c.in-Ok.ensures.reads.kept ∙ held in
+    let says = c.in-Ok.ensures.said ∙ ap reading_of (c.in-Ok.ensures.read bytes before (record { placed = is.at.placed; has = is.has; row_is = is.at.row_is })) in
+    record {
+      at = record { records = is.at.records; found = is.at.found; placed = is.at.placed; origin = is.at.origin; parts_are = is.at.parts_are; place_is = place_by_row is.at.placed _ (c.row.view_is ∙ is.at.row_is) };
+      head_is = says;
+    }) c.locate_origin.ensures.fails)

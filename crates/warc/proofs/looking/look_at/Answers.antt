@@ -7,26 +7,28 @@ use Rattle.warc.specs.Standing.{IsOrigin}
 use Rattle.warc_reading.proofs.PlaceLemmas.{checkable_archive}
 use Rattle.warc_reading.proofs.PlacedLemmas.{placed}
 use Rattle.warc.proofs.BodyLemmas.{none_there}
+use Rattle.warc_frame.proofs.EffectLemmas.{fails_more}
 use Rattle.warc.proofs.LookLemmas.{absent_after}
 use Rattle.warc.proofs.looking.look_at.Goals as goal
 
 pub returns-in_default : goal.returns-in_default
 returns-in_default g c = record {
   told = λ bytes held is parts. tt;
-  failed = λ bytes held is parts within. refl;
   early = refl;
-  kept = refl;
-  may = refl;
+  keeps = record { kept = refl; watched = refl };
+  fails = record { may = refl; failed = λ bytes held is. refl };
 }
 
 pub returns-in_default-get : goal.returns-in_default-get
 returns-in_default-get g c = record {
   told = λ bytes held is parts. tt;
-  failed = λ bytes held is parts within.
-      absurd (absent_after (contents is.are.records) c.args.position within (none_there bytes c.args.rows.now c.args.position is (sym c.get.ensures ∙ c.in_default-get.is)));
   early = refl;
-  kept = refl;
-  may = inl refl;
+  keeps = record { kept = refl; watched = refl };
+  fails = record {
+    may = inl refl;
+    failed = λ bytes held (is, parts, within).
+        absurd (absent_after (contents is.are.records) c.args.position within (none_there bytes c.args.rows.now c.args.position is (sym c.get.ensures ∙ c.in_default-get.is)));
+  };
 }
 
 pub returns : goal.returns
@@ -37,13 +39,20 @@ returns g c =
           let (p, there, same) = placed is.are.records c.args.position c.in-Some.row (ap (λ l. slice_get l c.args.position) (sym is.are.rows_are) ∙ sym c.get.ensures ∙ c.in-Some.is) in
           let can = checkable_archive c.head_of_spelled.ensures bytes c.args.rows.now is c.args.rows.now refl in
           let origin : IsOrigin bytes is.are.records (Ok path) path p = record { short = is.short; spelled = is.are.spelled; path_is = refl; stands = there } in
-          c.look_row.ensures.told bytes is.are.records path p held origin (can.heads c.args.position p there) same parts;
-      failed = λ bytes held is parts within.
+          c.look_row.ensures.told bytes held path (record {
+            at = record { records = is.are.records; found = Ok path; placed = p; origin = origin; parts_are = parts; row_is = same };
+            has = can.heads c.args.position p there;
+          });
+      early = c.look_row.ensures.early;
+      keeps = c.look_row.ensures.keeps;
+      fails = fails_more (λ bytes held (is, parts, within).
           let (p, there, same) = placed is.are.records c.args.position c.in-Some.row (ap (λ l. slice_get l c.args.position) (sym is.are.rows_are) ∙ sym c.get.ensures ∙ c.in-Some.is) in
           let can = checkable_archive c.head_of_spelled.ensures bytes c.args.rows.now is c.args.rows.now refl in
-          let origin : IsOrigin bytes is.are.records (Ok path) path p = record { short = is.short; spelled = is.are.spelled; path_is = refl; stands = there } in
-          c.look_row.ensures.failed bytes is.are.records path p held origin (can.heads c.args.position p there) same parts;
-      early = c.look_row.ensures.early;
-      kept = c.look_row.ensures.kept;
-      may = c.look_row.ensures.may;
+          let origin : IsOrigin bytes is.are.records (Ok path) path p = record { short = is.short; spelled = is.are.spelled; path_is = refl; stands = there } in (
+            path,
+            record {
+              at = record { records = is.are.records; found = Ok path; placed = p; origin = origin; parts_are = parts; row_is = same };
+              has = can.heads c.args.position p there;
+            },
+          )) c.look_row.ensures.fails;
     }

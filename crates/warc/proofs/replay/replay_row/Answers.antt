@@ -1,47 +1,72 @@
-use Rattle.std.proofs.Common.{◌<◌, length, ap, ◌∙◌}
+use Rattle.std.proofs.Common.{◌<◌, List, length, ap, sym, ◌∙◌}
+use Rattle.warc_frame.proofs.EffectLemmas.{fails_after, fails_more}
 use Rattle.warc_record.specs.Readings.{reading_of}
+use Rattle.warc_record.specs.Seen.{said}
+use Rattle.warc_reading.proofs.HeadLemmas.{fails_ended}
 use Rattle.warc_reading.specs.Archive.{contents}
 use Rattle.warc_reading.specs.Rereading.{ended_by}
-use Rattle.warc.proofs.ReplayLemmas.{asks_both, ended_failed, ended_sent, head_inside, near_head, near_origin, origin_inside, place_by_row, row_reads}
+use Rattle.warc.specs.Standing.{IsReached}
+use Rattle.warc.proofs.ReplayLemmas.{asks_both, ended_late, ended_sent, head_inside, origin_inside, place_by_row, reads_of_head, reads_of_origin}
 use Rattle.warc.proofs.replay.replay_row.Goals as goal
 
 pub returns-in-Err-clause-told : goal.returns-in-Err-clause-told
-returns-in-Err-clause-told g c = λ bytes records found p held is has same parts.
-    rw c.after.ensures (c.fails_before_all.ensures (contents records) found ((g.W.Sink.seen c.args.out.now).tells) (ended_by c.in-Err.fault 0) (origin_inside bytes records found c.args.path p is) (ended_sent c.in-Err.fault))
+returns-in-Err-clause-told g c = λ bytes held is.
+    rw c.after.ensures (c.fails_before_all.ensures (contents is.at.records) is.at.found ((g.W.Sink.seen c.args.out.now).tells) (ended_by c.in-Err.fault 0) (origin_inside bytes is.at.records is.at.found c.args.path is.at.placed is.at.origin) (ended_sent c.in-Err.fault))
 
-pub returns-in-Err-clause-failed : goal.returns-in-Err-clause-failed
-returns-in-Err-clause-failed g c = λ bytes records found p held is has same parts.
-    rw c.after.ensures (ended_failed c.in-Err.fault _ _ (c.in-Err.ensures.failed bytes p held has same))
-
-pub returns-clause-told : goal.returns-clause-told
-returns-clause-told g c = λ bytes records found p held is has same parts.
-    let says = c.in-Ok.ensures.said ∙ ap reading_of (c.in-Ok.ensures.read bytes p held has same) in
-    c.replay_origin.ensures.told bytes records found p (c.in-Ok.ensures.kept ∙ held) is parts says (place_by_row p _ (c.row.view_is ∙ same))
-
-pub returns-clause-failed : goal.returns-clause-failed
-returns-clause-failed g c = λ bytes records found p held is has same parts.
-    let says = c.in-Ok.ensures.said ∙ ap reading_of (c.in-Ok.ensures.read bytes p held has same) in
-    rw (← c.in-Ok.ensures.sound) (c.replay_origin.ensures.failed bytes records found p (c.in-Ok.ensures.kept ∙ held) is parts says (place_by_row p _ (c.row.view_is ∙ same)))
-
-pub returns-clause-cost : goal.returns-clause-cost
-returns-clause-cost g c = λ bytes records found p held is has same parts.
-    let says = c.in-Ok.ensures.said ∙ ap reading_of (c.in-Ok.ensures.read bytes p held has same) in
-    row_reads p c.args.row.now _ _ _ _ same c.in-Ok.ensures.heads.bound (c.replay_origin.ensures.cost bytes records found p (c.in-Ok.ensures.kept ∙ held) is parts says (place_by_row p _ (c.row.view_is ∙ same)))
-
-pub returns-in-Err-clause-near : goal.returns-in-Err-clause-near
-returns-in-Err-clause-near g c = λ bytes records found p held is has same parts.
-    near_head records p c.args.row.now _ _ same c.in-Err.ensures.heads
-
-pub returns-clause-near : goal.returns-clause-near
-returns-clause-near g c = λ bytes records found p held is has same parts.
-    let says = c.in-Ok.ensures.said ∙ ap reading_of (c.in-Ok.ensures.read bytes p held has same) in
-    near_origin records p c.args.row.now _ _ _ same c.in-Ok.ensures.heads (c.replay_origin.ensures.near bytes records found p (c.in-Ok.ensures.kept ∙ held) is parts says (place_by_row p _ (c.row.view_is ∙ same)))
+pub returns-in-Err-clause-reads : goal.returns-in-Err-clause-reads
+returns-in-Err-clause-reads g c = λ bytes held is. reads_of_head is.at.records is.at.placed c.args.row.now is.at.row_is c.in-Err.ensures.reads
 
 pub returns-in-Err-clause-inside : goal.returns-in-Err-clause-inside
-returns-in-Err-clause-inside g c = λ bytes records found p is same parts.
-    head_inside bytes records found c.args.path p is c.args.row.now _ _ same c.in-Err.ensures.heads
+returns-in-Err-clause-inside g c = λ bytes at.
+    head_inside bytes at.records at.found c.args.path at.placed at.origin c.args.row.now _ _ at.row_is c.in-Err.ensures.reads
+
+pub returns-in-Err-clause-keeps : goal.returns-in-Err-clause-keeps
+returns-in-Err-clause-keeps g c = record { kept = c.in-Err.ensures.reads.kept; watched = c.in-Err.ensures.reads.watched }
+
+pub returns-in-Err-clause-late : goal.returns-in-Err-clause-late
+returns-in-Err-clause-late g c = rw c.after.ensures (ended_late c.in-Err.fault (g.W.Sink.seen c.args.out.now))
+
+pub returns-in-Err-clause-fails : goal.returns-in-Err-clause-fails
+returns-in-Err-clause-fails g c =
+    fails_ended c.in-Err.fault c.after.result 0 c.after.ensures
+    (fails_more (λ bytes held is. record { placed = is.at.placed; has = is.has; row_is = is.at.row_is }) c.in-Err.ensures.fails)
+
+pub returns-clause-told : goal.returns-clause-told
+returns-clause-told g c = λ bytes held is.
+    let says = c.in-Ok.ensures.said ∙ ap reading_of (c.in-Ok.ensures.read bytes held (record { placed = is.at.placed; has = is.has; row_is = is.at.row_is })) in
+    c.replay_origin.ensures.told bytes (c.in-Ok.ensures.reads.kept ∙ held) (record {
+      at = record { records = is.at.records; found = is.at.found; placed = is.at.placed; origin = is.at.origin; parts_are = is.at.parts_are; place_is = place_by_row is.at.placed _ (c.row.view_is ∙ is.at.row_is) };
+      head_is = says;
+    })
+
+pub returns-clause-reads : goal.returns-clause-reads
+returns-clause-reads g c = λ bytes held is.
+    let says = c.in-Ok.ensures.said ∙ ap reading_of (c.in-Ok.ensures.read bytes held (record { placed = is.at.placed; has = is.has; row_is = is.at.row_is })) in
+    reads_of_origin is.at.records is.at.placed c.args.row.now is.at.row_is c.in-Ok.ensures.reads
+    (c.replay_origin.ensures.reads bytes (c.in-Ok.ensures.reads.kept ∙ held) (record {
+      at = record { records = is.at.records; found = is.at.found; placed = is.at.placed; origin = is.at.origin; parts_are = is.at.parts_are; place_is = place_by_row is.at.placed _ (c.row.view_is ∙ is.at.row_is) };
+      head_is = says;
+    }))
 
 pub returns-clause-inside : goal.returns-clause-inside
-returns-clause-inside g c = λ bytes records found p is same parts.
-    asks_both (λ at. at < length bytes) (g.S.Source.tapped c.args.source.now) (g.S.Source.tapped c.read_again.new.source) (g.S.Source.tapped c.replay_origin.new.source).strays c.in-Ok.ensures.heads.watched (head_inside bytes records found c.args.path p is c.args.row.now _ _ same c.in-Ok.ensures.heads)
-    (c.replay_origin.ensures.inside bytes records found p is parts (place_by_row p _ (c.row.view_is ∙ same)))
+returns-clause-inside g c = λ bytes at.
+    asks_both (λ q. q < length bytes) (g.S.Source.seen c.args.source.now) (g.S.Source.seen c.read_again.new.source) (g.S.Source.seen c.replay_origin.new.source).watched_reads c.in-Ok.ensures.reads.watched
+    (head_inside bytes at.records at.found c.args.path at.placed at.origin c.args.row.now _ _ at.row_is c.in-Ok.ensures.reads)
+    (c.replay_origin.ensures.inside bytes (record { records = at.records; found = at.found; placed = at.placed; origin = at.origin; parts_are = at.parts_are; place_is = place_by_row at.placed _ (c.row.view_is ∙ at.row_is) }))
+
+pub returns-clause-keeps : goal.returns-clause-keeps
+returns-clause-keeps g c = record {
+  kept = c.replay_origin.ensures.keeps.kept ∙ c.in-Ok.ensures.reads.kept;
+  watched = c.replay_origin.ensures.keeps.watched ∙ c.in-Ok.ensures.reads.watched;
+}
+
+pub returns-clause-fails : goal.returns-clause-fails
+returns-clause-fails g c =
+    fails_after c.in-Ok.ensures.reads.kept c.in-Ok.ensures.fails.may
+    (fails_more (λ bytes held is.
+    let before = sym c.in-Ok.ensures.reads.kept ∙ held in
+    let says = c.in-Ok.ensures.said ∙ ap reading_of (c.in-Ok.ensures.read bytes before (record { placed = is.at.placed; has = is.has; row_is = is.at.row_is })) in
+    record {
+      at = record { records = is.at.records; found = is.at.found; placed = is.at.placed; origin = is.at.origin; parts_are = is.at.parts_are; place_is = place_by_row is.at.placed _ (c.row.view_is ∙ is.at.row_is) };
+      head_is = says;
+    }) c.replay_origin.ensures.fails)

@@ -1,7 +1,7 @@
-use Rattle.std.proofs.Common.{refl, sym, ◌∙◌, arith}
+use Rattle.std.proofs.Common.{refl, sym, ◌∙◌}
 use Rattle.warc_answer.specs.Answers.{path_for}
 use Rattle.warc_reading.specs.Archive.{contents}
-use Rattle.warc.proofs.ReplayLemmas.{path_by_index}
+use Rattle.warc.proofs.ReplayLemmas.{path_by_index, reads_nothing}
 use Rattle.warc.proofs.replay.replay_rows.Goals as goal
 
 pub returns-in-Ok : goal.returns-in-Ok
@@ -18,13 +18,9 @@ returns-in-Err g c = record {
         (sym (path_by_index is.are.records c.args.uri.now c.args.moment.now) ∙ sym (c.in-Err.ensures is.are.records are)),
     refl,
   );
-  failed = λ bytes held is are. refl;
-  cost = λ bytes held is are. omega arith;
-  near = λ bytes held is are off. refl;
-  inside = λ bytes is are off. refl;
-  silent = refl;
-  kept = refl;
-  watched = refl;
-  may = refl;
-  cause = refl;
+  reads = λ bytes held is are. reads_nothing;
+  inside = λ bytes is off. refl;
+  keeps = record { kept = refl; watched = refl };
+  late = record { silent = refl; cause = refl };
+  fails = record { may = refl; failed = λ bytes held is. refl };
 }

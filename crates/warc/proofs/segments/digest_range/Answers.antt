@@ -16,12 +16,11 @@ digesting-preserved g c =
       taken = λ bytes held.
           let text = drop at bytes in
           let piece : c.read_range.new.buf ≡ take n (drop (at + done) bytes) =
-          c.in-Ok.ensures.bytes bytes (c.digesting.invariant.kept ∙ held) ∙ ap (λ k. take k (drop (at + done) bytes)) size in
+          c.in-Ok.ensures.bytes bytes (c.digesting.invariant.reads.kept ∙ held) ∙ ap (λ k. take k (drop (at + done) bytes)) size in
           let whole : take done text ++ c.read_range.new.buf ≡ take (done + n) text =
           ap (λ l. take done text ++ l) (piece ∙ ap (take n) (sym (drop-drop done at bytes))) ∙ sym (take-add done n text) in
           let P : List ℕ → Type 0 = λ l. HasTaken c.update.new.self l in
           subst P whole (c.update.ensures (take done text) (c.digesting.invariant.taken bytes held));
-      reads = reads_more at done n _ size c.digesting.invariant.reads c.in-Ok.ensures.filled;
-      kept = c.in-Ok.ensures.kept ∙ c.digesting.invariant.kept;
-      sound = c.in-Ok.ensures.sound ∙ c.digesting.invariant.sound;
+      reads = reads_more at done n _ size c.digesting.invariant.reads c.in-Ok.ensures.reads;
+      sound = c.in-Ok.ensures.fails.may ∙ c.digesting.invariant.sound;
     }

@@ -1,18 +1,18 @@
 use Rattle.std.proofs.Common.{◌≡◌, ◌≤◌, ◌-◌, ℕ, List, Some, take, drop}
 use Rattle.warc_value.specs.Running.{HasTaken}
-use Rattle.warc.specs.Forms.{IsInBlock, ReadsOnly}
+use Rattle.warc_frame.specs.Effects.{ReadsOnly}
+use Rattle.warc_frame.specs.Seen.{IsInRange}
 use Rattle.warc.proofs.segments.digest_range.Given as goal
 
 -- the range so far was taken, and no read has failed
 abbrev pub invariant-digesting : goal.invariant-digesting
 invariant-digesting g l = record {
   within : l.done ≤ l.len;
-  taken : (bytes : List ℕ) → (g.S.Source.tapped l.fn.source).holds ≡ Some bytes → HasTaken l.running (take l.done (drop l.at bytes));
-  reads : ReadsOnly (IsInBlock l.at l.done) l.done
-      (g.S.Source.tapped l.fn.source)
-      (g.S.Source.tapped l.source);
-  kept : (g.S.Source.tapped l.source).holds ≡ (g.S.Source.tapped l.fn.source).holds;
-  sound : (g.S.Source.tapped l.source).faults ≡ (g.S.Source.tapped l.fn.source).faults;
+  taken : (bytes : List ℕ) → (g.S.Source.seen l.fn.source).holds ≡ Some bytes → HasTaken l.running (take l.done (drop l.at bytes));
+  reads : ReadsOnly (IsInRange l.at l.done) l.done
+      (g.S.Source.seen l.fn.source)
+      (g.S.Source.seen l.source);
+  sound : (g.S.Source.seen l.source).faults ≡ (g.S.Source.seen l.fn.source).faults;
 }
 
 abbrev pub decreases-digesting : goal.decreases-digesting

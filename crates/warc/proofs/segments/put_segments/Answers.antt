@@ -1,7 +1,8 @@
 use Rattle.std.proofs.Common.{◌≡◌, ℕ, ◌+◌, ◌*◌, ◌<◌, rules, sym, subst, arith}
 use Rattle.warc_write.specs.Splitting.{segment_count}
 use Rattle.warc.specs.Segments.{AreSegmentTexts}
-use Rattle.warc.proofs.EmitLemmas.{both, given, nothing, reads_both, reads_none, reads_within, short}
+use Rattle.warc.proofs.EmitLemmas.{both, given, nothing, short}
+use Rattle.warc_frame.proofs.EffectLemmas.{reads_both, reads_none, reads_within}
 use Rattle.warc.proofs.SplitLemmas.{segment_more, segments_begin_more, segments_none}
 use Rattle.warc.proofs.segments.put_segments.Goals as goal
 

@@ -1,6 +1,7 @@
 use Rattle.std.proofs.Common.{ℕ, List, Option, ap, refl, subst, arith}
 use Rattle.warc_reading.specs.Row.{Row}
-use Rattle.warc.proofs.EmitLemmas.{given, reads_within, unkept}
+use Rattle.warc.proofs.EmitLemmas.{given, unkept}
+use Rattle.warc_frame.proofs.EffectLemmas.{reads_within}
 use Rattle.warc.proofs.SplitLemmas.{IsCutBy, segments_of_row, whole_of_row}
 use Rattle.warc.proofs.segments.put_split.Goals as goal
 

@@ -1,5 +1,5 @@
 use Rattle.std.proofs.Common.{◌≡◌, ◌≤◌, ℕ, List, length, min, take, Some}
-use Rattle.warc_answer.specs.Places.{HasRead, LieIn, len_of, text_at}
+use Rattle.warc_answer.specs.Places.{LieIn, ReadsPlaces, len_of, text_at}
 use Rattle.warc_answer.proofs.blocks.read_front.Given as goal
 
 -- the front of the buffer has the blocks so far, as far as it goes, and no read has failed
@@ -8,11 +8,10 @@ invariant-reading g l = record {
   within : l.filled ≤ length l.front;
   count : (bytes : List ℕ) → LieIn l.places bytes
       → l.filled ≡ min (length l.front) (length (text_at (take l.place-index l.places) bytes));
-  bytes : (bytes : List ℕ) → (g.S.Source.tapped l.fn.source).holds ≡ Some bytes → LieIn l.places bytes
+  bytes : (bytes : List ℕ) → (g.S.Source.seen l.fn.source).holds ≡ Some bytes → LieIn l.places bytes
       → take l.filled l.front ≡ take (length l.front) (text_at (take l.place-index l.places) bytes);
-  kept : (g.S.Source.tapped l.source).holds ≡ (g.S.Source.tapped l.fn.source).holds;
-  sound : (g.S.Source.tapped l.source).faults ≡ (g.S.Source.tapped l.fn.source).faults;
-  read : HasRead (len_of (take l.place-index l.places)) l.places
-      (g.S.Source.tapped l.fn.source)
-      (g.S.Source.tapped l.source);
+  sound : (g.S.Source.seen l.source).faults ≡ (g.S.Source.seen l.fn.source).faults;
+  read : ReadsPlaces l.places (len_of (take l.place-index l.places))
+      (g.S.Source.seen l.fn.source)
+      (g.S.Source.seen l.source);
 }

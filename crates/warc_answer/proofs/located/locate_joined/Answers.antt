@@ -1,5 +1,6 @@
 use Rattle.std.proofs.Common.{sym, subst}
-use Rattle.warc_answer.proofs.GiveLemmas.{none_out, places_lie, same_failed}
+use Rattle.warc_answer.proofs.GiveLemmas.{fails_of_fault, front_within, none_out, places_lie}
+use Rattle.warc_answer.proofs.PlaceLemmas.{read_no_more}
 use Rattle.warc_answer.specs.Answers.{IsAnswerOn}
 use Rattle.warc_answer.specs.Replays.{given}
 use Rattle.warc_answer.specs.declared.replay.Begun.{Begun}
@@ -7,21 +8,28 @@ use Rattle.warc_answer.specs.Located.{Location}
 use Rattle.warc_answer.proofs.located.locate_joined.Goals as goal
 
 pub returns-in-Err-clause-located : goal.returns-in-Err-clause-located
-returns-in-Err-clause-located g c = λ bytes records found read joined held short way says are tells.
-    c.in-Err.ensures.refused bytes records found read joined held short way says are tells
+returns-in-Err-clause-located g c = λ bytes held records found is tells. c.in-Err.ensures.refused bytes held records found is tells
 
-pub returns-in-Err-clause-failed : goal.returns-in-Err-clause-failed
-returns-in-Err-clause-failed g c = λ bytes joined held short are.
-    same_failed Begun Location c.in-Err.fault _ _ (c.in-Err.ensures.failed bytes joined held short are)
+pub returns-in-Err-clause-fails : goal.returns-in-Err-clause-fails
+returns-in-Err-clause-fails g c = fails_of_fault Begun Location c.in-Err.fault c.in-Err.ensures.fails
+
+pub returns-in-Err-clause-reads : goal.returns-in-Err-clause-reads
+returns-in-Err-clause-reads g c = read_no_more c.args.places.now _ _ _ _ (front_within _ c.args.places.now) c.in-Err.ensures.reads
+
+pub returns-in-Ok-cut_front-clause-reads : goal.returns-in-Ok-cut_front-clause-reads
+returns-in-Ok-cut_front-clause-reads g c = read_no_more c.args.places.now _ _ _ _ (front_within _ c.args.places.now) c.in-Ok.ensures.reads
+
+pub returns-in-Err-cut_front-clause-reads : goal.returns-in-Err-cut_front-clause-reads
+returns-in-Err-cut_front-clause-reads g c = read_no_more c.args.places.now _ _ _ _ (front_within _ c.args.places.now) c.in-Ok.ensures.reads
 
 pub returns-in-Ok-cut_front-clause-located : goal.returns-in-Ok-cut_front-clause-located
-returns-in-Ok-cut_front-clause-located g c = λ bytes records found read joined held short way says are.
-    let lie = places_lie bytes c.args.places.now joined short are in (
+returns-in-Ok-cut_front-clause-located g c = λ bytes held records found is.
+    let lie = places_lie bytes c.args.places.now is.joined is.short is.places_are in (
       subst (λ l. IsAnswerOn records found (given c.in-Ok.begun.answer l)) (sym (c.in-Ok-cut_front.ensures.text bytes lie))
-          (c.in-Ok.ensures.begun bytes records found read joined held short way says are),
+          (c.in-Ok.ensures.begun bytes held records found is),
       c.in-Ok-cut_front.ensures.within bytes lie,
     )
 
 pub returns-in-Err-cut_front-clause-located : goal.returns-in-Err-cut_front-clause-located
-returns-in-Err-cut_front-clause-located g c = λ bytes records found read joined held short way says are tells.
-    let begun = c.in-Ok.ensures.begun bytes records found read joined held short way says are in (_, begun, none_out tells _)
+returns-in-Err-cut_front-clause-located g c = λ bytes held records found is tells.
+    let begun = c.in-Ok.ensures.begun bytes held records found is in (_, begun, none_out tells _)

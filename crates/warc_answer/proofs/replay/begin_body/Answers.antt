@@ -5,40 +5,38 @@ use Rattle.warc_answer.specs.Payloads.{is_http_response, whole_block}
 use Rattle.warc_answer.specs.Places.{len_of, text_at}
 use Rattle.warc_answer.specs.declared.body.BodyStart.{BodyStart}
 use Rattle.warc_answer.specs.declared.replay.Begun.{Begun}
-use Rattle.warc_answer.proofs.GiveLemmas.{places_lie, places_text, places_len, joined_short, replay_of_bad, replay_of_none, answer_of_body, same_failed}
+use Rattle.warc_answer.proofs.GiveLemmas.{places_lie, places_text, places_len, joined_short, replay_of_bad, replay_of_none, answer_of_body, fails_of_blocks}
 use Rattle.warc_answer.proofs.replay.begin_body.Goals as goal
 
 pub returns-then-any_bad-clause-refused : goal.returns-then-any_bad-clause-refused
-returns-then-any_bad-clause-refused g c = λ bytes records way read joined held short found says are told.
-    replay_of_bad bytes records way c.args.path read joined c.args.places.now told found are
+returns-then-any_bad-clause-refused g c = λ bytes held records way is told.
+    replay_of_bad bytes records way c.args.path is.origin is.joined c.args.places.now told is.leads is.places_are
     (sym c.any_bad.ensures ∙ c.if-any_bad.true)
 
 pub returns-in-Err-clause-refused : goal.returns-in-Err-clause-refused
-returns-in-Err-clause-refused g c = λ bytes records way read joined held short found says are told.
+returns-in-Err-clause-refused g c = λ bytes held records way is told.
     let places = c.args.places.now in
-    let http : c.is_http_response.result ≡ is_http_response read.head =
-    c.is_http_response.ensures ∙ ap (λ (h : Reading). is_http_response h) says in
-    replay_of_none c.one_of_three.ensures bytes records way c.args.path read joined places told
-    c.is_http_response.result c.in-Err.fault found are (sym c.any_bad.ensures ∙ c.if-any_bad.false) http
-    (c.in-Err.ensures.begun bytes held (places_lie bytes places joined short are))
+    let http : c.is_http_response.result ≡ is_http_response is.origin.head =
+    c.is_http_response.ensures ∙ ap (λ (h : Reading). is_http_response h) is.head_is in
+    replay_of_none c.one_of_three.ensures bytes records way c.args.path is.origin is.joined places told
+    c.is_http_response.result c.in-Err.fault is.leads is.places_are (sym c.any_bad.ensures ∙ c.if-any_bad.false) http
+    (c.in-Err.ensures.begun bytes held (places_lie bytes places is.joined is.short is.places_are))
 
-pub returns-in-Err-clause-failed : goal.returns-in-Err-clause-failed
-returns-in-Err-clause-failed g c = λ bytes joined held short are.
-    same_failed BodyStart Begun c.in-Err.fault _ _
-    (c.in-Err.ensures.failed bytes held (places_lie bytes c.args.places.now joined short are))
+pub returns-in-Err-clause-fails : goal.returns-in-Err-clause-fails
+returns-in-Err-clause-fails g c = fails_of_blocks BodyStart Begun c.in-Err.fault c.args.places.now c.in-Err.ensures.fails
 
 pub returns-clause-begun : goal.returns-clause-begun
-returns-clause-begun g c = λ bytes records way read joined held short found says are.
+returns-clause-begun g c = λ bytes held records way is.
     let places = c.args.places.now in
     let start = c.in-Ok.start in
-    let lie = places_lie bytes places joined short are in
-    let http : c.is_http_response.result ≡ is_http_response read.head =
-    c.is_http_response.ensures ∙ ap (λ (h : Reading). is_http_response h) says in
-    let text : text_at places bytes ≡ whole_block joined = places_text bytes places joined are in
+    let lie = places_lie bytes places is.joined is.short is.places_are in
+    let http : c.is_http_response.result ≡ is_http_response is.origin.head =
+    c.is_http_response.ensures ∙ ap (λ (h : Reading). is_http_response h) is.head_is in
+    let text : text_at places bytes ≡ whole_block is.joined = places_text bytes places is.joined is.places_are in
     let fits : len_of places ≤ max_archive =
-    joined_short c.joined_has_total.ensures bytes records way c.args.path read joined places short found are in
+    joined_short c.joined_has_total.ensures bytes records way c.args.path is.origin is.joined places is.short is.leads is.places_are in
     let len : c.saturating_sub.result ≡ length (drop start.skip (text_at places bytes)) =
-    omega (arith, c.saturating_sub.ensures, c.total.ensures, places_len bytes places joined are, ap length text, length-drop start.skip (text_at places bytes)) in
-    answer_of_body bytes records way c.args.path read joined places c.is_http_response.result start
-    c.any_truncated.result c.saturating_sub.result found are (sym c.any_bad.ensures ∙ c.if-any_bad.false) http
+    omega (arith, c.saturating_sub.ensures, c.total.ensures, places_len bytes places is.joined is.places_are, ap length text, length-drop start.skip (text_at places bytes)) in
+    answer_of_body bytes records way c.args.path is.origin is.joined places c.is_http_response.result start
+    c.any_truncated.result c.saturating_sub.result is.leads is.places_are (sym c.any_bad.ensures ∙ c.if-any_bad.false) http
     (c.in-Ok.ensures.begun bytes held lie) c.any_truncated.ensures len

@@ -1,5 +1,6 @@
 use Rattle.std.proofs.lemmas.Result.{IfOk-weaker}
 use Rattle.std.proofs.Common.{refl, ◌∙◌}
+use Rattle.warc_frame.proofs.EffectLemmas.{fails_more}
 use Rattle.warc_checking.proofs.CountLemmas.{counted}
 use Rattle.warc_reading.proofs.PlaceLemmas.{checkable_archive}
 use Rattle.warc_checking.proofs.check.check_rows.Goals as goal
@@ -13,10 +14,8 @@ returns g c = record {
       (c.tell_reread.ensures.number bytes is.are.records held (checkable_archive c.head_of_spelled.ensures bytes _ is _ refl));
   cut = λ bytes held is.
       c.tell_reread.ensures.cut bytes is.are.records held (checkable_archive c.head_of_spelled.ensures bytes _ is _ refl);
-  failed = λ bytes held is.
-      c.tell_reread.ensures.failed bytes is.are.records held (checkable_archive c.head_of_spelled.ensures bytes _ is _ refl);
-  kept = c.tell_reread.ensures.kept;
-  heads = c.tell_reread.ensures.heads;
-  may = c.tell_reread.ensures.may;
+  reads = c.tell_reread.ensures.reads;
+  fails = fails_more (λ bytes held is. record { records = is.are.records; can = checkable_archive c.head_of_spelled.ensures bytes _ is _ refl })
+      c.tell_reread.ensures.fails;
   cause = c.tell_reread.ensures.cause;
 }

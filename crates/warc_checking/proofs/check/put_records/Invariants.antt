@@ -14,17 +14,16 @@ abbrev pub invariant-checking : goal.invariant-checking
 invariant-checking g l = record {
   room : max_head ≤ length l.head;
   tally : IsTally (length l.rows) l.rows l.ids.counts;
-  staged : (bytes : List ℕ) (records : List Placed) (start : Option (List ℕ)) (output : List ℕ) → (g.S.Source.tapped l.fn.source).holds ≡ Some bytes
+  staged : (bytes : List ℕ) (records : List Placed) (start : Option (List ℕ)) (output : List ℕ) → (g.S.Source.seen l.fn.source).holds ≡ Some bytes
       → AreCheckable bytes records l.rows → IsStaged start output ((g.W.Sink.seen l.fn.out).tells) l.fn.buffer
       → IsStaged start (output ++ first_text l.position (contents records)) ((g.W.Sink.seen l.out).tells) l.buffer;
-  ids : (bytes : List ℕ) (records : List Placed) → (g.S.Source.tapped l.fn.source).holds ≡ Some bytes → AreCheckable bytes records l.rows
+  ids : (bytes : List ℕ) (records : List Placed) → (g.S.Source.seen l.fn.source).holds ≡ Some bytes → AreCheckable bytes records l.rows
       → HoldsIdsOf (take l.position (contents records)) l.ids;
-  number : (bytes : List ℕ) (records : List Placed) → (g.S.Source.tapped l.fn.source).holds ≡ Some bytes → AreCheckable bytes records l.rows
+  number : (bytes : List ℕ) (records : List Placed) → (g.S.Source.seen l.fn.source).holds ≡ Some bytes → AreCheckable bytes records l.rows
       → l.count ≡ capped (length (findings_of_first l.position (contents records)));
   heads : ReadsHeads (take l.position l.rows)
-      (g.S.Source.tapped l.fn.source)
-      (g.S.Source.tapped l.source);
-  kept : (g.S.Source.tapped l.source).holds ≡ (g.S.Source.tapped l.fn.source).holds;
-  sound : (g.S.Source.tapped l.source).faults ≡ (g.S.Source.tapped l.fn.source).faults;
+      (g.S.Source.seen l.fn.source)
+      (g.S.Source.seen l.source);
+  sound : (g.S.Source.seen l.source).faults ≡ (g.S.Source.seen l.fn.source).faults;
   silent : (g.W.Sink.seen l.out).faults ≡ (g.W.Sink.seen l.fn.out).faults;
 }

@@ -17,10 +17,10 @@ returns-clause-ends g c = inl (record {
         records = contents archive.listed.are.records;
         are = good_records_of archive.listed;
         told = c.replay_at-answer.ensures.gives.told bytes (c.in-Ok.ensures.reads.kept ∙ held) archive.listed archive.kept;
-        source = failed_as (body_result c.replay_at-answer.result) _ _ _ _ c.in-Ok.ensures.reads.cause (ap (λ s. (g.S.Source.tapped s).faults) (sym c.into_source.ensures)) (c.replay_at-answer.ensures.gives.failed bytes (c.in-Ok.ensures.reads.kept ∙ held) archive.listed archive.kept);
+        source = failed_as (body_result c.replay_at-answer.result) _ _ _ _ c.in-Ok.ensures.reads.cause (ap (λ s. (g.S.Source.seen s).faults) (sym c.into_source.ensures)) (c.replay_at-answer.ensures.gives.fails.failed bytes (c.in-Ok.ensures.reads.kept ∙ held) (archive.listed, archive.kept));
       };
   silent = c.replay_at-answer.ensures.gives.silent;
-  source = may_have_failed_as (body_result c.replay_at-answer.result) _ _ _ _ c.in-Ok.ensures.reads.cause (ap (λ s. (g.S.Source.tapped s).faults) (sym c.into_source.ensures)) c.replay_at-answer.ensures.gives.may;
+  source = may_have_failed_as (body_result c.replay_at-answer.result) _ _ _ _ c.in-Ok.ensures.reads.cause (ap (λ s. (g.S.Source.seen s).faults) (sym c.into_source.ensures)) c.replay_at-answer.ensures.gives.fails.may;
   failed = c.replay_at-answer.ensures.gives.cause;
   told = c.tell_body.ensures.told;
   status_is = c.tell_body.ensures.status;
@@ -30,4 +30,4 @@ pub returns-in-Err-clause-reads : goal.returns-in-Err-clause-reads
 returns-in-Err-clause-reads g c = (opened c.in-Err.ensures refl).near
 
 pub returns-clause-reads : goal.returns-clause-reads
-returns-clause-reads g c = replay_near c.in-Ok.ensures (ap (λ s. g.S.Source.tapped s) c.into_source.ensures) c.replay_at-answer.ensures.gives.inside
+returns-clause-reads g c = replay_near c.in-Ok.ensures (ap (λ s. g.S.Source.seen s) c.into_source.ensures) c.replay_at-answer.ensures.gives.inside

@@ -9,4 +9,4 @@ returns-in-Err-clause-ends g c = inr (inl (not_opened _ _ _ _ _ _ c.in-Err.fault
 pub returns-clause-ends : goal.returns-clause-ends
 returns-clause-ends g c =
     captures_end _ _ _ c.judge_listed-outcomes.result _ _ _ _ _ _ _ _ _ c.in-Ok.ensures c.judge_listed-outcomes.ensures
-    (ap (λ s. (g.S.Source.tapped s).faults) c.into_source.ensures) c.tell_outcomes.ensures
+    (ap (λ s. (g.S.Source.seen s).faults) c.into_source.ensures) c.tell_outcomes.ensures

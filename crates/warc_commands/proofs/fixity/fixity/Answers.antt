@@ -17,7 +17,7 @@ returns-in-Ok-list-clause-ends g c = inl (record {
   are = c.in-Ok.ensures.accepted;
   told = c.in-Ok-list.ensures.told;
   unfailed = c.in-Ok-list.ensures.cause;
-  sound = ap (λ s. (g.S.Source.tapped s).faults) c.into_source.ensures ∙ c.in-Ok.ensures.reads.cause;
+  sound = ap (λ s. (g.S.Source.seen s).faults) c.into_source.ensures ∙ c.in-Ok.ensures.reads.cause;
   silent = refl;
   status_is = c.status_of.ensures.value ∙ ap fixity_status c.counts.ensures;
   status_in = c.status_of.ensures.cases;
@@ -31,7 +31,7 @@ returns-in-Err-list-clause-ends g c = inr (inr (record {
   sent = sent_of c.in-Err-list.fault;
   front = c.in-Err-list.ensures.cut;
   failed = c.in-Err-list.ensures.cause;
-  sound = ap (λ s. (g.S.Source.tapped s).faults) c.into_source-in-Err-list.ensures ∙ c.in-Ok.ensures.reads.cause;
+  sound = ap (λ s. (g.S.Source.seen s).faults) c.into_source-in-Err-list.ensures ∙ c.in-Ok.ensures.reads.cause;
   told = told_as (ap (λ e. told_line (out_fault_text e)) c.in-Err-list.ensures.write) c.tell_cut.ensures.told;
   status_is = c.tell_cut.ensures.status;
 }))
@@ -40,7 +40,7 @@ pub returns-in-Err-clause-reads : goal.returns-in-Err-clause-reads
 returns-in-Err-clause-reads g c = opened c.in-Err.ensures refl
 
 pub returns-in-Ok-list-clause-reads : goal.returns-in-Ok-list-clause-reads
-returns-in-Ok-list-clause-reads g c = opened c.in-Ok.ensures (ap (λ s. g.S.Source.tapped s) c.into_source.ensures)
+returns-in-Ok-list-clause-reads g c = opened c.in-Ok.ensures (ap (λ s. g.S.Source.seen s) c.into_source.ensures)
 
 pub returns-in-Err-list-clause-reads : goal.returns-in-Err-list-clause-reads
-returns-in-Err-list-clause-reads g c = opened c.in-Ok.ensures (ap (λ s. g.S.Source.tapped s) c.into_source-in-Err-list.ensures)
+returns-in-Err-list-clause-reads g c = opened c.in-Ok.ensures (ap (λ s. g.S.Source.seen s) c.into_source-in-Err-list.ensures)

@@ -7,9 +7,9 @@ use Rattle.warc_commands.proofs.making.is_long.Given as goal
 abbrev pub invariant-asking : goal.invariant-asking
 invariant-asking g l = record {
   some : 65536 ≤ l.at;
-  kept : (g.S.Source.tapped l.source).holds ≡ (g.S.Source.tapped l.fn.source).holds;
-  sound : (g.S.Source.tapped l.source).faults ≡ (g.S.Source.tapped l.fn.source).faults;
-  asked : HasAsked l.at (g.S.Source.tapped l.fn.source) (g.S.Source.tapped l.source);
+  kept : (g.S.Source.seen l.source).holds ≡ (g.S.Source.seen l.fn.source).holds;
+  sound : (g.S.Source.seen l.source).faults ≡ (g.S.Source.seen l.fn.source).faults;
+  asked : HasAsked l.at (g.S.Source.seen l.fn.source) (g.S.Source.seen l.source);
 }
 
 abbrev pub decreases-asking : goal.decreases-asking

@@ -27,10 +27,10 @@ reading-preserved g c =
           let gives = c.in-Ok.ensures.bytes bytes (c.reading.invariant.kept ∙ held) in
           read_more bytes items _ c.read_at.new.buf c.in-Ok.n (c.reading.invariant.bytes bytes held) c.in-Ok.ensures.bound more
           (gives.same ∙ ap (λ k. take c.in-Ok.n (drop k bytes)) at);
-      kept = c.in-Ok.ensures.kept ∙ c.reading.invariant.kept;
-      sound = c.in-Ok.ensures.cause ∙ c.reading.invariant.sound;
-      asked = front_more c.args.most (length c.args.buf.now) items _ _ (g.S.Source.tapped c.read_at.new.self) c.len-in-reading-2.result (length (take c.min-want.result c.reading.buf)) c.reading.invariant.asked
-          c.in-Ok.ensures.watched c.in-Ok.ensures.counted c.in-Ok.ensures.asks at
+      kept = c.in-Ok.ensures.read.kept ∙ c.reading.invariant.kept;
+      sound = c.in-Ok.ensures.read.cause ∙ c.reading.invariant.sound;
+      asked = front_more c.args.most (length c.args.buf.now) items _ _ (g.S.Source.seen c.read_at.new.self) c.len-in-reading-2.result (length (take c.min-want.result c.reading.buf)) c.reading.invariant.asked
+          c.in-Ok.ensures.read.watched c.in-Ok.ensures.read.counted c.in-Ok.ensures.read.asks at
           (omega (arith, at, length-take c.min-want.result c.reading.buf, c.min-want.ensures, c.len-in-reading.ensures, c.reading-test.true, c.len.ensures))
           (omega (arith, length-take c.min-want.result c.reading.buf, c.reading.auto.buf)) (λ bytes held. front_within bytes items (c.reading.invariant.bytes bytes held)) _
           (omega (arith, ap (λ l. length l) more, length-append items (take c.in-Ok.n c.read_at.new.buf), length-take c.in-Ok.n c.read_at.new.buf, c.in-Ok.ensures.bound, c.if-n-eq0.false));
@@ -50,22 +50,22 @@ returns-clause-bytes g c = λ bytes held. elim c.reading-test.branch [
 
 pub returns-clause-kept : goal.returns-clause-kept
 returns-clause-kept g c = elim c.reading-test.branch [
-  | else-reading-test w ↦ ap (λ s. (g.S.Source.tapped s).holds) w.source-is ∙ c.reading.invariant.kept
-  | then-reading-test+in-Ok+then-n-eq0 w ↦ ap (λ s. (g.S.Source.tapped s).holds) w.source-is ∙ (w.in-Ok.ensures.kept ∙ c.reading.invariant.kept)
+  | else-reading-test w ↦ ap (λ s. (g.S.Source.seen s).holds) w.source-is ∙ c.reading.invariant.kept
+  | then-reading-test+in-Ok+then-n-eq0 w ↦ ap (λ s. (g.S.Source.seen s).holds) w.source-is ∙ (w.in-Ok.ensures.read.kept ∙ c.reading.invariant.kept)
 ]
 
 pub returns-clause-failed : goal.returns-clause-failed
 returns-clause-failed g c = elim c.reading-test.branch [
-  | else-reading-test w ↦ ap (λ s. (g.S.Source.tapped s).faults) w.source-is ∙ c.reading.invariant.sound
-  | then-reading-test+in-Ok+then-n-eq0 w ↦ ap (λ s. (g.S.Source.tapped s).faults) w.source-is ∙ (w.in-Ok.ensures.cause ∙ c.reading.invariant.sound)
+  | else-reading-test w ↦ ap (λ s. (g.S.Source.seen s).faults) w.source-is ∙ c.reading.invariant.sound
+  | then-reading-test+in-Ok+then-n-eq0 w ↦ ap (λ s. (g.S.Source.seen s).faults) w.source-is ∙ (w.in-Ok.ensures.read.cause ∙ c.reading.invariant.sound)
 ]
 
 pub returns-in-Err-clause-reads : goal.returns-in-Err-clause-reads
 returns-in-Err-clause-reads g c =
     let items = c.reading.read.items in
     let at : c.len-in-reading-2.result ≡ length items = omega (arith, c.len-in-reading-2.ensures) in
-    front_last c.args.most (length c.args.buf.now) items _ _ (g.S.Source.tapped c.read_at.new.self) c.len-in-reading-2.result (length (take c.min-want.result c.reading.buf)) c.reading.invariant.asked
-    c.in-Err.ensures.watched c.in-Err.ensures.counted c.in-Err.ensures.asks at
+    front_last c.args.most (length c.args.buf.now) items _ _ (g.S.Source.seen c.read_at.new.self) c.len-in-reading-2.result (length (take c.min-want.result c.reading.buf)) c.reading.invariant.asked
+    c.in-Err.ensures.read.watched c.in-Err.ensures.read.counted c.in-Err.ensures.read.asks at
     (omega (arith, at, length-take c.min-want.result c.reading.buf, c.min-want.ensures, c.len-in-reading.ensures, c.reading-test.true, c.len.ensures))
     (omega (arith, length-take c.min-want.result c.reading.buf, c.reading.auto.buf)) (λ bytes held. front_within bytes items (c.reading.invariant.bytes bytes held))
 
@@ -73,8 +73,8 @@ pub returns-in-Err-extend_from_slice-clause-reads : goal.returns-in-Err-extend_f
 returns-in-Err-extend_from_slice-clause-reads g c =
     let items = c.reading.read.items in
     let at : c.len-in-reading-2.result ≡ length items = omega (arith, c.len-in-reading-2.ensures) in
-    front_last c.args.most (length c.args.buf.now) items _ _ (g.S.Source.tapped c.read_at.new.self) c.len-in-reading-2.result (length (take c.min-want.result c.reading.buf)) c.reading.invariant.asked
-    c.in-Ok.ensures.watched c.in-Ok.ensures.counted c.in-Ok.ensures.asks at
+    front_last c.args.most (length c.args.buf.now) items _ _ (g.S.Source.seen c.read_at.new.self) c.len-in-reading-2.result (length (take c.min-want.result c.reading.buf)) c.reading.invariant.asked
+    c.in-Ok.ensures.read.watched c.in-Ok.ensures.read.counted c.in-Ok.ensures.read.asks at
     (omega (arith, at, length-take c.min-want.result c.reading.buf, c.min-want.ensures, c.len-in-reading.ensures, c.reading-test.true, c.len.ensures))
     (omega (arith, length-take c.min-want.result c.reading.buf, c.reading.auto.buf)) (λ bytes held. front_within bytes items (c.reading.invariant.bytes bytes held))
 
@@ -85,8 +85,8 @@ returns-clause-reads g c =
       | else-reading-test w ↦ rw w.source-is (front_done c.args.most (length c.args.buf.now) items _ _ c.reading.invariant.asked (λ bytes held. front_within bytes items (c.reading.invariant.bytes bytes held)))
       | then-reading-test+in-Ok+then-n-eq0 w ↦
           let at : w.len-in-reading-2.result ≡ length items = omega (arith, w.len-in-reading-2.ensures) in
-          rw w.source-is (front_last c.args.most (length c.args.buf.now) items _ _ (g.S.Source.tapped w.read_at.new.self) w.len-in-reading-2.result (length (take w.min-want.result c.reading.buf)) c.reading.invariant.asked
-          w.in-Ok.ensures.watched w.in-Ok.ensures.counted w.in-Ok.ensures.asks at
+          rw w.source-is (front_last c.args.most (length c.args.buf.now) items _ _ (g.S.Source.seen w.read_at.new.self) w.len-in-reading-2.result (length (take w.min-want.result c.reading.buf)) c.reading.invariant.asked
+          w.in-Ok.ensures.read.watched w.in-Ok.ensures.read.counted w.in-Ok.ensures.read.asks at
           (omega (arith, at, length-take w.min-want.result c.reading.buf, w.min-want.ensures, w.len-in-reading.ensures, w.reading-test.true, c.len.ensures))
           (omega (arith, length-take w.min-want.result c.reading.buf, c.reading.auto.buf)) (λ bytes held. front_within bytes items (c.reading.invariant.bytes bytes held)))
     ]

@@ -6,10 +6,10 @@ use Rattle.warc_commands.proofs.making.read_through.Given as goal
 abbrev pub invariant-reading : goal.invariant-reading
 invariant-reading g l = record {
   within : length l.read.items ≤ l.most;
-  bytes : (bytes : List ℕ) → (g.S.Source.tapped l.fn.source).holds ≡ Some bytes → l.read.items ≡ take (length l.read.items) bytes;
-  kept : (g.S.Source.tapped l.source).holds ≡ (g.S.Source.tapped l.fn.source).holds;
-  sound : (g.S.Source.tapped l.source).faults ≡ (g.S.Source.tapped l.fn.source).faults;
-  asked : HasReadFront l.most (length l.fn.buf) l.read.items (g.S.Source.tapped l.fn.source) (g.S.Source.tapped l.source);
+  bytes : (bytes : List ℕ) → (g.S.Source.seen l.fn.source).holds ≡ Some bytes → l.read.items ≡ take (length l.read.items) bytes;
+  kept : (g.S.Source.seen l.source).holds ≡ (g.S.Source.seen l.fn.source).holds;
+  sound : (g.S.Source.seen l.source).faults ≡ (g.S.Source.seen l.fn.source).faults;
+  asked : HasReadFront l.most (length l.fn.buf) l.read.items (g.S.Source.seen l.fn.source) (g.S.Source.seen l.source);
 }
 
 abbrev pub decreases-reading : goal.decreases-reading

@@ -26,10 +26,10 @@ returns-clause-ends g c =
             rows = c.in-Ok.archive.rows;
             is = archive;
             told = c.part_to-answer.ensures.gives.told bytes (c.in-Ok.ensures.reads.kept ∙ held) archive;
-            source = failed_as (extract_result c.part_to-answer.result) _ _ _ _ c.in-Ok.ensures.reads.cause (ap (λ s. (g.S.Source.tapped s).faults) (sym c.into_source.ensures)) (c.part_to-answer.ensures.gives.failed bytes (c.in-Ok.ensures.reads.kept ∙ held) archive);
+            source = failed_as (extract_result c.part_to-answer.result) _ _ _ _ c.in-Ok.ensures.reads.cause (ap (λ s. (g.S.Source.seen s).faults) (sym c.into_source.ensures)) (c.part_to-answer.ensures.gives.fails.failed bytes (c.in-Ok.ensures.reads.kept ∙ held) archive);
           };
       silent = c.part_to-answer.ensures.gives.silent;
-      source = may_have_failed_as (extract_result c.part_to-answer.result) _ _ _ _ c.in-Ok.ensures.reads.cause (ap (λ s. (g.S.Source.tapped s).faults) (sym c.into_source.ensures)) c.part_to-answer.ensures.gives.may;
+      source = may_have_failed_as (extract_result c.part_to-answer.result) _ _ _ _ c.in-Ok.ensures.reads.cause (ap (λ s. (g.S.Source.seen s).faults) (sym c.into_source.ensures)) c.part_to-answer.ensures.gives.fails.may;
       failed = c.part_to-answer.ensures.gives.cause;
       told = c.tell_extract.ensures.told;
       status_is = c.tell_extract.ensures.status;
@@ -43,4 +43,4 @@ returns-in-Err-clause-reads g c = twice_at_most (opened c.in-Err.ensures refl)
 
 pub returns-clause-reads : goal.returns-clause-reads
 returns-clause-reads g c =
-    part_read c.in-Ok.archive.rows (λ bytes is. is) c.in-Ok.ensures (ap (λ s. g.S.Source.tapped s) c.into_source.ensures) c.args.part c.in-Some.position c.part_to-answer.ensures.gives.reads
+    part_read c.in-Ok.archive.rows (λ bytes is. is) c.in-Ok.ensures (ap (λ s. g.S.Source.seen s) c.into_source.ensures) c.args.part c.in-Some.position c.part_to-answer.ensures.gives.reads

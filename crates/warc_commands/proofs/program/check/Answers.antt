@@ -22,14 +22,14 @@ returns-in-Ok-check-clause-ends g c = inl (record {
         status_is = c.status_of_count.ensures.value ∙ ap (λ n. min n 1) tells.number ∙ status_by (findings_of_archive rs);
       };
   unfailed = c.in-Ok-check.ensures.cause;
-  sound = ap (λ s. (g.S.Source.tapped s).faults) c.into_source.ensures ∙ c.in-Ok.ensures.reads.cause;
+  sound = ap (λ s. (g.S.Source.seen s).faults) c.into_source.ensures ∙ c.in-Ok.ensures.reads.cause;
   silent = refl;
   status_in = c.status_of_count.ensures.cases;
 })
 
 pub returns-in-Err-check-clause-ends : goal.returns-in-Err-check-clause-ends
 returns-in-Err-check-clause-ends g c =
-    let same = ap (λ s. (g.S.Source.tapped s).faults) c.into_source-in-Err-check.ensures ∙ c.in-Ok.ensures.reads.cause in
+    let same = ap (λ s. (g.S.Source.seen s).faults) c.into_source-in-Err-check.ensures ∙ c.in-Ok.ensures.reads.cause in
     inr (inr (record {
       cut = record {
         fault = c.in-Err-check.fault;
@@ -54,7 +54,7 @@ pub returns-in-Err-clause-reads : goal.returns-in-Err-clause-reads
 returns-in-Err-clause-reads g c = opened c.in-Err.ensures refl
 
 pub returns-in-Ok-check-clause-reads : goal.returns-in-Ok-check-clause-reads
-returns-in-Ok-check-clause-reads g c = opened c.in-Ok.ensures (ap (λ s. g.S.Source.tapped s) c.into_source.ensures)
+returns-in-Ok-check-clause-reads g c = opened c.in-Ok.ensures (ap (λ s. g.S.Source.seen s) c.into_source.ensures)
 
 pub returns-in-Err-check-clause-reads : goal.returns-in-Err-check-clause-reads
-returns-in-Err-check-clause-reads g c = opened c.in-Ok.ensures (ap (λ s. g.S.Source.tapped s) c.into_source-in-Err-check.ensures)
+returns-in-Err-check-clause-reads g c = opened c.in-Ok.ensures (ap (λ s. g.S.Source.seen s) c.into_source-in-Err-check.ensures)

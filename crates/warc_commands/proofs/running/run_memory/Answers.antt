@@ -3,9 +3,9 @@ use Rattle.warc_commands.proofs.running.run_memory.Goals as goal
 
 pub returns-in-Ok : goal.returns-in-Ok
 returns-in-Ok g c = record {
-  source = g.Y.Stream.Source.tapped c.stream-source.result;
+  source = g.Y.Stream.Source.seen c.stream-source.result;
   given = c.stream-source.ensures;
-  last = g.Y.Stream.Source.tapped c.read_front.new.source;
+  last = g.Y.Stream.Source.seen c.read_front.new.source;
   ends = inl (record {
     bytes = c.in-Ok.bytes.items;
     are = c.in-Ok.ensures.bytes;
@@ -16,9 +16,9 @@ returns-in-Ok g c = record {
 
 pub returns : goal.returns
 returns g c = record {
-  source = g.Y.Stream.Source.tapped c.stream-source.result;
+  source = g.Y.Stream.Source.seen c.stream-source.result;
   given = c.stream-source.ensures;
-  last = g.Y.Stream.Source.tapped c.read_front.new.source;
+  last = g.Y.Stream.Source.seen c.read_front.new.source;
   ends = inr (record {
     fault = c.in-Err.fault;
     source = c.in-Err.ensures.failed;

@@ -12,12 +12,12 @@ split_by word n old new status same ends = let P : Option ℕ → Type 0 = λ si
 pub returns-in-Ok-split-clause-ends : goal.returns-in-Ok-split-clause-ends
 returns-in-Ok-split-clause-ends g c =
     split_by c.args.size.now c.in-Some.size _ _ _ (c.in-Some.ensures ∙ ap size_of c.as_bytes.ensures.value)
-    (inl (all_written c.in-Ok.ensures c.in-Ok-split.ensures.writes (ap (λ s. (g.S.Source.tapped s).faults) c.into_source.ensures)))
+    (inl (all_written c.in-Ok.ensures c.in-Ok-split.ensures.writes (ap (λ s. (g.S.Source.seen s).faults) c.into_source.ensures)))
 
 pub returns-in-Err-split-clause-ends : goal.returns-in-Err-split-clause-ends
 returns-in-Err-split-clause-ends g c =
     split_by c.args.size.now c.in-Some.size _ _ _ (c.in-Some.ensures ∙ ap size_of c.as_bytes.ensures.value)
-    (inr (inr (part_written c.in-Err-split.fault c.in-Ok.ensures c.in-Err-split.ensures.writes (ap (λ s. (g.S.Source.tapped s).faults) c.into_source-in-Err-split.ensures) c.tell_cut.ensures.told c.tell_cut.ensures.status)))
+    (inr (inr (part_written c.in-Err-split.fault c.in-Ok.ensures c.in-Err-split.ensures.writes (ap (λ s. (g.S.Source.seen s).faults) c.into_source-in-Err-split.ensures) c.tell_cut.ensures.told c.tell_cut.ensures.status)))
 
 pub returns-in_default-clause-reads : goal.returns-in_default-clause-reads
 returns-in_default-clause-reads g c = thrice_at_most (unread _)
@@ -26,8 +26,8 @@ pub returns-in-Err-clause-reads : goal.returns-in-Err-clause-reads
 returns-in-Err-clause-reads g c = thrice_at_most (opened c.in-Err.ensures refl)
 
 pub returns-in-Ok-split-clause-reads : goal.returns-in-Ok-split-clause-reads
-returns-in-Ok-split-clause-reads g c = each_read_twice c.in-Ok.archive.rows (λ bytes is. is) c.in-Ok.ensures (ap (λ s. g.S.Source.tapped s) c.into_source.ensures) c.in-Ok-split.ensures.writes.reads
+returns-in-Ok-split-clause-reads g c = each_read_twice c.in-Ok.archive.rows (λ bytes is. is) c.in-Ok.ensures (ap (λ s. g.S.Source.seen s) c.into_source.ensures) c.in-Ok-split.ensures.writes.reads
 
 pub returns-in-Err-split-clause-reads : goal.returns-in-Err-split-clause-reads
 returns-in-Err-split-clause-reads g c =
-    each_read_twice c.in-Ok.archive.rows (λ bytes is. is) c.in-Ok.ensures (ap (λ s. g.S.Source.tapped s) c.into_source-in-Err-split.ensures) c.in-Err-split.ensures.writes.reads
+    each_read_twice c.in-Ok.archive.rows (λ bytes is. is) c.in-Ok.ensures (ap (λ s. g.S.Source.seen s) c.into_source-in-Err-split.ensures) c.in-Err-split.ensures.writes.reads

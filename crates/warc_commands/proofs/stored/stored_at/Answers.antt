@@ -16,10 +16,10 @@ returns-clause-ends g c = inl (record {
         records = contents archive.listed.are.records;
         are = good_records_of archive.listed;
         told = c.stored_to-answer.ensures.gives.told bytes (c.in-Ok.ensures.reads.kept ∙ held) archive.listed archive.kept;
-        source = failed_as (fault_result (answer_seen c.stored_to-answer.result)) _ _ _ _ c.in-Ok.ensures.reads.cause (ap (λ s. (g.S.Source.tapped s).faults) (sym c.into_source.ensures)) (c.stored_to-answer.ensures.gives.failed bytes (c.in-Ok.ensures.reads.kept ∙ held) archive.listed archive.kept);
+        source = failed_as (fault_result (answer_seen c.stored_to-answer.result)) _ _ _ _ c.in-Ok.ensures.reads.cause (ap (λ s. (g.S.Source.seen s).faults) (sym c.into_source.ensures)) (c.stored_to-answer.ensures.gives.fails.failed bytes (c.in-Ok.ensures.reads.kept ∙ held) (archive.listed, archive.kept));
       };
   silent = c.stored_to-answer.ensures.gives.silent;
-  source = may_have_failed_as (fault_result (answer_seen c.stored_to-answer.result)) _ _ _ _ c.in-Ok.ensures.reads.cause (ap (λ s. (g.S.Source.tapped s).faults) (sym c.into_source.ensures)) c.stored_to-answer.ensures.gives.may;
+  source = may_have_failed_as (fault_result (answer_seen c.stored_to-answer.result)) _ _ _ _ c.in-Ok.ensures.reads.cause (ap (λ s. (g.S.Source.seen s).faults) (sym c.into_source.ensures)) c.stored_to-answer.ensures.gives.fails.may;
   failed = c.stored_to-answer.ensures.gives.cause;
   told = c.tell_stored.ensures.told;
   status_is = c.tell_stored.ensures.status;

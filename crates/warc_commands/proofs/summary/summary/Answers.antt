@@ -18,7 +18,7 @@ returns-in-Ok-write-clause-ends g c = inl (record {
   is = c.summary.ensures;
   told = c.in-Ok-write.ensures.told;
   unfailed = c.in-Ok-write.ensures.cause;
-  sound = ap (λ s. (g.S.Source.tapped s).faults) c.into_source.ensures ∙ c.in-Ok.ensures.reads.cause;
+  sound = ap (λ s. (g.S.Source.seen s).faults) c.into_source.ensures ∙ c.in-Ok.ensures.reads.cause;
   silent = refl;
   status_is = refl;
 })
@@ -33,7 +33,7 @@ returns-in-Err-write-clause-ends g c = inr (inr (record {
   sent = sent_of c.in-Err-write.fault;
   front = c.in-Err-write.ensures.cut;
   failed = c.in-Err-write.ensures.cause;
-  sound = ap (λ s. (g.S.Source.tapped s).faults) c.into_source-in-Err-write.ensures ∙ c.in-Ok.ensures.reads.cause;
+  sound = ap (λ s. (g.S.Source.seen s).faults) c.into_source-in-Err-write.ensures ∙ c.in-Ok.ensures.reads.cause;
   told = told_as (ap (λ e. told_line (out_fault_text e)) c.in-Err-write.ensures.write) c.tell_cut.ensures.told;
   status_is = c.tell_cut.ensures.status;
 }))
@@ -42,7 +42,7 @@ pub returns-in-Err-clause-reads : goal.returns-in-Err-clause-reads
 returns-in-Err-clause-reads g c = opened c.in-Err.ensures refl
 
 pub returns-in-Ok-write-clause-reads : goal.returns-in-Ok-write-clause-reads
-returns-in-Ok-write-clause-reads g c = opened c.in-Ok.ensures (ap (λ s. g.S.Source.tapped s) c.into_source.ensures)
+returns-in-Ok-write-clause-reads g c = opened c.in-Ok.ensures (ap (λ s. g.S.Source.seen s) c.into_source.ensures)
 
 pub returns-in-Err-write-clause-reads : goal.returns-in-Err-write-clause-reads
-returns-in-Err-write-clause-reads g c = opened c.in-Ok.ensures (ap (λ s. g.S.Source.tapped s) c.into_source-in-Err-write.ensures)
+returns-in-Err-write-clause-reads g c = opened c.in-Ok.ensures (ap (λ s. g.S.Source.seen s) c.into_source-in-Err-write.ensures)

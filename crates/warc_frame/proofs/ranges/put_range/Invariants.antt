@@ -1,5 +1,6 @@
 use Rattle.std.proofs.Common.{◌≡◌, ◌≤◌, ◌-◌, ◌++◌, ℕ, List, Option, Some, take, drop}
-use Rattle.warc_frame.specs.Ranges.{HasFilledTo}
+use Rattle.warc_frame.specs.Effects.{ReadsOnly}
+use Rattle.warc_frame.specs.Seen.{IsInRange}
 use Rattle.warc_frame.specs.Send.{IsStaged}
 use Rattle.warc_frame.proofs.ranges.put_range.Given as goal
 
@@ -7,14 +8,13 @@ use Rattle.warc_frame.proofs.ranges.put_range.Given as goal
 abbrev pub invariant-copying : goal.invariant-copying
 invariant-copying g l = record {
   within : l.done ≤ l.len;
-  staged : (bytes : List ℕ) (start : Option (List ℕ)) (output : List ℕ) → (g.S.Source.tapped l.fn.source).holds ≡ Some bytes
+  staged : (bytes : List ℕ) (start : Option (List ℕ)) (output : List ℕ) → (g.S.Source.seen l.fn.source).holds ≡ Some bytes
       → IsStaged start output ((g.W.Sink.seen l.fn.out).tells) l.fn.buffer
       → IsStaged start (output ++ take l.done (drop l.at bytes)) ((g.W.Sink.seen l.out).tells) l.buffer;
-  read : HasFilledTo l.at l.len l.done
-      (g.S.Source.tapped l.fn.source)
-      (g.S.Source.tapped l.source);
-  kept : (g.S.Source.tapped l.source).holds ≡ (g.S.Source.tapped l.fn.source).holds;
-  sound : (g.S.Source.tapped l.source).faults ≡ (g.S.Source.tapped l.fn.source).faults;
+  read : ReadsOnly (IsInRange l.at l.len) l.done
+      (g.S.Source.seen l.fn.source)
+      (g.S.Source.seen l.source);
+  sound : (g.S.Source.seen l.source).faults ≡ (g.S.Source.seen l.fn.source).faults;
   silent : (g.W.Sink.seen l.out).faults ≡ (g.W.Sink.seen l.fn.out).faults;
 }
 

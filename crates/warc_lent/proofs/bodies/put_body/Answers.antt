@@ -3,6 +3,13 @@ use Rattle.warc_lent.specs.Bodies.{path_numbers_at}
 use Rattle.warc_lent.proofs.BodyLemmas.{kept_on, same_path_at}
 use Rattle.warc_lent.proofs.bodies.put_body.Goals as goal
 
+pub returns-in-Ok-clause-puts : goal.returns-in-Ok-clause-puts
+returns-in-Ok-clause-puts g c = λ bytes held is. record {
+  body = c.in-Ok.located;
+  lies = c.in-Ok.ensures.locates.located bytes held is.listed is.kept;
+  put = c.put_located.ensures.put;
+}
+
 pub returns-in-Err-clause-puts : goal.returns-in-Err-clause-puts
 returns-in-Err-clause-puts g c = λ bytes held is.
     let ps = is.listed.are.records in

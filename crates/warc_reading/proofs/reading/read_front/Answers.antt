@@ -22,4 +22,4 @@ returns-clause-front g c = λ bytes held.
 pub returns-clause-order : goal.returns-clause-order
 returns-clause-order g c =
     let P : List Row → Type 0 = λ rows. IsArchiveOf [] rows in
-    order_from _ _ (g.S.Source.tapped c.args.source.now) (g.S.Source.tapped c.read_through-answer.new.source) (c.behind-reading.ensures.begin [] (subst P (sym c.new-2.ensures) none_listed)) c.read_through-answer.ensures.order
+    order_from _ _ (g.S.Source.seen c.args.source.now) (g.S.Source.seen c.read_through-answer.new.source) (c.behind-reading.ensures.begin [] (subst P (sym c.new-2.ensures) none_listed)) c.read_through-answer.ensures.order

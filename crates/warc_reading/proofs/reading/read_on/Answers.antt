@@ -28,12 +28,12 @@ returns-clause-grows g c = grows_from _ _ _ _ _ c.behind-reading.ensures.rows c.
 pub returns-clause-rows : goal.returns-clause-rows
 returns-clause-rows g c =
     let P : List Row → Type 0 = λ rows. Extends rows c.read_through.new.reading.rows in
-    c.forget_after.ensures.rows ∙ extends_front c.len-count.result c.args.rows c.read_through.new.reading.rows c.len-count.ensures (subst P c.behind-reading.ensures.rows c.read_through.ensures.rows)
+    c.truncate.ensures.rows ∙ extends_front c.len-count.result c.args.rows c.read_through.new.reading.rows c.len-count.ensures (subst P c.behind-reading.ensures.rows c.read_through.ensures.rows)
 
 pub returns-clause-beside : goal.returns-clause-beside
 returns-clause-beside g c = λ bytes is.
     let P : List Row → Type 0 = λ rows. Extends rows c.read_through.new.reading.rows in
-    let same = c.forget_after.ensures.rows ∙ extends_front c.len-count.result c.args.rows c.read_through.new.reading.rows c.len-count.ensures (subst P c.behind-reading.ensures.rows c.read_through.ensures.rows) in
+    let same = c.truncate.ensures.rows ∙ extends_front c.len-count.result c.args.rows c.read_through.new.reading.rows c.len-count.ensures (subst P c.behind-reading.ensures.rows c.read_through.ensures.rows) in
     let was = is.listed.are.records in
     let begun : IsKeptOf g.L.Keep.keeps bytes (c.behind-reading.result.rows, c.behind-reading.result.beside) = record {
       listed = record {
@@ -42,13 +42,13 @@ returns-clause-beside g c = λ bytes is.
       };
       beside = rw c.behind-reading.ensures.beside is.beside;
     } in
-    kept_again g.L.Keep.keeps bytes c.args.rows _ c.args.beside c.read_through.new.reading.beside _ c.len-count.result is same c.len-count.ensures (c.in-Err.ensures.left bytes begun) c.forget_after.ensures.beside
+    kept_again g.L.Keep.keeps bytes c.args.rows _ c.args.beside c.read_through.new.reading.beside _ c.len-count.result is same c.len-count.ensures (c.in-Err.ensures.left bytes begun) c.truncate.ensures.beside
 
 pub returns-in_default-clause-order : goal.returns-in_default-clause-order
-returns-in_default-clause-order g c = λ bytes is. in_order (length bytes) (g.S.Source.tapped c.args.source.now) (g.S.Source.tapped c.args.source.now) (λ _. refl)
+returns-in_default-clause-order g c = λ bytes is. in_order (length bytes) (g.S.Source.seen c.args.source.now) (g.S.Source.seen c.args.source.now) (λ _. refl)
 
 pub returns-in-Ok-read_through-clause-order : goal.returns-in-Ok-read_through-clause-order
-returns-in-Ok-read_through-clause-order g c = λ bytes is. order_from _ _ (g.S.Source.tapped c.args.source.now) (g.S.Source.tapped c.read_through.new.source) (c.behind-reading.ensures.begin bytes is) c.in-Ok-read_through.ensures.order
+returns-in-Ok-read_through-clause-order g c = λ bytes is. order_from _ _ (g.S.Source.seen c.args.source.now) (g.S.Source.seen c.read_through.new.source) (c.behind-reading.ensures.begin bytes is) c.in-Ok-read_through.ensures.order
 
 pub returns-clause-order : goal.returns-clause-order
-returns-clause-order g c = λ bytes is. order_from _ _ (g.S.Source.tapped c.args.source.now) (g.S.Source.tapped c.read_through.new.source) (c.behind-reading.ensures.begin bytes is) c.in-Err.ensures.order
+returns-clause-order g c = λ bytes is. order_from _ _ (g.S.Source.seen c.args.source.now) (g.S.Source.seen c.read_through.new.source) (c.behind-reading.ensures.begin bytes is) c.in-Err.ensures.order

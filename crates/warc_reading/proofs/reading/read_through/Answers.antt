@@ -15,7 +15,7 @@ reading-init g c = record {
   stands = λ bytes is. begun g.L.Keep.keeps bytes _ c.args.reading.now is (c.requires.begin bytes is.listed) c.requires.current c.new-decoder.ensures;
   rows = extends_none c.args.reading.now.rows;
   given = given_none c.args.reading.now.begin _;
-  follows = follows_none c.args.reading.now.begin (g.S.Source.tapped c.args.source.now);
+  follows = follows_none c.args.reading.now.begin (g.S.Source.seen c.args.source.now);
   room = refl;
 }
 
@@ -91,7 +91,7 @@ reading-preserved g c =
       stands = λ bytes is. part_grows g.L.Keep.keeps is.listed.are.records bytes i.taken (take n buf) _ _ (c.in_ok-take_piece.ensures.history is.listed.are.records (bytes ++ i.taken) (i.stands bytes is));
       rows = extends_more _ _ _ i.rows c.take_piece.ensures.rows;
       given = given_on start _ _ _ i.taken buf n c.position-at.result (near c.position-at.result (length c.reading.buf)) i.given (read_there end c.in-Ok.ensures.read) (fits_near (length c.reading.buf) end c.position-at.ensures.limit) some size end (λ bytes held. c.in-Ok.ensures.bytes bytes (i.given.kept ∙ held));
-      follows = follows_on ReadFault start c.position-at.result n (g.S.Source.tapped c.args.source.now) (g.S.Source.tapped c.reading.source) (g.S.Source.tapped c.read_near.new.source) i.taken buf end size c.in-Ok.ensures.near i.follows c.in-Ok.ensures.order;
+      follows = follows_on ReadFault start c.position-at.result n (g.S.Source.seen c.args.source.now) (g.S.Source.seen c.reading.source) (g.S.Source.seen c.read_near.new.source) i.taken buf end size c.in-Ok.ensures.near i.follows c.in-Ok.ensures.order;
       room = search rules;
     }
 
@@ -139,16 +139,16 @@ pub returns-in-Err-clause-order : goal.returns-in-Err-clause-order
 returns-in-Err-clause-order g c =
     let i = c.reading.invariant in
     let (end, lies) = c.position-at.ensures.history c.args.reading.now.begin i.taken i.told i.is_at in
-    still_in_order {E = ReadFault} c.args.reading.now.begin c.position-at.result (Err c.in-Err.field-0) (g.S.Source.tapped c.args.source.now) (g.S.Source.tapped c.reading.source) (g.S.Source.tapped c.read_near.new.source) i.taken end i.follows c.in-Err.ensures.order
+    still_in_order {E = ReadFault} c.args.reading.now.begin c.position-at.result (Err c.in-Err.field-0) (g.S.Source.seen c.args.source.now) (g.S.Source.seen c.reading.source) (g.S.Source.seen c.read_near.new.source) i.taken end i.follows c.in-Err.ensures.order
 
 pub returns-in_err-take_piece-clause-order : goal.returns-in_err-take_piece-clause-order
 returns-in_err-take_piece-clause-order g c =
     let i = c.reading.invariant in
     let (end, lies) = c.position-at.ensures.history c.args.reading.now.begin i.taken i.told i.is_at in
-    still_in_order {E = ReadFault} c.args.reading.now.begin c.position-at.result (Ok c.in-Ok.n) (g.S.Source.tapped c.args.source.now) (g.S.Source.tapped c.reading.source) (g.S.Source.tapped c.read_near.new.source) i.taken end i.follows c.in-Ok.ensures.order
+    still_in_order {E = ReadFault} c.args.reading.now.begin c.position-at.result (Ok c.in-Ok.n) (g.S.Source.seen c.args.source.now) (g.S.Source.seen c.reading.source) (g.S.Source.seen c.read_near.new.source) i.taken end i.follows c.in-Ok.ensures.order
 
 pub returns-clause-order : goal.returns-clause-order
 returns-clause-order g c =
     let i = c.reading.invariant in
     let (end, lies) = c.position-at.ensures.history c.args.reading.now.begin i.taken i.told i.is_at in
-    still_in_order {E = ReadFault} c.args.reading.now.begin c.position-at.result (Ok c.in-Ok.n) (g.S.Source.tapped c.args.source.now) (g.S.Source.tapped c.reading.source) (g.S.Source.tapped c.read_near.new.source) i.taken end i.follows c.in-Ok.ensures.order
+    still_in_order {E = ReadFault} c.args.reading.now.begin c.position-at.result (Ok c.in-Ok.n) (g.S.Source.seen c.args.source.now) (g.S.Source.seen c.reading.source) (g.S.Source.seen c.read_near.new.source) i.taken end i.follows c.in-Ok.ensures.order

@@ -13,10 +13,10 @@ invariant-reading g l = record {
   stands : (bytes : List ℕ) (is : IsKeptOf g.L.Keep.keeps bytes (l.fn.reading.rows, l.fn.reading.beside)) → Stands (Since g.L.Keep.keeps is.listed.are.records) (bytes ++ taken) l.decoder l.reading;
   rows : Extends l.fn.reading.rows l.reading.rows;
   given : HasGivenFrom l.fn.reading.begin
-      (g.S.Source.tapped l.fn.source)
-      (g.S.Source.tapped l.source)
+      (g.S.Source.seen l.fn.source)
+      (g.S.Source.seen l.source)
       taken;
-  follows : Follows l.fn.reading.begin taken (g.S.Source.tapped l.fn.source) (g.S.Source.tapped l.source);
+  follows : Follows l.fn.reading.begin taken (g.S.Source.seen l.fn.source) (g.S.Source.seen l.source);
   room : length l.buf ≡ length l.fn.buf;
 }
 

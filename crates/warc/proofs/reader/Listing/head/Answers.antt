@@ -9,5 +9,4 @@ returns-clause-takes g c =
     let rows = same_rows c.self.view_is in
     let at : slice_get c.args.self.now.rows c.args.position ≡ Some c.in-Some.row = ap (λ l. slice_get l c.args.position) (sym rows) ∙ sym c.get.ensures ∙ c.in-Some.is in
     rw (← (same_source c.self.view_is)) (takes_head c.head_of_spelled.ensures c.args.self.now.rows c.args.position c.in-Some.row _ _ c.take_head.result at
-    (λ bytes p held has same. (c.take_head.ensures.taken bytes p held has same, c.take_head.ensures.failed bytes p held has same))
-    c.take_head.ensures.is c.take_head.ensures.kept c.take_head.ensures.may c.take_head.ensures.reads)
+    c.take_head.ensures.taken c.take_head.ensures.is c.take_head.ensures.reads c.take_head.ensures.fails)

@@ -9,5 +9,4 @@ returns-clause-takes g c =
     let rows = same_rows c.self.view_is in
     let at : slice_get c.args.self.now.rows c.args.position ≡ Some c.in-Some.row = ap (λ l. slice_get l c.args.position) (sym rows) ∙ sym c.get.ensures ∙ c.in-Some.is in
     rw (← (same_source c.self.view_is)) (takes_row c.args.self.now.rows c.args.position c.in-Some.row _ _ c.take_record.result at
-    (λ bytes p held short has same. (c.take_record.ensures.taken bytes p held short has same, c.take_record.ensures.failed bytes p held short has same))
-    c.take_record.ensures.is c.take_record.ensures.whole c.take_record.ensures.kept c.take_record.ensures.may c.take_record.ensures.reads)
+    c.take_record.ensures.taken c.take_record.ensures.is c.take_record.ensures.whole c.take_record.ensures.reads c.take_record.ensures.fails)

@@ -1,7 +1,7 @@
 use Rattle.std.proofs.Common.{◌≡◌, ◌∷◌, ◌∙◌, List, map, Some, Ok, Err, sym, ap, subst, rules}
 use Rattle.warc_record.specs.declared.readings.SegmentNumber.TheVariants.{Number}
 use Rattle.warc_record.specs.Seen.{said}
-use Rattle.warc_segment.specs.declared.held.Facts.{Facts}
+use Rattle.warc_segment.specs.declared.held.TotalAndPlace.{TotalAndPlace}
 use Rattle.warc_segment.specs.declared.series.Continuation.{Continuation}
 use Rattle.warc_segment.specs.Held.{side_by_side, IsSeries, IsWholeSeries}
 use Rattle.warc_segment.proofs.JoinLemmas.{joined_ok, joined_fault}
@@ -16,7 +16,7 @@ returns-in_err-series-in-Number-eq1 g c = λ all was.
     c.bytes-id.result.now c.self.inside.order c.self.inside.facts.items all _ c.whole_series.result fault
     c.self.invariant (c.self.view_is ∙ was) (ap Some (sym c.bytes-id.ensures)) one is
     c.in_err-series-in-Number-eq1.was
-    (subst (λ (facts : List Facts).
+    (subst (λ (facts : List TotalAndPlace).
     IsSeries c.bytes-id.result.now c.args.place.len (side_by_side c.self.inside.order facts) c.whole_series.result)
     c.deref.ensures.value c.whole_series.ensures)
 
@@ -27,7 +27,7 @@ returns-in_ok-places_of-in-Number-eq1 g c = λ all was.
     joined_ok c.self.inside.count (record { head = said c.args.typed.now; place = c.args.place })
     c.bytes-id.result.now c.self.inside.order c.self.inside.facts.items series.series.items all c.self.invariant
     (c.self.view_is ∙ was) (ap Some (sym c.bytes-id.ensures)) one
-    (subst (λ (facts : List Facts).
+    (subst (λ (facts : List TotalAndPlace).
     IsWholeSeries c.bytes-id.result.now (side_by_side c.self.inside.order facts) series.series.items)
     c.deref.ensures.value series.ensures.0)
     series.ensures.1 series.ensures.2

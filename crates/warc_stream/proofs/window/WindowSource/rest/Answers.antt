@@ -5,7 +5,7 @@ use Rattle.warc_stream.proofs.window.WindowSource.rest.Goals as goal
 
 pub returns-clause-there : goal.returns-clause-there
 returns-clause-there g c = λ bytes held.
-    let same = ap (λ (w : Windowed _). g.S.Source.tapped w.source) c.self.view_is in
+    let same = ap (λ (w : Windowed _). g.S.Source.seen w.source) c.self.view_is in
     let inside = c.self.inside in
     let is = c.self.invariant.1 bytes (ap (λ t. t.holds) same ∙ held) in
     rw c.deref.ensures.value (rest_there bytes inside.buffer.items inside.len inside.from c.args.at is c.self.invariant.0

@@ -1,0 +1,218 @@
+//! What is kept of records beside their rows: nothing in a listing; in an archive, what finds them and what joins them.
+ghost use Rattle.std.specs.Prelude.{◌≡◌, None, List, [], ◌∷◌, ◌++◌, length, take, OnErr, OnOk};
+ghost use Rattle.warc_record.specs.Heads.{head_fault};
+ghost use Rattle.warc_record.specs.Readings.{reading_of};
+ghost use Rattle.warc_record.specs.Seen.{said};
+ghost use Rattle.warc_reading.specs.Indexed.{AreOf, place_of};
+ghost use Rattle.warc_reading.specs.Row.{Placed};
+
+use std::alloc::{AllocError, Allocator};
+use warc_field::Fields;
+use warc_index::{Index, RecordIndex, UnorderedIndex};
+use warc_order::EntryList;
+use warc_record::{Typed, type_head};
+use warc_segment::{Parts, Place};
+
+/// What is kept of records beside their rows, as they are read.
+pub trait Keep<A: Allocator> {
+    /// It is kept of these records.
+    ghost keeps: { Self → List Placed → Type 0 };
+
+    /// Keeps what is wanted of the next record, by its position, the fields of its good head and where its block
+    /// stands. Where memory is refused, what is kept is of the records before.
+    fn keep(
+        &mut self,
+        alloc: A,
+        position: usize,
+        fields: &Fields<A>,
+        place: Place,
+    ) -> Result<(), AllocError>
+        ensures ok { (records : List Placed) (p : Placed) → keeps self.old records → position ≡ length records →
+            fields.now ≡ p.content.fields → head_fault p.content.fields ≡ None → place ≡ place_of p →
+            OnOk result (keeps self.new (records ++ p ∷ [])) }
+        ensures err { (records : List Placed) → keeps self.old records → position ≡ length records →
+            OnErr result (keeps self.new records) };
+
+    /// Forgets all but the first so many records. It takes no memory.
+    fn truncate(&mut self, count: usize)
+        ensures { (records : List Placed) → keeps self.old records → keeps self.new (take count records) };
+}
+
+/// Rows alone are kept.
+#[derive(Drop)]
+pub struct RowsAlone;
+
+impl<A: Allocator> Keep<A> for RowsAlone {
+    ghost keeps = { λ _ _. Unit {0} };
+
+    fn keep(
+        &mut self,
+        _alloc: A,
+        _position: usize,
+        _fields: &Fields<A>,
+        _place: Place,
+    ) -> Result<(), AllocError> {
+        Ok(())
+    }
+
+    fn truncate(&mut self, _count: usize) {}
+}
+
+/// Keeps the next record, by its position, what its head says and where its block stands.
+fn add<O: EntryList, A: Allocator + Copy>(
+    index: &mut RecordIndex<O, A>,
+    parts: &mut Parts<A>,
+    position: usize,
+    typed: &Typed<A>,
+    place: Place,
+) -> Result<(), AllocError>
+    ensures ok { (records : List Placed) (p : Placed) → AreOf records index.old parts.old →
+        said typed.now ≡ reading_of p.content.fields → place ≡ place_of p →
+        OnOk result (AreOf (records ++ p ∷ []) index.new parts.new) }
+    ensures err { (records : List Placed) → AreOf records index.old parts.old →
+        position ≡ length records → OnErr result (AreOf records index.new parts.new) }
+{
+    index.add(typed)?;
+    match parts.add(typed, place) {
+        Ok(()) => Ok(()),
+        Err(refused) => {
+            // What was added is taken back, which takes no memory.
+            index.truncate(position);
+            Err(refused)
+        }
+    }
+}
+
+/// Keeps the next record, by its position, the fields of its good head and where its block stands.
+fn add_head<O: EntryList, A: Allocator + Copy>(
+    alloc: A,
+    index: &mut RecordIndex<O, A>,
+    parts: &mut Parts<A>,
+    position: usize,
+    fields: &Fields<A>,
+    place: Place,
+) -> Result<(), AllocError>
+    ensures ok { (records : List Placed) (p : Placed) → AreOf records index.old parts.old →
+        position ≡ length records → fields.now ≡ p.content.fields → head_fault p.content.fields ≡ None →
+        place ≡ place_of p → OnOk result (AreOf (records ++ p ∷ []) index.new parts.new) }
+    ensures err { (records : List Placed) → AreOf records index.old parts.old →
+        position ≡ length records → OnErr result (AreOf records index.new parts.new) }
+{
+    // The head is good, so that nothing but memory fails.
+    let Ok(typed) = type_head(alloc, fields) else {
+        return Err(AllocError);
+    };
+    add(index, parts, position, &typed, place)
+}
+
+/// Keeps the first so many records. It takes no memory.
+fn keep_first<O: EntryList, A: Allocator + Copy>(
+    index: &mut RecordIndex<O, A>,
+    parts: &mut Parts<A>,
+    count: usize,
+)
+    ensures { (records : List Placed) → AreOf records index.old parts.old →
+        AreOf (take count records) index.new parts.new }
+{
+    index.truncate(count);
+    parts.truncate(count);
+}
+
+/// What finds the records of an archive, and what joins those that are in segments.
+#[derive(Drop)]
+pub struct Lookup<A: Allocator> {
+    pub index: Index<A>,
+    pub parts: Parts<A>,
+}
+
+impl<A: Allocator + Copy> Lookup<A> {
+    /// Of no records.
+    pub fn new(alloc: A) -> Lookup<A>
+        ensures { AreOf [] result.index result.parts }
+    {
+        Lookup {
+            index: Index::new(alloc),
+            parts: Parts::new(alloc),
+        }
+    }
+}
+
+/// The same of records that come at once, which are put in order when all are there.
+#[derive(Drop)]
+pub struct UnorderedLookup<A: Allocator> {
+    pub filling: UnorderedIndex<A>,
+    pub parts: Parts<A>,
+}
+
+impl<A: Allocator + Copy> UnorderedLookup<A> {
+    /// Of no records.
+    pub fn new(alloc: A) -> UnorderedLookup<A>
+        ensures { AreOf [] result.filling result.parts }
+    {
+        UnorderedLookup {
+            filling: UnorderedIndex::new(alloc),
+            parts: Parts::new(alloc),
+        }
+    }
+
+    /// Puts the records in order. It takes no memory.
+    pub fn into_lookup(self) -> Lookup<A>
+        ensures index { result.index ≡ self.filling }
+        ensures parts { result.parts ≡ self.parts }
+    {
+        Lookup {
+            index: self.filling.into_index(),
+            parts: self.parts,
+        }
+    }
+}
+
+impl<A: Allocator + Copy> Keep<A> for Lookup<A> {
+    ghost keeps = { λ l records. AreOf records l.index l.parts };
+
+    fn keep(
+        &mut self,
+        alloc: A,
+        position: usize,
+        fields: &Fields<A>,
+        place: Place,
+    ) -> Result<(), AllocError> {
+        add_head(
+            alloc,
+            &mut self.index,
+            &mut self.parts,
+            position,
+            fields,
+            place,
+        )
+    }
+
+    fn truncate(&mut self, count: usize) {
+        keep_first(&mut self.index, &mut self.parts, count);
+    }
+}
+
+impl<A: Allocator + Copy> Keep<A> for UnorderedLookup<A> {
+    ghost keeps = { λ l records. AreOf records l.filling l.parts };
+
+    fn keep(
+        &mut self,
+        alloc: A,
+        position: usize,
+        fields: &Fields<A>,
+        place: Place,
+    ) -> Result<(), AllocError> {
+        add_head(
+            alloc,
+            &mut self.filling,
+            &mut self.parts,
+            position,
+            fields,
+            place,
+        )
+    }
+
+    fn truncate(&mut self, count: usize) {
+        keep_first(&mut self.filling, &mut self.parts, count);
+    }
+}
