@@ -19,6 +19,8 @@ CALLER = (
     ("antt", "crates/example_page/proofs/PageLemmas.antt"),
     ("antt", "crates/example_page/proofs/page/opened/Answers.antt"),
     ("antt", "crates/example_page/proofs/page/replayed/Answers.antt"),
+    ("antt", "crates/example_page/proofs/page/has_grown/Answers.antt"),
+    ("antt", "crates/example_page/proofs/page/page_if_refused/Answers.antt"),
 )
 FRONT = """\
 # Calling `warc`
@@ -32,7 +34,8 @@ Everything that these calls take and give is exported here, so one line of `use`
 ## A caller
 
 `page` gives the page that an archive in memory holds of a URI as of a moment. It promises that the page is the one that the
-definition of an answer names, and it proves that from the contracts of the three calls that it makes.
+definition of an answer names, and it proves that from the contracts of the calls that it makes. `page_if_refused` promises
+the same of an archive that refuses to grow: it gives the page that it held before.
 """
 CONTRACTS = """\
 ## Contracts

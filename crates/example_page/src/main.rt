@@ -4,7 +4,7 @@
 mod page;
 
 use std::{fs, io};
-use warc::{Moment, read_date};
+use warc::{Archive, MemSource, Moment, read_date};
 
 /// The URI of the page.
 const PAGE: &[u8] = b"http://a.example/x";
@@ -25,8 +25,56 @@ fn tell_as_of(rt: &HostRuntime, bytes: Vec<u8>, date: &[u8]) -> io::Result<()> {
     }
 }
 
+/// Prints the page that an archive gives after a growth that is refused, as where a record isn't whole yet.
+fn tell_refused(
+    rt: &HostRuntime,
+    archive: &mut Archive<MemSource>,
+    longer: Vec<u8>,
+    moment: &Moment,
+) -> io::Result<()> {
+    let source = MemSource::new(longer, usize::MAX);
+    match page::page_if_refused(rt.alloc(), archive, source, PAGE, moment) {
+        Some(Ok(page)) => println!(rt;
+            "as before: {}",
+            str::from_utf8(&page).unwrap_or("not UTF-8")
+        ),
+        Some(Err(why)) => println!(rt; "no page: {why}"),
+        None => println!(rt; "grown"),
+    }
+}
+
+/// The same of the bytes of an archive.
+fn tell_grown(
+    rt: &HostRuntime,
+    bytes: Vec<u8>,
+    longer: Vec<u8>,
+    moment: &Moment,
+) -> io::Result<()> {
+    match page::opened(rt.alloc(), bytes) {
+        Ok(mut archive) => tell_refused(rt, &mut archive, longer, moment),
+        Err(fault) => println!(rt; "no archive: {fault}"),
+    }
+}
+
+/// The same of a file, and of the front of another record after it.
+fn tell_torn(rt: &HostRuntime, moment: &Moment) -> io::Result<()> {
+    let bytes = fs::read(rt, "described.warc")?;
+    let mut longer = bytes.clone()?;
+    longer.extend_from_slice(b"WARC/1.1\r\n")?;
+    tell_grown(rt, bytes, longer, moment)
+}
+
+/// The same as of the first instant of a date.
+fn tell_torn_as_of(rt: &HostRuntime, date: &[u8]) -> io::Result<()> {
+    match read_date(date) {
+        Some(moment) => tell_torn(rt, &moment),
+        None => println!(rt; "no date"),
+    }
+}
+
 fn main(rt: HostRuntime) -> io::Result<()> {
     tell_as_of(&rt, fs::read(&rt, "described.warc")?, b"2021")?;
     tell_as_of(&rt, fs::read(&rt, "described.warc")?, b"2019")?;
-    tell_as_of(&rt, fs::read(&rt, "torn.warc")?, b"2021")
+    tell_as_of(&rt, fs::read(&rt, "torn.warc")?, b"2021")?;
+    tell_torn_as_of(&rt, b"2021")
 }

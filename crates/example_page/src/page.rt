@@ -1,5 +1,6 @@
 //! The page that an archive in memory holds: a caller that proves what it promises.
-ghost use Rattle.std.specs.Prelude.{◌≡◌, IfOk};
+ghost use Rattle.std.specs.Option.{IfSome};
+ghost use Rattle.std.specs.Prelude.{◌≡◌, IfOk, List, false, ℕ};
 ghost use Rattle.warc_reading.specs.Indexed.{IsIndexed};
 ghost use Rattle.example_page.specs.Page.{IsPageOf};
 
@@ -26,7 +27,7 @@ impl fmt::Display for NoPage {
 }
 
 /// Opens the archive that these bytes are.
-fn opened(alloc: Global, bytes: Vec<u8>) -> Result<Archive<MemSource>, Fault>
+pub fn opened(alloc: Global, bytes: Vec<u8>) -> Result<Archive<MemSource>, Fault>
     ensures source { IfOk result (λ archive. archive.listing.source.bytes ≡ bytes.items) }
     ensures opened { IfOk result (IsIndexed bytes.items) }
 {
@@ -63,4 +64,32 @@ pub fn page(alloc: Global, bytes: Vec<u8>, uri: &[u8], moment: &Moment) -> Resul
         Ok(page) => Ok(page),
         Err(fault) => Err(NoPage::Unanswered(fault)),
     }
+}
+
+/// Grows an archive in memory, and says whether it grew. One that didn't is as it was.
+fn has_grown(archive: &mut Archive<MemSource>, source: MemSource) -> bool
+    ensures stays { (bytes : List ℕ) → IsIndexed bytes archive.old → result ≡ false → IsIndexed bytes archive.new }
+    ensures listing { result ≡ false → archive.new.listing ≡ archive.old.listing }
+{
+    match archive.grow(source) {
+        Ok(()) => true,
+        Err(_refused) => false,
+    }
+}
+
+/// Grows an archive. Where that is refused, gives the page that it holds all the same, as before.
+pub fn page_if_refused(
+    alloc: Global,
+    archive: &mut Archive<MemSource>,
+    source: MemSource,
+    uri: &[u8],
+    moment: &Moment,
+) -> Option<Result<Vec<u8>, ReplayFault>>
+    ensures { IsIndexed archive.old.listing.source.bytes archive.old → IfSome result (λ answer. IfOk answer (λ page.
+        IsPageOf archive.old.listing.source.bytes uri.now moment.now page.items)) }
+{
+    if has_grown(archive, source) {
+        return None;
+    }
+    Some(replayed(alloc, archive, uri, moment))
 }
