@@ -1,4 +1,4 @@
--- What `check` tells of an archive: the findings of its records in their order, or that it has none. The
+-- What `check` reports of an archive: the findings of its records in their order, or that it has none. The
 -- findings are this project's own profile of ISO 28500:2017, and none of them refuses a record.
 use Rattle.std.specs.Prelude.{ℕ, Bool, List, [], ◌∷◌, ◌++◌, length, map, take, codes, decimal, Option, Some, None}
 use Rattle.std.specs.List.{enumerate_from, flat_map, list_any}
@@ -36,7 +36,7 @@ findings_at records position r = map (about_record position) (findings_behind (t
 abbrev pub findings_of_records : List Record → List Line
 findings_of_records records = flat_map (λ p. findings_at records p.0 p.1) (enumerate_from 0 records)
 
--- the finding where there is no record: N12
+-- the finding if there is no record: N12
 abbrev pub no_records : Line
 no_records = record { position = None; finding = Empty }
 
@@ -50,7 +50,7 @@ abbrev pub position_text : Option ℕ → List ℕ
 position_text None = codes "-"
 position_text (Some position) = decimal position
 
--- the name of a field behind a space, where there is one
+-- the name of a field after a space, if there is one
 abbrev pub field_text : Option (List ℕ) → List ℕ
 field_text None = []
 field_text (Some name) = codes " " ++ name

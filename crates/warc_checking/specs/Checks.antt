@@ -1,4 +1,4 @@
--- How the check of an archive ends: what it writes, what it reads, and what it answers.
+-- How the check of an archive ends: what it writes, what it reads, and what it returns.
 use Rattle.std.specs.Prelude.{◌≡◌, ℕ, ◌^◌, ◌<◌, List, length, Result, IfErr, IfOk, OnOk}
 use Rattle.std.specs.Io.KnownBytes.{append_known}
 use Rattle.warc_frame.specs.Send.{WentOut, sent_of}
@@ -12,7 +12,7 @@ use Rattle.warc_reading.specs.Rereading.{ReadsHeads}
 use Rattle.warc_reading.specs.Row.{Row}
 use Rattle.warc_frame.specs.Seen.{IfHeld, Seen, SeenSource}
 
--- a line was written for each finding of the records, or a front of the lines; and how many they are
+-- a line was written for each finding of the records, or a front of the lines; and how many lines there are
 abbrev pub AreTold : List Record → Result ℕ OutFault → Seen → Seen → Type 0
 AreTold records answer before after = OnOk answer (after.tells ≡ append_known before.tells (check_text records))
 
@@ -23,8 +23,8 @@ abbrev pub AreCutOff : List Record → Result ℕ OutFault → Seen → Seen →
 AreCutOff records answer before after =
     IfErr answer (λ e. WentOut before.tells (check_text records) after.tells (sent_of e))
 
--- Checking an archive of these rows. Where its source holds the archive's bytes, a line is written for each finding of
--- the records that they spell, and counted, or a front of the lines is. Of any source the heads alone are read, at most
+-- Checking an archive of these rows. If its source holds the archive's bytes, a line is written for each finding of
+-- the records that they spell, and counted, or a front of the lines is. Of any source only the heads are read, at most
 -- once for each byte of theirs
 pub record Checks (rows : List Row) (old new : SeenSource) (before after : Seen) (answer : Result ℕ OutFault)
     : Type 0 where
@@ -38,7 +38,7 @@ pub record Checks (rows : List Row) (old new : SeenSource) (before after : Seen)
   pub fails : FailsBy (λ bytes. IsArchiveOf bytes rows) answer old new
   pub cause : after.faults ≡ failed_by answer before.faults
 
--- telling what was found of records as they were read: a line is written for each finding, and counted, or a front of
+-- writing what was found of records as they were read: a line is written for each finding, and counted, or a front of
 -- the lines is
 pub record WritesFindings (records : List Record) (before after : Seen) (answer : Result ℕ OutFault) : Type 0 where
   pub told : AreTold records answer before after

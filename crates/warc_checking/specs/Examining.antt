@@ -14,13 +14,13 @@ use Rattle.warc_record.specs.declared.checks.ArchiveFacts.{ArchiveFacts}
 use Rattle.warc_field.specs.Area.{Pair}
 use Rattle.warc_checking.specs.Checking.{Line, about_record, check_text, findings_at, findings_of_archive, findings_of_records, is_used, record_key, line_text}
 
--- what an examined record gives: its fields, and what the archive tells of it
+-- what an examined record gives: its fields, and what the archive says of it
 pub record IsExamined (before : List Record) (r : Record) (fields : List Pair) (facts : ArchiveFacts) : Type 0 where
   pub fields_are : fields ≡ r.fields
   pub bad_digest : facts.bad_digest ≡ has_bad_digest r
   pub used_id : facts.used_id ≡ is_used before (record_key r)
 
--- the findings of a record of these fields, by the length of its block and what the archive tells of it
+-- the findings of a record of these fields, by the length of its block and what the archive says of it
 abbrev pub findings_by_facts : List Pair → ℕ → ArchiveFacts → List Found
 findings_by_facts fields block_len facts = findings_of fields block_len facts.bad_digest facts.used_id
 
@@ -39,7 +39,7 @@ findings_of_first n records = flat_map (λ p. findings_at records p.0 p.1) (enum
 abbrev pub first_text : ℕ → List Record → List ℕ
 first_text n records = flat_map line_text (findings_of_first n records)
 
--- lines are put behind what waits for an output, and counted, up to 2^64 - 1: they wait or went out behind it, or a
+-- lines are put after what waits for an output, and counted, up to 2^64 - 1: they wait or went out after it, or a
 -- front of it all went out
 pub record PutsLines (text : List ℕ) (count : ℕ) (old new : Seen) (waits waiting : Staged) (answer : Result ℕ OutFault)
     : Type 0 where
@@ -49,7 +49,7 @@ pub record PutsLines (text : List ℕ) (count : ℕ) (old new : Seen) (waits wai
       → IfErr answer (λ e. WentOut start (output ++ text) new.tells (sent_of e))
   pub number : IfOk answer (λ n. n ≡ capped count)
 
--- the lines of the findings of records, and how many they are
+-- the lines of the findings of records, and how many lines there are
 abbrev pub PutsFindingsOf : List Record → Seen → Seen → Staged → Staged → Result ℕ OutFault → Type 0
 PutsFindingsOf records old new waits waiting answer =
     PutsLines (records_text records) (length (findings_of_records records)) old new waits waiting answer

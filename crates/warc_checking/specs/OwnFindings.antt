@@ -1,4 +1,4 @@
--- How findings are kept in flat lists, and how those of a record are told with N6 among them. States of the code: no
+-- How findings are kept in flat lists, and how a record's are reported with N6 among them. States of the code: no
 -- public clause cites them.
 use Rattle.std.specs.Prelude.{◌≡◌, ℕ, ◌≤◌, Bool, true, false, nat_lt, List, [], ◌++◌, map, ◌==◌, slice_range, unwrap_or, None, if◌then◌else◌}
 use Rattle.std.specs.List.{AllByRecursion, filter, slice_get}
@@ -45,7 +45,7 @@ pub record IsNamed (count : ℕ) (n : PackedFinding) : Type 0 where
 abbrev pub AreNamed : ℕ → List PackedFinding → Type 0
 AreNamed count findings = AllByRecursion (IsNamed count) findings
 
--- a part of so many findings
+-- a part of n findings
 pub record IsPart (count : ℕ) (p : Part) : Type 0 where
   pub order : p.start ≤ p.end
   pub end : p.end ≤ count
@@ -60,7 +60,7 @@ findings_of_part findings p = slice_range findings p.start p.end
 abbrev pub found_by_part : List Found → List Part → List (List Found)
 found_by_part findings parts = map (findings_of_part findings) parts
 
--- those at a place, none behind the last
+-- those at a place, none past the end
 abbrev pub found_at : List (List Found) → ℕ → List Found
 found_at found position = unwrap_or (slice_get found position) []
 
@@ -69,7 +69,7 @@ abbrev pub is_late : Bool → Found → Bool
 is_late true f = nat_lt (finding_number IdUsed) (finding_number f)
 is_late false f = nat_lt (finding_number f) (finding_number IdUsed)
 
--- findings with N6 among them, where it holds
+-- findings with N6 among them, if it holds
 abbrev pub with_used : List Found → Bool → List Found
 with_used found used = filter (is_late false) found ++ once IdUsed used ++ filter (is_late true) found
 

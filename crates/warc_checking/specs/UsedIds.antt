@@ -1,5 +1,5 @@
--- Which ids of an archive may stand in it more than once. Each id's key has a bucket, and of each bucket it is counted
--- how many of the archive's ids it has: an id that is alone in its bucket stands once. States of the code: no public
+-- Which ids of an archive may occur in it more than once. Each id's key has a bucket, and for each bucket it is counted
+-- how many of the archive's ids it has: an id that is alone in its bucket occurs once. States of the code: no public
 -- clause cites them.
 use Rattle.std.specs.Prelude.{◌≡◌, ℕ, ◌<◌, ◌≤◌, ◌%◌, false, List, length, Option, Some, slice_index}
 use Rattle.std.specs.BTreeSet.{BTreeSet, contains}
@@ -12,7 +12,7 @@ use Rattle.warc_record.specs.Ids.{id_key}
 use Rattle.warc_checking.specs.Checking.{is_used}
 use Rattle.warc_reading.specs.Row.{Row}
 
--- the bucket of a key, of so many
+-- the bucket of a key, of n buckets
 unfoldable pub bucket_of : ℕ → List ℕ → ℕ
 bucket_of count key = finish (write initial key) % count
 

@@ -1,4 +1,4 @@
-//! What is wrong with records though they are readable: their findings, a line each.
+//! What is wrong with records that can be read: their findings, a line each.
 ghost use Rattle.std.specs.Prelude.{◌≡◌, ℕ, ◌++◌, ◌≤◌, List, [], ◌∷◌, Option, Some, false, IfOk, IfErr, OnOk, codes, decimal, length, map};
 ghost use Rattle.warc_frame.specs.Count.{capped};
 ghost use Rattle.warc_frame.specs.Record.{Record, max_head};
@@ -27,7 +27,7 @@ use warc_reading::{RereadFault, Row, Rows, head_buffer, read_again};
 use warc_record::laws::good_heads_read;
 use warc_record::{ArchiveFacts, Finding, all_findings};
 
-/// A record's fields, read again, and what the archive tells of it.
+/// A record's fields, read again, and what the archive says of it.
 #[derive(Drop)]
 struct Examined<A: Allocator> {
     fields: Fields<A>,
@@ -71,7 +71,7 @@ fn examine<S: Source, A: Allocator + Copy>(
 }
 
 /// Adds a finding's line to the output, by the position of its record, its number, and a field's name
-/// with what stands before it.
+/// with what comes before it.
 fn put_parts<'a, W: Sink>(
     position: u64,
     number: u8,
@@ -129,7 +129,7 @@ fn put_findings<W: Sink>(
     Ok(())
 }
 
-/// Adds the lines of an examined record to the output, and answers their number.
+/// Adds the lines of an examined record to the output, and returns their number.
 fn put_examined<A: Allocator + Copy, W: Sink>(
     alloc: A,
     examined: Examined<A>,
@@ -159,7 +159,7 @@ fn put_examined<A: Allocator + Copy, W: Sink>(
     }
 }
 
-/// Adds the lines of all records' findings to the output, and answers their number, up to 2^64 - 1.
+/// Adds the lines of all records' findings to the output, and returns their number, up to 2^64 - 1.
 /// Each record's head is read again through a buffer that any head fits.
 fn put_records<S: Source, A: Allocator + Copy, W: Sink>(
     alloc: A,
@@ -198,7 +198,7 @@ fn put_records<S: Source, A: Allocator + Copy, W: Sink>(
     Ok(count)
 }
 
-/// Adds the line that there is no record to the output, and answers that it is one.
+/// Adds the line that there is no record to the output, and returns its number, 1.
 pub(crate) fn put_none<W: Sink>(buffer: &mut OutBuffer, out: &mut W) -> Result<usize, OutFault>
     ensures puts { PutsLines (codes "- N12\n") 1 (W.seen out.old) (W.seen out.new) buffer.old buffer.new result }
     ensures cause { (W.seen out.new).faults ≡ failed_by result (W.seen out.old).faults }
@@ -240,7 +240,7 @@ fn put_archive<S: Source, A: Allocator + Copy, W: Sink>(
 }
 
 /// Writes a line for each finding of the records, in their order, or that there is no record. The
-/// answer is the number of lines, up to 2^64 - 1. Each record's head is read again.
+/// result is the number of lines, up to 2^64 - 1. Each record's head is read again.
 fn tell_reread<S: Source, A: Allocator + Copy, W: Sink>(
     alloc: A,
     source: &mut S,
@@ -266,10 +266,10 @@ fn tell_reread<S: Source, A: Allocator + Copy, W: Sink>(
 }
 
 /// Writes a line for each finding of the records of an archive with these rows, in their order, or that there is no
-/// record, and answers how many lines there are. Each record's head is read again.
+/// record, and returns how many lines there are. Each record's head is read again.
 ///
-/// A read that fails, or a source that doesn't give what the rows tell of, is `Read`; a write that fails is `Write`,
-/// and a refused growth of the memory `Memory`. Each tells how many bytes went out, which are the first of the output.
+/// A read that fails, or a source that doesn't give what the rows say, is `Read`; a write that fails is `Write`,
+/// and a refused growth of the memory `Memory`. Each has the number of bytes that went out, the first of the output.
 pub fn check_rows<S: Source, A: Allocator + Copy, W: Sink>(
     alloc: A,
     source: &mut S,

@@ -1,5 +1,5 @@
-//! An archive whose records are judged as they are read: the findings of each are kept beside its row, so that they are
-//! told without reading anything again.
+//! An archive whose records are judged as they are read: the findings of each are kept with its row, so that they are
+//! reported without reading anything again.
 ghost use Rattle.std.specs.Prelude.{◌≡◌, ℕ, ◌++◌, List, [], ◌∷◌, Option, false, IfErr, IfOk, OnOk, length};
 ghost use Rattle.warc_frame.specs.Count.{capped};
 ghost use Rattle.warc_frame.specs.Failing.{failed_by, is_read};
@@ -25,8 +25,8 @@ use warc_frame::{Fault, OutBuffer, OutFault, Sink, Source};
 use warc_reading::{Row, Rows, read_on};
 use warc_record::laws::good_heads_read;
 
-/// Adds the lines of a record's findings to the output, and answers their number, up to 2^64 - 1. Its id is added to
-/// those of the records before it.
+/// Adds the lines of a record's findings to the output, and returns their number, up to 2^64 - 1. Its id is added to
+/// the ids of the records before it.
 fn put_next<A: Allocator + Copy, W: Sink>(
     alloc: A,
     position: usize,
@@ -66,7 +66,7 @@ fn put_next<A: Allocator + Copy, W: Sink>(
     }
 }
 
-/// Adds the lines of all records' findings to the output, and answers their number, up to 2^64 - 1.
+/// Adds the lines of all records' findings to the output, and returns their number, up to 2^64 - 1.
 fn put_each<A: Allocator + Copy, W: Sink>(
     alloc: A,
     rows: &Rows<A>,
@@ -119,7 +119,7 @@ fn put_rows<A: Allocator + Copy, W: Sink>(
     put_each(alloc, rows, findings, &mut ids, buffer, out)
 }
 
-/// Writes a line for each finding of the records, in their order, or that there is no record. The answer is the number
+/// Writes a line for each finding of the records, in their order, or that there is no record. The result is the number
 /// of lines, up to 2^64 - 1.
 fn tell_rows<A: Allocator + Copy, W: Sink>(
     alloc: A,
@@ -145,7 +145,7 @@ fn tell_rows<A: Allocator + Copy, W: Sink>(
 }
 
 /// An archive, whose records are listed and were judged as they were read. Contracts see its listing, and the findings
-/// that each record alone tells.
+/// that each record alone shows.
 #[derive(Drop)]
 pub struct Checked<S: Source, A: Allocator = Global> {
     source: S,
@@ -169,7 +169,7 @@ impl<S: Source, A: Allocator> Checked<S, A> {
         self.rows.len()
     }
 
-    /// Gives the source back.
+    /// Returns the source.
     pub fn into_source(self) -> S
         ensures { result ≡ self.listing.source }
     {
@@ -178,7 +178,7 @@ impl<S: Source, A: Allocator> Checked<S, A> {
 }
 
 impl<S: Source, A: Allocator + Copy> Checked<S, A> {
-    /// Reads the source as a listing is read, and keeps beside each row what its record has wrong: 16 bytes for each
+    /// Reads the source as a listing is read, and keeps with each row what its record has wrong: 16 bytes for each
     /// record, and for each finding 24 bytes and its field's name.
     pub fn open(alloc: A, source: S) -> Result<Checked<S, A>, (Fault, S)>
         ensures { Opens IsJudgedOf (S.seen source) (S.seen (source_judged result)) (judged_of result) }
@@ -196,15 +196,15 @@ impl<S: Source, A: Allocator + Copy> Checked<S, A> {
         }
     }
 
-    /// Writes a line for each finding, as a listing does, and answers how many there are. The source is asked for
+    /// Writes a line for each finding, as a listing does, and returns how many there are. The source is asked for
     /// nothing: what ends it early is a write that fails, `Write`, or a refused growth of the memory, `Memory`. Each
-    /// tells how many bytes went out, which are the first of the output.
+    /// has the number of bytes that went out, which are the first of the output.
     pub fn check<W: Sink>(&self, out: &mut W) -> Result<usize, OutFault>
         ensures tells { (bytes : List ℕ) (is : IsJudgedOf bytes self.now) →
             WritesFindings (contents is.listed.are.records) (W.seen out.old) (W.seen out.new) result }
         ensures cause { (W.seen out.new).faults ≡ failed_by result (W.seen out.old).faults }
 
-        // No read is told, since none is made.
+        // No read fails, since none is made.
         ensures unread { IfErr result (λ e. is_read e ≡ false) }
     {
         head_of_spelled();

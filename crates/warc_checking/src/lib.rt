@@ -1,4 +1,4 @@
-//! What is wrong with the records of an archive though they can be read.
+//! What is wrong with the records of an archive that can be read.
 #![tactic(auto)]
 
 mod check;

@@ -1,4 +1,4 @@
-//! The findings that records alone tell, kept in flat lists as the records are read.
+//! The findings that records alone show, kept in flat lists as the records are read.
 ghost use Rattle.std.specs.Prelude.{◌≡◌, ℕ, ◌+◌, false, List, [], ◌∷◌, ◌++◌, length, map, OnErr, OnOk, IfOk, if◌then◌else◌};
 ghost use Rattle.std.specs.List.{filter};
 ghost use Rattle.warc_frame.specs.Count.{capped};
@@ -89,7 +89,7 @@ fn put_packed<W: Sink>(
     put_finding(position, &finding, buffer, out)
 }
 
-/// Adds the lines of those findings that come after N6, or else of those before it.
+/// Adds the lines of the findings that come after N6, or else of those before it.
 fn put_half<W: Sink>(
     position: u64,
     names: &[u8],
@@ -125,7 +125,7 @@ fn put_used<W: Sink>(
     put_finding(position, &Finding::IdUsed, buffer, out)
 }
 
-/// How many lines tell N6.
+/// How many lines N6 takes.
 fn line_count(used: bool) -> usize
     ensures { result ≡ (if used then 1 else 0) }
 {
@@ -151,7 +151,7 @@ fn put_found<W: Sink>(
     put_half(position, names, findings, true, buffer, out)
 }
 
-/// Adds the finding of a number after the others, with the name of its field. Where memory is refused none is added.
+/// Adds the finding of a number after the others, with the name of its field. If memory is refused, none is added.
 fn add_numbered<A: Allocator>(
     names: &mut Vec<u8, A>,
     findings: &mut Vec<PackedFinding, A>,
@@ -176,7 +176,7 @@ fn add_numbered<A: Allocator>(
     Ok(())
 }
 
-/// Adds a finding after the others. Where memory is refused none is added.
+/// Adds a finding after the others. If memory is refused, none is added.
 #[tactic(auto, using(crate::proofs::OwnFindingLemmas::numbered_named, crate::proofs::OwnFindingLemmas::numbered_bare))]
 fn add_finding<A: Allocator>(
     names: &mut Vec<u8, A>,
@@ -196,7 +196,7 @@ fn add_finding<A: Allocator>(
     }
 }
 
-/// Findings, one behind another.
+/// Findings, one after another.
 #[derive(Drop)]
 struct FindingList<A: Allocator> {
     names: Vec<u8, A>,
@@ -235,7 +235,7 @@ impl<A: Allocator> FindingList<A> {
         self.findings.len()
     }
 
-    /// Adds a finding behind the others. Where memory is refused none is added.
+    /// Adds a finding after the others. If memory is refused, none is added.
     fn push(&mut self, finding: &Finding<'_>) -> Result<(), AllocError>
         ensures ok { OnOk result (self.new ≡ self.old ++ finding_seen finding.now ∷ []) }
         ensures err { OnErr result (self.new ≡ self.old) }
@@ -293,7 +293,7 @@ fn put_part<W: Sink>(
     )
 }
 
-/// Adds findings behind the others. Where memory is refused some of them are added.
+/// Adds findings after the others. If memory is refused, some of them are added.
 fn add_all<A: Allocator>(
     found: &[Finding<'_>],
     findings: &mut FindingList<A>,
@@ -307,7 +307,7 @@ fn add_all<A: Allocator>(
     Ok(())
 }
 
-/// Adds the findings that a record alone tells, by the fields of its head and where its block stands. Where memory
+/// Adds the findings that a record alone shows, by the fields of its head and the place of its block. If memory
 /// is refused some of them are added.
 fn add_own<A: Allocator + Copy>(
     alloc: A,
@@ -327,14 +327,14 @@ fn add_own<A: Allocator + Copy>(
     add_all(&found, findings)
 }
 
-/// Where the findings of a record stand among those of all.
+/// The place of a record's findings among all findings.
 #[derive(Clone, Copy)]
 struct Part {
     start: usize,
     end: usize,
 }
 
-/// The part at a place, an empty one behind the last.
+/// The part at a place, an empty one past the end.
 fn part_at(parts: &[Part], position: usize) -> Part
     ensures is { (findings : List Found) → findings_of_part findings result
         ≡ found_at (found_by_part findings parts.now) position }
@@ -346,7 +346,7 @@ fn part_at(parts: &[Part], position: usize) -> Part
     }
 }
 
-/// Adds the part of the next record. Where memory is refused none is added, and the findings that were added are in no
+/// Adds the part of the next record. If memory is refused, none is added, and the findings that were added are in no
 /// part.
 fn add_part<A: Allocator + Copy>(
     alloc: A,
@@ -373,7 +373,7 @@ fn add_part<A: Allocator + Copy>(
     Ok(())
 }
 
-/// The findings that each record alone tells.
+/// The findings that each record alone shows.
 #[derive(Drop)]
 pub(crate) struct OwnFindings<A: Allocator> {
     findings: FindingList<A>,
@@ -404,7 +404,7 @@ impl<A: Allocator + Copy> OwnFindings<A> {
     }
 
     /// Adds the lines of the findings of the record at a position to the output, and of N6 among them, if it holds.
-    /// The answer is their number, up to 2^64 - 1.
+    /// The result is their number, up to 2^64 - 1.
     pub(crate) fn put<W: Sink>(
         &self,
         position: usize,
@@ -437,7 +437,7 @@ impl<A: Allocator + Copy> Keep<A> for OwnFindings<A> {
     }
 
     fn truncate(&mut self, count: usize) {
-        // The findings of the others stay, in no part.
+        // The findings of the others stay, and are in no part.
         self.parts.truncate(count);
     }
 }

@@ -15,7 +15,7 @@ use warc_record::{IdKey, id_key};
 /// How many buckets there are for each id.
 const BUCKETS: usize = 8;
 
-/// The bucket of a key, of so many. Keys that differ mostly have buckets that differ.
+/// The bucket of a key, of n buckets. Keys that differ mostly have buckets that differ.
 #[tactic(auto, unfolding(crate::specs::UsedIds::bucket_of))]
 fn bucket(key: &[u8], count: usize) -> usize
     requires { 0 < count }
@@ -98,14 +98,14 @@ impl<A: Allocator + Copy> UsedIds<A> {
         })
     }
 
-    /// Whether the bucket of a key has several ids.
+    /// Whether the bucket of a key has more than one id.
     fn is_shared(&self, key: &[u8]) -> bool
         ensures shared { result ≡ nat_lt 1 (level self.now.counts key.now) }
     {
         self.counts[bucket(key, self.counts.len())] > 1
     }
 
-    /// Adds the id that a text holds, and answers whether it is used already. It takes about as many
+    /// Adds the id that a text holds, and returns whether it is used already. It takes about as many
     /// steps as the number of ids has digits.
     pub(crate) fn add(&mut self, alloc: A, text: &[u8]) -> Result<bool, AllocError>
         ensures used { (before : List Record) → HoldsIdsOf before self.old →

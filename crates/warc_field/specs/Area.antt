@@ -19,7 +19,7 @@ first_value name fields = option_map (λ (field : Pair). field.1) (find (λ (fie
 abbrev pub count_of : List ℕ → List Pair → ℕ
 count_of name fields = count_by (λ (field : Pair). same field.0 name) fields
 
--- what the rest of a line means, behind its colon: the rest unfolded, then cut at both ends, if no control character
+-- what the rest of a line, after its colon, means: the rest unfolded, then cut at both ends, if no control character
 -- but tab is left
 pub record MeansValue (rest value : List ℕ) : Type 0 where
   pub text : trimmed (unfolded rest) ≡ value
@@ -38,8 +38,8 @@ SpellsFields [] area = area ≡ []
 SpellsFields (field ∷ fields) area =
     (line more : List ℕ) × IsFieldLine field line × (area ≡ line ++ more) × SpellsFields fields more
 
--- the first line that is no field, or isn't ended, begins `at` bytes from the area's front: what stands before it is
--- spelled by fields, and what follows isn't empty, begins a line, and doesn't begin with a field's whole line
+-- the first line that is no field, or isn't ended, begins `at` bytes from the area's front: fields spell what comes
+-- before it, and what follows isn't empty, begins a line, and doesn't begin with a field's whole line
 pub record IsFirstBadLine (area : List ℕ) (at : ℕ) : Type 0 where
   pub fields : List Pair
   pub front : List ℕ
@@ -81,7 +81,7 @@ abbrev pub with_front : List Pair → Result (List Pair) ℕ → Result (List Pa
 with_front front (Ok fields) = Ok (front ++ fields)
 with_front front (Err at) = Err at
 
--- a line's field and what comes of the lines after it
+-- a line's field and what the lines after it give
 abbrev pub field_then : ℕ → Option Pair → Result (List Pair) ℕ → Result (List Pair) ℕ
 field_then at None later = Err at
 field_then at (Some field) later = with_front (field ∷ []) later
@@ -102,17 +102,17 @@ abbrev pub Fails : AreaFault → Result (List Pair) ℕ → Type 0
 Fails Memory read = Unit {0}
 Fails (Line at) read = read ≡ Err at
 
--- what a call answered is what reading gives, unless memory ran out
+-- the answer of a call is what reading gives, unless memory ran out
 abbrev pub Reads : {X : Type 0} → (X → List Pair) → Result X AreaFault → Result (List Pair) ℕ → Type 0
 Reads view (Ok x) read = read ≡ Ok (view x)
 Reads view (Err e) read = Fails e read
 
--- a fault that is not want of memory is that of the area's first bad line
+-- a fault other than lack of memory is that of the area's first bad line
 abbrev pub TellsBadLine : List ℕ → AreaFault → Type 0
 TellsBadLine area Memory = Unit {0}
 TellsBadLine area (Line at) = IsFirstBadLine area at
 
--- a line's fault lies within so many bytes
+-- a line's fault is within n bytes
 abbrev pub TellsWithin : ℕ → AreaFault → Type 0
 TellsWithin len Memory = Unit {0}
 TellsWithin len (Line at) = at ≤ len

@@ -1,4 +1,4 @@
--- The texts of faults, by which a program tells them: this project's own.
+-- The texts of faults, as a program prints them: this project's own.
 use Rattle.std.specs.Prelude.{List, ℕ, ◌++◌, codes, decimal}
 use Rattle.warc_field.specs.declared.text.TextFault.{TextFault}
 use Rattle.warc_field.specs.declared.text.TextFault.TheVariants.{BadText, Memory as OutOfMemory}

@@ -1,4 +1,4 @@
--- A text cut at each CRLF, and cut into lines, which a space or tab behind a CRLF continues (WARC 1.1, 4; RFC 2616,
+-- A text cut at each CRLF, and cut into lines, which a space or tab after a CRLF continues (WARC 1.1, 4; RFC 2616,
 -- 2.2).
 use Rattle.std.specs.Prelude.{ℕ, suc, slice_index_or, Bool, true, false, not, ◌&&◌, ◌==◌, List, [], ◌∷◌, ◌++◌, drop, if◌then◌else◌}
 use Rattle.std.specs.List.{prefix_len, flat_map}
@@ -16,14 +16,14 @@ abbrev pub begins_blank : List ℕ → Bool
 begins_blank [] = false
 begins_blank (b ∷ bs) = is_blank b
 
--- whether a CRLF stands at place k, and whether a line ends there
+-- whether a CRLF is at place k, and whether a line ends there
 abbrev pub crlf_at : List ℕ → ℕ → Bool
 crlf_at t k = is_crlf (slice_index_or t k 0) (slice_index_or t (suc k) 0)
 
 abbrev pub ends_at : List ℕ → ℕ → Bool
 ends_at t k = crlf_at t k && not (is_blank (slice_index_or t (suc (suc k)) 0))
 
--- whether an empty line stands there: two CRLFs in a row
+-- whether an empty line is there: two CRLFs in a row
 abbrev pub empty_at : List ℕ → ℕ → Bool
 empty_at t k = crlf_at t k && crlf_at t (suc (suc k))
 
@@ -32,7 +32,7 @@ abbrev pub in_front : ℕ → List (List ℕ) → List (List ℕ)
 in_front b [] = []
 in_front b (p ∷ ps) = (b ∷ p) ∷ ps
 
--- the parts round each CRLF: one more than there are CRLFs
+-- the parts around each CRLF: one more than there are CRLFs
 unfoldable pub parts : List ℕ → List (List ℕ)
 parts [] = [] ∷ []
 parts (b ∷ []) = (b ∷ []) ∷ []

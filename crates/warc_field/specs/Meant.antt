@@ -1,4 +1,4 @@
--- What the rest of a line means, where it isn't copied yet, and fields that are put in the place of others: states of
+-- What the rest of a line means, where it isn't copied yet, and fields that are written over others: states of
 -- the code.
 use Rattle.std.specs.Prelude.{◌≡◌, ℕ, ◌+◌, ◌<◌, Bool, true, false, List, [], ◌∷◌, ◌++◌, length, take, Option, Some, None}
 use Rattle.std.specs.Borrow.{Bor}
@@ -14,7 +14,7 @@ meant (Folded value) = value
 abbrev pub field_meant : {A : Type 0} → Bor (List ℕ) × Meaning A → Pair
 field_meant field = (field.0.now, meant field.1)
 
--- a field, if there is one, stands behind the first ones
+-- a field, if there is one, comes after the first ones
 abbrev pub IsPut : Option Pair → ℕ → List Pair → List Pair → Bool → Type 0
 IsPut None place old new is = is ≡ false
 IsPut (Some field) place old new is =

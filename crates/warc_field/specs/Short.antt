@@ -1,4 +1,4 @@
--- The bytes that a name or a value keeps, in place or behind a pointer: a state of the code.
+-- The bytes that a name or a value keeps, in place or by a pointer: a state of the code.
 use Rattle.std.specs.Prelude.{ℕ, List}
 use Rattle.warc_field.specs.declared.short.Bytes.{Bytes}
 use Rattle.warc_field.specs.declared.short.Bytes.TheVariants.{Short, Long}

@@ -8,7 +8,7 @@ use Rattle.std.specs.Char.{to_ascii_lowercase}
 unfoldable pub is_blank : ℕ → Bool
 is_blank b = b == 32 || b == 9
 
--- what no name holds, beside control characters and the space
+-- what no name contains, besides control characters and the space
 abbrev pub separators : List ℕ
 separators = codes "()<>@,;:\\\"/[]?={}"
 
@@ -20,7 +20,7 @@ is_name_byte b = nat_lt 32 b && nat_lt b 127 && not (list_any (λ s. s == b) sep
 unfoldable pub is_name : List ℕ → Bool
 is_name n = not (length n == 0) && list_all is_name_byte n
 
--- no control character but tab; bytes from 128 on pass unread
+-- no control character but tab; bytes from 128 on aren't looked at
 unfoldable pub is_value_byte : ℕ → Bool
 is_value_byte b = b == 9 || (nat_lt 31 b && not (b == 127))
 

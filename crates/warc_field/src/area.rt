@@ -16,7 +16,7 @@ use thiserror::Error;
 /// Why a field area wasn't read.
 #[derive(Clone, Copy, PartialEq, Eq, Debug, Error)]
 pub enum AreaFault {
-    /// A line is no field, or isn't ended; the first such line begins at this offset, in bytes from the area's front.
+    /// A line is no field, or isn't ended; the first such line begins at this offset, in bytes from the area's start.
     Line(usize),
 
     /// A growth of the memory was refused.
@@ -56,7 +56,7 @@ fn read_folded_value<A: Allocator>(alloc: A, rest: &[u8]) -> Result<Option<Value
     }
 }
 
-/// What the rest of a line means: a part of the line, or what its folded lines mean.
+/// What the rest of a line means: a part of the line, or the text that its folded lines mean.
 #[derive(Drop)]
 enum Meaning<'a, A: Allocator> {
     Plain(&'a [u8]),
@@ -74,7 +74,7 @@ impl<A: Allocator> Meaning<'_, A> {
     }
 }
 
-/// The value that the rest of a line means. One without a control character has no fold in it, and is a part of it.
+/// The value that the rest of a line means. A rest without a control character has no fold: its value is a part of it.
 #[tactic(auto, using(crate::proofs::TextLemmas::rest_is_value, crate::proofs::TextLemmas::clean_value))]
 fn read_value<A: Allocator>(alloc: A, rest: &[u8]) -> Result<Option<Meaning<'_, A>>, AllocError>
     ensures { IfOk result (λ v. option_map meant v ≡ value_of rest.now) }
@@ -89,7 +89,7 @@ fn read_value<A: Allocator>(alloc: A, rest: &[u8]) -> Result<Option<Meaning<'_, 
     }
 }
 
-/// Where the first colon stands.
+/// The place of the first colon.
 #[tactic(auto, using(crate::proofs::TokenLemmas::first_is_position))]
 fn first_colon(line: &[u8]) -> Option<usize>
     ensures value { result ≡ position is_colon line.now }
@@ -120,7 +120,7 @@ fn read_field<A: Allocator + Copy>(
     Ok(Some((name, value)))
 }
 
-/// Puts the field that a line is in the place of another, or behind all. False where it is none.
+/// Writes the field that a line is over another one, or adds it at the end. False if the line is no field.
 fn put_line<A: Allocator + Copy>(
     line: &[u8],
     place: usize,
@@ -140,15 +140,15 @@ fn put_line<A: Allocator + Copy>(
 const ROOM: usize = 16;
 
 /// The fields that the lines of an area are, read from a head's bytes between its version line and its empty line.
-/// Each line ends with CRLF; a CRLF with a space or tab behind it continues the line.
+/// Each line ends with CRLF; a CRLF that a space or tab follows continues the line.
 pub fn read_area<A: Allocator + Copy>(alloc: A, area: &[u8]) -> Result<Fields<A>, AreaFault>
-    // What is read is spelled so, each byte of it.
+    // What is read is spelled by each byte of the area.
     ensures found { IfOk result (λ fields. SpellsFields fields area.now) }
 
-    // What is spelled so is read, unless memory runs out.
+    // What is spelled is read, unless memory runs out.
     ensures only { (fields : List Pair) → SpellsFields fields area.now → Reads (λ f. f) result (Ok fields) }
 
-    // A fault that is not want of memory is that of the first line that is no field or isn't ended.
+    // A fault other than lack of memory is the first line that is no field or isn't ended.
     ensures bad { IfErr result (TellsBadLine area.now) }
 
     // The same by the computing definition.
@@ -158,8 +158,8 @@ pub fn read_area<A: Allocator + Copy>(alloc: A, area: &[u8]) -> Result<Fields<A>
     read_area_in(Fields::new(alloc), area)
 }
 
-/// The same, in the memory of fields that are no longer wanted: a head that is read behind another one like it takes
-/// none.
+/// The same, in the memory of fields that are no longer needed: a head that is read after a similar one takes no
+/// memory.
 pub fn read_area_in<A: Allocator + Copy>(
     spare: Fields<A>,
     area: &[u8],
@@ -173,7 +173,7 @@ pub fn read_area_in<A: Allocator + Copy>(
     Ok(fields)
 }
 
-/// Puts the fields of an area's lines in the place of others, by the computing definition alone.
+/// Writes the fields of an area's lines over others, by the computing definition alone.
 fn read_lines<A: Allocator + Copy>(area: &[u8], fields: &mut Fields<A>) -> Result<(), AreaFault>
     ensures exact { Reads (λ _. fields.new) result (area_of area.now) }
     ensures within { IfErr result (TellsWithin (length area.now)) }

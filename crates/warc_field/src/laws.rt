@@ -5,7 +5,7 @@ ghost use Rattle.warc_field.specs.Text.{AreFields, is_value, is_value_byte, trim
 ghost use Rattle.warc_field.specs.Lines.{crlf, empty_at};
 ghost use Rattle.warc_field.specs.Area.{IsFirstBadLine, Pair, MeansValue, SpellsFields, area_of, canonical_fields, value_of};
 
-/// What a rest means, as a relation and as a function, is one.
+/// The relation and the function that say what a rest means agree.
 pub fn meaning_is_computed()
     ensures { (rest value : List ℕ) → MeansValue rest value ↔ (value_of rest ≡ Some value) }
 {}
@@ -38,13 +38,13 @@ pub fn first_bad_line_is_read()
     ensures { (area : List ℕ) (at : ℕ) → IsFirstBadLine area at ↔ (area_of area ≡ Err at) }
 {}
 
-/// An area is spelled by one list of fields at most.
+/// At most one list of fields spells an area.
 #[tactic(auto, using(crate::proofs::LawLemmas::spelling_is_unambiguous))]
 pub fn spelling_is_unambiguous()
     ensures { (a b : List Pair) (area : List ℕ) → SpellsFields a area → SpellsFields b area → a ≡ b }
 {}
 
-/// What an area is spelled by are names and values.
+/// The fields that spell an area are names and values.
 #[tactic(auto, using(crate::proofs::LawLemmas::spelled_are_fields))]
 pub fn spelled_are_fields()
     ensures { (fields : List Pair) (area : List ℕ) → SpellsFields fields area → AreFields fields }
@@ -56,7 +56,7 @@ pub fn canonical_text_spells()
     ensures { (fields : List Pair) → AreFields fields → SpellsFields fields (canonical_fields fields) }
 {}
 
-/// Behind a CRLF, that of the version line, the first empty line is the one behind the area.
+/// After a CRLF, as the version line ends with, the first empty line is the one after the area.
 pub fn empty_line_ends_area()
     ensures there { (fields : List Pair) (area more : List ℕ) → SpellsFields fields area
         → empty_at (crlf ++ (area ++ (crlf ++ more))) (length area) ≡ true }
@@ -64,7 +64,7 @@ pub fn empty_line_ends_area()
         → (k : ℕ) → k < length area → empty_at (crlf ++ (area ++ (crlf ++ more))) k ≡ false }
 {}
 
-/// The canonical line of a field takes four bytes beside its name and value.
+/// The canonical line of a field takes four bytes besides its name and value.
 #[tactic(auto, using(crate::proofs::LawLemmas::canonical_text_length))]
 pub fn canonical_text_length()
     ensures { (fields : List Pair)

@@ -25,7 +25,7 @@ impl<A: Allocator> Model for Fields<A> {
     ghost invariant = { λ f. AreFields f.pairs.items };
 }
 
-/// Puts a name and a value, known to be ones, in the place of others. `Err`: no memory for them.
+/// Writes a name and a value, known to be valid, over others. `Err`: no memory for them.
 fn set_pair<A: Allocator + Copy>(
     pair: &mut (Name<A>, Value<A>),
     alloc: A,
@@ -43,12 +43,12 @@ fn set_pair<A: Allocator + Copy>(
 }
 
 impl<A: Allocator + Copy> Fields<A> {
-    /// Where its memory comes from.
+    /// The allocator of its memory.
     pub(crate) fn allocator(&self) -> A {
         *self.pairs.allocator()
     }
 
-    /// Puts a field in the place of the one at a place, or behind the last. `Err`: no memory for it.
+    /// Writes a field over the one at a place, or adds it at the end. `Err`: no memory for it.
     pub(crate) fn put(&mut self, place: usize, name: &[u8], value: &[u8]) -> Result<(), AllocError>
         requires place { place ≤ length self.old }
         requires name { is_name name.now ≡ true }
@@ -77,7 +77,7 @@ impl<A: Allocator> Fields<A> {
         }
     }
 
-    /// Makes room for so many fields, unless there is some. The fields stay.
+    /// Makes room for n fields, unless there is some. The fields stay.
     pub(crate) fn reserve_first(&mut self, count: usize) -> Result<(), AllocError>
         ensures { self.new ≡ self.old }
     {
@@ -87,14 +87,14 @@ impl<A: Allocator> Fields<A> {
         Ok(())
     }
 
-    /// Keeps the first so many fields.
+    /// Keeps the first n fields.
     pub(crate) fn truncate(&mut self, count: usize)
         ensures { self.new ≡ take count self.old }
     {
         self.pairs.truncate(count);
     }
 
-    /// Adds a field at the end. Where memory is refused the fields stay as they were, and the given one is dropped.
+    /// Adds a field at the end. If memory is refused, the fields stay as they were, and the given one is dropped.
     pub fn push(&mut self, name: Name<A>, value: Value<A>) -> Result<(), AllocError>
         ensures ok { OnOk result (self.new ≡ self.old ++ (name, value) ∷ []) }
         ensures err { OnErr result (self.new ≡ self.old) }

@@ -5,10 +5,10 @@ ghost use Rattle.warc_field.specs.Short.{held_bytes};
 use std::alloc::{AllocError, Allocator};
 use std::marker::Model;
 
-/// How many bytes stand in place: as many as a name of the standard, a type, a date, a digest and most ids have.
+/// How many bytes are stored in place: enough for a name of the standard, a type, a date, a digest and most ids.
 pub(crate) const SHORT: usize = 48;
 
-/// At most 48 bytes, in place. Contracts see them.
+/// At most 48 bytes, in place. Contracts see the bytes.
 #[derive(Debug, Drop)]
 pub(crate) struct InPlace {
     bytes: [u8; SHORT],
@@ -40,7 +40,7 @@ impl InPlace {
         copy
     }
 
-    /// Puts a copy of these bytes in the place of its own.
+    /// Writes a copy of these bytes over its own.
     fn set(&mut self, bytes: &[u8])
         requires { length bytes.now ≤ SHORT }
         ensures { self.new ≡ bytes.now }
@@ -64,7 +64,7 @@ pub(crate) enum Bytes<A: Allocator> {
 }
 
 impl<A: Allocator> Bytes<A> {
-    /// A copy of these bytes, which takes memory where there are more than 48.
+    /// A copy of these bytes, which takes memory if there are more than 48.
     pub(crate) fn copied(alloc: A, bytes: &[u8]) -> Result<Bytes<A>, AllocError>
         ensures value { IfOk result (λ copy. held_bytes copy ≡ bytes.now) }
         ensures short { length bytes.now ≤ SHORT → IsOk result }
@@ -76,7 +76,7 @@ impl<A: Allocator> Bytes<A> {
         }
     }
 
-    /// Puts a copy of these bytes in the place of its own, and in the memory that it has where they fit.
+    /// Writes a copy of these bytes over its own, and into the memory that it has if they fit.
     pub(crate) fn set(&mut self, alloc: A, bytes: &[u8]) -> Result<(), AllocError>
         ensures ok { OnOk result (held_bytes self.new ≡ bytes.now) }
         ensures err { OnErr result (held_bytes self.new ≡ held_bytes self.old) }
@@ -104,7 +104,7 @@ impl<A: Allocator> Bytes<A> {
     }
 }
 
-/// Puts a copy of these bytes in the place of those of a vector. `Err`: no memory for them; then nothing changes.
+/// Writes a copy of these bytes over the bytes of a vector. `Err`: no memory for them; then nothing changes.
 fn set_long<A: Allocator>(long: &mut Vec<u8, A>, bytes: &[u8]) -> Result<(), AllocError>
     ensures ok { OnOk result (long.new.items ≡ bytes.now) }
     ensures err { OnErr result (long.new.items ≡ long.old.items) }

@@ -51,7 +51,7 @@ impl<A: Allocator> Model for Value<A> {
 /// Why a text makes no name or no value.
 #[derive(Clone, Copy, PartialEq, Eq, Debug, Error)]
 pub enum TextFault {
-    /// The text is none.
+    /// The text isn't a valid one.
     BadText,
 
     /// A growth of the memory was refused.
@@ -154,7 +154,7 @@ pub(crate) fn trim_in_place<A: Allocator>(text: &mut Vec<u8, A>)
 }
 
 impl<A: Allocator> Name<A> {
-    /// The name that this text is, or `BadText` where it is none. Up to 48 bytes it takes no memory.
+    /// The name that this text is, or `BadText` if it isn't a name. Up to 48 bytes it takes no memory.
     pub fn new(alloc: A, text: &[u8]) -> Result<Name<A>, TextFault>
         ensures ok { IfOk result (λ name. (name ≡ text.now) × (is_name text.now ≡ true)) }
         ensures bad { IsErrOf result TextFault.BadText ↔ (is_name text.now ≡ false) }
@@ -166,7 +166,7 @@ impl<A: Allocator> Name<A> {
         Ok(Name::from_checked(alloc, text)?)
     }
 
-    /// The name that this text is, known to be one. It isn't judged anew. Up to 48 bytes it takes no memory.
+    /// The name that this text is, known to be a name. It isn't judged again. Up to 48 bytes it takes no memory.
     pub fn from_checked(alloc: A, text: &[u8]) -> Result<Name<A>, AllocError>
         requires { is_name text.now ≡ true }
         ensures value { IfOk result (λ name. name ≡ text.now) }
@@ -177,7 +177,7 @@ impl<A: Allocator> Name<A> {
         })
     }
 
-    /// Puts a name, known to be one, in the place of this one. `Err`: no memory for it; then nothing changes.
+    /// Writes a name, known to be valid, over this one. `Err`: no memory for it; then nothing changes.
     pub(crate) fn set(&mut self, alloc: A, text: &[u8]) -> Result<(), AllocError>
         requires { is_name text.now ≡ true }
         ensures ok { OnOk result (self.new ≡ text.now) }
@@ -187,7 +187,7 @@ impl<A: Allocator> Name<A> {
         self.token.set(alloc, text)
     }
 
-    /// The bytes of the name, in the case that it was given in.
+    /// The bytes of the name, in the case in which it was given.
     pub fn bytes(&self) -> &[u8]
         ensures text { result.now ≡ self.now }
         ensures named { is_name self.now ≡ true }
@@ -195,7 +195,7 @@ impl<A: Allocator> Name<A> {
         self.token.as_slice()
     }
 
-    /// Whether both are one name: ASCII case doesn't matter.
+    /// Whether both are the same name: ASCII case doesn't matter.
     pub fn same(&self, other: &Name<A>) -> bool
         ensures { IsTrue result ↔ (lower self.now ≡ lower other.now) }
     {
@@ -207,13 +207,13 @@ impl<A: Allocator> Name<A> {
         ensures { result ≡ same self.now text.now }
     {
         let name = self.bytes();
-        // Most names stand as the standard writes them, and equal bytes are compared faster.
+        // Most names are spelled as in the standard, and equal bytes are compared faster.
         name == text || name.eq_ignore_ascii_case(text)
     }
 }
 
 impl<A: Allocator> Value<A> {
-    /// The value that this text is, or `BadText` where it is none. Up to 48 bytes it takes no memory. An empty text
+    /// The value that this text is, or `BadText` if it isn't a value. Up to 48 bytes it takes no memory. An empty text
     /// is a value.
     pub fn new(alloc: A, text: &[u8]) -> Result<Value<A>, TextFault>
         ensures ok { IfOk result (λ value. (value ≡ text.now) × (is_value text.now ≡ true)) }
@@ -226,8 +226,8 @@ impl<A: Allocator> Value<A> {
         Ok(Value::from_checked(alloc, text)?)
     }
 
-    /// The value that this text is, known to be one, as that of another value. It isn't judged anew. Up to 48 bytes
-    /// it takes no memory.
+    /// The value that this text is, which is known to be a value. It isn't judged again. Up to 48 bytes it takes no
+    /// memory.
     pub fn from_checked(alloc: A, text: &[u8]) -> Result<Value<A>, AllocError>
         requires { is_value text.now ≡ true }
         ensures value { IfOk result (λ value. value ≡ text.now) }
@@ -238,7 +238,7 @@ impl<A: Allocator> Value<A> {
         })
     }
 
-    /// Puts a value, known to be one, in the place of this one. `Err`: no memory for it; then nothing changes.
+    /// Writes a value, known to be valid, over this one. `Err`: no memory for it; then nothing changes.
     pub(crate) fn set(&mut self, alloc: A, text: &[u8]) -> Result<(), AllocError>
         requires { is_value text.now ≡ true }
         ensures ok { OnOk result (self.new ≡ text.now) }
@@ -248,7 +248,7 @@ impl<A: Allocator> Value<A> {
         self.text.set(alloc, text)
     }
 
-    /// The value that these bytes are, known to be one.
+    /// The value that these bytes are, which are known to be a value.
     pub(crate) fn from_vec(text: Vec<u8, A>) -> Value<A>
         requires { is_value text.items ≡ true }
         ensures { result ≡ text.items }

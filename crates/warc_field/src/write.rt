@@ -4,7 +4,7 @@ ghost use Rattle.warc_field.specs.Area.{SpellsFields, area_of, canonical_line, c
 use crate::list::Fields;
 use std::alloc::{AllocError, Allocator};
 
-/// A length and that of a field's canonical line, or `None` from 2^64 on.
+/// A length and the length of a field's canonical line together, or `None` from 2^64 on.
 fn add_line(len: usize, name: &[u8], value: &[u8]) -> Option<usize>
     ensures some { IfSome result (λ n. n ≡ len + length (canonical_line (name.now, value.now))) }
     ensures none { IfNone result (2 ^ 64 ≤ len + length (canonical_line (name.now, value.now))) }
@@ -52,8 +52,8 @@ fn put_line<B: Allocator>(name: &[u8], value: &[u8], out: &mut Vec<u8, B>)
     put(b"\r\n", out);
 }
 
-/// Appends the canonical lines of fields, each `name: value` and CRLF. Where memory is refused the vector keeps its
-/// bytes and no others.
+/// Appends the canonical lines of fields, each `name: value` and CRLF. If memory is refused, the vector stays as it
+/// was.
 #[tactic(auto, using(crate::proofs::CanonLemmas::canonical_reads))]
 pub fn write_area<A: Allocator, B: Allocator>(
     fields: &Fields<A>,
@@ -62,7 +62,7 @@ pub fn write_area<A: Allocator, B: Allocator>(
     ensures ok { OnOk result (out.new.items ≡ out.old.items ++ canonical_fields fields.now) }
     ensures err { OnErr result (out.new.items ≡ out.old.items) }
 
-    // It fails only where room is missing, and takes none away.
+    // It fails only if room is missing, and takes none away.
     ensures full { OnErr result (vec_capacity out.old < vec_len out.old + length (canonical_fields fields.now)) }
     ensures len { OnOk result (vec_len out.new ≡ vec_len out.old + length (canonical_fields fields.now)) }
     ensures capacity { vec_capacity out.old ≤ vec_capacity out.new }

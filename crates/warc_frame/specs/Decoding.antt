@@ -1,4 +1,4 @@
--- What a decoder's state stands for. A state of the code.
+-- What a decoder's state says of the bytes. A state of the code.
 use Rattle.std.specs.Prelude.{◌≡◌, ℕ, ◌+◌, ◌-◌, ◌<◌, ◌≤◌, ◌^◌, nat_le, ◌&&◌, Bool, List, [], ◌∷◌, ◌++◌, length, take, Option, Some, None, Result, Ok, Err}
 use Rattle.warc_field.specs.Lines.{crlf_at}
 use Rattle.warc_frame.specs.declared.version.Version.{Version}
@@ -15,7 +15,7 @@ use Rattle.warc_frame.specs.Faults.{IsFrameFault}
 use Rattle.warc_frame.specs.Told.{Unclosed, Told, tell, MayTell, IsHeadOf, IsExact, IfTold}
 
 -- a decoder: where it is, the bytes of the head that it keeps, how many bytes of the block are to come, and how many of
--- the CRLF CRLF behind it were taken
+-- the CRLF CRLF after it were taken
 pub record State : Type 0 where
   pub phase : Phase
   pub position : ℕ
@@ -45,7 +45,7 @@ pub record InHead (rest : List ℕ) (unclosed : Option Unclosed) (kept : List �
   pub unended : head_len rest ≡ None
   pub room : length rest < max_head
 
--- behind a head: `left` bytes of the block are to come, `matched` bytes of what closes the record are there
+-- after a head: `left` bytes of the block are to come, `matched` bytes of what closes the record are there
 pub record InBlock (rest : List ℕ) (unclosed : Option Unclosed) (left matched : ℕ) : Type 0 where
   pub head : List ℕ
   pub part : Unclosed
@@ -61,7 +61,7 @@ PhaseIs rest unclosed d phases.Head = InHead rest unclosed d.kept
 PhaseIs rest unclosed d phases.Block = (d.kept ≡ []) × InBlock rest unclosed d.left d.matched
 PhaseIs rest unclosed d (phases.Failed f) = ⊥
 
--- the decoder, which began at offset `at` and didn't fail, took these bytes and told this
+-- the decoder, which began at offset `at` and didn't fail, took these bytes and reported this
 pub record IsAt (at : ℕ) (taken : List ℕ) (told : Told) (d : State) : Type 0 where
   pub front : List ℕ
   pub rest : List ℕ
@@ -79,14 +79,14 @@ abbrev pub Finishes : ℕ → List ℕ → Told → Result (Unit {0}) Fault → 
 Finishes at taken told (Ok u) = (told.unclosed ≡ None) × SpellsAll told.records taken
 Finishes at taken told (Err f) = (f ≡ fault Truncated (at + length taken)) × IsFrameFault at taken f
 
--- how many bytes a step takes of a piece of n bytes, and what it tells
+-- how many bytes a step takes of a piece of n bytes, and what it reports
 abbrev pub TakesWithin : {A : Type 0} → ℕ → ℕ → Event A → Type 0
 TakesWithin n took events.More = took ≡ n
 TakesWithin n took (events.Head version fields length) = (0 < took) × (took ≤ n)
 TakesWithin n took (events.Part from to) = (from < to) × (to ≡ took) × (took ≤ n)
 TakesWithin n took events.End = (0 < took) × (took ≤ n)
 
--- what a step says that took bytes of a piece and told an event
+-- what a step says that took bytes of a piece and reported an event
 pub record Takes {A : Type 0} (at : ℕ) (taken : List ℕ) (told : Told) (new : State) (piece : List ℕ) (took : ℕ)
     (event : Event A) : Type 0 where
   pub may : MayTell told.unclosed event

@@ -1,5 +1,5 @@
--- What reads give of the bytes that a source holds, and what writes add to those that a sink tells. This project's own
--- notion.
+-- What reads give of the bytes that a source holds, and what writes add to those that a sink reports. This project's
+-- own notion.
 use Rattle.std.specs.Prelude.{◌≡◌, ℕ, ◌-◌, ◌<◌, ◌≤◌, List, length, take, drop, Bool, true, ◌==◌, ◌&&◌, nat_lt, Ok, Err}
 use Rattle.std.specs.Prelude.{Result}
 
@@ -28,7 +28,7 @@ pub record Stored : Type 0 where
   pub reads : ℕ
   pub asked : ℕ
 
--- a source of lent bytes: those, how often it was read, and the offset asked for last
+-- a source of lent bytes: these, how often it was read, and the offset asked for last
 pub record Lent : Type 0 where
   pub bytes : List ℕ
   pub reads : ℕ
@@ -52,7 +52,7 @@ pub record Written (W : Type 0) : Type 0 where
   pub writer : W
   pub faults : ℕ
 
--- bytes that wait before a sink, and the number of those that it took
+-- bytes that wait before a sink, and how many bytes it took
 pub record Staged : Type 0 where
   pub bytes : List ℕ
   pub sent : ℕ

@@ -16,7 +16,7 @@ pub record Preserves (old new : SeenSource) : Type 0 where
   pub kept : new.holds ≡ old.holds
   pub watched : new.watches ≡ old.watches
 
--- a source was read: no byte but these was asked for, in at most so many reads. It holds and watches what it did
+-- a source was read: no byte but these was asked for, in at most `most` reads. It holds and watches what it did
 pub record ReadsOnly (These : ℕ → Type 0) (most : ℕ) (old new : SeenSource) : Type 0 where
   pub kept : new.holds ≡ old.holds
   pub watched : new.watches ≡ old.watches
@@ -27,7 +27,7 @@ pub record ReadsOnly (These : ℕ → Type 0) (most : ℕ) (old new : SeenSource
 abbrev pub ReadsRange : ℕ → ℕ → SeenSource → SeenSource → Type 0
 ReadsRange at len old new = ReadsOnly (IsInRange at len) len old new
 
--- a source has failed once more exactly by a failed read, where its bytes are as the call expects them; of another one
+-- a source has failed once more exactly by a failed read, if its bytes are as the call expects them; of another one
 -- a read fault may also say that it gives too little, or something else
 pub record FailsBy {X : Type 0} (Expected : List ℕ → Type 0) (answer : Result X OutFault) (old new : SeenSource)
     : Type 0 where
@@ -46,7 +46,7 @@ IsTakenFrom text_in Expected bytes text = Expected bytes × (text ≡ text_in by
 abbrev pub IsRange : ℕ → ℕ → List ℕ → List ℕ → Type 0
 IsRange at len bytes text = IsTakenFrom (λ bytes. take len (drop at bytes)) (HasRange at len) bytes text
 
--- a read or a write failed: it isn't want of memory
+-- a read or a write failed: it isn't lack of memory
 abbrev pub IsOfDevice : OutFault → Type 0
 IsOfDevice (Read sent) = ⊤
 IsOfDevice (Write sent) = ⊤

@@ -21,7 +21,7 @@ HasFailedBy (Err (Read sent)) old new = new ≡ raised old
 HasFailedBy (Err (Write sent)) old new = new ≡ old
 HasFailedBy (Err (Memory sent)) old new = new ≡ old
 
--- any source: a read fault also tells that it doesn't give what it gave
+-- any source: a read fault also says that it doesn't give what it gave
 abbrev pub MayHaveFailedBy : {X : Type 0} → Result X OutFault → ℕ → ℕ → Type 0
 MayHaveFailedBy (Ok x) old new = new ≡ old
 MayHaveFailedBy (Err (Read sent)) old new = (new ≡ old) ⊎ (new ≡ raised old)

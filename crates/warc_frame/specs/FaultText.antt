@@ -1,4 +1,4 @@
--- The text of a fault, by which the program tells it: this project's own notion, but for the names of fields.
+-- The text of a fault, as the program prints it: this project's own notion, but for the names of fields.
 use Rattle.std.specs.Prelude.{ℕ, List, ◌++◌, codes, decimal}
 use Rattle.warc_frame.specs.declared.fault.Mandatory.{Mandatory}
 use Rattle.warc_frame.specs.declared.fault.Mandatory.TheVariants.{ContentLength, «Type», RecordId, Date as DateField}

@@ -13,18 +13,18 @@ use Rattle.warc_frame.specs.Reading.{Judgement, any_fields, fault, record_of}
 abbrev pub AllAccepted : Judgement → List Record → Type 0
 AllAccepted judge records = AllByRecursion (λ r. judge r.fields ≡ None) records
 
--- the part of a text that begins at offset q which lies before the offset where archives end, and whether it goes on
+-- the part of a text that begins at offset q which is before the offset where archives end, and whether it goes on
 unfoldable pub within_limit : ℕ → List ℕ → List ℕ
 within_limit q t = take (max_archive - q) t
 
 unfoldable pub goes_on : ℕ → List ℕ → Bool
 goes_on q t = nat_lt (max_archive - q) (length t)
 
--- a fault of what stands at offset q
+-- a fault of what is at offset q
 abbrev pub behind : ℕ → Fault → Fault
 behind q f = fault f.kind (q + f.offset)
 
--- what is wrong with a text that begins at offset q: nothing where it is empty, and else that no record stands there
+-- what is wrong with a text that begins at offset q: nothing if it is empty, and else that no record is there
 abbrev pub HasFault : Judgement → ℕ → List ℕ → Option Fault → Type 0
 HasFault judge q t None = t ≡ []
 HasFault judge q t (Some f) = (t ≢ []) × (g : Fault) × (record_of judge t ≡ Err g) × (f ≡ behind q g)
@@ -40,8 +40,8 @@ pub record ReadsAs (judge : Judgement) (q : ℕ) (t : List ℕ) (records : List 
   pub accepted : AllAccepted judge records
   pub fault_is : HasFault judge (q + length front) rest found
 
--- the fault of a text that goes on where archives end: that it is too long, unless a fault other than truncation stands
--- before
+-- the fault of a text that goes on where archives end: that it is too long, unless a fault other than truncation
+-- comes before
 abbrev pub or_too_long : FaultKind → Fault → Fault
 or_too_long Truncated f = fault TooLong max_archive
 or_too_long kind f = f
@@ -58,6 +58,6 @@ pub record IsFirstFault (judge : Judgement) (q : ℕ) (t : List ℕ) (f : Fault)
   pub before : ReadsAs judge q (within_limit q t) records found
   pub is : limited (goes_on q t) found ≡ Some f
 
--- the frame fault: that of framing alone
+-- the frame fault: the fault by framing alone
 abbrev pub IsFrameFault : ℕ → List ℕ → Fault → Type 0
 IsFrameFault q t f = IsFirstFault any_fields q t f

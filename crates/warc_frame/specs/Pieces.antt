@@ -1,4 +1,4 @@
--- What reading a stream piece by piece keeps and answers. A state of the code.
+-- What reading a stream piece by piece keeps and returns. A state of the code.
 use Rattle.std.specs.Prelude.{◌≡◌, ◌≢◌, ℕ, ◌+◌, ◌≤◌, List, ◌++◌, length, Option, Some, None}
 use Rattle.warc_frame.specs.declared.fault.FaultKind.TheVariants.{Truncated, Memory}
 use Rattle.warc_frame.specs.declared.fault.Fault.{Fault}
@@ -21,7 +21,7 @@ MayKeep n unclosed (events.Head version fields number) = Unit {0}
 MayKeep n unclosed (events.Part from to) = (from ≤ to) × (to ≤ n)
 MayKeep n unclosed events.End = ClosesFramed unclosed
 
--- an offset is that behind the text of these records, at the front of a text that begins at offset `at`
+-- an offset is the one after the text of these records, at the front of a text that begins at offset `at`
 pub record StandsBehind (at : ℕ) (text : List ℕ) (records : List Record) (offset : ℕ) : Type 0 where
   pub front : List ℕ
   pub rest : List ℕ
@@ -29,14 +29,14 @@ pub record StandsBehind (at : ℕ) (text : List ℕ) (records : List Record) (of
   pub spelled : SpellsAll records front
   pub offset_is : offset ≡ at + length front
 
--- where the record begins that isn't ended, once this event is told whose bytes end before offset `behind`
+-- where the record begins that isn't ended, once this event is reported whose bytes end before offset `behind`
 abbrev pub start_on : {A : Type 0} → ℕ → ℕ → Event A → ℕ
 start_on start behind events.More = start
 start_on start behind (events.Head version fields number) = start
 start_on start behind (events.Part from to) = start
 start_on start behind events.End = behind
 
--- what was told, and where the record begins that isn't ended
+-- what was reported, and where the record begins that isn't ended
 pub record Keeping : Type 0 where
   pub told : Told
   pub start : ℕ
@@ -46,14 +46,14 @@ pub record Keeps (at : ℕ) (taken : List ℕ) (kept : Keeping) (d : State) : Ty
   pub is_at : IsAt at taken kept.told d
   pub start : StandsBehind at taken kept.told.records kept.start
 
--- unless memory was wanted: the frame fault of a text, which stays whatever follows
+-- unless memory ran out: the frame fault of a text, which stays whatever follows
 abbrev pub IsPieceFault : ℕ → List ℕ → Fault → Type 0
 IsPieceFault at text f = f.kind ≢ Memory → IsFrameFault at text f × (f.kind ≢ Truncated)
 
--- unless memory was wanted: the frame fault of a text
+-- unless memory ran out: the frame fault of a text
 abbrev pub IsPiecesFault : ℕ → List ℕ → Fault → Type 0
 IsPiecesFault at text f = f.kind ≢ Memory → IsFrameFault at text f
 
--- memory was wanted for a record that begins at the fault's offset: behind whole records, or at the text's front
+-- memory ran out for a record that begins at the fault's offset: after whole records, or at the text's front
 abbrev pub IsMemoryFault : ℕ → List ℕ → Fault → Type 0
 IsMemoryFault at text f = f.kind ≡ Memory → (records : List Record) × StandsBehind at text records f.offset

@@ -76,7 +76,7 @@ abbrev pub fields_or_line : Result (List Pair) ℕ → Result (List Pair) Fault
 fields_or_line (Ok fields) = Ok fields
 fields_or_line (Err at) = Err (fault Field (10 + at))
 
--- a head: its version and fields, its length, and that of the block behind it
+-- a head: its version and fields, its length, and the length of the block after it
 pub record Head : Type 0 where
   pub version : Version
   pub fields : List Pair
@@ -111,12 +111,12 @@ record_of judge t = do
   block ← block_at head.len head.block_len t
   Ok (record { version = head.version; fields = head.fields; block = block }, head.len + head.block_len + 4)
 
--- want of memory is told at offset 0, and any other fault as a fact says
+-- lack of memory is reported at offset 0, and any other fault as a fact says
 abbrev pub OrMemory : FaultKind → ℕ → Type 0 → Type 0
 OrMemory Memory offset P = offset ≡ 0
 OrMemory kind offset P = P
 
--- what a call answered, seen by view, is what reading gives, unless memory ran out
+-- what a call returned, seen by view, is what reading gives, unless memory ran out
 abbrev pub AnswersAs : {X Y : Type 0} → (X → Y) → Result X Fault → Result Y Fault → Type 0
 AnswersAs view (Ok x) read = read ≡ Ok (view x)
 AnswersAs view (Err f) read = OrMemory f.kind f.offset (read ≡ Err f)

@@ -19,7 +19,7 @@ pub record SeenSource : Type 0 where
 abbrev pub IfHeld : Option (List ℕ) → (List ℕ → Type 0) → Type 0
 IfHeld holds P = (bytes : List ℕ) → holds ≡ Some bytes → P bytes
 
--- an offset is that of one of `len` bytes from offset `at` on
+-- an offset is one of the `len` offsets from `at` on
 abbrev pub IsInRange : ℕ → ℕ → ℕ → Type 0
 IsInRange at len q = (at ≤ q) × (q < at + len)
 
@@ -37,7 +37,7 @@ GoesOn at answer old new = IfSome old.next (λ next. at ≡ next
 abbrev pub InOrder : ℕ → SeenSource → SeenSource → Type 0
 InOrder from old new = IfSome old.next (λ next. from ≡ next → new.jumps ≡ old.jumps)
 
--- a sink: the bytes that it tells, where they are known, and how often it has failed
+-- a sink: the bytes that it reports, where they are known, and how often it has failed
 pub record Seen : Type 0 where
   pub tells : Option (List ℕ)
   pub faults : ℕ

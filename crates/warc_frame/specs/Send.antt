@@ -1,4 +1,4 @@
--- What went out of an output, to a sink that told some bytes at the start. This project's own notion.
+-- What went out of an output, to a sink that reported some bytes at the start. This project's own notion.
 use Rattle.std.specs.Prelude.{◌≡◌, ℕ, ◌≤◌, List, ◌++◌, length, take, Option}
 use Rattle.std.specs.Prelude.{Result, Ok, Err}
 use Rattle.std.specs.Io.KnownBytes.{append_known}
@@ -13,7 +13,7 @@ abbrev pub count_sent : Result (Unit {0}) SendFault → List ℕ → ℕ
 count_sent (Ok u) piece = length piece
 count_sent (Err e) piece = e.sent
 
--- the number of bytes that a fault tells
+-- the number of bytes that a fault states
 abbrev pub sent_of : OutFault → ℕ
 sent_of (Read sent) = sent
 sent_of (Write sent) = sent

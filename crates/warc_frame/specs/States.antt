@@ -4,7 +4,7 @@ use Rattle.std.specs.Prelude.{ℕ, List, Option, Some, None, false}
 use Rattle.warc_frame.specs.Device.{Lent, Opened, Stored}
 use Rattle.warc_frame.specs.Seen.{SeenSource}
 
--- a source that holds these bytes, or of which nothing is known
+-- a source that holds these bytes, or one of whose bytes nothing is known
 abbrev pub unwatched : Option (List ℕ) → ℕ → ℕ → ℕ → SeenSource
 unwatched holds faults reads asked = record {
   holds = holds;

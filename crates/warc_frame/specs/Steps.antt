@@ -10,12 +10,12 @@ use Rattle.warc_frame.specs.Reading.{any_fields, head_of}
 use Rattle.warc_frame.specs.Faults.{within_limit, goes_on, behind}
 use Rattle.warc_frame.specs.Decoding.{State}
 
--- of a text that begins at offset `at`, these bytes are those before the limit, and more follow them where told so
+-- of a text that begins at offset `at`, these bytes are those before the limit, and more follow them if it is said so
 pub record Near (crosses : Bool) (at : ℕ) (text near : List ℕ) : Type 0 where
   pub front : within_limit at text ≡ near
   pub beyond : goes_on at text ≡ crosses
 
--- an event tells what a whole head says, whose block has n bytes
+-- an event reports what a whole head says, whose block has n bytes
 abbrev pub TellsHead : {A : Type 0} → List ℕ → ℕ → Event A → Type 0
 TellsHead head n events.More = ⊥
 TellsHead head n (events.Head version fields m) = (len : ℕ) × (m ≡ n)
@@ -23,7 +23,7 @@ TellsHead head n (events.Head version fields m) = (len : ℕ) × (m ≡ n)
 TellsHead head n (events.Part from to) = ⊥
 TellsHead head n events.End = ⊥
 
--- the fault of a head that begins at offset p, or want of memory there
+-- the fault of a head that begins at offset p, or lack of memory there
 abbrev pub HeadFails : FaultKind → ℕ → List ℕ → Fault → Type 0
 HeadFails Memory p head f = f.offset ≡ p
 HeadFails kind p head f = (g : Fault) × (head_of any_fields head ≡ Err g) × (f ≡ behind p g)

@@ -1,4 +1,4 @@
--- What a reader of a stream was told, and what of it lies in the bytes. This project's own notion.
+-- What the steps of a reader of a stream reported, and what of it lies in the bytes. This project's own notion.
 use Rattle.std.specs.Prelude.{◌≡◌, ◌≢◌, ℕ, ◌+◌, List, [], ◌∷◌, ◌++◌, length, take, drop, slice_range, Option, Some, None, IsSome, Result, Ok, Err}
 use Rattle.warc_field.specs.Area.{Pair}
 use Rattle.warc_frame.specs.declared.version.Version.{Version}
@@ -12,19 +12,19 @@ use Rattle.warc_frame.specs.Spelling.{SpellsAll}
 use Rattle.warc_frame.specs.Reading.{Judgement, Head, any_fields, head_of, record_of, fault}
 use Rattle.warc_frame.specs.Faults.{AllAccepted, ReadsAs, within_limit, goes_on, limited}
 
--- a record whose head was told and whose end wasn't, with the bytes of its block that were told
+-- a record whose head was reported and whose end wasn't, with the bytes of its block that were reported
 pub record Unclosed : Type 0 where
   pub version : Version
   pub fields : List Pair
   pub block_len : ℕ
   pub bytes : List ℕ
 
--- the records whose end was told, and the one behind them
+-- the records whose end was reported, and the one after them
 pub record Told : Type 0 where
   pub records : List Record
   pub unclosed : Option Unclosed
 
--- nothing was told yet
+-- nothing was reported yet
 abbrev pub nothing : Told
 nothing = record { records = []; unclosed = None }
 
@@ -37,7 +37,7 @@ abbrev pub ended : Option Unclosed → List Record
 ended None = []
 ended (Some u) = record { version = u.version; fields = u.fields; block = u.bytes } ∷ []
 
--- what was told once this event, at this piece, is told too
+-- what was reported once this event, at this piece, is reported too
 abbrev pub tell : {A : Type 0} → Told → List ℕ → Event A → Told
 tell told piece events.More = told
 tell told piece (events.Head version fields n) =
@@ -47,12 +47,12 @@ tell told piece (events.Part from to) =
     record { records = told.records; unclosed = with_bytes told.unclosed (slice_range piece from to) }
 tell told piece events.End = record { records = told.records ++ ended told.unclosed; unclosed = None }
 
--- all of a block was told
+-- all of a block was reported
 abbrev pub IsWhole : Option Unclosed → Type 0
 IsWhole None = ⊥
 IsWhole (Some u) = length u.bytes ≡ u.block_len
 
--- a head is told only between records, a part only behind a head, and an end only behind the whole block
+-- a head is reported only between records, a part only after a head, and an end only after the whole block
 abbrev pub MayTell : {A : Type 0} → Option Unclosed → Event A → Type 0
 MayTell unclosed events.More = Unit {0}
 MayTell unclosed (events.Head version fields n) = unclosed ≡ None
@@ -65,8 +65,8 @@ opened (Ok head) t =
     Some (record { version = head.version; fields = head.fields; block_len = head.block_len; bytes = bytes })
 opened (Err f) t = None
 
--- what a text that is less than a record tells: its head, where it is whole and can be framed, and the bytes of its
--- block
+-- what of a text that is less than a record is reported: its head, if it is whole and can be framed, and the bytes of
+-- its block
 abbrev pub unclosed_of : List ℕ → Option Unclosed
 unclosed_of t = opened (head_of any_fields t) t
 
@@ -74,7 +74,7 @@ unclosed_of t = opened (head_of any_fields t) t
 abbrev pub IsCut : List ℕ → Type 0
 IsCut t = record_of any_fields t ≡ Err (fault Truncated (length t))
 
--- what was told is exactly what lies in the text: its whole records, the head behind them, the bytes of its block
+-- what was reported is exactly what lies in the text: its whole records, the head after them, the bytes of its block
 pub record Lies (text : List ℕ) (told : Told) : Type 0 where
   pub front : List ℕ
   pub rest : List ℕ
@@ -92,7 +92,7 @@ abbrev pub EndsThere : List ℕ → Option Unclosed → Type 0
 EndsThere rest None = rest ≡ []
 EndsThere rest (Some u) = (head : List ℕ) × IsHeadOf u head × (rest ≡ head ++ u.bytes)
 
--- the text ends where what was told ends: behind a record, behind a head, or in a block behind the bytes told
+-- the text ends where what was reported ends: after a record, after a head, or in a block after the reported bytes
 pub record IsExact (text : List ℕ) (told : Told) : Type 0 where
   pub front : List ℕ
   pub rest : List ℕ
@@ -100,24 +100,24 @@ pub record IsExact (text : List ℕ) (told : Told) : Type 0 where
   pub spelled : SpellsAll told.records front
   pub ends : EndsThere rest told.unclosed
 
--- a judgement finds no fault in the fields of the head told last, if its record's end wasn't told
+-- a judgement finds no fault in the fields of the head reported last, if its record's end wasn't reported
 abbrev pub AcceptsOpen : Judgement → Option Unclosed → Type 0
 AcceptsOpen judge None = Unit {0}
 AcceptsOpen judge (Some u) = judge u.fields ≡ None
 
--- nor in those of any head that was told
+-- nor in those of any head that was reported
 abbrev pub AcceptsTold : Judgement → Told → Type 0
 AcceptsTold judge told = AllAccepted judge told.records × AcceptsOpen judge told.unclosed
 
--- where an event tells something
+-- where an event reports something
 abbrev pub IfTold : {A : Type 0} → Event A → Type 0 → Type 0
 IfTold events.More P = Unit {0}
 IfTold (events.Head version fields n) P = P
 IfTold (events.Part from to) P = P
 IfTold events.End P = P
 
--- the frame fault of a text that begins at offset `at`, which stays whatever follows; what was told is all that lies
--- before it: the records, and of what the fault is in, a head that is whole and can be framed and the bytes of its
+-- the frame fault of a text that begins at offset `at`, which stays whatever follows; what was reported is all that
+-- lies before it: the records, and of what the fault is in, a head that is whole and can be framed and the bytes of its
 -- block
 pub record Refutes (at : ℕ) (text : List ℕ) (told : Told) (f : Fault) : Type 0 where
   pub found : Option Fault
@@ -126,7 +126,7 @@ pub record Refutes (at : ℕ) (text : List ℕ) (told : Told) (f : Fault) : Type
   pub settled : f.kind ≢ Truncated
   pub unclosed_is : told.unclosed ≡ unclosed_of reads.rest
 
--- memory was wanted for the head of the record behind those that were told, and refused
+-- memory ran out for the head of the record after those that were reported
 pub record WantsMemory (at : ℕ) (text : List ℕ) (told : Told) (f : Fault) : Type 0 where
   pub front : List ℕ
   pub rest : List ℕ

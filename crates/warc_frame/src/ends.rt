@@ -8,7 +8,7 @@ use warc_field::find_crlf;
 
 const CLOSING: [u8; 4] = *b"\r\n\r\n";
 
-/// The byte at a place of the two texts together.
+/// The byte at a place of the two texts, one after the other.
 fn byte_at(kept: &[u8], piece: &[u8], place: usize) -> u8
     requires { place < length kept.now + length piece.now }
     ensures { result ≡ slice_index (kept.now ++ piece.now) place }
@@ -64,7 +64,7 @@ pub(crate) fn find_empty_line(text: &[u8]) -> Option<usize>
     None
 }
 
-/// How many bytes of the piece end the first CRLF CRLF, where the kept bytes hold none. Only those that begin in the
+/// How many bytes of the piece end the first CRLF CRLF, if the kept bytes hold none. Only those that begin in the
 /// kept bytes are looked for byte by byte.
 pub(crate) fn find_end(kept: &[u8], piece: &[u8]) -> Option<usize>
     requires short { length kept.now + length piece.now ≤ 65536 }
@@ -82,7 +82,7 @@ pub(crate) fn find_end(kept: &[u8], piece: &[u8]) -> Option<usize>
     Some(place + 4)
 }
 
-/// Whether the text, as far as it goes, begins as is wanted.
+/// Whether the text, as far as it goes, begins as wanted.
 pub(crate) fn begins_as(text: &[u8], wanted: &[u8]) -> bool
     ensures { result ≡ begins text.now wanted.now }
 {
@@ -90,7 +90,7 @@ pub(crate) fn begins_as(text: &[u8], wanted: &[u8]) -> bool
     wanted.starts_with(&text[..len])
 }
 
-/// Whether the two texts together, as far as they go, begin as the line.
+/// Whether the two texts, one after the other, begin as the line, as far as they go.
 fn begins_line(kept: &[u8], piece: &[u8], line: &[u8]) -> bool
     ensures { result ≡ begins (kept.now ++ piece.now) line.now }
 {
@@ -100,7 +100,7 @@ fn begins_line(kept: &[u8], piece: &[u8], line: &[u8]) -> bool
     begins_as(piece, &line[kept.len().min(line.len())..])
 }
 
-/// The version whose line the two texts together, as far as they go, begin with.
+/// The version whose line the two texts, one after the other, begin with, as far as they go.
 #[tactic(auto, unfolding(crate::specs::Reading::version_of))]
 pub(crate) fn version_across(kept: &[u8], piece: &[u8]) -> Option<Version>
     ensures { result ≡ version_of (kept.now ++ piece.now) }
@@ -114,7 +114,7 @@ pub(crate) fn version_across(kept: &[u8], piece: &[u8]) -> Option<Version>
     }
 }
 
-/// Whether these bytes are those of a CRLF CRLF from this place on.
+/// Whether a CRLF CRLF has these bytes from this place on.
 pub(crate) fn closes_on(bytes: &[u8], matched: usize) -> bool
     requires { matched + length bytes.now ≤ 4 }
     ensures { IsTrue result ↔ (bytes.now ≡ take (length bytes.now) (drop matched closing)) }

@@ -45,7 +45,7 @@ pub enum FaultKind {
     /// The bytes there begin no version line.
     Version,
 
-    /// The head passes 65,536 bytes, as it is spelled or as it would be spelled canonically.
+    /// The head is longer than 65,536 bytes, as it is spelled or as it would be spelled canonically.
     HeadTooLong,
 
     /// A line is no field.
@@ -54,7 +54,7 @@ pub enum FaultKind {
     /// This field is absent.
     Missing(Mandatory),
 
-    /// This field stands more than once.
+    /// This field occurs more than once.
     Repeated(Mandatory),
 
     /// The value of `Content-Length` is no number of at most 2^40.
@@ -63,19 +63,19 @@ pub enum FaultKind {
     /// The value of `WARC-Type` is no token.
     BadType,
 
-    /// The value of `WARC-Record-ID` holds no id.
+    /// The value of `WARC-Record-ID` isn't an id.
     Id,
 
     /// The value of `WARC-Date` is no date.
     Date,
 
-    /// The bytes after the block begin no CRLF CRLF.
+    /// The bytes after the block don't begin with CRLF CRLF.
     End,
 
     /// The bytes end before the record does.
     Truncated,
 
-    /// A byte stands at offset 2^48.
+    /// There is a byte at offset 2^48.
     TooLong,
 
     /// A read failed.
@@ -86,8 +86,8 @@ pub enum FaultKind {
 }
 
 impl FaultKind {
-    /// The fault's number and name, and the name of the field that it is about, or nothing: each of at most 16 bytes,
-    /// and one behind the other the fault's text.
+    /// The fault's number and name, and the name of the field that it is about, or nothing: each of at most 16 bytes.
+    /// One after another they are the fault's text.
     pub fn parts(self) -> (&'static str, &'static str)
         ensures text { result.0.now ++ result.1.now ≡ kind_text self }
         ensures short { (length result.0.now ≤ 16) × (length result.1.now ≤ 16) }
@@ -142,7 +142,7 @@ impl fmt::Display for Fault {
     }
 }
 
-/// Why a command's output ends early, and how many bytes of it went out.
+/// Why an output ends early, and how many bytes of it went out.
 #[derive(Clone, Copy, PartialEq, Eq, Debug, Error)]
 pub enum OutFault {
     /// A read failed.
@@ -203,7 +203,7 @@ impl From<AllocError> for Fault {
 
     ghost from_gives = { λ _ e. e ≡ record { kind = Memory; offset = 0 } };
 
-    /// Want of memory for the record at the front, whose offset is 0.
+    /// Lack of memory for the record at the beginning, whose offset is 0.
     fn from(_: AllocError) -> Fault {
         Fault {
             kind: FaultKind::Memory,

@@ -14,13 +14,13 @@ use warc_field::Fields;
 /// Why a version, fields and a block make no record.
 #[derive(Clone, Copy, Debug, PartialEq, Eq, Error)]
 pub enum FramedFault {
-    /// The head, written canonically, would pass 65,536 bytes.
+    /// The head, written canonically, would be longer than 65,536 bytes.
     HeadTooLong,
     /// There is no `Content-Length`.
     Missing,
-    /// There are several.
+    /// There is more than one.
     Repeated,
-    /// It is no number up to 2^40, or not the length of the block.
+    /// It isn't a number up to 2^40, or isn't the length of the block.
     Length,
 }
 
@@ -68,7 +68,7 @@ impl<A: Allocator> Model for Framed<A> {
 }
 
 impl<A: Allocator> Framed<A> {
-    /// The record of these, or the first reason why they are none. It takes no memory, and drops what it refuses.
+    /// The record of these, or the first reason why they make none. It takes no memory, and drops what it refuses.
     #[tactic(auto, unfolding(crate::specs::Record::framed_of))]
     pub fn new(
         version: Version,
@@ -127,7 +127,7 @@ impl<A: Allocator> Framed<A> {
         &self.fields
     }
 
-    /// The block, whatever its bytes are.
+    /// The block, of any bytes.
     #[tactic(auto, using(crate::proofs::FramedLemmas::framed_block))]
     pub fn block(&self) -> &[u8]
         ensures block { result.now ≡ self.now.block }

@@ -12,7 +12,7 @@ ghost use Rattle.std.specs.Io.KnownBytes.{append_known};
 ghost use Rattle.warc_frame.specs.Device.{Staged};
 ghost use Rattle.warc_frame.specs.Send.{WentOut, IsStaged};
 
-/// No text that spells a record begins another one that does, and a text spells at most one list of records.
+/// No text that spells a record begins with another one that does, and a text spells at most one list of records.
 pub fn spelling_is_unambiguous()
     ensures record { (r s : Record) (text more : List ℕ) → Spells r text → Spells s (text ++ more)
         → (more ≡ []) × (r ≡ s) }
@@ -25,7 +25,7 @@ pub fn canonical_text_spells()
     ensures { (r : Record) → IsFramed r → Spells r (canonical r) }
 {}
 
-/// What spells a record is read as that record, whatever follows, and what is read is spelled.
+/// What spells a record is read as that record, if anything follows or not, and what is read is spelled.
 pub fn reading_is_spelling()
     ensures read { (judge : Judgement) (r : Record) (text more : List ℕ) → Spells r text → judge r.fields ≡ None
         → record_of judge (text ++ more) ≡ Ok (r, length text) }
@@ -45,7 +45,7 @@ pub fn heads_are_stable()
         → head_of judge (text ++ more) ≡ Ok head }
 {}
 
-/// The first n bytes of what spells a record, where the block and two CRLFs stand behind them, are read as its head.
+/// The first n bytes of a text that spells a record are read as its head, if the block and two CRLFs follow them.
 pub fn head_of_spelled()
     ensures { (judge : Judgement) (r : Record) (text : List ℕ) (n : ℕ) → Spells r text → judge r.fields ≡ None
         → n + length r.block + 4 ≡ length text
@@ -78,7 +78,7 @@ pub fn first_fault_is_unique()
         → IsFirstFault judge q text other → one ≡ other }
 {}
 
-/// Each text is read as one list of records and one fault behind them, or none.
+/// Each text is read as one list of records and one fault after them, or none.
 pub fn reading_is_unique()
     ensures some { (judge : Judgement) (q : ℕ) (text : List ℕ)
         → (records : List Record) × (found : Option Fault) × ReadsAs judge q text records found }
@@ -86,15 +86,15 @@ pub fn reading_is_unique()
         → ReadsAs judge q text rs one → ReadsAs judge q text ss other → (rs ≡ ss) × (one ≡ other) }
 {}
 
-/// What a step that fails says of the text, where it didn't want memory: the text is refuted, by a fault that stays.
+/// What a step that fails says of the text, if memory didn't run out: the text is refuted, by a fault that stays.
 pub fn refusals_refute()
     ensures { (at : ℕ) (text : List ℕ) (told : Told) (f : Fault) → Refuses at text told f → f.kind ≢ Memory
         → Refutes at text told f }
 {}
 
-/// The first fault for a reader that is told a text by framing alone, and judges the fields of each head that it is
-/// told. While it accepts them, the fault is framing's; the first that it refuses is the fault, at its record's first
-/// byte.
+/// The first fault for a reader that gets a text's records by framing alone, and judges the fields of each head that is
+/// reported. While it accepts them, the fault is that of framing; the first that it refuses is the fault, at the first
+/// byte of its record.
 pub fn first_fault_of_judged_heads()
     ensures refuted { (judge : Judgement) (at : ℕ) (text : List ℕ) (told : Told) (f : Fault) → Refutes at text told f
         → AcceptsTold judge told → IsFirstFault judge at text f }

@@ -13,7 +13,7 @@ use std::alloc::{AllocError, Allocator};
 use std::marker::Model;
 use warc_field::Fields;
 
-/// A record whose end hasn't come.
+/// A record whose end hasn't come yet.
 #[derive(Drop)]
 struct Begun<A: Allocator> {
     version: Version,
@@ -35,12 +35,12 @@ impl<A: Allocator> Model for Begun<A> {
     } };
 }
 
-/// The records told so far, and the one that is open.
+/// The records reported so far, and the one that is open.
 #[derive(Drop)]
 struct Kept<A: Allocator> {
     records: Vec<Framed<A>, A>,
     begun: Option<Begun<A>>,
-    /// The offset behind the records told.
+    /// The offset after the reported records.
     start: u64,
 }
 
@@ -53,7 +53,7 @@ impl<A: Allocator> Model for Kept<A> {
 }
 
 impl<A: Allocator + Copy> Kept<A> {
-    /// Keeps what an event tells of a piece, whose bytes end before offset `behind`.
+    /// Keeps what an event reports of a piece, whose bytes end before offset `behind`.
     fn keep(&mut self, piece: &[u8], event: Event<A>, behind: u64) -> Result<(), AllocError>
         requires { MayKeep (length piece.now) self.old.told.unclosed event }
         ensures told { OnOk result (self.new.told ≡ tell self.old.told piece.now event) }
@@ -88,7 +88,7 @@ impl<A: Allocator + Copy> Kept<A> {
     }
 }
 
-/// Gives a piece to the decoder, and keeps what it tells.
+/// Gives a piece to the decoder, and keeps what it reports.
 fn feed<A: Allocator + Copy>(
     decoder: &mut Decoder<A>,
     kept: &mut Kept<A>,
@@ -113,9 +113,9 @@ fn feed<A: Allocator + Copy>(
     Ok(())
 }
 
-/// The records that the pieces, one behind the other, spell, however the bytes are cut into them; the first byte
-/// stands at offset `at`, at most 2^48. The fault is the frame fault of all bytes, or want of memory at the first
-/// byte of the record that memory was wanted for.
+/// The records that the pieces, one after the other, spell, however the bytes are cut into them; the first byte
+/// is at offset `at`, at most 2^48. The fault is the frame fault of all bytes, or lack of memory at the first
+/// byte of the record for which it was needed.
 pub fn decode<A: Allocator + Copy>(
     alloc: A,
     at: u64,

@@ -9,7 +9,7 @@ use crate::sink::Sink;
 use crate::source::{ReadFault, Source};
 use crate::staging::OutBuffer;
 
-/// Fills the buffer with the bytes at an offset. It fails where a read does, and where the source
+/// Fills the buffer with the bytes at an offset. It fails if a read does, and if the source
 /// ends too early.
 pub fn read_range<S: Source>(source: &mut S, at: u64, buf: &mut [u8]) -> Result<(), ReadFault>
     requires { at + length buf.old < 2 ^ 64 }
@@ -43,8 +43,8 @@ fn next_len(left: u64, room: usize) -> usize
     }
 }
 
-/// Adds `len` bytes at an offset of the source to the output, in pieces as long as `scratch` at most. It fails where a
-/// read or a write does, where the source ends too early, and where the range doesn't end before offset 2^64.
+/// Adds `len` bytes at an offset of the source to the output, in pieces as long as `scratch` at most. It fails if a
+/// read or a write does, if the source ends too early, and if the range doesn't end before offset 2^64.
 pub fn put_range<S: Source, W: Sink>(
     source: &mut S,
     at: u64,

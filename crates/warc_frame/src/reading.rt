@@ -20,7 +20,7 @@ pub const MAX_HEAD: usize = 65_536;
 /// The most bytes of a block.
 pub const MAX_BLOCK: u64 = 1 << 40;
 
-/// A head of at most so many bytes fits in the limit when it is written canonically, too.
+/// A head of at most this many bytes is within the limit when it is written canonically, too.
 const UNMEASURED_HEAD: usize = MAX_HEAD / 2;
 
 /// The length of a version line.
@@ -33,7 +33,7 @@ pub struct Head<A: Allocator> {
     pub fields: Fields<A>,
     /// How many bytes the head has, the empty line that ends it included: at most 65,536.
     pub len: usize,
-    /// How many bytes the block behind it has, as its `Content-Length` says: at most 2^40.
+    /// How many bytes the block after it has, as its `Content-Length` says: at most 2^40.
     pub block_len: u64,
 }
 
@@ -78,7 +78,7 @@ fn fits_spelled_head<A: Allocator>(version: Version, len: usize, fields: &Fields
     len <= UNMEASURED_HEAD || fits_head(version, fields)
 }
 
-/// The value of the only field of this name: `Missing` where there is none, `Repeated` where a second stands.
+/// The value of the only field of this name: `Missing` if there is none, `Repeated` if there is a second one.
 fn only_value<'a, A: Allocator>(
     fields: &'a Fields<A>,
     name: &[u8],
@@ -113,8 +113,8 @@ pub(crate) fn read_block_len<A: Allocator>(fields: &Fields<A>) -> Result<u64, Fr
     }
 }
 
-/// What a head says whose version and length are known: its fields, and how long the block is. It is read in the memory
-/// of fields that are no longer wanted.
+/// What a head with a known version and length says: its fields, and how long the block is. It is read in the memory
+/// of fields that are no longer needed.
 #[tactic(auto, using(crate::proofs::HeadLemmas::head_room, crate::proofs::HeadLemmas::head_within), unfolding(crate::specs::Reading::head_of))]
 pub(crate) fn read_fields<A: Allocator + Copy>(
     spare: Fields<A>,
@@ -150,9 +150,9 @@ pub(crate) fn read_fields<A: Allocator + Copy>(
     })
 }
 
-/// The head at the front of a text, whatever follows it. A fault's offset counts from the front: it is the first row
-/// of the table of refusals that fits, as far as framing goes, and the block isn't looked at. Nothing given is
-/// Truncated at 0; want of memory is told at 0.
+/// The head at the beginning of a text, which anything may follow. A fault's offset counts from there: it is the first
+/// row of the table of refusals that fits, as far as framing goes, and the block isn't looked at. An empty text is
+/// Truncated at 0; lack of memory is reported at 0.
 #[tactic(auto, unfolding(crate::specs::Reading::head_of))]
 pub fn read_head<A: Allocator + Copy>(alloc: A, text: &[u8]) -> Result<Head<A>, Fault>
     ensures exact { AnswersAs
@@ -173,7 +173,7 @@ pub fn read_head<A: Allocator + Copy>(alloc: A, text: &[u8]) -> Result<Head<A>, 
     read_fields(Fields::new(alloc), version, len, text)
 }
 
-/// The block behind a head, if two CRLFs close it.
+/// The block after a head, if two CRLFs close it.
 #[tactic(auto, unfolding(crate::specs::Reading::block_at))]
 fn read_block(head_len: usize, block_len: u64, text: &[u8]) -> Result<&[u8], Fault>
     requires { head_len ≤ length text.now }
@@ -196,7 +196,7 @@ fn read_block(head_len: usize, block_len: u64, text: &[u8]) -> Result<&[u8], Fau
     Ok(block)
 }
 
-/// The record at the front of a text, and its length.
+/// The record at the beginning of a text, and its length.
 #[tactic(auto, unfolding(crate::specs::Reading::record_of))]
 fn read_front<A: Allocator + Copy>(alloc: A, text: &[u8]) -> Result<(Framed<A>, usize), Fault>
     ensures exact { AnswersAs (λ x. x) result (record_of any_fields text.now) }
@@ -209,8 +209,8 @@ fn read_front<A: Allocator + Copy>(alloc: A, text: &[u8]) -> Result<(Framed<A>, 
     Ok((Framed::from_checked(head.version, head.fields, block), len))
 }
 
-/// The record at the front of a text, and its length. A fault's offset counts from the front. Nothing given is
-/// Truncated at 0; want of memory is told at 0.
+/// The record at the beginning of a text, and its length. A fault's offset counts from there. An empty text is
+/// Truncated at 0; lack of memory is reported at 0.
 pub fn read_one<A: Allocator + Copy>(alloc: A, text: &[u8]) -> Result<(Framed<A>, usize), Fault>
     // What is read is spelled so.
     ensures found { IfOk result (λ x. (x.1 ≤ length text.now) × Spells x.0 (take x.1 text.now)) }
@@ -219,7 +219,7 @@ pub fn read_one<A: Allocator + Copy>(alloc: A, text: &[u8]) -> Result<(Framed<A>
     ensures only { (r : Record) (front rest : List ℕ) → Spells r front → text.now ≡ front ++ rest
         → AnswersAs (λ x. x) result (Ok (r, length front)) }
 
-    // Where none stands there, the text has this frame fault, unless memory ran out.
+    // If it begins with none, the text has this frame fault, unless memory ran out.
     ensures fault { text.now ≢ [] → IfErr result (λ f. OrMemory f.kind f.offset (IsFrameFault 0 text.now f)) }
 
     // It is the first row of the table that fits.

@@ -7,7 +7,7 @@ ghost use Rattle.warc_frame.specs.Send.{count_sent};
 use crate::sink::Sink;
 use thiserror::Error;
 
-/// A write failed after so many bytes.
+/// A write failed after this many bytes.
 #[derive(Clone, Copy, PartialEq, Eq, Debug, Error)]
 pub struct SendFault {
     pub sent: u64,

@@ -28,11 +28,11 @@ impl fmt::Display for WriteFault {
 
 /// Takes bytes, as many of each piece as it likes.
 pub trait Sink {
-    /// What contracts see of it: the bytes that were taken, where that is told, and how often it has failed. The count
-    /// stays at 2^64 - 1.
+    /// What contracts see of it: the bytes that it reports to have taken, if it does, and how often it has failed. The
+    /// count stays at 2^64 - 1.
     ghost seen: { Self → Seen };
 
-    /// Takes a front of the piece, and answers its length. A write that takes nothing of a piece
+    /// Takes a beginning of the piece, and returns its length. A write that takes nothing of a piece
     /// that isn't empty is a failure, too.
     fn write(&mut self, piece: &[u8]) -> Result<usize, WriteFault>
         ensures bound { IfOk result (λ n. n ≤ length piece.now) }
@@ -72,7 +72,7 @@ impl<A: Allocator> Model for MemSink<A> {
 }
 
 impl<A: Allocator> MemSink<A> {
-    /// A sink that goes on behind these bytes.
+    /// A sink that appends to these bytes.
     pub fn new(bytes: Vec<u8, A>) -> MemSink<A>
         ensures bytes { result.bytes ≡ bytes.items }
         ensures room { result.room ≡ vec_capacity bytes - vec_len bytes }
@@ -88,7 +88,7 @@ impl<A: Allocator> MemSink<A> {
         self.bytes.as_slice()
     }
 
-    /// Gives the bytes away.
+    /// Returns the bytes.
     pub fn into_inner(self) -> Vec<u8, A>
         ensures { result.items ≡ self.bytes }
     {
@@ -99,7 +99,7 @@ impl<A: Allocator> MemSink<A> {
 impl<A: Allocator> Sink for MemSink<A> {
     ghost seen = { λ s. record { tells = Some s.bytes; faults = s.faults } };
 
-    /// It fails only where a growth of the memory is refused, and else takes the whole piece.
+    /// It fails only if a growth of the memory is refused, and otherwise takes the whole piece.
     fn write(&mut self, piece: &[u8]) -> Result<usize, WriteFault>
         ensures bound { IfOk result (λ n. n ≤ length piece.now) }
         ensures bytes { Some self.new.bytes ≡ append_known (Some self.old.bytes) (take (taken result) piece.now) }
@@ -118,7 +118,7 @@ impl<A: Allocator> Sink for MemSink<A> {
     }
 }
 
-/// A sink over a writer. It tells nothing of the bytes.
+/// A sink over a writer. It reports nothing of the bytes.
 #[derive(Drop)]
 pub struct OutSink<W> {
     writer: W,
@@ -142,7 +142,7 @@ impl<W: Write> OutSink<W> {
         OutSink { writer, faults: 0 }
     }
 
-    /// Gives the writer back. It isn't flushed.
+    /// Returns the writer. It isn't flushed.
     pub fn into_inner(self) -> W
         ensures { result ≡ self.writer }
     {

@@ -36,7 +36,7 @@ pub trait Source {
     /// reads that asked elsewhere: a call that leaves this count as it was reads in order.
     ghost seen: { Self → SeenSource };
 
-    /// Reads bytes at the offset into the front of the buffer, and answers how many.
+    /// Reads bytes at the offset into the beginning of the buffer, and returns how many.
     fn read_at(&mut self, at: u64, buf: &mut [u8]) -> Result<usize, ReadFault>
         ensures bound { IfOk result (λ n. n ≤ length buf.new) }
         ensures bytes { IfHeld (seen self.old).holds (λ bytes. IfOk result (Gives bytes at buf.new)) }
@@ -44,8 +44,8 @@ pub trait Source {
         ensures order { GoesOn at result (seen self.old) (seen self.new) };
 }
 
-/// Copies the bytes from an offset on into the front of the buffer, at most `most` and as many as it has room for, and
-/// returns how many.
+/// Copies the bytes from an offset on into the beginning of the buffer, at most `most` and as many as it has room for,
+/// and returns how many.
 fn copy_from(bytes: &[u8], at: u64, buf: &mut [u8], most: usize) -> usize
     ensures count { result ≡ min (length bytes.now - at) (min most (length buf.old)) }
     ensures gives { (0 < length buf.old → 0 < most) → Gives bytes.now at buf.new result }
@@ -97,7 +97,7 @@ impl<A: Allocator> MemSource<A> {
         }
     }
 
-    /// Gives the bytes back.
+    /// Returns the bytes.
     pub fn into_inner(self) -> Vec<u8, A>
         ensures { result.items ≡ self.bytes }
     {
@@ -210,7 +210,7 @@ impl<F: Read + Seek> FileSource<F> {
         }
     }
 
-    /// Gives the file back, at the position where the last read left it.
+    /// Returns the file, at the position where the last read left it.
     pub fn into_inner(self) -> F
         ensures { result ≡ self.file }
     {

@@ -13,8 +13,8 @@ use std::marker::Model;
 /// How many bytes the buffer holds.
 const SIZE: usize = 4096;
 
-/// Bytes on their way to a sink, which each call is given: those that wait here, and the number of
-/// those that the sink took. That number stays at 2^64 - 1.
+/// Bytes on their way to a sink, which each call is given: the bytes that wait here, and the number of
+/// bytes that the sink took. That number stays at 2^64 - 1.
 #[derive(Drop)]
 pub struct OutBuffer {
     bytes: [u8; SIZE],
@@ -61,7 +61,7 @@ fn send_counted<W: Sink>(out: &mut W, piece: &[u8], sent: &mut u64) -> Result<()
 impl OutBuffer {
     ghost use Rattle.warc_frame.specs.Device.{Staged};
 
-    /// An empty buffer, of whose bytes none went out.
+    /// An empty buffer, of whose output nothing went out.
     pub fn new() -> OutBuffer
         ensures empty { result ≡ record { bytes = []; sent = 0 } }
         ensures begins { (start : Option (List ℕ)) → IsStaged start [] start result }
@@ -89,7 +89,7 @@ impl OutBuffer {
         answer
     }
 
-    /// Copies a piece for which there is room behind the bytes that wait.
+    /// Copies a piece for which there is room after the bytes that wait.
     #[inline]
     fn append(&mut self, piece: &[u8])
         requires { length self.old.bytes + length piece.now ≤ SIZE }
@@ -100,7 +100,7 @@ impl OutBuffer {
         self.len = end;
     }
 
-    /// Writes a byte for which there is room behind the bytes that wait.
+    /// Writes a byte for which there is room after the bytes that wait.
     #[inline]
     fn append_byte(&mut self, byte: u8)
         requires { length self.old.bytes < SIZE }
@@ -110,7 +110,7 @@ impl OutBuffer {
         self.len += 1;
     }
 
-    /// Adds a piece for which there is no room: sends what waits before it, and the piece too where it is longer than
+    /// Adds a piece for which there is no room: sends what waits before it, and also the piece if it is longer than
     /// the buffer.
     fn put_behind<W: Sink>(&mut self, out: &mut W, piece: &[u8]) -> Result<(), SendFault>
         ensures { Puts (W.seen out.old) (W.seen out.new) self.old self.new result piece.now }
@@ -136,7 +136,7 @@ impl OutBuffer {
         Ok(())
     }
 
-    /// Adds a piece to the output, and a byte behind it, with one look for room where there is enough for both. After a
+    /// Adds a piece to the output, and a byte after it, with one look for room if there is enough for both. After a
     /// failed write the buffer is empty.
     #[inline]
     fn put_ended<W: Sink>(&mut self, out: &mut W, piece: &[u8], end: u8) -> Result<(), SendFault>
@@ -152,7 +152,7 @@ impl OutBuffer {
     }
 }
 
-/// Adds the columns to the output, each with the byte that ends it behind it. After a failed write the buffer is empty.
+/// Adds the columns to the output, each with the byte that ends it. After a failed write the buffer is empty.
 pub fn put_columns<W: Sink>(
     columns: &[(&[u8], u8)],
     buffer: &mut OutBuffer,

@@ -15,19 +15,19 @@ use std::marker::Model;
 use std::mem;
 use warc_field::Fields;
 
-/// The most bytes of an archive, and so the offset at which none may stand.
+/// The most bytes of an archive, and so the offset at which no byte may be.
 pub const MAX_ARCHIVE: u64 = 1 << 48;
 
-/// What a step tells.
+/// What a step reports.
 #[derive(Debug, Drop)]
 pub enum Event<A: Allocator = Global> {
     /// The whole piece was taken, and nothing ended in it.
     More,
-    /// A whole head: the version, the fields, and how many bytes the block behind it has.
+    /// A whole head: the version, the fields, and how many bytes the block after it has.
     Head(Version, Fields<A>, u64),
     /// Bytes of the block: the range of the given piece from the first place to before the second. It isn't empty.
     Part(usize, usize),
-    /// The end of a record: the two CRLFs behind its block.
+    /// The end of a record: the two CRLFs after its block.
     End,
 }
 
@@ -36,9 +36,9 @@ pub enum Event<A: Allocator = Global> {
 pub(crate) enum Phase {
     /// A head, of which there may be no byte yet.
     Head,
-    /// A block, or the two CRLFs behind it.
+    /// A block, or the two CRLFs after it.
     Block,
-    /// A fault was told.
+    /// A fault was reported.
     Failed(Fault),
 }
 
@@ -46,15 +46,15 @@ pub(crate) enum Phase {
 #[derive(Drop)]
 pub struct Decoder<A: Allocator = Global> {
     phase: Phase,
-    /// The offset behind the bytes taken.
+    /// The offset after the bytes taken.
     position: u64,
     /// The bytes of a head that isn't whole yet.
     head: Vec<u8, A>,
     /// How many bytes of the block are to come.
     left: u64,
-    /// How many bytes of the two CRLFs behind the block were taken.
+    /// How many bytes of the two CRLFs after the block were taken.
     matched: usize,
-    /// Fields that are no longer wanted: the next head is read in their memory.
+    /// Fields that are no longer needed: the next head is read in their memory.
     spare: Fields<A>,
 }
 
@@ -75,7 +75,7 @@ impl<A: Allocator> Model for Decoder<A> {
 }
 
 impl<A: Allocator + Copy> Decoder<A> {
-    /// A decoder of a stream whose first byte stands at this offset, at most 2^48. It takes no memory.
+    /// A decoder of a stream whose first byte is at this offset, at most 2^48. It takes no memory.
     pub fn new(alloc: A, at: u64) -> Decoder<A>
         requires { at ≤ 2 ^ 48 }
         ensures { IsAt at [] nothing result }
@@ -90,16 +90,16 @@ impl<A: Allocator + Copy> Decoder<A> {
         }
     }
 
-    /// Takes fields that are no longer wanted, so that the next head is read in their memory. It changes nothing else.
+    /// Takes fields that are no longer needed, so that the next head is read in their memory. It changes nothing else.
     pub fn recycle(&mut self, fields: Fields<A>)
         ensures { self.new ≡ self.old }
     {
         self.spare = fields;
     }
 
-    /// The offset behind the bytes taken.
+    /// The offset after the bytes taken.
     pub fn position(&self) -> u64
-        // What was told is exactly what lies in the bytes taken.
+        // What was reported is exactly what lies in the bytes taken.
         ensures history { (at : ℕ) (taken : List ℕ) (told : Told) → IsAt at taken told self.now
             → (result ≡ at + length taken) × Lies taken told }
         ensures value { result ≡ self.now.position }
@@ -108,7 +108,7 @@ impl<A: Allocator + Copy> Decoder<A> {
         self.position
     }
 
-    /// Whether the stream may end here: it may between records. Else it is truncated, or the fault told comes again.
+    /// Whether the stream may end here: it may between records. Else it is truncated, or the fault is reported again.
     pub fn finish(&self) -> Result<(), Fault>
         ensures history { (at : ℕ) (taken : List ℕ) (told : Told) → IsAt at taken told self.now
             → Finishes at taken told result }
@@ -128,11 +128,11 @@ impl<A: Allocator + Copy> Decoder<A> {
         }
     }
 
-    /// Takes bytes of the piece's front, and tells what they end or are.
+    /// Takes bytes from the beginning of the piece, and reports what they end or are.
     ///
-    /// It takes at least one byte of a piece that isn't empty, or fails; `More` takes the whole piece. An event is told
-    /// with the last byte that it stands for. A fault is the frame fault of the bytes taken followed by the piece, or
-    /// want of memory; it takes nothing, and each later call answers it again.
+    /// It takes at least one byte of a piece that isn't empty, or fails; `More` takes the whole piece. An event comes
+    /// with the last byte of what it reports. A fault is the frame fault of the bytes taken followed by the piece, or
+    /// lack of memory; it takes nothing, and each later call returns it again.
     pub fn step(&mut self, piece: &[u8]) -> Result<(usize, Event<A>), Fault>
         ensures history { (at : ℕ) (taken : List ℕ) (told : Told) → IsAt at taken told self.old →
             MatchResult result (λ r. Takes at taken told self.new piece.now r.0 r.1)
@@ -192,7 +192,7 @@ impl<A: Allocator + Copy> Decoder<A> {
         Ok((front.len(), Event::More))
     }
 
-    /// Takes the bytes that end a head of this version, and reads the head: in place where all of it is given.
+    /// Takes the bytes that end a head of this version, and reads the head: in place if all of it is given.
     fn close_head(&mut self, version: Version, end: &[u8]) -> Result<(usize, Event<A>), Fault>
         requires version { version_of (self.old.kept ++ end.now) ≡ Some version }
         requires len { head_len (self.old.kept ++ end.now) ≡ Some (length (self.old.kept ++ end.now)) }

@@ -33,8 +33,8 @@ fn text_len<A: Allocator>(framed: &Framed<A>) -> usize
     area + framed.block().len() + 16
 }
 
-/// Appends a record's canonical text: its version line, each field as `name: value`, the block. Where memory is refused
-/// the vector keeps its bytes and no others.
+/// Appends a record's canonical text: its version line, each field as `name: value`, the block. If memory is refused,
+/// the vector stays as it was.
 pub fn write_one<A: Allocator, B: Allocator>(
     framed: &Framed<A>,
     out: &mut Vec<u8, B>,
@@ -42,7 +42,7 @@ pub fn write_one<A: Allocator, B: Allocator>(
     ensures ok { OnOk result (out.new.items ≡ out.old.items ++ canonical framed.now) }
     ensures err { OnErr result (out.new.items ≡ out.old.items) }
 
-    // It fails only where room is missing.
+    // It fails only if room is missing.
     ensures full { OnErr result (vec_capacity out.old < vec_len out.old + length (canonical framed.now)) }
 {
     out.reserve(text_len(framed))?;

@@ -36,12 +36,12 @@ has_payload Response = true
 has_payload Resource = true
 has_payload _ = false
 
--- a capture: one of these, or a revisit
+-- a capture: a response, a resource or a revisit
 abbrev pub is_capture : Kind → Bool
 is_capture Revisit = true
 is_capture kind = has_payload kind
 
--- a capture of the target; an absent target is no URI
+-- a capture of the target; an absent target isn't a URI
 abbrev pub is_capture_of : List ℕ → Indexed → Bool
 is_capture_of uri r = is_capture r.kind && is_text uri r.target
 
@@ -55,11 +55,11 @@ is_earlier (Some a) (Some b) = is_before a b
 abbrev pub is_by : Option Instant → Indexed → Bool
 is_by moment r = not (is_earlier moment r.instant)
 
--- a position and what stands there
+-- a position and the record there
 abbrev pub Numbered : Type 0
 Numbered = ℕ × Indexed
 
--- the first stands later than the second: by instant, then by position
+-- the first is later than the second: by instant, then by position
 abbrev pub is_later : Numbered → Numbered → Bool
 is_later a b = is_earlier b.1.instant a.1.instant || (not (is_earlier a.1.instant b.1.instant) && nat_lt b.0 a.0)
 
@@ -77,7 +77,7 @@ chosen_of all uri moment =
     ok_or (latest (λ r. is_capture_of uri r && is_by (Some moment) r) all)
     (if list_any (is_capture_of uri) all then NotYet else NoCapture)
 
--- at p stands a record that passes, and at no place one that passes and is later
+-- the record at p passes, and none that passes is later
 pub record IsLatest (test : Indexed → Bool) (all : List Indexed) (p : ℕ) : Type 0 where
   pub it : Indexed
   pub stands : slice_get all p ≡ Some it
@@ -92,13 +92,13 @@ NonePasses test all = (q : ℕ) (r : Indexed) → slice_get all q ≡ Some r →
 abbrev pub SomePasses : (Indexed → Bool) → List Indexed → Type 0
 SomePasses test all = (q : ℕ) × (r : Indexed) × (slice_get all q ≡ Some r) × IsTrue (test r)
 
--- the latest, as a condition over all positions: it is the only one, and there is one where a record passes
+-- the latest, as a condition over all positions: it is the only one, and there is one if a record passes
 abbrev pub LatestIsLast : Type 0
 LatestIsLast =
     (test : Indexed → Bool) (all : List Indexed)
     → ((p : ℕ) → (latest test all ≡ Some p) ↔ IsLatest test all p) × ((latest test all ≡ None) ↔ NonePasses test all)
 
--- at p stands a capture of the target by the moment, and at no place a later one
+-- the record at p is a capture of the target by the moment, and no such capture is later
 pub record IsChosen (all : List Indexed) (uri : List ℕ) (moment : Instant) (p : ℕ) : Type 0 where
   pub it : Indexed
   pub stands : slice_get all p ≡ Some it
@@ -107,7 +107,7 @@ pub record IsChosen (all : List Indexed) (uri : List ℕ) (moment : Instant) (p 
   pub last : (q : ℕ) (r : Indexed) → slice_get all q ≡ Some r → IsTrue (is_capture_of uri r)
       → IsTrue (is_by (Some moment) r) → IsFalse (is_later (q, r) (p, it))
 
--- what is chosen is that one; where none is, no capture has the target, or some has and none is early enough
+-- what is chosen is that one; if none is, no capture has the target, or some has and none is early enough
 abbrev pub ChosenIsLatest : Type 0
 ChosenIsLatest =
     (all : List Indexed) (uri : List ℕ) (moment : Instant)
@@ -116,13 +116,13 @@ ChosenIsLatest =
     × ((chosen_of all uri moment ≡ Err NotYet)
     ↔ (SomePasses (is_capture_of uri) all × NonePasses (λ r. is_capture_of uri r && is_by (Some moment) r) all))
 
--- at p a capture of the target
+-- the record at p is a capture of the target
 pub record IsCaptureOf (all : List Indexed) (uri : List ℕ) (p : ℕ) : Type 0 where
   pub it : Indexed
   pub there : slice_get all p ≡ Some it
   pub capture : IsTrue (is_capture_of uri it)
 
--- what is at q is later than what is at p
+-- the record at q is later than the one at p
 abbrev pub IsLaterAt : List Indexed → ℕ → ℕ → Type 0
 IsLaterAt all p q =
     (a b : Indexed) → slice_get all p ≡ Some a → slice_get all q ≡ Some b → IsTrue (is_later (q, b) (p, a))

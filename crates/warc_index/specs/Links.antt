@@ -55,7 +55,7 @@ states_as _ = false
 abbrev pub states_digest : List ℕ → Link → Bool
 states_digest digest l = states_as l.role && bytes_eq digest l.first
 
--- ---- as roles, where the second texts begin, and entries of which each has both texts, one behind the other
+-- ---- as roles, the places where the second texts begin, and entries, each with both texts, one after the other
 
 -- where a second text begins, if nothing else is kept
 abbrev pub at_start : ℕ → ℕ
@@ -68,7 +68,7 @@ abbrev pub links_in : List Role → List ℕ → List Entry → List Link
 links_in (role ∷ roles) (middle ∷ middles) (e ∷ es) = told role middle e ∷ links_in roles middles es
 links_in _ _ _ = []
 
--- there are as many of each
+-- there is the same number of each
 pub record AreAligned (roles : List Role) (middles : List ℕ) (es : List Entry) : Type 0 where
   pub as_many_middles : length middles ≡ length roles
   pub as_many_entries : length es ≡ length roles

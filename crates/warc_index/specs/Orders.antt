@@ -1,5 +1,5 @@
 -- What an index keeps of records: the entries of its two orders, and what leads from a revisit to another record. That
--- it is kept of certain records is all that callers need to know of it.
+-- it is what is kept of certain records is all that callers need to know of it.
 use Rattle.std.specs.Prelude.{◌≡◌, ℕ, ◌+◌, ◌<◌, List, [], ◌∷◌, ◌++◌, length, map, All, IsSome, slice_get, Option, Some, None, Result, Ok, if◌then◌else◌}
 use Rattle.std.specs.Option.{option_to_list}
 use Rattle.std.specs.List.{sum_by}
@@ -67,6 +67,6 @@ pub record ArePlacedOf (all : List Indexed) (es : List Entry) (ls : List Link) :
   pub captures : es ≡ entries_from capture_entry 0 all
   pub links : ls ≡ map link_of all
 
--- what the record at a position refers to, none where it is no revisit
+-- what the record at a position refers to, none if it isn't a revisit
 abbrev pub step_of : List Indexed → ℕ → Result (Option ℕ) Unfound
 step_of all p = if is_revisit_at all p then ok_then (λ q. Ok (Some q)) (referent_at all (slice_get all p)) else Ok None

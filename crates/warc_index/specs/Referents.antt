@@ -52,14 +52,14 @@ is_candidate revisit r =
 abbrev pub by_payload : List Indexed → Indexed → Option ℕ
 by_payload all revisit = latest (is_candidate revisit) all
 
--- the position that a revisit refers to: by what it names, or by its payload where it names nothing
+-- the position that a revisit refers to: by what it names, or by its payload if it names nothing
 abbrev pub referent_of : List Indexed → Indexed → Result ℕ Unfound
 referent_of all revisit =
     if not revisit.reference.known_profile then Err UnknownProfile
     else if names_something revisit.reference then ok_or (record_named all revisit.reference) Unresolved
     else ok_or (by_payload all revisit) NoReference
 
--- the same of the record at a position; at no position there is none
+-- the same for the record at a position; at no position there is none
 abbrev pub referent_at : List Indexed → Option Indexed → Result ℕ Unfound
 referent_at all found = option_map_or (referent_of all) found (Err Unresolved)
 
@@ -70,7 +70,7 @@ abbrev pub ok_then : {A B E : Type 0} → (A → Result B E) → Result A E → 
 ok_then next (Ok a) = next a
 ok_then next (Err e) = Err e
 
--- the end of the chain of referents from p, in at most so many steps
+-- the end of the chain of referents from p, in at most n steps
 abbrev pub origin_within : ℕ → List Indexed → ℕ → Result ℕ Unfound
 origin_within zero all p = if is_revisit_at all p then Err Loop else Ok p
 origin_within (suc steps) all p =
@@ -84,7 +84,7 @@ origin_of all p = origin_within (length all) all p
 abbrev pub OriginsStand : Type 0
 OriginsStand = (all : List Indexed) (p q : ℕ) → p < length all → origin_of all p ≡ Ok q → q < length all
 
--- where the chain goes on from p, none where it ends or breaks
+-- where the chain goes on from p, none if it ends or breaks
 abbrev pub next_of : List Indexed → ℕ → Option ℕ
 next_of all p = if is_revisit_at all p then result_ok (referent_at all (slice_get all p)) else None
 

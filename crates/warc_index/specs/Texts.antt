@@ -12,7 +12,7 @@ use Rattle.warc_index.specs.Orders.{IsIndexOf, Indexes, text_bytes}
 abbrev pub text_size : Option (List ℕ) → ℕ
 text_size text = option_map_or length text 0
 
--- of a revisit: the id and the target that it names, or its payload digest where it names nothing
+-- of a revisit: the id and the target that it names, or its payload digest if it names nothing
 abbrev pub named_size : Option (List ℕ) → Option (List ℕ × Instant) → Indexed → ℕ
 named_size None None r = text_size r.payload_digest
 named_size (Some id) None r = length id
@@ -28,10 +28,10 @@ chain_size Revisit r =
     if r.reference.known_profile then named_size r.reference.named_id r.reference.named_pair r else 0
 chain_size _ r = 0
 
--- of a record: its id's key, of a capture its target, and that
+-- of a record: its id's key, of a capture its target, and what is kept for the chain of referents
 abbrev pub kept_size : Indexed → ℕ
 kept_size r = text_size r.id + (if is_capture r.kind then text_size r.target else 0) + chain_size r.kind r
 
--- an index of records keeps this of each, and no more: no text of a record twice
+-- an index of records keeps this of each, and no more: no text of a record is kept twice
 abbrev pub KeepsTexts : Type 0
 KeepsTexts = (all : List Indexed) (kept : Indexes) → IsIndexOf all kept → text_bytes kept ≡ sum_by kept_size all

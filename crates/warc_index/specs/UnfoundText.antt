@@ -1,4 +1,4 @@
--- The text of a reason, by which the program tells it: this project's own notion.
+-- The text of a reason, as the program prints it: this project's own notion.
 use Rattle.std.specs.Prelude.{ℕ, List, codes}
 use Rattle.warc_index.specs.declared.unfound.Unfound.{Unfound}
 use Rattle.warc_index.specs.declared.unfound.Unfound.TheVariants.{NoCapture, NotYet, UnknownProfile, NoReference, Unresolved, Loop}

@@ -40,7 +40,7 @@ pub struct RecordIndex<O: HasEntries, A: Allocator = Global> {
 /// An index whose records are in order, and are found.
 pub type Index<A = Global> = RecordIndex<Order<A>, A>;
 
-/// An index of records that come at once and wait to be put in order. To a caller it is the same as if they were added
+/// An index of records that come at once and wait to be put in order. To a caller it is the same as after adding them
 /// to an `Index` one by one.
 pub type UnorderedIndex<A = Global> = RecordIndex<Unordered<A>, A>;
 
@@ -142,7 +142,7 @@ impl<A: Allocator + Copy> RecordIndex<Order<A>, A> {
         }
     }
 
-    /// The bytes of the texts that are kept: ids' keys, targets, payload digests and what revisits name.
+    /// The bytes of the texts that are kept: the keys of ids, targets, payload digests and what revisits name.
     pub fn kept(&self) -> u64
         ensures { result ≡ min (text_bytes self.now) 18446744073709551615 }
     {
@@ -150,8 +150,8 @@ impl<A: Allocator + Copy> RecordIndex<Order<A>, A> {
         orders.saturating_add(self.links.kept())
     }
 
-    /// The latest capture of a target that isn't after a moment, by its position. `Err`: P1 where no capture has the
-    /// target, P2 where each that has is later.
+    /// The latest capture of a target that isn't after a moment, by its position. `Err`: P1 if no capture has the
+    /// target, P2 if each capture that has it is later.
     pub fn latest(&self, target: &[u8], moment: &Moment) -> Result<usize, Unfound>
         ensures { (all : List Indexed) → IsIndexOf all self.now → result ≡ chosen_of all target.now moment.now }
     {
@@ -251,14 +251,14 @@ impl<A: Allocator + Copy> RecordIndex<Order<A>, A> {
         }
     }
 
-    /// Whether a chain ends at a position: whether the record there is no revisit.
+    /// Whether a chain ends at a position: whether the record there isn't a revisit.
     fn ends(&self, position: usize) -> bool
         ensures { (all : List Indexed) → IsIndexOf all self.now → result ≡ not (is_revisit_at all position) }
     {
         ends_chain(&self.links, position)
     }
 
-    /// The record that the one at a position refers to, `None` where it is no revisit.
+    /// The record that the one at a position refers to, `None` if it isn't a revisit.
     fn next(&self, position: usize) -> Result<Option<usize>, Unfound>
         ensures { (all : List Indexed) → IsIndexOf all self.now → result ≡ step_of all position }
     {
@@ -272,9 +272,9 @@ impl<A: Allocator + Copy> RecordIndex<Order<A>, A> {
     }
 
     /// The origin of the capture at a position: the capture itself, or what a revisit leads to in the end. `Err`: P3
-    /// where the profile of a revisit isn't known; P4 where one names nothing and no payload of its target by its own
-    /// instant has its digest; P5 where what one names isn't there; P6 where they lead back. It takes no memory, and
-    /// as many look-ups as there are revisits on the way, never more than there are records.
+    /// if the profile of a revisit isn't known; P4 if one names nothing and no payload of its target by its own
+    /// instant has its digest; P5 if what one names isn't there; P6 if they lead back. It takes no memory, and
+    /// one look-up for each revisit on the way, never more than there are records.
     pub fn origin(&self, position: usize) -> Result<usize, Unfound>
         ensures { (all : List Indexed) → IsIndexOf all self.now → result ≡ origin_of all position }
     {

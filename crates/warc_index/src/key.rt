@@ -1,4 +1,4 @@
-//! Under which text and mark a record stands in the two orders.
+//! The text and mark under which a record is kept in the two orders.
 
 ghost use Rattle.std.specs.Prelude.{◌≡◌, ℕ, option_map};
 ghost use Rattle.warc_record.specs.Seen.{said};
@@ -12,7 +12,7 @@ use std::alloc::Allocator;
 use warc_order::Mark;
 use warc_record::{Kind, Typed};
 
-/// The mark of records that are no captures, in the order by id.
+/// The mark of records that aren't captures, in the order by id.
 pub(crate) const OTHERS: Mark = Mark { major: 1, minor: 0 };
 
 /// A text and a mark.
@@ -29,7 +29,7 @@ fn is_capture(kind: Kind) -> bool
     matches!(kind, Kind::Response | Kind::Resource | Kind::Revisit)
 }
 
-/// Where a record stands in the order by id: captures come first.
+/// The entry of a record in the order by id: captures come first.
 pub(crate) fn id_key<A: Allocator>(typed: &Typed<A>) -> Key<'_>
     ensures text { result.text.now ≡ typed.now.id }
     ensures mark { result.mark ≡ kind_mark (indexed_of (said typed.now)) }
@@ -44,7 +44,7 @@ pub(crate) fn id_key<A: Allocator>(typed: &Typed<A>) -> Key<'_>
     }
 }
 
-/// Where a record stands in the order by target and instant, if it is a capture with a target.
+/// The entry of a record in the order by target and instant, if it is a capture with a target.
 pub(crate) fn capture_key<A: Allocator>(typed: &Typed<A>) -> Option<Key<'_>>
     ensures { (p : ℕ) → capture_entry p (indexed_of (said typed.now))
         ≡ option_map (λ k. entry_of k.text.now k.mark p) result }

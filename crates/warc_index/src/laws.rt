@@ -9,13 +9,13 @@ pub fn loops_where_unfinished()
     ensures { LoopsWhereUnfinished }
 {}
 
-/// The latest that passes is the one such that none that passes is later; there is none exactly where none passes.
+/// The latest that passes is the one such that none that passes is later; there is none exactly if none passes.
 pub fn latest_is_last()
     ensures { LatestIsLast }
 {}
 
 /// The chosen capture is the one of the target, by the moment, such that no other is later, by instant and then by
-/// position. There is none where no capture has the target, or where some has and none is early enough.
+/// position. There is none if no capture has the target, or if some has and none is early enough.
 pub fn chosen_is_latest()
     ensures { ChosenIsLatest }
 {}
@@ -30,8 +30,8 @@ pub fn chain_loops()
     ensures { ChainLoops }
 {}
 
-/// Of each record an index keeps the key of its id, of a capture its target, of a response or a resource its payload
-/// digest, and of a revisit what it names, or its payload digest where it names nothing. Each is kept once. So `kept`
+/// An index keeps of each record the key of its id, of a capture its target, of a response or a resource its payload
+/// digest, and of a revisit what it names, or its payload digest if it names nothing. Each is kept once. So `kept`
 /// of an index is the sum of their lengths.
 pub fn kept_texts_are_counted()
     ensures { KeepsTexts }

@@ -14,7 +14,7 @@ pub(crate) const FIRST: Mark = Mark { major: 0, minor: 0 };
 /// What a record is in a chain of referents.
 #[derive(Clone, Copy, PartialEq, Eq, Debug)]
 pub(crate) enum Role {
-    /// No capture.
+    /// Not a capture.
     Other,
 
     /// A response or a resource that states no payload digest.
@@ -64,16 +64,16 @@ pub(crate) fn bare(role: Role) -> Link<'static>
     }
 }
 
-/// What is kept of records, by their positions: 9 bytes of each and its two texts, from the first that has a first
-/// text on 4 more, and from the first that has a mark on up to 12 more.
+/// What is kept of records, by their positions: 9 bytes of each and its two texts, 4 more from the first on that has a
+/// first text, and up to 12 more from the first on that has a mark.
 #[derive(Drop)]
 pub(crate) struct Links<A: Allocator = Global> {
     roles: Vec<Role, A>,
 
-    /// Of each where the second text begins. Blank is 0.
+    /// For each the place where its second text begins. Blank is 0.
     middles: Column<u32, A>,
 
-    /// Of each the two texts, one behind the other.
+    /// The two texts of each, one after the other.
     texts: Entries<A>,
 }
 
@@ -101,7 +101,7 @@ fn cut(text: &[u8], middle: usize) -> (&[u8], &[u8])
     }
 }
 
-/// Two texts, one behind the other.
+/// Two texts, one after the other.
 fn joined<A: Allocator>(alloc: A, first: &[u8], second: &[u8]) -> Result<Vec<u8, A>, AllocError>
     ensures { IfOk result (λ text. text.items ≡ first.now ++ second.now) }
 {
@@ -129,7 +129,7 @@ impl<A: Allocator + Copy> Links<A> {
         self.texts.kept()
     }
 
-    /// What is kept of the record at a position, past the end that of no capture.
+    /// What is kept of the record at a position; past the end, of a record that isn't a capture.
     pub(crate) fn link(&self, position: usize) -> Link<'_>
         ensures { link_seen result ≡ link_at self.now position }
     {

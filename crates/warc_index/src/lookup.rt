@@ -26,7 +26,7 @@ fn has_payload<A: Allocator + Copy>(links: &Links<A>, position: usize) -> bool
     matches!(links.link(position).role, Role::Payload | Role::Digested)
 }
 
-/// Whether a chain ends at a position: whether the record there is no revisit.
+/// Whether a chain ends at a position: whether the record there isn't a revisit.
 pub(crate) fn ends_chain<A: Allocator + Copy>(links: &Links<A>, position: usize) -> bool
     ensures { result ≡ ends_as (link_at links.now position).role }
 {

@@ -16,7 +16,7 @@ use Rattle.warc_order.specs.Columns.{Sparse, values}
 abbrev pub texts_of : List Entry → List (List ℕ)
 texts_of es = map (λ e. e.text) es
 
--- the bytes of all texts, and of each entry where its text ends, the two numbers of its mark, and its position
+-- the bytes of all texts, and for each entry the end of its text, the two numbers of its mark, and its position
 pub record Parts : Type 0 where
   pub ends : List ℕ
   pub bytes : List ℕ
@@ -24,7 +24,7 @@ pub record Parts : Type 0 where
   pub minors : List ℕ
   pub positions : List ℕ
 
--- what the blanks of columns stand for: 0, and the entry's own index
+-- what the blanks of columns mean: 0, and the entry's own index
 abbrev pub no_number : ℕ → ℕ
 no_number i = 0
 
@@ -40,7 +40,7 @@ parts_in ends bytes majors minors positions = record {
   positions = values own_index positions;
 }
 
--- where texts end, the first beginning at `from`
+-- the ends of texts, the first of which begins at `from`
 abbrev pub ends_of : ℕ → List Entry → List ℕ
 ends_of from [] = []
 ends_of from (e ∷ es) = (from + length e.text) ∷ ends_of (from + length e.text) es

@@ -6,7 +6,7 @@ use Rattle.std.specs.declared.cmp.Ordering.{Ordering}
 use Rattle.warc_order.specs.declared.slot.Slot.{Slot}
 use Rattle.warc_order.specs.declared.ranked.Standing.{Standing}
 
--- what stands past the end of a list
+-- the slot past the end of a list
 abbrev pub blank : Slot
 blank = record { hash = 0; index = 0 }
 
@@ -15,11 +15,11 @@ pub record Ranking : Type 0 where
   pub list : List Slot
   pub ready : Bool
 
--- none compares greater than one behind it
+-- none compares greater than one after it
 abbrev pub IsRanked : (Slot → Slot → Ordering) → List Slot → Type 0
 IsRanked compare xs = AllPairs (λ a b. is_gt (compare a b) ≡ false) xs
 
--- with one more, behind all that compare less
+-- with one more, after all that compare less
 abbrev pub placed : (Slot → Slot → Ordering) → List Slot → Slot → List Slot
 placed compare [] p = p ∷ []
 placed compare (x ∷ xs) p = if is_lt (compare x p) then x ∷ placed compare xs p else p ∷ x ∷ xs
@@ -33,7 +33,7 @@ last_from test found (x ∷ xs) = last_from test (if test x then Some x else fou
 abbrev pub find_last : (Slot → Bool) → List Slot → Option Slot
 find_last test xs = last_from test None xs
 
--- each compares less than those behind it
+-- each compares less than those after it
 abbrev pub IsStrict : (Slot → Slot → Ordering) → List Slot → Type 0
 IsStrict compare xs = AllPairs (λ a b. is_lt (compare a b) ≡ true) xs
 
@@ -42,7 +42,7 @@ abbrev pub before_in : List Slot → ℕ → Option Slot
 before_in xs zero = None
 before_in xs (suc c) = slice_get xs c
 
--- the slot of what stands somewhere
+-- the slot at a place
 abbrev pub slot_in : Option Standing → Option Slot
 slot_in None = None
 slot_in (Some standing) = Some standing.slot
@@ -73,7 +73,7 @@ pub record Held : Type 0 where
 abbrev pub lists_of : List Held → List (List Slot)
 lists_of blocks = map (λ b. b.list) blocks
 
--- how many stand before the b-th list
+-- how many slots are before the b-th list
 abbrev pub start_of : List (List Slot) → ℕ → ℕ
 start_of lists b = length (flattened (take b lists))
 
@@ -81,7 +81,7 @@ start_of lists b = length (flattened (take b lists))
 abbrev pub HoldsSome : Held → Type 0
 HoldsSome b = 0 < length b.list
 
--- a block holds some indices, fewer than `limit`, and has room for so many
+-- a block holds some indices, fewer than `limit`, and has room for `limit`
 pub record IsBlock (limit : ℕ) (b : Held) : Type 0 where
   pub some : 0 < length b.list
   pub few : length b.list < limit

@@ -1,4 +1,4 @@
-//! Some slots, side by side.
+//! Some slots, one after another.
 
 ghost use Rattle.std.specs.Prelude.{◌≡◌, ℕ, ◌<◌, ◌≤◌, true, false, [], length, take, drop, slice_index_or};
 ghost use Rattle.std.specs.Prelude.{OnOk, IfOk, filter, insert, nat_lt, vec_capacity};
@@ -9,7 +9,7 @@ use crate::slot::{Slot, SlotTest};
 use std::alloc::{AllocError, Allocator};
 use std::marker::Model;
 
-/// How many slots at the front pass.
+/// How many slots at the beginning pass.
 fn cut<T: SlotTest>(slots: &[Slot], test: &T) -> usize
     requires { IsPartitionedBy (T.passes test.now) slots.now }
     ensures bound { result ≤ length slots.now }
@@ -30,7 +30,7 @@ fn cut<T: SlotTest>(slots: &[Slot], test: &T) -> usize
     low
 }
 
-/// Entries of the order that stand side by side.
+/// Entries that are one after another in the order.
 #[derive(Drop)]
 pub(crate) struct Block<A: Allocator> {
     slots: Vec<Slot, A>,
@@ -94,7 +94,7 @@ impl<A: Allocator> Block<A> {
         }
     }
 
-    /// Moves what stands from the middle on to an empty block.
+    /// Moves the slots from the middle on to an empty block.
     pub(crate) fn move_tail(&mut self, middle: usize, tail: &mut Block<A>)
         requires middle { middle ≤ length self.old.list }
         requires empty { tail.old.list ≡ [] }
@@ -144,7 +144,7 @@ impl<A: Allocator + Copy> Block<A> {
         *self.slots.allocator()
     }
 
-    /// Makes room for so many slots.
+    /// Makes room for this many slots.
     pub(crate) fn reserve(&mut self, count: usize) -> Result<(), AllocError>
         ensures list { self.new.list ≡ self.old.list }
         ensures room { OnOk result (count ≤ self.new.room) }

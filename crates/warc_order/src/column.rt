@@ -1,4 +1,4 @@
-//! Values by index, of which the blank ones at the front take no memory.
+//! Values by index, of which the blank ones at the beginning take no memory.
 
 ghost use Rattle.std.specs.Prelude.{◌≡◌, false, IsTrue, OnErr, OnOk, IfSome, IfNone};
 ghost use Rattle.warc_order.specs.Columns.{is_skipped, needs_no_growth, IsEmpty, IsSame, IsPushed, IsCutTo, HoldsAt, IsBlankAt};
@@ -6,8 +6,8 @@ ghost use Rattle.warc_order.specs.Columns.{is_skipped, needs_no_growth, IsEmpty,
 use std::alloc::{AllocError, Allocator};
 use std::marker::Model;
 
-/// Values by index. Those at the front that a caller calls blank, as they are what it expects at their index, are only
-/// counted. The others, and blank ones behind them, are kept side by side.
+/// Values by index. Those at the beginning that a caller calls blank, since it expects them at their index, are
+/// only counted. The others, and blank ones after them, are kept one after another.
 #[derive(Drop)]
 pub struct Column<T: Copy, A: Allocator> {
     blanks: usize,
@@ -38,7 +38,7 @@ impl<T: Copy, A: Allocator + Copy> Column<T, A> {
         }
     }
 
-    /// The value at an index, or none where it is blank and not kept, and past the end.
+    /// The value at an index, or none if it is blank and not kept, and past the end.
     pub fn get(&self, i: usize) -> Option<T>
         ensures some { IfSome result (HoldsAt self.now i) }
         ensures none { IfNone result (IsBlankAt self.now i) }

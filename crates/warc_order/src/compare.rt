@@ -13,7 +13,7 @@ use crate::slot::{Slot, SlotOrder, SlotTest};
 use std::alloc::Allocator;
 use std::cmp::Ordering;
 
-/// By the hash of a text, then by the text, by mark and by index. Only where hashes are equal a text is read.
+/// By the hash of a text, then by the text, by mark and by index. A text is read only if hashes are equal.
 #[derive(Drop)]
 pub(crate) struct ByText<'a, A: Allocator> {
     pub(crate) entries: &'a Entries<A>,

@@ -20,8 +20,8 @@ fn part(bytes: &[u8], start: usize, end: usize) -> &[u8]
     &bytes[start..end]
 }
 
-/// Entries in the order in which they were added, and in no other: the bytes of all texts, and of each entry, side by
-/// side, where its text ends among them, its mark and its position.
+/// Entries in the order in which they were added, and in no other: the bytes of all texts, and for each entry the end
+/// of its text among them, its mark and its position.
 #[derive(Drop)]
 pub struct Entries<A: Allocator> {
     /// Each text begins where the one before it ends.
@@ -32,7 +32,7 @@ pub struct Entries<A: Allocator> {
     majors: Column<u32, A>,
     minors: Column<u64, A>,
 
-    /// A position is blank where it is its entry's own index.
+    /// A position is blank if it is its entry's own index.
     positions: Column<u32, A>,
 }
 
@@ -77,7 +77,7 @@ impl<A: Allocator + Copy> Entries<A> {
         self.bytes.len() as u64
     }
 
-    /// Where the text at an index begins.
+    /// The place where the text at an index begins.
     fn start(&self, i: usize) -> usize
         requires { i ≤ length self.now }
         ensures { result ≡ length (concat (texts_of (take i self.now))) }
@@ -121,7 +121,7 @@ impl<A: Allocator + Copy> Entries<A> {
         }
     }
 
-    /// How many entries at the front have positions below a number. The positions rise.
+    /// How many entries at the beginning have positions below a number. The positions rise.
     pub(crate) fn count_below(&self, position: usize) -> usize
         requires { IsGrowing self.now }
         ensures front { take result self.now ≡ filter (λ e. nat_lt e.position position) self.now }
@@ -141,7 +141,7 @@ impl<A: Allocator + Copy> Entries<A> {
         low
     }
 
-    /// The text of the entry with a position, `None` where none has it. The positions rise.
+    /// The text of the entry with a position, `None` if no entry has it. The positions rise.
     pub(crate) fn text_at(&self, position: usize) -> Option<&[u8]>
         requires { IsGrowing self.now }
         ensures some { IfSome result (λ text. IsTextAt self.now position text.now) }

@@ -1,4 +1,4 @@
-//! A number by which most texts differ.
+//! A number in which most texts differ.
 ghost use Rattle.std.specs.Prelude.{◌≡◌};
 ghost use Rattle.warc_order.specs.Hashes.{hash_of};
 

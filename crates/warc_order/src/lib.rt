@@ -1,20 +1,20 @@
 //! Texts in order: entries of a text, a mark and a position, found by text and mark.
 //!
-//! An [`Order`] holds entries. Each is a text (any bytes), a [`Mark`] of two numbers, and the position of what it
-//! stands for in some list of the caller's. Entries are added by rising positions, and `truncate` keeps those of the
+//! An [`Order`] holds entries. Each is a text (any bytes), a [`Mark`] of two numbers, and a position in some list of
+//! the caller. Entries are added by rising positions, and `truncate` keeps the entries of the
 //! first positions. Look-ups give the last entry of a text whose mark isn't above one, the first whose mark isn't below
 //! one, and from an entry the next and the one before of its text, by mark, then by position. The text of an entry is
 //! also found by its position.
 //!
-//! To a caller an `Order` is the plain list of its entries, in the order in which they were added: contracts speak of
+//! To a caller an `Order` is the plain list of its entries, in the order in which they were added: contracts use
 //! no other. Many entries at once are added to an [`Unordered`], which `into_order` puts in order: the value is the
-//! same as after adding them to an order one by one, in about half the time or less. What that takes of memory each
-//! addition reserves.
+//! same as after adding them to an order one by one, in about half the time or less. Each addition reserves the memory
+//! that this takes.
 //!
 //! Each look-up halves, and takes no memory; a step from an entry to the next doesn't halve. An entry takes 8 bytes and
 //! its text, and 8 bytes of the order, also while it waits. A mark's two numbers take 4 and 8 bytes more, each from the
-//! first entry on where it isn't 0, and a position 4 bytes more, from the first entry on whose position isn't its
-//! index. Where entries are added one by one an entry takes up to about 16 bytes of the order, which stands in blocks
+//! first entry on whose number isn't 0, and a position 4 bytes more, from the first entry on whose position isn't its
+//! index. If entries are added one by one, an entry takes up to about 16 bytes of the order, which is kept in blocks
 //! between half full and full. The first addition to an order that was filled at once cuts it into such blocks, which
 //! takes memory once.
 #![tactic(auto)]
@@ -47,7 +47,7 @@ use std::alloc::{AllocError, Allocator, Global};
 use std::marker::Model;
 use waiting::Waiting;
 
-/// An entry that a look-up found: the number of those that were added before it. It also keeps where the entry stood
+/// An entry that a look-up found: the number of entries that were added before it. It also keeps the entry's place
 /// in the order, so that a step from it needs no search.
 #[derive(Clone, Copy, Debug)]
 pub struct Found {
@@ -237,7 +237,7 @@ impl<A: Allocator + Copy> Order<A> {
         self.entries.text(found.index as usize)
     }
 
-    /// The text of the entry with a position, `None` where none has it. It halves, and takes no memory.
+    /// The text of the entry with a position, `None` if no entry has it. It halves, and takes no memory.
     pub fn text_at(&self, position: usize) -> Option<&[u8]>
         ensures some { IfSome result (λ text. IsTextAt self.now position text.now) }
         ensures none { IfNone result (IsNone self.now (HasPosition position)) }

@@ -17,7 +17,7 @@ use crate::slot::Slot;
 use crate::waiting::Waiting;
 use std::alloc::{AllocError, Allocator};
 
-/// A number as 4 bytes. `Err` where it is 2^32 or more: so many things are never kept.
+/// A number as 4 bytes. `Err` if it is 2^32 or more: no order is that long.
 pub fn narrow(number: usize) -> Result<u32, AllocError>
     ensures same { IfOk result (λ n. n ≡ number) }
     ensures large { OnErr result (2 ^ 32 ≤ number) }
@@ -122,7 +122,7 @@ pub(crate) fn first_from<A: Allocator + Copy>(
     }
 }
 
-/// The next entry of the same text. Where the place is right, nothing is searched.
+/// The next entry of the same text. If the place is right, nothing is searched.
 pub(crate) fn next<A: Allocator + Copy>(
     entries: &Entries<A>,
     ranked: &Ranked<A>,
@@ -144,7 +144,7 @@ pub(crate) fn next<A: Allocator + Copy>(
     }
 }
 
-/// The entry of the same text before one. Where the place is right, nothing is searched.
+/// The entry of the same text before one. If the place is right, nothing is searched.
 pub(crate) fn previous<A: Allocator + Copy>(
     entries: &Entries<A>,
     ranked: &Ranked<A>,

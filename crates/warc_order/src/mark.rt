@@ -1,11 +1,11 @@
-//! What decides between entries of one text.
+//! What orders entries of the same text.
 
 ghost use Rattle.std.specs.Prelude.{◌≡◌};
 ghost use Rattle.warc_order.specs.Layout.{mark_cmp};
 
 use std::cmp::Ordering;
 
-/// A number, and a second one that decides where the first are equal.
+/// A number, and a second one that decides if the first are equal.
 #[derive(Clone, Copy, PartialEq, Eq, Debug)]
 pub struct Mark {
     pub major: u32,

@@ -23,7 +23,7 @@ const LIMIT: usize = 512;
 /// How many indices of a wide block go into one that isn't: it then takes some more before it is full.
 const PIECE: usize = 384;
 
-/// The test of coming before an index.
+/// The test whether a slot comes before an index.
 #[derive(Drop)]
 struct Before<'a, O> {
     order: &'a O,
@@ -38,7 +38,7 @@ impl<O: SlotOrder> SlotTest for Before<'_, O> {
     }
 }
 
-/// The test of not coming behind an index.
+/// The test whether a slot doesn't come after an index.
 #[derive(Drop)]
 struct UpTo<'a, O> {
     order: &'a O,
@@ -70,7 +70,7 @@ fn length_of<A: Allocator>(blocks: &[Block<A>], block: usize) -> usize
     blocks[block].len()
 }
 
-/// How many indices at the front of a block pass.
+/// How many indices at the beginning of a block pass.
 fn cut_within<T: SlotTest, A: Allocator>(blocks: &[Block<A>], block: usize, test: &T) -> usize
     requires block { block < length blocks.now }
     requires order { IsPartitionedBy (T.passes test.now) (slice_index_or (lists_of blocks.now) block []) }
@@ -83,7 +83,7 @@ fn cut_within<T: SlotTest, A: Allocator>(blocks: &[Block<A>], block: usize, test
     blocks[block].cut(test)
 }
 
-/// How many blocks at the front begin with one that passes.
+/// How many blocks at the beginning begin with one that passes.
 fn cut_blocks<T: SlotTest, A: Allocator>(blocks: &[Block<A>], test: &T) -> usize
     requires some { (k : ℕ) → k < length blocks.now → 0 < length (slice_index_or (lists_of blocks.now) k []) }
     requires order { (i j : ℕ) → i ≤ j → j < length blocks.now →
@@ -116,7 +116,7 @@ pub(crate) struct Place {
     offset: usize,
 }
 
-/// A slot and where it stands: the place before it.
+/// A slot and its place: the place before it.
 #[derive(Clone, Copy, Debug)]
 pub(crate) struct Standing {
     pub(crate) slot: Slot,
@@ -135,7 +135,7 @@ fn standing_at<A: Allocator>(blocks: &[Block<A>], block: usize, offset: usize) -
     }
 }
 
-/// The slot behind a place.
+/// The slot after a place.
 fn slot_behind<A: Allocator>(blocks: &[Block<A>], place: Place) -> Option<Standing>
     requires blocks { All HoldsSome blocks.now }
     requires block { place.block < length blocks.now }
@@ -171,7 +171,7 @@ fn slot_before<A: Allocator>(blocks: &[Block<A>], place: Place) -> Option<Standi
     }
 }
 
-/// Whether a slot stands behind a place.
+/// Whether there is a slot after a place.
 fn stands_at<A: Allocator>(blocks: &[Block<A>], place: Place, slot: Slot) -> bool
     ensures block { IsTrue result → place.block < length blocks.now }
     ensures offset { IsTrue result → place.offset < length (slice_index_or (lists_of blocks.now) place.block []) }
@@ -184,7 +184,7 @@ fn stands_at<A: Allocator>(blocks: &[Block<A>], place: Place, slot: Slot) -> boo
         && at(blocks, place.block, place.offset) == slot
 }
 
-/// Where the indices that pass end.
+/// The place where the indices that pass end.
 fn find_place<T: SlotTest, A: Allocator>(blocks: &[Block<A>], test: &T) -> Place
     requires any { 0 < length blocks.now }
     requires blocks { All HoldsSome blocks.now }
@@ -227,7 +227,7 @@ fn last_in<T: SlotTest, A: Allocator>(blocks: &[Block<A>], test: &T) -> Option<S
     slot_before(blocks, place)
 }
 
-/// The slot that comes next after one of the order. Where the place of that one is right, nothing is searched.
+/// The slot that comes next after one of the order. If the place of that one is right, nothing is searched.
 fn next_in<O: SlotOrder, A: Allocator>(
     blocks: &[Block<A>],
     order: &O,
@@ -250,7 +250,7 @@ fn next_in<O: SlotOrder, A: Allocator>(
     }
 }
 
-/// The slot that comes just before one of the order. Where the place of that one is right, nothing is searched.
+/// The slot that comes just before one of the order. If the place of that one is right, nothing is searched.
 fn previous_in<O: SlotOrder, A: Allocator>(
     blocks: &[Block<A>],
     order: &O,
@@ -269,7 +269,7 @@ fn previous_in<O: SlotOrder, A: Allocator>(
     }
 }
 
-/// Where a full block is cut: near its end where indices come in order.
+/// The place where a full block is cut: near its end if indices come in order.
 fn middle_of(last: bool, offset: usize) -> usize
     ensures { (0 < result) × (result < LIMIT) }
 {
@@ -314,7 +314,7 @@ fn insert_at<A: Allocator + Copy>(
     }
 }
 
-/// Where an index goes: behind those that come before it.
+/// The place where an index goes: after those that come before it.
 fn place_for<O: SlotOrder, A: Allocator>(blocks: &[Block<A>], order: &O, slot: Slot) -> Place
     requires any { 0 < length blocks.now }
     requires blocks { All HoldsSome blocks.now }
@@ -344,7 +344,7 @@ fn add_first<A: Allocator + Copy>(blocks: &mut Vec<Block<A>, A>, slot: Slot, spa
     blocks.push_reserved(block);
 }
 
-/// Adds an index behind those that come before it.
+/// Adds an index after those that come before it.
 fn add_in<O: SlotOrder, A: Allocator + Copy>(
     blocks: &mut Vec<Block<A>, A>,
     order: &O,
@@ -443,7 +443,7 @@ fn drop_empty<A: Allocator>(blocks: &mut Vec<Block<A>, A>)
 pub struct Ranked<A: Allocator = Global> {
     blocks: Vec<Block<A>, A>,
     spare: Block<A>,
-    /// That no block is wide.
+    /// Whether no block is wide.
     is_even: bool,
 }
 
@@ -476,7 +476,7 @@ impl<A: Allocator + Copy> Ranked<A> {
         }
     }
 
-    /// Slots that stand in order, as one block. It takes no memory.
+    /// Slots that are in order already, as one block. It takes no memory.
     pub(crate) fn whole(slots: Vec<Slot, A>, mut blocks: Vec<Block<A>, A>) -> Ranked<A>
         requires none { blocks.items ≡ [] }
         requires room { 0 < length slots.items → 0 < vec_capacity blocks }
@@ -518,7 +518,7 @@ impl<A: Allocator + Copy> Ranked<A> {
         add_in(&mut self.blocks, order, slot, &mut self.spare);
     }
 
-    /// The first slot that fails a test, which those behind it fail too.
+    /// The first slot that fails a test, which those after it fail too.
     pub fn first_failing<T: SlotTest>(&self, test: &T) -> Option<Standing>
         requires { IsPartitionedBy (T.passes test.now) self.now.list }
         ensures some { (compare : Slot → Slot → Ordering) → IsTotalOrder compare → IsRanked compare self.now.list →
@@ -538,7 +538,7 @@ impl<A: Allocator + Copy> Ranked<A> {
         last_in(&self.blocks, test)
     }
 
-    /// The first slot that stands behind one in the order.
+    /// The first slot that is after one in the order.
     pub fn next_after<O: SlotOrder>(&self, order: &O, slot: Slot, place: Place) -> Option<Standing>
         requires { IsStrict (O.compare order.now) self.now.list }
         ensures some { IfSome result (λ s. IsFirstOf (O.compare order.now) (λ p. is_le
@@ -548,7 +548,7 @@ impl<A: Allocator + Copy> Ranked<A> {
         next_in(&self.blocks, order, slot, place)
     }
 
-    /// The last slot that stands before one in the order.
+    /// The last slot that is before one in the order.
     pub fn last_before<O: SlotOrder>(&self, order: &O, slot: Slot, place: Place) -> Option<Standing>
         requires { IsStrict (O.compare order.now) self.now.list }
         ensures some { IfSome result (λ s. IsLastOf (O.compare order.now) (λ p. is_lt

@@ -6,7 +6,7 @@ ghost use Rattle.std.specs.declared.cmp.Ordering.{Ordering};
 
 use std::cmp::Ordering;
 
-/// A index and the hash of its key, a number by which most keys differ.
+/// An index and the hash of its key, a number in which most keys differ.
 #[derive(Clone, Copy, PartialEq, Eq, Debug)]
 pub struct Slot {
     pub hash: u32,

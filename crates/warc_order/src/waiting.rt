@@ -17,8 +17,8 @@ fn sort<O: SlotOrder>(slots: &mut [Slot], order: &O)
     slots.sort_unstable_by(|a, b| order.compare(*a, *b));
 }
 
-/// Slots as they came, side by side. The vector becomes the one block of their order, for which there is a place: so
-/// putting them in order takes no memory.
+/// Slots as they came, one after another. The vector becomes the one block of their order, for which there is a place:
+/// so putting them in order takes no memory.
 #[derive(Drop)]
 pub(crate) struct Waiting<A: Allocator> {
     slots: Vec<Slot, A>,

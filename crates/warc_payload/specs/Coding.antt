@@ -6,7 +6,7 @@ use Rattle.std.specs.Str.{str_eq_ignore_ascii_case}
 use Rattle.httparse.specs.Grammar.{ResponseHead}
 use Rattle.httparse.specs.Spans.{name_and_value}
 
--- the name, in any case, is that of a field whose value lists codings
+-- the name of a field whose value lists codings, in any case
 abbrev pub lists_codings : List ℕ → Bool
 lists_codings name =
     str_eq_ignore_ascii_case name (codes "transfer-encoding")

@@ -14,7 +14,7 @@ pub record BeginsWithHead (text : List ℕ) (head : ResponseHead) (rest : List �
 abbrev pub HasNoHead : List ℕ → Type 0
 HasNoHead text = (head : ResponseHead) (rest : List ℕ) → ¬ BeginsWithHead text head rest
 
--- the info tells of this head, which is at the front of the text
+-- the info is what this head says, which is at the front of the text
 pub record IsInfoOf (text : List ℕ) (info : HeadInfo) (head : ResponseHead) : Type 0 where
   pub front : BeginsWithHead text head (drop info.head_len text)
   pub head_len : info.head_len ≡ length (print_response head)

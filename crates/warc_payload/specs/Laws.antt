@@ -10,12 +10,12 @@ abbrev pub AtMostOneHead : Type 0
 AtMostOneHead = (text : List ℕ) (head other : ResponseHead) (rest more : List ℕ)
     → BeginsWithHead text head rest → BeginsWithHead text other more → (head ≡ other) × (rest ≡ more)
 
--- what is told of a text is told once
+-- what is said of a text is said once
 abbrev pub AtMostOneInfo : Type 0
 AtMostOneInfo = (text : List ℕ) (info told : HeadInfo) (head other : ResponseHead)
     → IsInfoOf text info head → IsInfoOf text told other → info ≡ told
 
--- a block's front tells the head of the whole block
+-- a block's front has the head of the whole block
 abbrev pub FrontTellsHead : Type 0
 FrontTellsHead = (block : List ℕ) (info : HeadInfo) (head : ResponseHead)
     → IsInfoOf (front_of block) info head → IsInfoOf block info head
@@ -34,7 +34,7 @@ abbrev pub NoBodyWhereCoded : Type 0
 NoBodyWhereCoded = (block : List ℕ) (status : ℕ) (body : List ℕ)
     → GivesBody block status body → ¬ GivesCodedBody block
 
--- each block gives a body behind its HTTP head, or a coded one, or has no such head
+-- each block gives a body after its HTTP head, or a coded one, or has no such head
 abbrev pub OneOfThree : Type 0
 OneOfThree =
     (block : List ℕ) → ((status : ℕ) × (body : List ℕ) × GivesBody block status body)

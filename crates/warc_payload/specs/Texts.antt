@@ -24,7 +24,7 @@ media_len_by first (byte ∷ rest) =
 abbrev pub media_len : List ℕ → ℕ
 media_len value = media_len_by (token_len value) (drop (token_len value) value)
 
--- the media type that a value begins with, empty where there is none
+-- the media type that a value begins with, empty if there is none
 abbrev pub media_type : List ℕ → List ℕ
 media_type value = take (media_len value) value
 
@@ -32,7 +32,7 @@ media_type value = take (media_len value) value
 abbrev pub is_content_type : List ℕ × List ℕ → Bool
 is_content_type field = str_eq_ignore_ascii_case field.0 (codes "content-type")
 
--- the media type that the first such field states, empty where there is none
+-- the media type that the first such field states, empty if there is none
 abbrev pub media_type_in : List (List ℕ × List ℕ) → List ℕ
 media_type_in fields = option_map_or (λ f. media_type f.1) (find is_content_type fields) []
 

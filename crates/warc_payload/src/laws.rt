@@ -2,7 +2,7 @@
 
 ghost use Rattle.warc_payload.specs.Laws.{AtMostOneHead, AtMostOneInfo, FrontTellsHead, FrontTellsNoHead, AtMostOneBody, NoBodyWhereCoded, OneOfThree};
 
-/// A text begins with at most one head, so the head, what follows it and all that a head tells
+/// A text begins with at most one head, so the head, what follows it and all that a head says
 /// are functions of the text's bytes.
 pub fn at_most_one_head()
     ensures { AtMostOneHead }
@@ -13,12 +13,12 @@ pub fn at_most_one_info()
     ensures { AtMostOneInfo }
 {}
 
-/// What is told of a block's front, its first 65,536 bytes, is told of the whole block.
+/// What is said of the first 65,536 bytes of a block is said of the whole block.
 pub fn front_tells_head()
     ensures { FrontTellsHead }
 {}
 
-/// A block whose front has no head has none.
+/// A block whose first 65,536 bytes have no head has none.
 pub fn front_tells_no_head()
     ensures { FrontTellsNoHead }
 {}
@@ -33,8 +33,8 @@ pub fn no_body_where_coded()
     ensures { NoBodyWhereCoded }
 {}
 
-/// Each block gives a body behind its HTTP head, or a coded one, or has no such head. By the other laws it is one of
-/// these alone.
+/// Each block gives a body after its HTTP head, or a coded one, or has no such head. By the other laws it is only one
+/// of these.
 pub fn one_of_three()
     ensures { OneOfThree }
 {}

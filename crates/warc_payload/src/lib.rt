@@ -32,13 +32,13 @@ pub const MOST_FIELD_LINES: usize = 256;
 pub struct HeadInfo {
     /// The number that the three digits of the status code give.
     pub status: u16,
-    /// The length of the head in bytes, its empty line included: the body begins here.
+    /// The length of the head in bytes, its empty line included: the body begins there.
     pub head_len: usize,
     /// Whether a field says that the body is coded.
     pub coded: bool,
 }
 
-/// No whole head of at most 256 field lines is at the front.
+/// There is no whole head of at most 256 field lines at the beginning.
 #[derive(Clone, Copy, Debug, PartialEq, Eq, Error)]
 pub struct BadHead;
 
@@ -64,7 +64,7 @@ fn names_coding(text: &[u8], field: &HeaderSpan) -> bool
     lists_codings && !value.is_empty() && !value.eq_ignore_ascii_case(b"identity")
 }
 
-/// Whether some of the fields names a coding.
+/// Whether one of the fields names a coding.
 fn any_names_coding(text: &[u8], fields: &[HeaderSpan]) -> bool
     requires { All (IsHeaderWithin (length text.now)) fields.now }
     ensures { result ≡ list_any (λ f. names_coding (header_bytes text.now f)) fields.now }
@@ -72,7 +72,7 @@ fn any_names_coding(text: &[u8], fields: &[HeaderSpan]) -> bool
     fields.iter().any(|field| names_coding(text, field))
 }
 
-/// The part of a block in which its HTTP head is looked for: its first 65,536 bytes, or all where it is shorter.
+/// The part of a block in which its HTTP head is looked for: its first 65,536 bytes, or all if it is shorter.
 #[tactic(auto, unfolding(crate::specs::Head::front_of))]
 pub fn front(block: &[u8]) -> &[u8]
     ensures { result.now ≡ front_of block.now }
@@ -80,9 +80,9 @@ pub fn front(block: &[u8]) -> &[u8]
     &block[..MOST_HEAD_BYTES.min(block.len())]
 }
 
-/// The head of an HTTP/1.0 or HTTP/1.1 response at the front of `text`, which is the block's first
-/// 65,536 bytes, or the whole block where that is shorter (RFC 9112, sections 2 to 5). `BadHead`
-/// where no whole head of at most 256 field lines is there. It takes no memory.
+/// The head of an HTTP/1.0 or HTTP/1.1 response at the beginning of `text`, which is the block's first
+/// 65,536 bytes, or the whole block if that is shorter (RFC 9112, sections 2 to 5). `BadHead`
+/// if there is no whole head of at most 256 field lines. It takes no memory.
 pub fn body_start(text: &[u8]) -> Result<HeadInfo, BadHead>
     requires { length text.now ≤ 65_536 }
     ensures found { IfOk result (λ info. (head : ResponseHead) × IsInfoOf text.now info head) }
@@ -103,7 +103,7 @@ pub fn body_start(text: &[u8]) -> Result<HeadInfo, BadHead>
 #[derive(Debug, Drop)]
 pub struct StoredHead<A: Allocator = Global> {
     pub info: HeadInfo,
-    /// The media type that the first `Content-Type` begins with, empty where there is none.
+    /// The media type that the first `Content-Type` begins with, empty if there is none.
     pub media_type: Vec<u8, A>,
     /// For each field that names a coding a space, its name in lower case, `=` and its value.
     pub codings: Vec<u8, A>,
@@ -112,7 +112,7 @@ pub struct StoredHead<A: Allocator = Global> {
 /// Why no head is read.
 #[derive(Clone, Copy, Debug, PartialEq, Eq, Error)]
 pub enum HeadFault {
-    /// No whole head of at most 256 field lines is at the front.
+    /// There is no whole head of at most 256 field lines at the beginning.
     Bad,
     /// A growth of the memory was refused.
     Memory,
@@ -132,7 +132,7 @@ impl fmt::Display for HeadFault {
     }
 }
 
-/// The head of a response at the front of `text`, as `body_start` finds it, and the texts that it gives.
+/// The head of a response at the beginning of `text`, as `body_start` finds it, and the texts that it gives.
 pub fn read_head<A: Allocator + Copy>(alloc: A, text: &[u8]) -> Result<StoredHead<A>, HeadFault>
     requires { length text.now ≤ 65_536 }
     ensures found { IfOk result (λ h. (head : ResponseHead) × IsInfoOf text.now h.info head

@@ -21,7 +21,7 @@ fn token_len(text: &[u8]) -> usize
     count
 }
 
-/// How long a media type is, by the length of the token at its front and by what follows that.
+/// How long a media type is, by the length of the token at its beginning and by what follows that.
 fn media_len_by(first: usize, rest: &[u8]) -> usize
     requires { first + length rest.now ≤ 18446744073709551615 }
     ensures value { result ≡ media_len_by first rest.now }
@@ -38,7 +38,7 @@ fn media_len_by(first: usize, rest: &[u8]) -> usize
     }
 }
 
-/// How long the media type is that a value begins with, 0 where there is none.
+/// How long the media type is that a value begins with, 0 if there is none.
 fn media_len(value: &[u8]) -> usize
     ensures value { result ≡ media_len value.now }
     ensures within { result ≤ length value.now }
@@ -47,8 +47,8 @@ fn media_len(value: &[u8]) -> usize
     media_len_by(first, &value[first..])
 }
 
-/// The media type that the value of a `Content-Type` field begins with: the longest `token/token`, whatever follows it.
-/// It is empty where there is none.
+/// The media type that the value of a `Content-Type` field begins with: the longest `token/token`, with anything after
+/// it. It is empty if there is none.
 pub fn media_type(value: &[u8]) -> &[u8]
     ensures { result.now ≡ media_type value.now }
 {
@@ -63,7 +63,7 @@ fn is_content_type(text: &[u8], field: &HeaderSpan) -> bool
     field.name.of(text).eq_ignore_ascii_case(b"content-type")
 }
 
-/// The media type that the first of the fields states that states one, empty where none does.
+/// The media type that the first of the fields states that states one, empty if none does.
 pub(crate) fn media_type_in<'a>(text: &'a [u8], fields: &[HeaderSpan]) -> &'a [u8]
     requires { All (IsHeaderWithin (length text.now)) fields.now }
     ensures { result.now ≡ media_type_in (map (header_bytes text.now) fields.now) }

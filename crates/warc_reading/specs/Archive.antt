@@ -51,7 +51,7 @@ pub record IsRecordEnd (bytes : List ℕ) (offset : ℕ) : Type 0 where
   pub good : AreGood records
   pub offset_is : offset ≡ length front
 
--- the first fault of bytes: that behind the longest list of good records with which they begin
+-- the first fault of bytes: the fault after the longest list of good records with which they begin
 abbrev pub IsFaultOf : List ℕ → Fault → Type 0
 IsFaultOf bytes f = IsFirstFault head_fault 0 bytes f
 
@@ -60,7 +60,7 @@ abbrev pub rows_of : {S : Type 0} → Result (Contents S) (Fault × S) → Resul
 rows_of (Ok archive) = Ok archive.rows
 rows_of (Err refused) = Err refused.0
 
--- the source that opening leaves: the archive's, or the one that is handed back
+-- the source that opening leaves: the archive's, or the one that is returned
 abbrev pub source_of : {S : Type 0} → Result (Contents S) (Fault × S) → S
 source_of (Ok archive) = archive.source
 source_of (Err refused) = refused.1

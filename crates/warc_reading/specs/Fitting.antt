@@ -1,4 +1,4 @@
--- Which rows fit the entries of 32 bytes in which they are kept: those of any archive. This project's own notion.
+-- Which rows fit the entries of 32 bytes in which they are kept: the rows of any archive. This project's own notion.
 use Rattle.std.specs.Prelude.{◌≡◌, ℕ, ◌+◌, ◌^◌, ◌<◌, ◌≤◌, List, [], ◌∷◌, ◌++◌, length}
 use Rattle.std.specs.List.{sum_by}
 use Rattle.warc_reading.specs.Archive.{IsArchiveOf}
@@ -18,7 +18,7 @@ pub record Fits (start : ℕ) (row : Row) : Type 0 where
   pub id : length row.id < 2 ^ 16
   pub target : length row.target < 2 ^ 16
 
--- each row of an archive fits behind the texts of those before it
+-- each row of an archive fits after the texts of those before it
 abbrev pub RowsFit : Type 0
 RowsFit = (bytes : List ℕ) (rows more : List Row) (row : Row) → IsArchiveOf bytes (rows ++ row ∷ more)
     → Fits (sum_by texts_len rows) row

@@ -10,9 +10,9 @@ abbrev pub IsDeviceFault : Fault → Type 0
 IsDeviceFault f = (f.kind ≡ Read) ⊎ (f.kind ≡ Memory)
 
 -- growing by a source: over one that begins with the bytes of which something was right, it gives what opening it
--- gives, and at most one read is made for each byte behind them, and one; before a read fault at most one for each of
+-- gives, and at most one read is made for each byte after them, and one; before a read fault at most one for each of
 -- those before it, and one. A source that isn't longer than those bytes adds nothing. What any source gives is right
--- for those bytes with more behind them, want of memory is reported at their end or behind it, and reading is as in
+-- for those bytes with more after them, lack of memory is reported at their end or after it, and reading is as in
 -- opening
 pub record Grows {X : Type 0} (Is : List ℕ → X → Type 0) (was : X) (old new : SeenSource) (answer : Result X Fault)
     : Type 0 where
@@ -37,7 +37,7 @@ abbrev pub without_source : {S : Type 0} → Result (Unit {0}) (Fault × S) → 
 without_source (Ok u) = Ok u
 without_source (Err refused) = Err refused.0
 
--- the new source: it is kept, or handed back
+-- the new source: it is kept, or returned
 abbrev pub source_grown : {S : Type 0} → Result (Unit {0}) (Fault × S) → S → S
 source_grown (Ok u) s = s
 source_grown (Err refused) s = refused.1

@@ -1,4 +1,4 @@
--- What an archive keeps of its records beside their rows: what finds them by target, instant and id, and what joins
+-- What an archive keeps of its records besides their rows: what finds them by target, instant and id, and what joins
 -- segmented ones.
 use Rattle.std.specs.Prelude.{◌≡◌, ℕ, List, length, map, Result, Ok, Err}
 use Rattle.warc_value.specs.Digests.{verdict_of}
@@ -12,7 +12,7 @@ use Rattle.warc_segment.specs.declared.place.Place.{Place}
 use Rattle.warc_reading.specs.Archive.{Contents, IsArchiveOf}
 use Rattle.warc_reading.specs.Row.{Placed}
 
--- where the block of a record stands whose head says this
+-- where the block of a record is whose head says this
 abbrev pub place_with : Placed → Reading → Place
 place_with p head = record {
   start = p.block_start;
@@ -32,18 +32,18 @@ placed_record p = record { head = reading_of p.content.fields; place = place_of 
 abbrev pub indexed_record : Placed → Indexed
 indexed_record p = indexed_of (reading_of p.content.fields)
 
--- the index and the parts are those of these records
+-- the index and the parts are what is kept of these records
 pub record AreOf (records : List Placed) (index : Indexes) (parts : Parts) : Type 0 where
   pub index_is : IsIndexOf (map indexed_record records) index
   pub parts_are : parts ≡ kept_in (map placed_record records)
 
--- a listing, and beside it an index and parts
+-- a listing with an index and parts
 pub record Archived (S : Type 0) : Type 0 where
   pub listing : Contents S
   pub index : Indexes
   pub parts : Parts
 
--- an archive of these bytes: its rows, its index and its parts are those of the good records that they spell
+-- an archive of these bytes: its rows, its index and its parts are made of the good records that they spell
 pub record IsIndexed {S : Type 0} (bytes : List ℕ) (archive : Archived S) : Type 0 where
   pub listed : IsArchiveOf bytes archive.listing.rows
   pub kept : AreOf listed.are.records archive.index archive.parts
@@ -53,7 +53,7 @@ abbrev pub archive_of : {S : Type 0} → Result (Archived S) (Fault × S) → Re
 archive_of (Ok archive) = Ok archive
 archive_of (Err refused) = Err refused.0
 
--- the source that it leaves: the archive's, or the one that is handed back
+-- the source that it leaves: the archive's, or the one that is returned
 abbrev pub source_left : {S : Type 0} → Result (Archived S) (Fault × S) → S
 source_left (Ok archive) = archive.listing.source
 source_left (Err refused) = refused.1

@@ -13,19 +13,19 @@ use Rattle.warc_frame.specs.Seen.{AsksOnly, IfHeld, SeenSource}
 abbrev pub IsOnlyCut : List ℕ → Type 0
 IsOnlyCut text = (f : Fault) → IsFaultOf text f → f.kind ≡ Truncated
 
--- a read failed behind these bytes, and what stands before is no reason to refuse them
+-- a read failed after these bytes, and what comes before is no reason to refuse them
 pub record IsUnread (bytes : List ℕ) (offset : ℕ) : Type 0 where
   pub within : offset ≤ length bytes
   pub before : IsOnlyCut (take offset bytes)
 
--- memory was wanted for the record that begins at this offset, and `asked` was the last offset asked for: all
+-- memory ran out for the record that begins at this offset, and `asked` was the last offset asked for: all
 -- records before it are good, a byte of it is there, and no whole record lies between it and `asked`
 pub record IsUnkept (bytes : List ℕ) (asked offset : ℕ) : Type 0 where
   pub end : IsRecordEnd bytes offset
   pub begins : offset < length bytes
   pub cut : offset < asked → IsCut (drop offset (take asked bytes))
 
--- memory was wanted before the first read, where reading begins
+-- memory ran out before the first read, where reading begins
 pub record IsUntried (start : ℕ) (old new : SeenSource) (offset : ℕ) : Type 0 where
   pub front : offset ≡ start
   pub same : new ≡ old
@@ -49,7 +49,7 @@ faults_after Read n = raised n
 faults_after kind n = n
 
 -- reading on in a source to its end, or to a refusal: it still holds what it held, and has failed once more exactly
--- where the refusal is a read fault, at the offset asked last. No byte at an offset above 2^48 is asked for, and at
+-- if the refusal is a read fault, at the offset asked last. No byte at an offset above 2^48 is asked for, and at
 -- most 2^48 reads and one are made; before a read fault at most one for each byte before it, and one. It watches what
 -- it did
 pub record ReadsOn {X : Type 0} (old new : SeenSource) (answer : Result X Fault) : Type 0 where

@@ -18,7 +18,7 @@ use Rattle.warc_reading.specs.Row.{Placed, Row, row_of}
 use Rattle.warc_reading.specs.declared.rereading.RereadFault.{RereadFault}
 use Rattle.warc_reading.specs.declared.rereading.RereadFault.TheVariants.{Read, Memory}
 
--- the record's head stands among the bytes where its place says, and it is good
+-- the record's head is in the bytes where its place says, and it is good
 pub record HasHead (bytes : List ℕ) (p : Placed) : Type 0 where
   pub len : ℕ
   pub start : p.block_start ≡ p.offset + len
@@ -33,16 +33,16 @@ pub record HasHead (bytes : List ℕ) (p : Placed) : Type 0 where
       })
   pub good : head_fault p.content.fields ≡ None
 
--- the head of each of the records stands among the bytes
+-- the head of each of the records is in the bytes
 abbrev pub HaveHeads : List ℕ → List Placed → Type 0
 HaveHeads bytes records = (i : ℕ) (p : Placed) → slice_get records i ≡ Some p → HasHead bytes p
 
--- these are the rows of records whose heads stand among the bytes
+-- these are the rows of records whose heads are in the bytes
 pub record AreCheckable (bytes : List ℕ) (records : List Placed) (rows : List Row) : Type 0 where
   pub heads : HaveHeads bytes records
   pub rows_are : rows ≡ map row_of records
 
--- the heads of the rows' records stand among the bytes
+-- the heads of the rows' records are in the bytes
 pub record HasHeadsOf (rows : List Row) (bytes : List ℕ) : Type 0 where
   pub records : List Placed
   pub can : AreCheckable bytes records rows
@@ -52,12 +52,12 @@ pub record IsHeadReadOf {A : Type 0} (r : Record) (h : Head A) : Type 0 where
   pub version : h.version ≡ r.version
   pub fields : h.fields ≡ r.fields
 
--- why a head isn't read again, from what reading it answered
+-- why a head isn't read again, by the outcome of reading it
 abbrev pub reread_fault_of : FaultKind → RereadFault
 reread_fault_of NoMemory = Memory
 reread_fault_of kind = Read
 
--- an output that ends so, after so many bytes
+-- an output that ends so, after n bytes
 abbrev pub ended_by : RereadFault → ℕ → OutFault
 ended_by Read sent = ReadFailed sent
 ended_by Memory sent = OutOfMemory sent
@@ -67,7 +67,7 @@ abbrev pub reread_result : {X : Type 0} → Result X RereadFault → Result (Uni
 reread_result (Ok x) = Ok tt
 reread_result (Err e) = Err (ended_by e 0)
 
--- the head of a row's record stands among the bytes
+-- the head of a row's record is in the bytes
 pub record HasHeadOf (row : Row) (bytes : List ℕ) : Type 0 where
   pub placed : Placed
   pub has : HasHead bytes placed
@@ -85,7 +85,7 @@ pub record IsInHead (rows : List Row) (at : ℕ) : Type 0 where
 abbrev pub heads_len : List Row → ℕ
 heads_len rows = sum_by (λ r. r.block_start - r.offset) rows
 
--- at most one read for each byte of theirs, and no other byte
+-- at most one read for each byte of these heads, and no other byte
 abbrev pub ReadsHeads : List Row → SeenSource → SeenSource → Type 0
 ReadsHeads rows old new = ReadsOnly (IsInHead rows) (heads_len rows) old new
 

@@ -5,15 +5,15 @@ use Rattle.warc_value.specs.declared.hash.Verdict.{Verdict}
 use Rattle.warc_frame.specs.Record.{Record}
 use Rattle.warc_record.specs.Readings.{Reading, reading_of}
 
--- a record, the offset of its first byte, and that of its block's
+-- a record, the offset of its first byte, and the offset of its block's first byte
 pub record Placed : Type 0 where
   pub offset : ℕ
   pub block_start : ℕ
   pub content : Record
 
 -- the offsets of a record and of its block, the block's length, how the block compares with the digest that its
--- head wants, whether it is marked as truncated, and the texts of its type, date, id and target, each empty
--- where it is absent
+-- head asks for, whether it is marked as truncated, and the texts of its type, date, id and target, each empty
+-- if it is absent
 pub record Row : Type 0 where
   pub offset : ℕ
   pub block_start : ℕ
@@ -25,7 +25,7 @@ pub record Row : Type 0 where
   pub id : List ℕ
   pub target : List ℕ
 
--- what is kept of a record whose head says this: the texts are empty where there are none
+-- what is kept of a record whose head says this: the texts are empty if there are none
 abbrev pub row_with : Placed → Reading → Row
 row_with p head = record {
   offset = p.offset;

@@ -6,7 +6,7 @@ use Rattle.warc_reading.specs.declared.rows.Entry.{Entry}
 use Rattle.warc_reading.specs.declared.rows.Packed.{Packed}
 use Rattle.warc_reading.specs.declared.rows.Compact.{Compact}
 
--- the row of an entry, its texts lying one behind another in the bytes
+-- the row of an entry, whose texts lie one after another in the bytes
 abbrev pub row_at : List ℕ → Entry → Row
 row_at texts e = record {
   offset = e.offset;
@@ -20,7 +20,7 @@ row_at texts e = record {
   target = slice_range texts e.id_end e.target_end;
 }
 
--- an entry's texts lie among so many bytes
+-- an entry's texts lie among the first n bytes
 pub record IsInTexts (count : ℕ) (e : Entry) : Type 0 where
   pub kind : e.kind_start ≤ e.kind_end
   pub date : e.kind_end ≤ e.date_end
@@ -31,17 +31,17 @@ pub record IsInTexts (count : ℕ) (e : Entry) : Type 0 where
 abbrev pub AreWithin : ℕ → List Entry → Type 0
 AreWithin count entries = AllByRecursion (IsInTexts count) entries
 
--- the texts of the entries lie one behind another from a place on, without a gap, and end at another
+-- the texts of the entries lie one after another from a place on, without a gap, and end at another
 abbrev pub ArePacked : ℕ → List Entry → ℕ → Type 0
 ArePacked start [] end = start ≡ end
 ArePacked start (e ∷ es) end = (e.kind_start ≡ start) × IsInTexts e.target_end e × ArePacked e.target_end es end
 
--- so many bytes are the texts of the entries, and nothing else
+-- the first n bytes are the texts of the entries, and nothing else
 pub record AreFlat (count : ℕ) (entries : List Entry) : Type 0 where
   pub within : AreWithin count entries
   pub packed : ArePacked 0 entries count
 
--- a place that is so far behind another, up to 2^64 - 1
+-- a place that is n after another, up to 2^64 - 1
 abbrev pub reach : ℕ → ℕ → ℕ
 reach start len = min (start + len) (2 ^ 64 - 1)
 
@@ -80,7 +80,7 @@ pub record IsPackedOf (start : ℕ) (row : Row) (p : Packed) : Type 0 where
 abbrev pub packed_row : List ℕ → Packed → Row
 packed_row texts p = row_at texts (unpacked p)
 
--- so many bytes are the texts of these entries, and nothing else
+-- the first n bytes are the texts of these entries, and nothing else
 pub record AreKept (count : ℕ) (ps : List Packed) : Type 0 where
   pub within : AllByRecursion (λ p. IsInTexts count (unpacked p)) ps
   pub flat : AreFlat count (map unpacked ps)

@@ -38,7 +38,7 @@ pub record IsHead {A : Type 0} (fields : List Pair) (c : Current A) : Type 0 whe
   pub fields_are : c.head ≡ fields
   pub wanted : c.digest.wanted ≡ digest_wanted fields
 
--- the record that is being read begins at this offset, and of it these bytes were taken and this was told
+-- the record that is being read begins at this offset, and of it these bytes were taken and this was reported
 pub record IsCurrent {A : Type 0} (begin : ℕ) (rest : List ℕ) (u : Unclosed) (c : Current A) : Type 0 where
   pub head : List ℕ
   pub tail : List ℕ
@@ -55,7 +55,7 @@ Matches begin rest None (Some c) = ⊥
 Matches begin rest (Some u) None = ⊥
 Matches begin rest (Some u) (Some c) = IsCurrent begin rest u c
 
--- of a text of which this was told: a row of each record that ended and what is kept beside the rows, where the next
+-- of a text of which this was reported: a row of each record that ended and what else is kept, where the next
 -- record begins, and what is kept of it
 pub record HasRead {A L : Type 0} (Keeps : L → List Placed → Type 0) (text : List ℕ) (told : Told) (r : Reading A L)
     : Type 0 where
@@ -83,7 +83,7 @@ Since Keeps was l records = Keeps l records × Extends was records
 abbrev pub IsLeft : {L : Type 0} → (L → List Placed → Type 0) → List Placed → L → Type 0
 IsLeft Keeps was l = (more : List Placed) × Keeps l (was ++ more)
 
--- the decoder took this text, and what it told was kept
+-- the decoder took this text, and what it reported was kept
 pub record Stands {A L : Type 0} (Keeps : L → List Placed → Type 0) (text : List ℕ) (d : State) (r : Reading A L)
     : Type 0 where
   pub told : Told
@@ -104,7 +104,7 @@ row_by begin c bytes = record {
   target = unwrap_or (reading_of c.head).target [];
 }
 
--- where its block stands, and what was found of it
+-- where its block is, and what was found of it
 abbrev pub place_by : {A : Type 0} → Current A → List ℕ → Place
 place_by c bytes = record {
   start = c.block_start;
@@ -113,7 +113,7 @@ place_by c bytes = record {
   truncated = (reading_of c.head).truncated;
 }
 
--- these are the rows of the records that bytes spell, and beside the rows is kept what is wanted of them
+-- these are the rows of the records that bytes spell, and what else is needed of them is kept
 pub record IsKeptOf {L : Type 0} (Keeps : L → List Placed → Type 0) (bytes : List ℕ) (kept : List Row × L)
     : Type 0 where
   pub listed : IsArchiveOf bytes kept.0
@@ -133,12 +133,12 @@ StaysRefused bytes f = StaysBy f.kind bytes f
 abbrev pub Stops : List ℕ → List Row → Fault → Type 0
 Stops text rows f = (more : List ℕ) → IsLongestFront (take (reach_of f) (text ++ more)) rows
 
--- behind this text the record that is being read is still the same, or it begins behind the text
+-- after this text the record that is being read is still the same, or it begins after the text
 abbrev pub BeginsSince : List ℕ → ℕ → ℕ → Type 0
 BeginsSince text old new = (new ≡ old) ⊎ (length text ≤ new)
 
--- memory was wanted while a piece behind this text was taken: for the record that was being read, or one that
--- begins behind the text; and for one that begins before the piece ends
+-- memory ran out while a piece after this text was taken: for the record that was being read, or one that
+-- begins after the text; and for one that begins before the piece ends
 abbrev pub WantsSince : List ℕ → List ℕ → ℕ → Fault → Type 0
 WantsSince text piece begin f = f.kind ≡ Memory → BeginsSince text begin f.offset × (f.offset < length (text ++ piece))
 
@@ -156,6 +156,6 @@ abbrev pub Follows : ℕ → List ℕ → SeenSource → SeenSource → Type 0
 Follows start taken old new = old.next ≡ Some start
     → (new.jumps ≡ old.jumps) × (new.next ≡ Some (start + length taken))
 
--- this text was read of a source, from its front on
+-- this text was read of a source, from its beginning on
 abbrev pub HasGiven : SeenSource → SeenSource → List ℕ → Type 0
 HasGiven old new text = HasGivenFrom 0 old new text

@@ -1,4 +1,4 @@
-//! What is kept of records beside their rows: nothing in a listing; in an archive, what finds them and what joins them.
+//! What is kept of records besides their rows: nothing in a listing; in an archive, what finds them and joins them.
 ghost use Rattle.std.specs.Prelude.{◌≡◌, None, List, [], ◌∷◌, ◌++◌, length, take, OnErr, OnOk};
 ghost use Rattle.warc_record.specs.Heads.{head_fault};
 ghost use Rattle.warc_record.specs.Readings.{reading_of};
@@ -13,13 +13,13 @@ use warc_order::EntryList;
 use warc_record::{Typed, type_head};
 use warc_segment::{Parts, Place};
 
-/// What is kept of records beside their rows, as they are read.
+/// What is kept of records besides their rows, as they are read.
 pub trait Keep<A: Allocator> {
-    /// It is kept of these records.
+    /// It is what is kept of these records.
     ghost keeps: { Self → List Placed → Type 0 };
 
-    /// Keeps what is wanted of the next record, by its position, the fields of its good head and where its block
-    /// stands. Where memory is refused, what is kept is of the records before.
+    /// Keeps what is needed of the next record, by its position, the fields of its good head and the place of its
+    /// block. If memory is refused, it keeps what it kept of the records before.
     fn keep(
         &mut self,
         alloc: A,
@@ -33,12 +33,12 @@ pub trait Keep<A: Allocator> {
         ensures err { (records : List Placed) → keeps self.old records → position ≡ length records →
             OnErr result (keeps self.new records) };
 
-    /// Forgets all but the first so many records. It takes no memory.
+    /// Forgets all but the first `count` records. It takes no memory.
     fn truncate(&mut self, count: usize)
         ensures { (records : List Placed) → keeps self.old records → keeps self.new (take count records) };
 }
 
-/// Rows alone are kept.
+/// Only rows are kept.
 #[derive(Drop)]
 pub struct RowsAlone;
 
@@ -58,7 +58,7 @@ impl<A: Allocator> Keep<A> for RowsAlone {
     fn truncate(&mut self, _count: usize) {}
 }
 
-/// Keeps the next record, by its position, what its head says and where its block stands.
+/// Keeps the next record, by its position, what its head says and the place of its block.
 fn add<O: EntryList, A: Allocator + Copy>(
     index: &mut RecordIndex<O, A>,
     parts: &mut Parts<A>,
@@ -83,7 +83,7 @@ fn add<O: EntryList, A: Allocator + Copy>(
     }
 }
 
-/// Keeps the next record, by its position, the fields of its good head and where its block stands.
+/// Keeps the next record, by its position, the fields of its good head and the place of its block.
 fn add_head<O: EntryList, A: Allocator + Copy>(
     alloc: A,
     index: &mut RecordIndex<O, A>,
@@ -98,14 +98,14 @@ fn add_head<O: EntryList, A: Allocator + Copy>(
     ensures err { (records : List Placed) → AreOf records index.old parts.old →
         position ≡ length records → OnErr result (AreOf records index.new parts.new) }
 {
-    // The head is good, so that nothing but memory fails.
+    // The head is good, so only memory can fail.
     let Ok(typed) = type_head(alloc, fields) else {
         return Err(AllocError);
     };
     add(index, parts, position, &typed, place)
 }
 
-/// Keeps the first so many records. It takes no memory.
+/// Keeps the first `count` records. It takes no memory.
 fn keep_first<O: EntryList, A: Allocator + Copy>(
     index: &mut RecordIndex<O, A>,
     parts: &mut Parts<A>,
@@ -118,7 +118,7 @@ fn keep_first<O: EntryList, A: Allocator + Copy>(
     parts.truncate(count);
 }
 
-/// What finds the records of an archive, and what joins those that are in segments.
+/// What finds the records of an archive, and what joins those that are segmented.
 #[derive(Drop)]
 pub struct Lookup<A: Allocator> {
     pub index: Index<A>,
@@ -137,7 +137,7 @@ impl<A: Allocator + Copy> Lookup<A> {
     }
 }
 
-/// The same of records that come at once, which are put in order when all are there.
+/// The same for records that come at once, which are put in order when all are there.
 #[derive(Drop)]
 pub struct UnorderedLookup<A: Allocator> {
     pub filling: UnorderedIndex<A>,

@@ -1,4 +1,4 @@
-//! An archive read as a stream: a row is kept of each of its records, and what finds and joins them beside. A record's
+//! An archive read as a stream: a row is kept of each of its records, and what finds and joins them. A record's
 //! head is read again by its row.
 #![tactic(auto)]
 

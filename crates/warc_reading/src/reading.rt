@@ -1,4 +1,4 @@
-//! Reads the good records of a source as a stream, and keeps a row of each, and what is wanted beside it.
+//! Reads the good records of a source as a stream, and keeps a row of each, and what else is needed.
 ghost use Rattle.std.specs.Prelude.{◌≡◌, ◌≢◌, ℕ, ◌+◌, ◌-◌, ◌<◌, ◌≤◌, ◌^◌, List, [], ◌∷◌, ◌++◌, length, min, take, Some, None, IfOk, IfErr, OnErr, OnOk, MatchResult, is_err};
 ghost use Rattle.warc_value.specs.Digests.{verdict_of};
 ghost use Rattle.warc_record.specs.Heads.{head_fault};
@@ -30,7 +30,7 @@ use warc_value::{Running, Verdict, Wanted};
 /// How many bytes a read asks for.
 const PIECE: usize = 65_536;
 
-/// The digest that a head wants of its block, and that of the block's bytes so far.
+/// The digest that a head asks for of its block, and the digest of the block's bytes so far.
 #[derive(Drop)]
 struct BlockDigest {
     wanted: Wanted,
@@ -49,7 +49,7 @@ impl BlockDigest {
         }
     }
 
-    /// Takes the block's next bytes. Where nothing is wanted it takes no time.
+    /// Takes the block's next bytes. If no digest is wanted, it takes no time.
     fn update(&mut self, part: &[u8])
         ensures wanted { self.new.wanted ≡ self.old.wanted }
         ensures seen { (bytes : List ℕ) → HasSeen self.old bytes → HasSeen self.new (bytes ++ part.now) }
@@ -59,7 +59,7 @@ impl BlockDigest {
         }
     }
 
-    /// How the block compares with what is wanted.
+    /// How the block compares with the digest that is wanted.
     fn verdict(self) -> Verdict
         ensures { (bytes : List ℕ) → HasSeen self bytes → result ≡ verdict_of self.wanted bytes }
     {
@@ -77,7 +77,7 @@ struct Current<A: Allocator> {
     digest: BlockDigest,
 }
 
-/// What was read so far: a row of each record that ended and what is kept beside it, the offset at which the next
+/// What was read so far: a row of each record that ended and what else is kept of it, the offset at which the next
 /// record begins, and that record, once its head is there.
 #[derive(Drop)]
 struct Reading<A: Allocator, L> {
@@ -107,7 +107,7 @@ impl<A: Allocator + Copy, L: Keep<A> + Drop> Reading<A, L> {
         }
     }
 
-    /// Forgets all but the first so many records.
+    /// Forgets all but the first `count` records.
     fn truncate(&mut self, count: usize)
         ensures rows { self.new.rows ≡ take count self.old.rows }
         ensures beside { (records : List Placed) → L.keeps self.old.beside records → L.keeps self.new.beside
@@ -117,7 +117,7 @@ impl<A: Allocator + Copy, L: Keep<A> + Drop> Reading<A, L> {
         self.beside.truncate(count);
     }
 
-    /// Reads a head, behind which a block of so many bytes begins at an offset.
+    /// Reads a head, after which a block of `block_len` bytes begins at an offset.
     fn begin_block(
         &mut self,
         fields: Fields<A>,
@@ -158,7 +158,7 @@ impl<A: Allocator + Copy, L: Keep<A> + Drop> Reading<A, L> {
         }
     }
 
-    /// Keeps a row of the record that ends at an offset, and what is wanted beside it.
+    /// Keeps a row of the record that ends at an offset, and what else is needed of it.
     fn end_record(&mut self, alloc: A, end: u64) -> Result<(), AllocError>
         ensures begin { OnOk result (self.new.begin ≡ end) }
         ensures current { self.new.current ≡ None }
@@ -216,7 +216,7 @@ impl<A: Allocator + Copy, L: Keep<A> + Drop> Reading<A, L> {
     }
 }
 
-/// Keeps what the decoder tells of the piece's front, and answers how many bytes that takes.
+/// Keeps what the decoder reports of the piece's beginning, and returns how many bytes that takes.
 fn take_front<A: Allocator + Copy, L: Keep<A> + Drop>(
     alloc: A,
     decoder: &mut Decoder<A>,
@@ -261,7 +261,7 @@ fn take_front<A: Allocator + Copy, L: Keep<A> + Drop>(
     }
 }
 
-/// Keeps what the decoder tells of a piece.
+/// Keeps what the decoder reports of a piece.
 fn take_piece<A: Allocator + Copy, L: Keep<A> + Drop>(
     alloc: A,
     decoder: &mut Decoder<A>,
@@ -340,8 +340,8 @@ fn read_through<S: Source, A: Allocator + Copy, L: Keep<A> + Drop>(
     decoder.finish()
 }
 
-/// Reads on in a source behind the records that are kept, to its end: keeps a row of each good record there, and what
-/// is wanted beside it. Each read is at the offset where the bytes so far end. A refusal leaves what was kept.
+/// Reads on in a source after the records that are kept, to its end: keeps a row of each good record there, and what
+/// else is needed. Each read is at the offset where the bytes so far end. A refusal leaves what was kept.
 pub fn read_on<S: Source, A: Allocator + Copy, L: Keep<A> + Drop>(
     alloc: A,
     source: &mut S,
@@ -371,8 +371,8 @@ pub fn read_on<S: Source, A: Allocator + Copy, L: Keep<A> + Drop>(
     }
 }
 
-/// Reads a source from its front to its end: keeps a row of each good record before the first fault, or before what
-/// couldn't be read. A refusal comes beside these rows.
+/// Reads a source from its beginning to its end: keeps a row of each good record before the first fault, or before what
+/// couldn't be read. A refusal comes with these rows.
 pub fn read_front<S: Source, A: Allocator + Copy>(
     alloc: A,
     source: &mut S,

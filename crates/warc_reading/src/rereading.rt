@@ -25,7 +25,7 @@ pub enum RereadFault {
 }
 
 impl RereadFault {
-    /// The same as the end of an output of which so many bytes went out.
+    /// The same as the end of an output of which `sent` bytes went out.
     pub fn after(self, sent: u64) -> OutFault
         ensures { result ≡ ended_by self sent }
     {
@@ -43,7 +43,7 @@ pub struct Reread<A: Allocator> {
     pub typed: Typed<A>,
 }
 
-/// Why a head isn't read again, from what reading it answered.
+/// Why a head isn't read again, by the outcome of reading it.
 fn reread_fault_of(kind: FaultKind) -> RereadFault
     ensures { result ≡ reread_fault_of kind }
 {
@@ -53,7 +53,7 @@ fn reread_fault_of(kind: FaultKind) -> RereadFault
     }
 }
 
-/// The head that a text is, where it is a whole one with a block of this length.
+/// The head that a text is, if it is a whole one with a block of this length.
 fn head_in<A: Allocator + Copy>(
     alloc: A,
     text: &[u8],
@@ -75,7 +75,7 @@ fn head_in<A: Allocator + Copy>(
     Ok(head)
 }
 
-/// What a head says that is good.
+/// What a good head says.
 fn typed<A: Allocator + Copy>(alloc: A, head: Head<A>) -> Result<Reread<A>, RereadFault>
     ensures said { IfOk result (λ x. said x.typed ≡ reading_of x.fields) }
     ensures fields { IfOk result (λ x. x.fields ≡ head.fields) }
@@ -91,7 +91,7 @@ fn typed<A: Allocator + Copy>(alloc: A, head: Head<A>) -> Result<Reread<A>, Rere
     }
 }
 
-/// The length of a record's head, where it is at most this.
+/// The length of a record's head, if it is at most this.
 fn head_len(row: &Row<'_>, most: usize) -> Option<usize>
     ensures within { IfSome result (λ len. (len ≤ most) × (row.now.offset + len ≡ row.now.block_start)) }
     ensures only { (len : ℕ) → row.now.block_start ≡ row.now.offset + len → len ≤ most → result ≡ Some len }
@@ -109,8 +109,8 @@ pub fn head_buffer<A: Allocator>(alloc: A) -> Result<Vec<u8, A>, AllocError>
     vec![in alloc; 0u8; MAX_HEAD]
 }
 
-/// Reads a record's head again, through a buffer that any head fits. Of a source that doesn't give what it gave, it is
-/// taken only if it is a whole head as long as the row says, with a block as long as the row says.
+/// Reads a record's head again, through a buffer that any head fits. If the source doesn't give what it gave before,
+/// the head is taken only if it is a whole head as long as the row says, with a block as long as the row says.
 pub fn reread_head<S: Source, A: Allocator + Copy>(
     alloc: A,
     source: &mut S,
@@ -135,8 +135,8 @@ pub fn reread_head<S: Source, A: Allocator + Copy>(
     head_in(alloc, text, row.block_len)
 }
 
-/// Reads a record's head again, through a buffer that any head fits, and what it says. Of a source that doesn't give
-/// what it gave, it is taken as by `reread_head`.
+/// Reads a record's head again, through a buffer that any head fits, and what it says. If the source doesn't give
+/// what it gave before, the head is taken as by `reread_head`.
 pub fn read_again<S: Source, A: Allocator + Copy>(
     alloc: A,
     source: &mut S,

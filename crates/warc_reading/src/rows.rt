@@ -1,4 +1,4 @@
-//! What an archive keeps of its records, in flat lists: where each stands, and its texts one behind another.
+//! What an archive keeps of its records, in flat lists: where each is, and its texts one after another.
 ghost use Rattle.std.specs.Prelude.{◌≡◌, ℕ, ◌+◌, ◌≤◌, ◌^◌, List, [], ◌∷◌, ◌++◌, length, take, slice_range, vec_capacity, vec_len, IfNone, IfSome, OnErr, OnOk};
 ghost use Rattle.std.specs.List.{slice_get, sum_by};
 ghost use Rattle.warc_reading.specs.Archive.{IsArchiveOf};
@@ -14,7 +14,7 @@ use warc_value::Verdict;
 /// How many bytes close a record: CRLF CRLF.
 const CLOSING: u64 = 4;
 
-/// What is kept of a record: where it stands, and the texts of its type, date, id and target.
+/// What is kept of a record: where it is, and the texts of its type, date, id and target.
 #[derive(Drop)]
 pub struct Row<'a> {
     /// The offset of its first byte.
@@ -23,7 +23,7 @@ pub struct Row<'a> {
     pub block_start: u64,
     /// How many bytes its block has.
     pub block_len: u64,
-    /// How its block compares with the digest that its head wants.
+    /// How its block compares with the digest that its head asks for.
     pub verdict: Verdict,
     /// Whether it is marked as truncated.
     pub is_truncated: bool,
@@ -33,7 +33,7 @@ pub struct Row<'a> {
     pub date: &'a [u8],
     /// The value of its `WARC-Record-ID`.
     pub id: &'a [u8],
-    /// Its target without brackets, empty where it is absent.
+    /// Its target without brackets, empty if it is absent.
     pub target: &'a [u8],
 }
 
@@ -55,7 +55,7 @@ impl<'a> Model for Row<'a> {
     } };
 }
 
-/// A record's place, and where its texts begin and end in the list of texts.
+/// A record's place, and the places where its texts begin and end in the list of texts.
 #[derive(Clone, Copy)]
 struct Entry {
     offset: u64,
@@ -119,7 +119,7 @@ struct Packed {
     is_truncated: bool,
 }
 
-/// A length, if it is shorter than 2^16, as that of any value in a head is.
+/// A length, if it is less than 2^16, as the length of any value in a head is.
 fn short(len: usize) -> Option<u16>
     ensures is { IfSome result (λ n. n ≡ len) }
     ensures none { IfNone result (2 ^ 16 ≤ len) }
@@ -130,7 +130,7 @@ fn short(len: usize) -> Option<u16>
     }
 }
 
-/// The length from one offset to another, if it is shorter than 2^32, as that of any head is.
+/// The length from one offset to another, if it is less than 2^32, as the length of any head is.
 fn distance(from: u64, to: u64) -> Option<u32>
     ensures is { IfSome result (λ n. from + n ≡ to) }
     ensures none { IfNone result (from ≤ to → from + 2 ^ 32 ≤ to) }
@@ -214,7 +214,7 @@ fn part(bytes: &[u8], start: usize, end: usize) -> &[u8]
     &bytes[start..end]
 }
 
-/// How many bytes a row's texts have, if they are fewer than 2^64.
+/// How many bytes a row's texts have, if fewer than 2^64.
 fn texts_len(row: &Row<'_>) -> Option<usize>
     ensures is { IfSome result (λ n. n ≡ texts_len row.now) }
     ensures none { IfNone result (2 ^ 64 ≤ texts_len row.now) }
@@ -226,7 +226,7 @@ fn texts_len(row: &Row<'_>) -> Option<usize>
         .checked_add(row.target.len())
 }
 
-/// Appends a text for which there is room, and answers where it ends.
+/// Appends a text for which there is room, and returns where it ends.
 fn put<A: Allocator>(text: &[u8], texts: &mut Vec<u8, A>) -> usize
     requires { vec_len texts.old + length text.now ≤ vec_capacity texts.old }
     ensures items { texts.new.items ≡ texts.old.items ++ text.now }
@@ -252,7 +252,7 @@ impl<A: Allocator + Copy> Rows<A> {
         }
     }
 
-    /// Adds a row behind the others. Where memory is refused no row is added, and no text is left behind. A row that
+    /// Adds a row after the others. If memory is refused, no row is added, and no part of its text. A row that
     /// doesn't fit an entry is refused in the same way; each row of an archive fits (law `rows_fit`).
     pub fn push(&mut self, row: &Row<'_>) -> Result<(), AllocError>
         ensures ok { OnOk result (self.new ≡ self.old ++ row.now ∷ []) }
@@ -276,7 +276,7 @@ impl<A: Allocator + Copy> Rows<A> {
 }
 
 impl<A: Allocator> Rows<A> {
-    /// Keeps the first so many rows. It takes no memory.
+    /// Keeps the first `count` rows. It takes no memory.
     pub fn truncate(&mut self, count: usize)
         ensures { self.new ≡ take count self.old }
     {
@@ -287,7 +287,7 @@ impl<A: Allocator> Rows<A> {
         }
     }
 
-    /// The offset behind the last record, at most 2^48.
+    /// The offset after the last record, at most 2^48.
     pub fn end(&self) -> u64
         ensures limit { result ≤ 2 ^ 48 }
         ensures end { (bytes : List ℕ) → IsArchiveOf bytes self.now → result ≡ length bytes }
@@ -312,7 +312,7 @@ impl<A: Allocator> Rows<A> {
 }
 
 impl<A: Allocator + Copy> Rows<A> {
-    /// Where its memory comes from.
+    /// The allocator of its memory.
     pub fn allocator(&self) -> A {
         *self.texts.allocator()
     }
@@ -346,7 +346,7 @@ impl<A: Allocator> Rows<A> {
     }
 }
 
-/// Each row of an archive fits an entry behind the texts of those before it: for none of them want of memory is
+/// Each row of an archive fits an entry after the texts of those before it: for none of them lack of memory is
 /// reported because of a limit.
 pub fn rows_fit()
     ensures { RowsFit }

@@ -7,7 +7,7 @@ use std::marker::Model;
 use warc_field::Fields;
 use warc_frame::Decoder;
 
-/// Fields that are no longer wanted, in whose memory the next head can be read. Contracts see nothing of them.
+/// Fields that are no longer needed, in whose memory the next head can be read. Contracts see nothing of them.
 #[derive(Drop)]
 pub(crate) struct SpareFields<A: Allocator> {
     fields: Option<Fields<A>>,
@@ -27,7 +27,7 @@ impl<A: Allocator + Copy> SpareFields<A> {
         SpareFields { fields: None }
     }
 
-    /// Keeps these, in the place of others.
+    /// Keeps these in place of others.
     pub(crate) fn keep(&mut self, fields: Fields<A>) {
         self.fields = Some(fields);
     }

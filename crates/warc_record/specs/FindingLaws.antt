@@ -1,4 +1,4 @@
--- What the findings of a record are, one by one: a finding is listed exactly where the sentence of its number holds,
+-- What the findings of a record are, one by one: a finding is listed exactly if the sentence of its number holds,
 -- and the numbers never fall. Findings are this project's own notion.
 use Rattle.std.specs.Prelude.{◌≡◌, ◌⊎◌, ◌↔◌, ℕ, ◌+◌, ◌≤◌, Bool, false, ◌&&◌, List, [], ◌∷◌, length, IsTrue, decimal, unwrap_or}
 use Rattle.std.specs.List.{AllPairs, Contains, sum_by}
@@ -22,7 +22,7 @@ abbrev pub IsNotUtf8 : List Pair → Found → Type 0
 IsNotUtf8 fields found =
     (field : Pair) × Contains fields field × (is_utf8 field.1 ≡ false) × (found ≡ NotUtf8 field.0)
 
--- the findings that are about no field, each with whether what it says holds
+-- the findings that are about no field, each with whether its sentence holds
 abbrev pub sentences : Reading → List Pair → ℕ → Bool → Bool → List (Found × Bool)
 sentences reading fields size bad_digest used_id =
     (Digest, is_known reading.kind && bad_digest)
@@ -46,7 +46,7 @@ IsFinding reading fields size bad_digest used_id found =
     ⊎ ((sentence : Found × Bool) × Contains (sentences reading fields size bad_digest used_id) sentence
     × IsOnce sentence found))
 
--- a finding is listed exactly where its sentence holds
+-- a finding is listed exactly if its sentence holds
 abbrev pub ListedWhereTheyHold : Type 0
 ListedWhereTheyHold =
     (reading : Reading) (fields : List Pair) (size : ℕ) (bad_digest used_id : Bool) (found : Found)
@@ -64,11 +64,11 @@ abbrev pub FindingsAreFew : Type 0
 FindingsAreFew = (fields : List Pair) (size : ℕ) (bad_digest used_id : Bool)
     → length (findings_of fields size bad_digest used_id) ≤ length fields + 58
 
--- how many bytes a finding tells: the digits of its number, and its field's name
+-- how many bytes a finding has: the digits of its number, and its field's name
 abbrev pub told_len : Found → ℕ
 told_len found = length (decimal (finding_number found)) + length (unwrap_or (finding_field found) [])
 
--- what the findings of a record tell is at most 1,000 bytes longer than its fields
+-- the findings of a record have at most 1,000 bytes more than its fields
 abbrev pub FindingsAreShort : Type 0
 FindingsAreShort = (fields : List Pair) (size : ℕ) (bad_digest used_id : Bool)
     → sum_by told_len (findings_of fields size bad_digest used_id) ≤ length (canonical_fields fields) + 1000

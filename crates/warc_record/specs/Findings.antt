@@ -1,5 +1,5 @@
--- What is found wrong with a record, beside what refuses it: N1 to N11, in the order of their numbers. For N1 to N3 the
--- fields go by the order of the table, for N9 by their order in the record. Findings are this project's own notion: it
+-- What is found wrong with a record, besides what refuses it: N1 to N11, in the order of their numbers. For N1 to N3
+-- the fields are in the order of the table, for N9 in their order in the record. Findings are this project's own: it
 -- measures records by ISO 28500:2017, 5 to 7, and by its own field table.
 use Rattle.std.specs.Prelude.{ℕ, ◌-◌, Bool, true, false, not, ◌&&◌, ◌||◌, ◌==◌, nat_lt, List, [], ◌∷◌, ◌++◌, length, map, filter, codes, is_some, is_none, Option, Some, None, slice_index, if◌then◌else◌}
 use Rattle.std.specs.Option.{option_map_or}
@@ -56,7 +56,7 @@ finding_field found = None
 abbrev pub once : Found → Bool → List Found
 once found holds = if holds then found ∷ [] else []
 
--- the field isn't absent: a target is absent where its bare text is empty, any other field where its value is
+-- the field isn't absent: a target is absent if its bare text is empty, any other field if its value is
 abbrev pub stands : List ℕ → List Pair → Bool
 stands name fields =
     if str_eq_ignore_ascii_case name (codes "WARC-Target-URI") then is_some (present_bare name fields)
@@ -76,8 +76,8 @@ broken_rule Repeats rule = Repeated rule.name
 abbrev pub by_table : TableCheck → Kind → List Pair → List Found
 by_table check kind fields = map (broken_rule check) (filter (is_broken check kind fields) rules)
 
--- N5: a segment number that is none, or is less than 2 in a continuation, or isn't 1 in another kind; or, in a
--- continuation, a total that is no number
+-- N5: a segment number that isn't one, or is less than 2 in a continuation, or isn't 1 in another kind; or, in a
+-- continuation, a total that isn't a number
 abbrev pub is_bad_number : Kind → NumberStated → Bool
 is_bad_number kind stated.Absent = false
 is_bad_number kind stated.Bad = true
@@ -92,7 +92,7 @@ abbrev pub has_bad_segment : Reading → List Pair → Bool
 has_bad_segment reading fields =
     is_known reading.kind && (is_bad_number reading.kind reading.segment.number || is_bad_total reading fields)
 
--- N7: no content type, though the block isn't empty
+-- N7: no content type, although the block isn't empty
 abbrev pub lacks_content_type : Kind → List Pair → ℕ → Bool
 lacks_content_type kind fields size =
     is_known kind && not (is_continuation kind) && not (size == 0)
@@ -104,14 +104,14 @@ has_unknown_profile reading fields =
     is_revisit reading.kind && is_some (present_value (codes "WARC-Profile") fields)
     && not reading.reference.known_profile
 
--- N9: a value isn't UTF-8; the name is told as it is written
+-- N9: a value isn't UTF-8; the name is spelled as in the record
 abbrev pub is_not_utf8 : Pair → Bool
 is_not_utf8 field = not (is_utf8 field.1)
 
 abbrev pub not_utf8 : List Pair → List Found
 not_utf8 fields = map (λ (field : Pair). NotUtf8 field.0) (filter is_not_utf8 fields)
 
--- N10: the value of the id doesn't stand between < and >
+-- N10: the value of the id isn't between < and >
 abbrev pub stands_in_brackets : List ℕ → Bool
 stands_in_brackets value = (slice_index value 0 == 60) && (slice_index value (length value - 1) == 62)
 
@@ -124,7 +124,7 @@ lacks_origin reading fields =
     is_continuation reading.kind && is_some (present_value (codes "WARC-Segment-Origin-ID") fields)
     && is_none reading.segment.origin
 
--- the findings of a record: N4 where its block's digest is bad, N6 where an earlier record has its id
+-- the findings of a record: N4 if its block's digest is bad, N6 if an earlier record has its id
 unfoldable pub findings_by : Reading → List Pair → ℕ → Bool → Bool → List Found
 findings_by reading fields size bad_digest used_id =
     by_table Lacks reading.kind fields

@@ -10,14 +10,14 @@ use Rattle.warc_record.specs.Kinds.{kind_named}
 use Rattle.warc_record.specs.Readings.{Reading, reading_of}
 use Rattle.warc_record.specs.Heads.{head_fault, is_date}
 
--- a field of this name stands exactly once, and its value reads
+-- a field of this name occurs exactly once, and its value can be read
 pub record StandsOnce (name : List ℕ) (test : List ℕ → Bool) (fields : List Pair) : Type 0 where
   pub value : List ℕ
   pub stands : first_value name fields ≡ Some value
   pub alone : count_of name fields ≤ 1
   pub reads : test value ≡ true
 
--- the type stands exactly once and is a token, the id is one in brackets or bare, the date is one
+-- the type occurs exactly once and is a token, the id is in brackets or bare, the date is one
 pub record IsGoodHead (fields : List Pair) : Type 0 where
   pub type_is : StandsOnce (codes "WARC-Type") is_name fields
   pub id_is : StandsOnce (codes "WARC-Record-ID") is_id fields
@@ -28,7 +28,7 @@ pub record IsGood (r : Record) : Type 0 where
   pub framed : IsFramed r
   pub head : IsGoodHead r.fields
 
--- good heads are those in which no fault is found
+-- good heads are the heads in which no fault is found
 abbrev pub GoodHeadsHaveNoFault : Type 0
 GoodHeadsHaveNoFault = (fields : List Pair) → IsGoodHead fields ↔ (head_fault fields ≡ None)
 

@@ -1,5 +1,5 @@
--- Which heads are good, beyond framing: type, id and date each stand exactly once (ISO 28500:2017, 4 and 5.1) and read
--- (5.5, 5.2, 5.4). The order in which they are judged is this project's own.
+-- Which heads are good, beyond framing: type, id and date each occur exactly once (ISO 28500:2017, 4 and 5.1) and can
+-- be read (5.5, 5.2, 5.4). The order in which they are judged is this project's own.
 use Rattle.std.specs.Prelude.{ℕ, Bool, false, nat_lt, List, is_some, is_none, Option, Some, None, if◌then◌else◌}
 use Rattle.std.specs.Option.{option_map_or, option_or}
 use Rattle.warc_field.specs.Text.{is_name}
@@ -12,14 +12,14 @@ use Rattle.warc_frame.specs.declared.fault.FaultKind.{FaultKind}
 use Rattle.warc_frame.specs.declared.fault.FaultKind.TheVariants.{Missing, Repeated, BadType, Id, Date}
 use Rattle.warc_record.specs.Ids.{is_id}
 
--- no field of this name stands, or more than one
+-- no field of this name occurs, or more than one
 abbrev pub count_fault : Mandatory → List Pair → Option FaultKind
 count_fault field fields =
     if is_none (first_value (name_of field) fields) then Some (Missing field)
     else if nat_lt 1 (count_of (name_of field) fields) then Some (Repeated field)
     else None
 
--- its value doesn't read
+-- its value can't be read
 abbrev pub value_fault : Mandatory → (List ℕ → Bool) → FaultKind → List Pair → Option FaultKind
 value_fault field reads fault fields =
     if option_map_or reads (first_value (name_of field) fields) false then None else Some fault

@@ -13,7 +13,7 @@ is_bracket b = b == 60 || b == 62
 abbrev pub inner_text : List ℕ → List ℕ
 inner_text text = take (length text - 2) (drop 1 text)
 
--- it begins with <, ends with >, and no other < or > stands in it
+-- it begins with <, ends with >, and contains no other < or >
 abbrev pub is_bracketed : List ℕ → Bool
 is_bracketed text =
     nat_lt 1 (length text) && (slice_index text 0 == 60) && (slice_index text (length text - 1) == 62)
@@ -52,7 +52,7 @@ IsSameId a b =
     (bare_text a ≡ bare_text b)
     ⊎ ((uuid : List ℕ) × (parsed_urn (bare_text a) ≡ Some uuid) × (parsed_urn (bare_text b) ≡ Some uuid))
 
--- an id's key: < and the sixteen bytes of its UUID, or else its bare text, in which no < stands
+-- an id's key: < and the sixteen bytes of its UUID, or else its bare text, which contains no <
 abbrev pub key_by : List ℕ → Option (List ℕ) → List ℕ
 key_by bare None = bare
 key_by bare (Some uuid) = 60 ∷ uuid

@@ -1,4 +1,4 @@
--- The names that a head is read by, and where their fields stand: a state of the code.
+-- The names that a head is read by, and the places of their fields: a state of the code.
 use Rattle.std.specs.Prelude.{◌≡◌, ℕ, Bool, ◌==◌, ◌<◌, nat_lt, true, false, List, codes, length, get_or, slice_get, Option, Some, None, option_and_then, option_map, ⊤, if◌then◌else◌}
 use Rattle.warc_field.specs.Area.{Pair, count_of, first_value}
 use Rattle.warc_record.specs.declared.known.Known.{Known}
@@ -51,7 +51,7 @@ known_place Truncated = 17
 known_place IdentifiedPayloadType = 18
 known_place ContentType = 19
 
--- the one name of so many bytes whose eighth letter is this one, in lower case
+-- the only name of this length whose eighth letter is this one, in lower case
 abbrev pub known_by : ℕ → ℕ → Option Known
 known_by len letter =
     if len == 9 then (if letter == 112 then Some «Type» else if letter == 116 then Some Date else None)
@@ -73,7 +73,7 @@ known_by len letter =
     else if len == 28 then Some IdentifiedPayloadType
     else None
 
--- where the first field stands by a spot
+-- the place of the first field of a spot
 abbrev pub spot_place : Spot → Option ℕ
 spot_place Absent = None
 spot_place (Once place) = Some place
@@ -97,7 +97,7 @@ IsWithin Absent len = ⊤
 IsWithin (Once place) len = place < len
 IsWithin (Repeated place) len = place < len
 
--- the spot of a name: where the first of its fields stands, and whether there is another
+-- the spot of a name: the place of the first of its fields, and whether there is another
 pub record IsSpotOf (name : List ℕ) (fields : List Pair) (spot : Spot) : Type 0 where
   pub within : IsWithin spot (length fields)
   pub first : spot_value spot fields ≡ first_value name fields
@@ -108,13 +108,13 @@ abbrev pub AreSpots : List Pair → List Spot → Type 0
 AreSpots fields spots =
     (known : Known) → IsSpotOf (known_name known) fields (get_or spots (known_place known) Absent)
 
--- the spot of a name once another field has it, which stands at this place
+-- the spot of a name after another field of it, which is at this place
 abbrev pub next_spot : Spot → ℕ → Spot
 next_spot Absent place = Once place
 next_spot (Once first) place = Repeated first
 next_spot (Repeated first) place = Repeated first
 
--- where the first fields stand of the names by which a good head is read again: a place past the end of an absent one
+-- the places of the first fields of the names by which a good head is read again: past the end for an absent one
 pub record ArePlaces (fields : List Pair) (places : Places) : Type 0 where
   pub kind : value_at fields places.kind ≡ first_value (codes "WARC-Type") fields
   pub date : value_at fields places.date ≡ first_value (codes "WARC-Date") fields

@@ -17,15 +17,15 @@ use Rattle.warc_record.specs.declared.readings.SegmentNumber.TheVariants.{Absent
 use Rattle.warc_record.specs.Ids.{bare_text, id_key}
 use Rattle.warc_record.specs.Kinds.{kind_named}
 
--- the text, absent where it is empty
+-- the text, absent if it is empty
 abbrev pub unless_empty : List ℕ → Option (List ℕ)
 unless_empty text = if length text == 0 then None else Some text
 
--- the value of the first field of a name, absent where none stands or where it is empty
+-- the value of the first field of a name, absent if there is none or if it is empty
 abbrev pub present_value : List ℕ → List Pair → Option (List ℕ)
 present_value name fields = option_and_then unless_empty (first_value name fields)
 
--- the bare text of a value, absent where it is empty too, and that of the first field of a name
+-- the bare text of a value, absent if it is empty too, and the bare text of the first field of a name
 abbrev pub bare_present : Option (List ℕ) → Option (List ℕ)
 bare_present value = option_and_then (λ text. unless_empty (bare_text text)) (option_and_then unless_empty value)
 
@@ -42,7 +42,7 @@ instant_in name fields = option_and_then instant_of (present_value name fields)
 abbrev pub number_in : List ℕ → List Pair → Option ℕ
 number_in name fields = option_and_then decimal_of (present_value name fields)
 
--- both, where both are there
+-- both, if both are there
 abbrev pub both : {A B : Type 0} → Option A → Option B → Option (A × B)
 both None b = None
 both (Some a) None = None
@@ -54,7 +54,7 @@ kind_of fields = option_map_or kind_named (first_value (codes "WARC-Type") field
 abbrev pub target_of : List Pair → Option (List ℕ)
 target_of fields = present_bare (codes "WARC-Target-URI") fields
 
--- the profiles of revisits (WARC 1.1, 6.7; the older pair is that of WARC 1.0)
+-- the profiles of revisits (WARC 1.1, 6.7; the older pair is from WARC 1.0)
 abbrev pub known_profiles : List (List ℕ)
 known_profiles =
     codes "http://netpreserve.org/warc/1.1/revisit/identical-payload-digest"
@@ -79,7 +79,7 @@ reference_of fields = record {
       both (present_bare (codes "WARC-Refers-To-Target-URI") fields) (instant_in (codes "WARC-Refers-To-Date") fields);
 }
 
--- no number, a number, or a value that is none
+-- no number, a number, or a value that isn't one
 abbrev pub segment_number : List Pair → SegmentNumber
 segment_number fields = number_by (present_value (codes "WARC-Segment-Number") fields)
   where

@@ -38,7 +38,7 @@ said typed = record {
   truncated = typed.truncated;
 }
 
--- a call is refused for this fault, or for want of memory; where there is no fault, for want of memory alone
+-- a call is refused for this fault, or for lack of memory; if there is no fault, for lack of memory alone
 abbrev pub RefusesFor : {X : Type 0} → Result X FaultKind → Option FaultKind → Type 0
 RefusesFor (Ok x) fault = fault ≡ None
 RefusesFor (Err Memory) fault = ⊤

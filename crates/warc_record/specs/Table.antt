@@ -1,4 +1,4 @@
--- The field table: in which kinds of record a field must stand, in which it must not, and whether it may stand more
+-- The field table: which kinds of record must have a field, which must not, and whether it may occur more
 -- than once. It is this project's own profile of ISO 28500:2017, 5 and 6: a finding refuses no record.
 use Rattle.std.specs.Prelude.{ℕ, Bool, true, false, ◌==◌, List, [], ◌∷◌, codes}
 use Rattle.std.specs.List.{list_any}
@@ -27,7 +27,7 @@ column_of Other = 8
 abbrev pub is_among : Kind → List Kind → Bool
 is_among kind kinds = list_any (λ other. column_of other == column_of kind) kinds
 
--- a field that stands at most once, by its name, the kinds that require it and those that forbid it
+-- a field that occurs at most once, by its name, the kinds that require it and the kinds that forbid it
 abbrev pub rule : List ℕ → List Kind → List Kind → Rule
 rule name required forbidden = record { name = name; required = required; forbidden = forbidden; repeats = false }
 

@@ -27,7 +27,7 @@ pub enum Finding<'a> {
     /// A field that the table forbids isn't absent.
     Forbidden(&'a [u8]),
 
-    /// A field that may not be repeated is.
+    /// A field that may not be repeated is repeated.
     Repeated(&'a [u8]),
 
     /// The block's digest is checked and differs.
@@ -39,13 +39,13 @@ pub enum Finding<'a> {
     /// An earlier record has the same id.
     IdUsed,
 
-    /// A block that isn't empty has no type of its content.
+    /// A block that isn't empty has no content type.
     NoContentType,
 
     /// A revisit's profile isn't known.
     Profile,
 
-    /// The value of a field isn't UTF-8. The name is as it is written.
+    /// The value of a field isn't UTF-8. The name is spelled as in the record.
     NotUtf8(&'a [u8]),
 
     /// The value of the id isn't in brackets.
@@ -100,7 +100,7 @@ impl<'a> Finding<'a> {
     }
 }
 
-/// What the field table is asked: N1, N2 or N3.
+/// What is looked for in the field table: N1, N2 or N3.
 #[derive(Clone, Copy)]
 enum TableCheck {
     Lacks,
@@ -122,7 +122,7 @@ impl TableCheck {
     }
 }
 
-/// Whether the field isn't absent. A target is absent too where its bare text is empty.
+/// Whether the field isn't absent. A target is absent too if its bare text is empty.
 fn stands<A: Allocator>(fields: &ByName<'_, A>, name: Known) -> bool
     ensures { result ≡ stands (known_name name) fields.now }
 {
@@ -132,7 +132,7 @@ fn stands<A: Allocator>(fields: &ByName<'_, A>, name: Known) -> bool
     }
 }
 
-/// Whether a field stands again that may not be repeated.
+/// Whether a field that may not be repeated occurs again.
 fn stands_again<A: Allocator>(fields: &ByName<'_, A>, rule: &FieldRule) -> bool
     requires { known_name rule.now.known ≡ rule.now.name.now }
     ensures { result ≡ (not rule.now.repeats && nat_lt 1 (count_of rule.now.name.now fields.now)) }
@@ -140,7 +140,7 @@ fn stands_again<A: Allocator>(fields: &ByName<'_, A>, rule: &FieldRule) -> bool
     !rule.repeats && fields.repeats(rule.known)
 }
 
-/// Whether the rule of a field finds what is asked.
+/// Whether the rule of a field gives the finding that is looked for.
 fn is_broken<A: Allocator>(
     check: TableCheck,
     kind: Kind,
@@ -175,7 +175,7 @@ fn add_by_table<'a, A: Allocator>(
     Ok(())
 }
 
-/// Adds a finding, where it holds.
+/// Adds a finding, if it holds.
 fn add_once<'a, A: Allocator>(
     found: &mut Vec<Finding<'a>, A>,
     finding: Finding<'a>,
@@ -251,7 +251,7 @@ fn has_bad_segment<A: Allocator>(kind: Kind, fields: &ByName<'_, A>) -> bool
                 && number_in(fields, Known::SegmentTotalLength).is_none())
 }
 
-/// Whether the record has a block and no type of its content.
+/// Whether the record has a block and no content type.
 fn lacks_content_type<A: Allocator>(kind: Kind, fields: &ByName<'_, A>, block_len: u64) -> bool
     ensures { result ≡ lacks_content_type kind fields.now block_len }
 {
@@ -261,7 +261,7 @@ fn lacks_content_type<A: Allocator>(kind: Kind, fields: &ByName<'_, A>, block_le
         && present(fields, Known::ContentType).is_none()
 }
 
-/// Whether the record is a revisit of a profile that isn't known.
+/// Whether the record is a revisit whose profile isn't known.
 fn has_unknown_profile<A: Allocator>(kind: Kind, fields: &ByName<'_, A>) -> bool
     requires { kind ≡ kind_of fields.now }
     ensures { result ≡ has_unknown_profile (reading_of fields.now) fields.now }
@@ -275,7 +275,7 @@ fn has_unknown_profile<A: Allocator>(kind: Kind, fields: &ByName<'_, A>) -> bool
     }
 }
 
-/// Whether the record is a continuation of no id.
+/// Whether the record is a continuation whose origin holds no id.
 fn lacks_origin<A: Allocator + Copy>(
     alloc: A,
     kind: Kind,
@@ -297,7 +297,7 @@ fn stands_in_brackets(text: &[u8]) -> bool
     !text.is_empty() && text[0] == b'<' && text[text.len() - 1] == b'>'
 }
 
-/// Whether the value of the record's id stands in no brackets.
+/// Whether the value of the record's id isn't in brackets.
 fn has_bare_id<A: Allocator>(fields: &ByName<'_, A>) -> bool
     ensures { result ≡ has_bare_id (reading_of fields.now) }
 {
@@ -307,7 +307,7 @@ fn has_bare_id<A: Allocator>(fields: &ByName<'_, A>) -> bool
     }
 }
 
-/// What an archive tells of a record beside what the record tells itself.
+/// What an archive says of a record besides what the record itself says.
 #[derive(Clone, Copy, Debug, PartialEq, Eq)]
 pub struct ArchiveFacts {
     /// Its block's digest is checked and differs.
@@ -317,7 +317,7 @@ pub struct ArchiveFacts {
     pub used_id: bool,
 }
 
-/// Whether a record of this kind is told for its digest.
+/// Whether a wrong digest is reported of a record of this kind.
 fn has_bad_digest(kind: Kind, facts: ArchiveFacts) -> bool
     ensures { result ≡ (is_known kind && facts.bad_digest) }
 {
@@ -380,7 +380,7 @@ pub fn all_findings<'a, A: Allocator + Copy>(
     findings_in(alloc, &ByName::new(fields), block_len, facts)
 }
 
-/// The findings that the record alone tells: all but N4, N6 and N12.
+/// The findings that the record alone shows: all but N4, N6 and N12.
 pub fn findings<'a, A: Allocator + Copy>(
     alloc: A,
     fields: &'a Fields<A>,

@@ -37,7 +37,7 @@ pub struct Reference<A: Allocator = Global> {
     /// The id in `WARC-Refers-To`.
     pub named_id: Option<IdKey<A>>,
 
-    /// `WARC-Refers-To-Target-URI` and `WARC-Refers-To-Date`, where both read.
+    /// `WARC-Refers-To-Target-URI` and `WARC-Refers-To-Date`, if both can be read.
     pub named_pair: Option<NamedPair<A>>,
 }
 
@@ -58,7 +58,7 @@ pub struct Segment<A: Allocator = Global> {
 pub struct Typed<A: Allocator = Global> {
     pub kind: Kind,
 
-    /// The values of `WARC-Type`, `WARC-Record-ID` and `WARC-Date`, as they stand.
+    /// The values of `WARC-Type`, `WARC-Record-ID` and `WARC-Date`, as they are written.
     pub type_text: Value<A>,
     pub id_text: Value<A>,
     pub date_text: Value<A>,
@@ -66,13 +66,13 @@ pub struct Typed<A: Allocator = Global> {
     pub id: IdKey<A>,
     pub moment: Moment,
 
-    /// The bare text of `WARC-Target-URI`, where it isn't empty.
+    /// The bare text of `WARC-Target-URI`, if it isn't empty.
     pub target: Option<Value<A>>,
 
     pub reference: Reference<A>,
     pub segment: Segment<A>,
 
-    /// The digest that `WARC-Block-Digest` wants.
+    /// The digest that `WARC-Block-Digest` asks for.
     pub wanted: Wanted,
 
     /// The value of `WARC-Payload-Digest`, a text that is never computed.
@@ -139,14 +139,14 @@ fn read_segment<A: Allocator + Copy>(
     })
 }
 
-/// The digest that the head wants of its block.
+/// The digest that the head asks for of its block.
 pub fn wanted<A: Allocator>(fields: &Fields<A>) -> Wanted
     ensures { result ≡ digest_wanted fields.now }
 {
     wanted_in(&ByName::new(fields))
 }
 
-/// The same, of fields by their names.
+/// The same, from fields by their names.
 fn wanted_in<A: Allocator>(fields: &ByName<'_, A>) -> Wanted
     ensures { result ≡ digest_wanted fields.now }
 {
@@ -156,7 +156,7 @@ fn wanted_in<A: Allocator>(fields: &ByName<'_, A>) -> Wanted
     }
 }
 
-/// The value of a field that must stand exactly once.
+/// The value of a field that must occur exactly once.
 fn only<'a, A: Allocator>(
     fields: &ByName<'a, A>,
     name: Known,
@@ -242,7 +242,7 @@ fn read_typed<A: Allocator + Copy>(
 }
 
 /// What the head of a record says, or the first refusal of its type, its id and its date, in this
-/// order: F4 Missing or F5 Repeated, and then F7 BadType, F8 Id or F9 Date. F14 Memory where memory
+/// order: F4 Missing or F5 Repeated, and then F7 BadType, F8 Id or F9 Date. F14 Memory if memory
 /// was refused. It doesn't look at `Content-Length`.
 #[tactic(auto, using(crate::proofs::HeadLemmas::refuses_for))]
 pub fn type_head<A: Allocator + Copy>(alloc: A, fields: &Fields<A>) -> Result<Typed<A>, FaultKind>
@@ -289,7 +289,7 @@ pub fn judge_head<A: Allocator>(fields: Fields<A>) -> Result<GoodHead<A>, FaultK
     Ok(GoodHead { fields, places })
 }
 
-/// The texts of a head that are listed, each empty where it is absent, and whether the record is marked as truncated.
+/// The texts of a head that are listed, each empty if it is absent, and whether the record is marked as truncated.
 #[derive(Clone, Copy)]
 pub struct HeadTexts<'a> {
     pub kind: &'a [u8],
@@ -299,7 +299,7 @@ pub struct HeadTexts<'a> {
     pub is_truncated: bool,
 }
 
-/// The value of the field at a place, where one stands there that isn't empty.
+/// The value of the field at a place, if there is one and it isn't empty.
 fn present_at<A: Allocator>(fields: &Fields<A>, place: usize) -> Option<&Value<A>>
     ensures { option_copied result ≡ option_and_then unless_empty (value_at fields.now place) }
 {
@@ -311,7 +311,7 @@ fn present_at<A: Allocator>(fields: &Fields<A>, place: usize) -> Option<&Value<A
     }
 }
 
-/// The value of the field at a place, empty where none stands there.
+/// The value of the field at a place, empty if there is none.
 fn value_or_empty<A: Allocator>(fields: &Fields<A>, place: usize) -> &[u8]
     ensures { result.now ≡ unwrap_or (value_at fields.now place) [] }
 {
@@ -321,7 +321,7 @@ fn value_or_empty<A: Allocator>(fields: &Fields<A>, place: usize) -> &[u8]
     }
 }
 
-/// The bare text of the field at a place, empty where none stands there.
+/// The bare text of the field at a place, empty if there is none.
 fn bare_or_empty<A: Allocator>(fields: &Fields<A>, place: usize) -> &[u8]
     ensures { result.now ≡ unwrap_or (bare_present (value_at fields.now place)) [] }
 {
@@ -331,7 +331,7 @@ fn bare_or_empty<A: Allocator>(fields: &Fields<A>, place: usize) -> &[u8]
     }
 }
 
-/// A good head: its fields, and where those stand that it is read by again. Contracts see the list of its fields.
+/// A good head: its fields, and the places of those that it is read by again. Contracts see the list of its fields.
 #[derive(Drop)]
 pub struct GoodHead<A: Allocator = Global> {
     fields: Fields<A>,
@@ -359,14 +359,14 @@ impl<A: Allocator> GoodHead<A> {
         &self.fields
     }
 
-    /// Its fields, given back.
+    /// Returns its fields.
     pub fn into_fields(self) -> Fields<A>
         ensures { result ≡ self }
     {
         self.fields
     }
 
-    /// The digest that it wants of its block.
+    /// The digest that it asks for of its block.
     pub fn wanted(&self) -> Wanted
         ensures { result ≡ digest_wanted self.now }
     {
@@ -376,7 +376,7 @@ impl<A: Allocator> GoodHead<A> {
         }
     }
 
-    /// What of it is listed: the values of its type, date and id as they stand, and its target without brackets.
+    /// What of it is listed: the values of its type, date and id as they are written, and its target without brackets.
     pub fn texts(&self) -> HeadTexts<'_>
         ensures kind { result.kind.now ≡ unwrap_or (reading_of self.now).type_text [] }
         ensures date { result.date.now ≡ unwrap_or (reading_of self.now).date_text [] }

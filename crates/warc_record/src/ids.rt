@@ -41,7 +41,7 @@ impl<A: Allocator> Model for IdKey<A> {
 }
 
 impl<A: Allocator> IdKey<A> {
-    /// The key's bytes, by which keys are ordered. No id's text begins as the key of a UUID does.
+    /// The key's bytes, by which keys are ordered. No id's text begins like the key of a UUID.
     pub fn bytes(&self) -> &[u8]
         ensures { result.now ≡ self.now }
     {
@@ -97,7 +97,7 @@ impl<A: Allocator> Ord for IdKey<A> {
     }
 }
 
-/// Whether a bracket stands in the text, `<` or `>`.
+/// Whether a bracket is in the text, `<` or `>`.
 #[tactic(auto, using(crate::proofs::ByteLemmas::bracket_found))]
 fn holds_bracket(text: &[u8]) -> bool
     ensures { result ≡ list_any is_bracket text.now }
@@ -105,7 +105,7 @@ fn holds_bracket(text: &[u8]) -> bool
     memchr2(b'<', b'>', text).is_some()
 }
 
-/// Whether a space or a tab stands in the text.
+/// Whether a space or a tab is in the text.
 #[tactic(auto, using(crate::proofs::ByteLemmas::blank_found))]
 fn holds_blank(text: &[u8]) -> bool
     ensures { result ≡ list_any is_blank text.now }
@@ -113,7 +113,7 @@ fn holds_blank(text: &[u8]) -> bool
     memchr2(b' ', b'\t', text).is_some()
 }
 
-/// Whether the text begins with `<`, ends with `>` and holds no other of the two.
+/// Whether the text begins with `<`, ends with `>` and contains no other of the two.
 fn is_bracketed(text: &[u8]) -> bool
     ensures { result ≡ is_bracketed text.now }
 {
@@ -121,7 +121,7 @@ fn is_bracketed(text: &[u8]) -> bool
     len > 1 && text[0] == b'<' && text[len - 1] == b'>' && !holds_bracket(&text[1..len - 1])
 }
 
-/// The text without a pair of brackets at its ends, where no other bracket stands in it, and then
+/// The text without a pair of brackets at its ends, if no other bracket is in it, and then
 /// without spaces and tabs at its ends.
 #[tactic(auto, unfolding(crate::specs::Ids::bare_text))]
 pub fn bare(text: &[u8]) -> &[u8]
@@ -134,14 +134,14 @@ pub fn bare(text: &[u8]) -> &[u8]
     }
 }
 
-/// Whether a byte stands in the text that no id holds: a bracket, a space or a tab.
+/// Whether a byte is in the text that no id contains: a bracket, a space or a tab.
 fn holds_id_end(text: &[u8]) -> bool
     ensures { result ≡ list_any ends_id text.now }
 {
     holds_bracket(text) || holds_blank(text)
 }
 
-/// Whether a bare text is an id: it isn't empty, and holds no bracket, space or tab.
+/// Whether a bare text is an id: it isn't empty, and contains no bracket, space or tab.
 #[tactic(auto, unfolding(crate::specs::Ids::is_bare_id))]
 pub(crate) fn is_bare_id(bare: &[u8]) -> bool
     ensures { result ≡ is_bare_id bare.now }
@@ -149,7 +149,7 @@ pub(crate) fn is_bare_id(bare: &[u8]) -> bool
     !bare.is_empty() && !holds_id_end(bare)
 }
 
-/// The bytes of the UUID that a text is, behind `urn:uuid:` in any case.
+/// The bytes of the UUID that a text is, after `urn:uuid:` in any case.
 pub fn urn_uuid(text: &[u8]) -> Option<[u8; 16]>
     ensures { result ≡ parsed_urn text.now }
 {
@@ -171,12 +171,12 @@ fn uuid_form<A: Allocator>(uuid: [u8; 16]) -> Form<A>
     Form::Uuid(bytes)
 }
 
-/// The key of the id that a text holds, or `None` where it holds none. Only an id that is no UUID
+/// The key of the id that a text holds, or `None` if it holds none. Only an id that isn't a UUID
 /// takes memory.
 pub fn id_key<A: Allocator>(alloc: A, text: &[u8]) -> Result<Option<IdKey<A>>, AllocError>
     ensures key { IfOk result (λ key. key ≡ id_key text.now) }
 
-    // Memory is refused only for an id that is no UUID.
+    // Memory is refused only for an id that isn't a UUID.
     ensures memory { let bare = bare_text text.now in
         OnErr result ((is_bare_id bare ≡ true) × (parsed_urn bare ≡ None)) }
 {

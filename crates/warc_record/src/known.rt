@@ -38,7 +38,7 @@ pub(crate) enum Known {
 /// How many there are.
 const COUNT: usize = 20;
 
-/// The one name of so many bytes whose eighth letter is this one, in lower case.
+/// The only name of this length whose eighth letter is this one, in lower case.
 fn candidate(len: usize, letter: u8) -> Option<Known>
     ensures { result ≡ known_by len letter }
 {
@@ -85,7 +85,7 @@ fn candidate(len: usize, letter: u8) -> Option<Known>
     }
 }
 
-/// The eighth letter of a text in lower case, or 0 where it is shorter.
+/// The eighth letter of a text in lower case, or 0 if it is shorter.
 fn eighth(text: &[u8]) -> u8
     ensures { result ≡ to_ascii_lowercase (slice_index text.now 7) }
 {
@@ -125,7 +125,7 @@ impl Known {
         }
     }
 
-    /// Its place among them.
+    /// Its place among these names.
     fn place(self) -> usize
         ensures place { result ≡ known_place self }
         ensures within { result < COUNT }
@@ -170,7 +170,7 @@ fn known_as<A: Allocator>(name: &Name<A>) -> Option<Known>
     }
 }
 
-/// Where the fields of a name stand.
+/// The places of the fields of a name.
 #[derive(Clone, Copy)]
 enum Spot {
     Absent,
@@ -181,7 +181,7 @@ enum Spot {
 }
 
 impl Spot {
-    /// The spot of the same name once another field has it, which stands at this place.
+    /// The spot of the same name after another field of it, which is at this place.
     fn next(self, place: usize) -> Spot
         ensures { result ≡ next_spot self place }
     {
@@ -202,7 +202,7 @@ impl Spot {
     }
 }
 
-/// Where the fields stand that a good head is read by again, each the first of its name. That of an absent one is past
+/// The places of the fields that a good head is read by again, the first of each name. An absent one's place is past
 /// the end.
 #[derive(Clone, Copy)]
 pub(crate) struct Places {
@@ -275,7 +275,7 @@ impl<'a, A: Allocator> ByName<'a, A> {
         self.fields.as_slice()
     }
 
-    /// The place of the first field of this name, or the number of fields where there is none.
+    /// The place of the first field of this name, or the number of fields if there is none.
     fn place(&self, known: Known) -> usize
         ensures { value_at self.now result ≡ first_value (known_name known) self.now }
     {
@@ -285,7 +285,7 @@ impl<'a, A: Allocator> ByName<'a, A> {
         }
     }
 
-    /// Where the fields stand that a good head is read by again.
+    /// The places of the fields that a good head is read by again.
     pub(crate) fn places(&self) -> Places
         ensures { ArePlaces self.now result }
     {

@@ -11,7 +11,7 @@ pub fn bare_texts_of_values()
     ensures shorter { BareTextsAreNoLonger }
 {}
 
-/// Two keys are equal exactly where the ids are the same.
+/// Two keys are equal exactly if the ids are the same.
 pub fn keys_are_equal_for_same_ids()
     ensures { KeysAreEqualForSameIds }
 {}
@@ -21,7 +21,7 @@ pub fn keys_are_no_longer()
     ensures { KeysAreNoLonger }
 {}
 
-/// A head is good exactly where no fault is found in it.
+/// A head is good exactly if no fault is found in it.
 pub fn good_heads_have_no_fault()
     ensures { GoodHeadsHaveNoFault }
 {}
@@ -31,7 +31,7 @@ pub fn good_heads_read()
     ensures { GoodHeadsRead }
 {}
 
-/// A finding is listed exactly where what its number stands for holds of the record.
+/// A finding is listed exactly if the sentence of its number holds of the record.
 pub fn listed_where_they_hold()
     ensures { ListedWhereTheyHold }
 {}
@@ -41,7 +41,7 @@ pub fn findings_are_few()
     ensures { FindingsAreFew }
 {}
 
-/// What the findings of a record tell is at most 1,000 bytes longer than its fields.
+/// The findings of a record have at most 1,000 bytes more than its fields.
 pub fn findings_are_short()
     ensures { FindingsAreShort }
 {}

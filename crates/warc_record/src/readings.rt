@@ -12,17 +12,17 @@ use warc_field::{Value, decimal};
 /// The segment number that a head states.
 #[derive(Clone, Copy, Debug, PartialEq, Eq)]
 pub enum SegmentNumber {
-    /// None: the record is whole.
+    /// There is none: the record is whole.
     Absent,
 
     /// A number, at most 2^48.
     Number(u64),
 
-    /// A value that is no such number.
+    /// A value that isn't such a number.
     Bad,
 }
 
-/// The value of the first field of the name, where it isn't empty.
+/// The value of the first field of the name, if it isn't empty.
 pub(crate) fn present<'a, A: Allocator>(fields: &ByName<'a, A>, name: Known) -> Option<&'a Value<A>>
     ensures { option_copied result ≡ present_value (known_name name) fields.now }
 {
@@ -34,7 +34,7 @@ pub(crate) fn present<'a, A: Allocator>(fields: &ByName<'a, A>, name: Known) -> 
     }
 }
 
-/// A copy of the first field's value, where it isn't empty.
+/// A copy of the first field's value, if it isn't empty.
 pub(crate) fn text_in<A: Allocator + Copy>(
     alloc: A,
     fields: &ByName<'_, A>,
@@ -48,7 +48,7 @@ pub(crate) fn text_in<A: Allocator + Copy>(
     }
 }
 
-/// The bare text of the first field's value, where it isn't empty.
+/// The bare text of the first field's value, if it isn't empty.
 #[tactic(auto, using(crate::proofs::ValueLemmas::bare_is_value))]
 pub(crate) fn bare_in<A: Allocator + Copy>(
     alloc: A,

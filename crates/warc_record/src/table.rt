@@ -9,13 +9,13 @@ use crate::types::Kind;
 pub struct FieldRule {
     pub name: &'static str,
 
-    /// The kinds of record in which the field must stand.
+    /// The kinds of record that must have the field.
     pub required: &'static [Kind],
 
-    /// Those in which it must not.
+    /// The kinds that must not have it.
     pub forbidden: &'static [Kind],
 
-    /// Whether it may stand more than once.
+    /// Whether it may occur more than once.
     pub repeats: bool,
 
     /// Its name, as heads are read by it.

@@ -1,16 +1,16 @@
--- The text of a gap, by which the program tells it: this project's own notion.
+-- The text of a gap, as the program prints it: this project's own notion.
 use Rattle.std.specs.Prelude.{ℕ, List, [], ◌++◌, Option, Some, None, codes, decimal}
 use Rattle.warc_segment.specs.declared.fault.JoinFault.{JoinFault}
 use Rattle.warc_segment.specs.declared.fault.JoinFault.TheVariants.{Gap as IsGap, Memory}
 use Rattle.warc_segment.specs.declared.gap.Gap.{Gap}
 use Rattle.warc_segment.specs.declared.gap.Gap.TheVariants.{Repeated, Unfinished, AfterEnd, Absent, Total, Number}
 
--- a number in decimal digits, where there is one
+-- a number in decimal digits, if there is one
 abbrev pub digits_of : Option ℕ → List ℕ
 digits_of None = []
 digits_of (Some number) = decimal number
 
--- its number and name, and the segment's number in decimal digits where it is about one
+-- its number and name, and the segment's number in decimal digits if it is about one
 abbrev pub gap_text : Gap → List ℕ
 gap_text (Repeated number) = codes "G1 Repeated " ++ decimal number
 gap_text Unfinished = codes "G2 Unfinished"

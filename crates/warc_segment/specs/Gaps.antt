@@ -1,4 +1,4 @@
--- What is wrong in a series, and the members that are joined where nothing is. The gaps are this project's own notion;
+-- What is wrong in a series, and the members that are joined if nothing is. The gaps are this project's own notion;
 -- that the last segment alone states a total, the length of all blocks, is ISO 28500:2017, 5.22.
 use Rattle.std.specs.Prelude.{ℕ, ◌+◌, min, Bool, ◌&&◌, ◌==◌, nat_eq, nat_lt, nat_le, List, [], ◌∷◌, map, filter, sum_by, is_some, Option, Some, None, option_map, option_and_then, Result, Ok, Err, if◌then◌else◌}
 use Rattle.std.specs.Option.{option_map_or, option_or, option_eq}
@@ -18,7 +18,7 @@ abbrev pub least : List ℕ → Option ℕ
 least [] = None
 least (k ∷ ks) = lesser (Some k) (least ks)
 
--- the least number that stands at least twice
+-- the least number that occurs at least twice
 abbrev pub least_repeated : List Member → Option ℕ
 least_repeated members = least (filter (λ k. nat_le 2 (count_numbered k members)) (numbers_of members))
 
@@ -44,7 +44,7 @@ has_total n size members =
     option_eq nat_eq (option_and_then (λ m. m.total) (member_numbered members n))
     (Some (size + sum_by (λ m. m.size) (in_order n members)))
 
--- the first gap that fits a series behind a first segment of this length: G1, G2, G3, G4, G5
+-- the first gap that fits a series after a first segment of this length: G1, G2, G3, G4, G5
 abbrev pub absent_or_total : Option ℕ → ℕ → ℕ → List Member → Option Gap
 absent_or_total (Some k) n size members = Some (Absent k)
 absent_or_total None n size members = if has_total n size members then None else Some Total
@@ -66,7 +66,7 @@ unless_gap (Some gap) members = Err gap
 unless_gap None members = Ok (followers members)
 
 -- the members that are joined to a record of this segment number and length, or the gap: a record without a number
--- stands alone, and one with another number than 1 is G6
+-- has no segments, and one with another number than 1 is G6
 abbrev pub joined : SegmentNumber → ℕ → List Member → Result (List Member) Gap
 joined numbers.Absent size members = Ok []
 joined numbers.Bad size members = Err Number

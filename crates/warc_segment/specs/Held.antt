@@ -1,4 +1,4 @@
--- How parts hold what is kept: entries in an order, and beside each the rest. A state of the code.
+-- How parts hold what is kept: entries in an order, and the rest of each in a list. A state of the code.
 use Rattle.std.specs.Prelude.{◌≡◌, ◌⊎◌, ℕ, ◌<◌, ◌≤◌, false, List, [], ◌∷◌, length, map, All, AllPairs, Contains, Some, None, Result, Ok, Err, ⊤}
 use Rattle.std.specs.declared.vec.Vec.{Vec}
 use Rattle.warc_order.specs.Entries.{Entry, entry_at, comes_later}
@@ -64,7 +64,7 @@ pub record IsBehind (e : Entry) (c : Continuation) : Type 0 where
   pub number : c.number ≤ e.mark.minor
   pub position : c.number ≡ e.mark.minor → c.position < e.position
 
--- the entry at i stands behind the series so far, and each with the text that isn't there yet stands not before it
+-- the entry at i comes after the series so far, and each with the text that isn't there yet doesn't come before it
 pub record IsNext (id : List ℕ) (es : List Entry) (series : List Continuation) (i : ℕ) : Type 0 where
   pub within : i < length es
   pub text : (entry_at es i).text ≡ id
@@ -76,7 +76,7 @@ pub record IsNext (id : List ℕ) (es : List Entry) (series : List Continuation)
 abbrev pub IsDone : List ℕ → List Entry → List Continuation → Type 0
 IsDone id es series = (e : Entry) → Contains es e → e.text ≡ id → Contains (positions_of series) e.position
 
--- the parts of so many records
+-- the parts of n records
 abbrev pub held_in : ℕ → List Entry → List TotalAndPlace → Kept
 held_in count es fs = record { count = count; members = side_by_side es fs }
 

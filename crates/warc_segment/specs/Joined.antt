@@ -1,4 +1,4 @@
--- The joined block of a record, and its places in the source: the blocks of its segments, one behind another in the
+-- The joined block of a record, and its places in the source: the blocks of its segments, one after another in the
 -- order of their numbers (ISO 28500:2017, 7), or the first gap.
 use Rattle.std.specs.Prelude.{◌≡◌, ◌⊎◌, ℕ, ◌+◌, ◌≤◌, List, [], ◌∷◌, length, take, drop, map, slice_get, Some, Result, Ok, Err}
 use Rattle.std.specs.List.{filter_map, flat_map}
@@ -9,7 +9,7 @@ use Rattle.warc_segment.specs.declared.place.Place.{Place}
 use Rattle.warc_segment.specs.Series.{Piece, Member, piece_of, series_of}
 use Rattle.warc_segment.specs.Gaps.{joined}
 
--- the own one, and of all of them those at the members' positions
+-- the record's own block, and of all blocks those at the members' positions
 abbrev pub with_members : {X : Type 0} → List X → X → Result (List Member) Gap → Result (List X) Gap
 with_members all own (Ok members) = Ok (own ∷ filter_map (λ m. slice_get all m.position) members)
 with_members all own (Err gap) = Err gap
@@ -22,7 +22,7 @@ pub record ReadRecord : Type 0 where
 abbrev pub piece_read : ReadRecord → Piece
 piece_read r = piece_of r.head (length r.block)
 
--- the record and those whose blocks follow its own, in their order
+-- the record and the records whose blocks follow its own, in their order
 abbrev pub joined_records : List ReadRecord → ReadRecord → Result (List ReadRecord) Gap
 joined_records all r =
     with_members all r (joined r.head.segment.number (length r.block) (series_of r.head.id (map piece_read all)))
@@ -77,26 +77,26 @@ ArePlacesJoined bytes (Err a) (Err b) = a ≡ b
 ArePlacesJoined bytes (Ok places) (Err b) = ⊥
 ArePlacesJoined bytes (Err a) (Ok records) = ⊥
 
--- the bytes at places, one behind another
+-- the bytes at places, one after another
 abbrev pub texts_at : List ℕ → Result (List Place) Gap → Result (List ℕ) Gap
 texts_at bytes (Ok places) = Ok (flat_map (λ p. take p.len (drop p.start bytes)) places)
 texts_at bytes (Err gap) = Err gap
 
--- what is joined as places are the places of the records that are joined
+-- what is joined as places are the places of the joined records
 abbrev pub PlacesAreOfRecords : Type 0
 PlacesAreOfRecords =
     (bytes : List ℕ) (ps : List PlacedRecord) (rs : List ReadRecord) (p : PlacedRecord) (r : ReadRecord)
     → AreStored bytes ps rs → p.head ≡ r.head → IsPlaceOf bytes p.place r
     → ArePlacesJoined bytes (joined_places ps p) (joined_records rs r)
 
--- the bytes at those places, one behind another, are the joined block
+-- the bytes at those places, one after another, are the joined block
 abbrev pub PlacesHoldTheBlock : Type 0
 PlacesHoldTheBlock =
     (bytes : List ℕ) (ps : List PlacedRecord) (rs : List ReadRecord) (p : PlacedRecord) (r : ReadRecord)
     → AreStored bytes ps rs → p.head ≡ r.head → IsPlaceOf bytes p.place r
     → texts_at bytes (joined_places ps p) ≡ joined_block rs r
 
--- a record that is joined stands alone, or the joined block is as long as the total that some record states
+-- a joined record has no segments, or the joined block is as long as the total that some record states
 abbrev pub JoinedHasTotal : Type 0
 JoinedHasTotal =
     (all : List ReadRecord) (r : ReadRecord) (joined : List ReadRecord) → joined_records all r ≡ Ok joined

@@ -8,7 +8,7 @@ use Rattle.warc_record.specs.Kinds.{is_continuation}
 use Rattle.warc_segment.specs.declared.place.Place.{Place}
 use Rattle.warc_segment.specs.Joined.{PlacedRecord}
 
--- a continuation that is in a series: the key of its origin, where it stands, its number, total and place
+-- a continuation that is in a series: the key of its origin, its position, its number, total and place
 pub record KeptMember : Type 0 where
   pub origin : List ℕ
   pub position : ℕ

@@ -1,4 +1,4 @@
--- What the code keeps of a series whose members stand in the order of their numbers: a state of the code.
+-- What the code keeps of a series whose members are in the order of their numbers: a state of the code.
 use Rattle.std.specs.Prelude.{◌≡◌, ◌≢◌, ℕ, ◌+◌, ◌<◌, ◌≤◌, List, length, map, slice_index, Some, None, slice_get}
 use Rattle.warc_segment.specs.declared.series.Continuation.{Continuation}
 use Rattle.warc_segment.specs.Series.{Member, numbers_of}

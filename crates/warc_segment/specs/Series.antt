@@ -9,7 +9,7 @@ use Rattle.warc_record.specs.Kinds.{is_continuation}
 use Rattle.warc_record.specs.Readings.{SegmentReading, Reading}
 use Rattle.warc_record.specs.Texts.{is_same_text}
 
--- what a record is joined by, and the length of its block
+-- what joins a record, and the length of its block
 pub record Piece : Type 0 where
   pub kind : Kind
   pub segment : SegmentReading
@@ -18,7 +18,7 @@ pub record Piece : Type 0 where
 abbrev pub piece_of : Reading → ℕ → Piece
 piece_of head size = record { kind = head.kind; segment = head.segment; size = size }
 
--- a continuation in its series: where it stands, its number, the total if it states one, and the length of its block
+-- a continuation in its series: its position, its number, the total if it states one, and the length of its block
 pub record Member : Type 0 where
   pub position : ℕ
   pub number : ℕ
@@ -41,7 +41,7 @@ member_of id at =
     then numbered at.0 at.1 at.1.segment.number
     else None
 
--- the series of the record with the id, among all records, whatever their order
+-- the series of the record with the id, among all records, in any order
 abbrev pub series_of : Option (List ℕ) → List Piece → List Member
 series_of id pieces = filter_map (member_of id) (enumerate_from 0 pieces)
 

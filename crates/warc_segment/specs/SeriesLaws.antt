@@ -8,7 +8,7 @@ pub record IsLeastAbsent (n : ℕ) (members : List Member) (k : ℕ) : Type 0 wh
   pub absent : IsTrue (is_absent n members k)
   pub first : (j : ℕ) → j < k → IsFalse (is_absent n members j)
 
--- the least absent number is that one; where there is none, each of 2 to n is there
+-- the least absent number is that one; if there is none, each of 2 to n is there
 abbrev pub LeastAbsentIsFirst : Type 0
 LeastAbsentIsFirst =
     (n : ℕ) (members : List Member)
@@ -20,7 +20,7 @@ pub record AreInOrder (n : ℕ) (members followers : List Member) : Type 0 where
   pub count : length followers ≡ n - 1
   pub each : (i : ℕ) (m : Member) → slice_get followers i ≡ Some m → member_numbered members (i + 2) ≡ Some m
 
--- where no number is absent, the members in order are those, and the only ones that are
+-- if no number is absent, the members in order are those, and the only ones that are
 abbrev pub InOrderIsEach : Type 0
 InOrderIsEach =
     (n : ℕ) (members : List Member)

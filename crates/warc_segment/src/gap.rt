@@ -9,13 +9,13 @@ use thiserror::Error;
 /// their order.
 #[derive(Clone, Copy, Debug, PartialEq, Eq, Error)]
 pub enum Gap {
-    /// G1: this number stands at least twice.
+    /// G1: this number occurs at least twice.
     Repeated(u64),
 
     /// G2: no segment states a total.
     Unfinished,
 
-    /// G3: this number stands behind the last segment, which is the least that states a total.
+    /// G3: this number comes after the last segment, which is the least that states a total.
     AfterEnd(u64),
 
     /// G4: this number isn't there.
@@ -29,8 +29,8 @@ pub enum Gap {
 }
 
 impl Gap {
-    /// Its number and name, in at most 13 bytes, and the number of the segment that it is about, if it is about one:
-    /// one behind the other its text.
+    /// Its number and name, in at most 13 bytes, and the number of the segment that it is about, if it is about one.
+    /// One after another they are its text.
     pub fn parts(self) -> (&'static str, Option<u64>)
         ensures text { result.0.now ++ digits_of result.1 ≡ gap_text self }
         ensures short { length result.0.now ≤ 13 }

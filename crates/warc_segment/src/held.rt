@@ -1,4 +1,4 @@
-//! What parts hold of the continuations: an order by origin and number, and the rest beside it.
+//! What parts hold of the continuations: an order by origin and number, and the rest in a list.
 ghost use Rattle.std.specs.Prelude.{◌≡◌, ℕ, ◌+◌, ◌<◌, [], ◌∷◌, ◌++◌, length, map, ◌≤◌, OnOk, OnErr, IfOk, IfSome, IsSome, Some, option_map, slice_get};
 ghost use Rattle.std.specs.Option.{option_to_list};
 ghost use Rattle.warc_record.specs.Seen.{said};
@@ -29,7 +29,7 @@ struct Membership<'a> {
     number: u64,
 }
 
-/// The series that a record is in, where it is in one.
+/// The series that a record is in, if it is in one.
 fn find_membership<A: Allocator>(typed: &Typed<A>) -> Option<Membership<'_>>
     ensures numbered { IfSome result (λ m. 2 ≤ m.number) }
     ensures kept { (p : ℕ) (place : GhostPlace) → kept_of (p, record { head = said typed.now; place = place })

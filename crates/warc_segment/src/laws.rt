@@ -7,22 +7,22 @@ pub fn least_absent_is_first()
     ensures { LeastAbsentIsFirst }
 {}
 
-/// Where no number is absent, the segments in order are those numbered 2 to n, one of each.
+/// If no number is absent, the segments in order are those numbered 2 to n, one of each.
 pub fn in_order_is_each()
     ensures { InOrderIsEach }
 {}
 
-/// What is joined as places are the places of the records that are joined, or there is the same gap.
+/// What is joined as places are the places of the joined records, or there is the same gap.
 pub fn places_are_of_records()
     ensures { PlacesAreOfRecords }
 {}
 
-/// The bytes at those places, one behind another, are the joined block.
+/// The bytes at those places, one after another, are the joined block.
 pub fn places_hold_the_block()
     ensures { PlacesHoldTheBlock }
 {}
 
-/// A joined block is its record's own alone, or as long as the total that the last of its segments states.
+/// A joined block is its record's own, or as long as the total that the last of its segments states.
 pub fn joined_has_total()
     ensures { JoinedHasTotal }
 {}

@@ -1,5 +1,5 @@
 //! Records whose blocks were cut into segments: which segments belong to a record, what is missing
-//! among them, and where the parts of the joined block stand in the source.
+//! among them, and where the parts of the joined block are in the source.
 #![tactic(auto)]
 
 mod fault;

@@ -15,7 +15,7 @@ use std::marker::Model;
 use warc_order::Order;
 use warc_record::{SegmentNumber, Typed};
 
-/// What joins the segmented records of an archive. It keeps the continuations alone: of each the key of its origin, its
+/// What joins the segmented records of an archive. It keeps only the continuations: for each the key of its origin, its
 /// number, total and place. Contracts see how many records were added and what is kept of them.
 #[derive(Drop)]
 pub struct Parts<A: Allocator = Global> {
@@ -53,7 +53,7 @@ fn whole_series<A: Allocator + Copy>(
     }
 }
 
-/// The places of a record and of the segments behind it.
+/// The places of a record and of the segments after it.
 fn places_of<A: Allocator + Copy>(
     alloc: A,
     place: Place,
@@ -81,14 +81,14 @@ impl<A: Allocator + Copy> Parts<A> {
         }
     }
 
-    /// Adds the next record of the archive, whatever its kind. Only a continuation with an origin and a number of at
-    /// least 2 takes memory; where that is refused nothing changes. One that stands behind 2^32 records is refused too.
+    /// Adds the next record of the archive, of any kind. Only a continuation with an origin and a number of at
+    /// least 2 takes memory; if that is refused, nothing changes. One that comes after 2^32 records is refused too.
     pub fn add(&mut self, typed: &Typed<A>, place: Place) -> Result<(), AllocError>
         ensures ok { (all : List PlacedRecord) → self.old ≡ kept_in all
             → OnOk result (self.new ≡ kept_in (all ++ record { head = said typed.now; place = place } ∷ [])) }
         ensures err { OnErr result (self.new ≡ self.old) }
 
-        // A record that is in no series is refused only where 2^64 - 1 records were added before.
+        // A record that is in no series is refused only if 2^64 - 1 records were added before.
         ensures needed { let added : PlacedRecord = record { head = said typed.now; place = place } in
             OnErr result (IsSome (kept_of (self.old.count, added)) ⊎ (2 ^ 64 ≤ self.old.count + 1)) }
     {
@@ -112,16 +112,16 @@ impl<A: Allocator + Copy> Parts<A> {
         }
     }
 
-    /// How many bytes the keys of the origins have that it holds.
+    /// The number of bytes of the keys of the origins that it holds.
     pub fn kept(&self) -> u64
         ensures { result ≡ sum_by (λ m. length m.origin) self.now.members }
     {
         self.order.kept()
     }
 
-    /// The places in the source whose bytes, one behind another, are the joined block of a record: its own, and those
-    /// of its segments in the order of their numbers. A record without a number stands alone. `Gap`: the segments
-    /// don't join, for the first reason that fits. Time and memory grow with the number of segments alone.
+    /// The places in the source whose bytes, one after another, are the joined block of a record: its own, and those
+    /// of its segments in the order of their numbers. A record without a number has no segments. `Gap`: the segments
+    /// don't join, for the first reason that fits. Time and memory grow only with the number of segments.
     pub fn join(&self, typed: &Typed<A>, place: Place) -> Result<Vec<Place, A>, JoinFault>
         ensures { (all : List PlacedRecord) → self.now ≡ kept_in all
             → IsJoin result (joined_places all (record { head = said typed.now; place = place })) }

@@ -1,4 +1,4 @@
-//! Where a block stands.
+//! Where a block is.
 use warc_value::Verdict;
 
 /// A record's block in its source, and what was found of it when it was read.
@@ -10,7 +10,7 @@ pub struct Place {
     /// Its length in bytes.
     pub len: u64,
 
-    /// How it compares with the digest that its head wants.
+    /// How it compares with the digest that its head asks for.
     pub verdict: Verdict,
 
     /// Whether its record is marked as truncated.

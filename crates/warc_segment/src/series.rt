@@ -1,4 +1,4 @@
-//! A series whose segments stand in the order of their numbers: its first gap.
+//! A series whose segments are in the order of their numbers: its first gap.
 ghost use Rattle.std.specs.Prelude.{◌≡◌, ◌≤◌, ◌+◌, ◌-◌, ◌==◌, ◌<◌, ℕ, Some, length, sum_by, slice_index, MatchOption, IfNone};
 ghost use Rattle.warc_segment.specs.Gaps.{least_repeated, least_absent, gap_of, followers};
 ghost use Rattle.warc_segment.specs.Ordered.{members_of, numbers_in, AreOrdered, Rises, CountsUp, NoTotal, IsEnd};
@@ -27,7 +27,7 @@ struct End {
     total: u64,
 }
 
-/// The first number that stands twice.
+/// The first number that occurs twice.
 fn repeated(series: &[Continuation]) -> Option<u64>
     requires { AreOrdered (numbers_in series.now) }
     ensures value { result ≡ least_repeated (members_of series.now) }
@@ -73,7 +73,7 @@ fn absent(series: &[Continuation]) -> Option<u64>
     None
 }
 
-/// Whether a total is the sum of the lengths of the first block and of those behind it.
+/// Whether a total is the sum of the lengths of the first block and of the blocks after it.
 fn is_sum(total: u64, size: u64, series: &[Continuation]) -> bool
     ensures { result ≡ (total == size + sum_by (λ m. m.size) (members_of series.now)) }
 {
@@ -88,7 +88,7 @@ fn is_sum(total: u64, size: u64, series: &[Continuation]) -> bool
     left == size
 }
 
-/// The first gap of a series behind a first segment of this length.
+/// The first gap of a series after a first segment of this length.
 pub(crate) fn find_gap(size: u64, series: &[Continuation]) -> Option<Gap>
     requires { AreOrdered (numbers_in series.now) }
     ensures gap { result ≡ gap_of size (members_of series.now) }

@@ -1,5 +1,5 @@
-//! Sources over bytes that come once, in order, as those of a pipe; sources whose reads are watched; and sources that
-//! are read through a window.
+//! Sources over bytes that come once, in order, as the bytes of a pipe do; sources whose reads are watched; and sources
+//! that are read through a window.
 #![tactic(auto)]
 
 mod stream;

@@ -7,7 +7,7 @@ use std::io::Read;
 use std::marker::Model;
 use warc_frame::{ReadFault, Source, raise};
 
-/// A reader whose bytes come once, in order, as those of a pipe. A read at another offset than that of its next byte
+/// A reader whose bytes come once, in order, as the bytes of a pipe do. A read at an offset other than its next byte's
 /// fails. Nothing is known of its bytes.
 #[derive(Drop)]
 pub struct StreamSource<R> {
@@ -54,14 +54,14 @@ impl<R: Read> StreamSource<R> {
         }
     }
 
-    /// Returns the reader, which is behind the bytes that were given.
+    /// Returns the reader, which is after the bytes that were given.
     pub fn into_inner(self) -> R
         ensures { result ≡ self.reader }
     {
         self.reader
     }
 
-    /// Reads the next bytes, where those are asked for. Any error of the reader is a failure.
+    /// Reads the next bytes, if those are asked for. Any error of the reader is a failure.
     fn read_next(&mut self, at: u64, buf: &mut [u8]) -> Result<usize, ReadFault>
         ensures bound { IfOk result (λ n. n ≤ length buf.new) }
         ensures next { GivesNext at self.old.position self.new.position (R.remaining self.old.reader)

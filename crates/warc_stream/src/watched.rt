@@ -1,4 +1,4 @@
-//! A source whose reads are watched, as by what shows how far they are.
+//! A source whose reads are watched, for example to show progress.
 ghost use Rattle.std.specs.Prelude.{◌≡◌};
 
 use warc_frame::{ReadFault, Source};
@@ -28,7 +28,7 @@ impl<'a, S: Source, W: Watcher> WatchedSource<'a, S, W> {
 impl<'a, S: Source, W: Watcher> Source for WatchedSource<'a, S, W> {
     ghost seen = { λ w. S.seen w.source };
 
-    /// It answers what the source answers.
+    /// It returns what the source returns.
     fn read_at(&mut self, at: u64, buf: &mut [u8]) -> Result<usize, ReadFault> {
         let answer = self.source.read_at(at, buf);
         if let Ok(n) = answer {

@@ -13,9 +13,9 @@ use warc_frame::{ReadFault, Source, raise};
 /// How many bytes a window asks for at once.
 const WINDOW: usize = 65_536;
 
-/// A source that is read through a window: it keeps the last piece that it read, and answers from that each read which
+/// A source that is read through a window: it keeps the last piece that it read, and answers from it each read that
 /// begins there. Any other read asks the source once: a short one for a new piece, and one of 65,536 bytes or more for
-/// these alone. Where there is no memory for a piece, none is kept.
+/// these alone. If there is no memory for a piece, none is kept.
 #[derive(Drop)]
 pub struct WindowSource<S: Source, A: Allocator = Global> {
     source: S,
@@ -46,7 +46,7 @@ impl<S: Source, A: Allocator> Model for WindowSource<S, A> {
         × IfHeld (S.seen w.source).holds (λ bytes. IsPieceOf bytes w.from (take w.len w.buffer.items)) };
 }
 
-/// Copies the front of the bytes into that of the buffer, as much as both allow, and returns how much that is.
+/// Copies the beginning of the bytes into the buffer, as much as both allow, and returns how much that is.
 fn copy_front(bytes: &[u8], buf: &mut [u8]) -> usize
     ensures front { IsCopiedFront bytes.now buf.old buf.new result }
     ensures len { length buf.new ≡ length buf.old }
@@ -78,7 +78,7 @@ impl<S: Source, A: Allocator + Copy> WindowSource<S, A> {
         }
     }
 
-    /// Gives the source back.
+    /// Returns the source.
     pub fn into_inner(self) -> S
         ensures { result ≡ self.source }
     {
@@ -144,8 +144,8 @@ impl<S: Source, A: Allocator + Copy> Source for WindowSource<S, A> {
       jumps = 0;
     } };
 
-    /// A read that begins in the piece is answered from it. Any other asks the source once, at its offset: where the
-    /// buffer is shorter than the window, for a new piece.
+    /// A read that begins in the piece is answered from it. Any other asks the source once, at its offset: for a new
+    /// piece if the buffer is shorter than the window.
     fn read_at(&mut self, at: u64, buf: &mut [u8]) -> Result<usize, ReadFault>
         ensures bound { IfOk result (λ n. n ≤ length buf.new) }
         ensures bytes { (bytes : List ℕ) → (S.seen self.old.source).holds ≡ Some bytes

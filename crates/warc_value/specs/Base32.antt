@@ -22,26 +22,26 @@ unfoldable pub eights : List ℕ → List (List ℕ)
 eights (a ∷ b ∷ c ∷ d ∷ e ∷ f ∷ g ∷ h ∷ bits) = (a ∷ b ∷ c ∷ d ∷ e ∷ f ∷ g ∷ h ∷ []) ∷ eights bits
 eights _ = []
 
--- the characters that stand for 0 to 31
+-- the characters that mean 0 to 31
 abbrev pub alphabet : List ℕ
 alphabet = codes "ABCDEFGHIJKLMNOPQRSTUVWXYZ234567"
 
--- the character that stands for a number
+-- the character that means a number
 unfoldable pub symbol_of : ℕ → ℕ
 symbol_of n = slice_index alphabet n
 
--- the number that a character stands for, in either case
+-- the number that a character means, in either case
 unfoldable pub symbol_value : ℕ → Option ℕ
 symbol_value c = position (λ symbol. symbol == to_ascii_uppercase c) alphabet
 
 abbrev pub is_symbol : ℕ → Bool
 is_symbol c = is_some (symbol_value c)
 
--- the text of bytes, of which there are a multiple of five: their bits, five a character
+-- the text of bytes, whose number is a multiple of five: their bits, five a character
 unfoldable pub base32_of : List ℕ → List ℕ
 base32_of bytes = map (λ five. symbol_of (number_of_bits five)) (fives (flat_map (bits_of 8) bytes))
 
--- the bytes of characters, of which there are a multiple of eight: their bits, eight a byte
+-- the bytes of characters, whose number is a multiple of eight: their bits, eight a byte
 unfoldable pub bytes_of : List ℕ → List ℕ
 bytes_of text = map number_of_bits (eights (flat_map (λ c. bits_of 5 (unwrap_or (symbol_value c) 0)) text))
 

@@ -21,7 +21,7 @@ instant_cmp a b = ordering_then (nat_cmp a.0 b.0) (nat_cmp a.1 b.1)
 abbrev pub is_before : Instant → Instant → Bool
 is_before a b = nat_lt a.0 b.0 || (a.0 == b.0 && nat_lt a.1 b.1)
 
--- the forms: each of the letters YMDhmsf stands for one decimal digit, any other character for itself; a fraction of a
+-- the forms: each of the letters YMDhmsf means one decimal digit, any other character itself; a fraction of a
 -- second has one to nine digits
 unfoldable pub forms : List (List ℕ)
 forms =
@@ -41,7 +41,7 @@ forms =
     ∷ codes "YYYY-MM-DDThh:mm:ss.fffffffffZ"
     ∷ []
 
--- whether a byte may stand where a form has this character
+-- whether a byte may be where a form has this character
 abbrev pub fits_place : ℕ → ℕ → Bool
 fits_place place byte =
     if list_any (λ letter. letter == place) (codes "YMDhmsf") then is_ascii_digit byte else byte == place
@@ -54,7 +54,7 @@ fits form text = (length text == length form) && list_all (λ (pair : ℕ × ℕ
 abbrev pub is_form_length : ℕ → Bool
 is_form_length n = list_any (λ form. length form == n) forms
 
--- the digits of a text that stand where its form has a letter
+-- the digits of a text that are where its form has a letter
 abbrev pub digits_at : ℕ → List ℕ → List ℕ → List ℕ
 digits_at letter form text =
     map (λ (pair : ℕ × ℕ). pair.1) (filter (λ (pair : ℕ × ℕ). pair.0 == letter) (zip form text))
@@ -63,7 +63,7 @@ digits_at letter form text =
 abbrev pub number_or : ℕ → List ℕ → ℕ
 number_or first digits = if length digits == 0 then first else digits_value 10 digits
 
--- what a text says that has this form: a shorter form names its first instant, and n digits of a fraction are units of
+-- what a text of this form says: a shorter form names its first instant, and n digits of a fraction are units of
 -- 10 ^ (9 - n) nanoseconds
 unfoldable pub date_in : List ℕ → List ℕ → Date
 date_in text form = record {
@@ -98,6 +98,6 @@ instant_if_valid date = if is_day date && is_time date then Some (day_number dat
 unfoldable pub date_of : List ℕ → Option Date
 date_of text = option_map (date_in text) (find (λ form. fits form text) forms)
 
--- the instant of a date; none where the text has none of the forms or the calendar no such day or time
+-- the instant of a date; none if the text has none of the forms or the calendar no such day or time
 unfoldable pub instant_of : List ℕ → Option Instant
 instant_of text = option_and_then instant_if_valid (date_of text)

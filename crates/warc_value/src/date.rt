@@ -8,7 +8,7 @@ ghost use Rattle.warc_value.specs.Dates.{fits_place, is_form_length, number_or, 
 use crate::moment::Moment;
 use jiff::civil;
 
-/// A calendar day and a time of that day, as a text states them, also where the calendar has no such day.
+/// A calendar day and a time of that day, as a text states them, even if the calendar has no such day.
 #[derive(Clone, Copy)]
 struct Date {
     year: u16,
@@ -20,14 +20,14 @@ struct Date {
     nanosecond: u32,
 }
 
-/// The least byte of each place of the longest form without its `Z`. Every other form is a front of it, with a `Z`
-/// behind a time.
+/// The least byte at each place of the longest form without its `Z`. Every other form is a beginning of it, with a `Z`
+/// after a time.
 const LEAST: [u8; 29] = *b"0000-00-00T00:00:00.000000000";
 
-/// The greatest byte of each of these places.
+/// The greatest byte at each of these places.
 const GREATEST: [u8; 29] = *b"9999-99-99T99:99:99.999999999";
 
-/// Whether bytes may stand in the first of these places. The loop has no way out before its end, so that the compiler
+/// Whether bytes may be at the first of these places. The loop has no way out before its end, so that the compiler
 /// takes sixteen bytes at a time.
 fn fit_places(bytes: &[u8]) -> bool
     requires { length bytes.now ≤ 29 }
@@ -41,7 +41,7 @@ fn fit_places(bytes: &[u8]) -> bool
     fit
 }
 
-/// Whether some form has so many characters.
+/// Whether some form has n characters.
 fn has_form_length(length: usize) -> bool
     ensures value { result ≡ is_form_length length }
     ensures few { result ≡ true → length ≤ 30 }
@@ -77,7 +77,7 @@ fn number(digits: &[u8]) -> u32
     number
 }
 
-/// The two digits from a place on, or the first number of their kind where the text ends before them.
+/// The two digits from a place on, or the first number of their kind if the text ends before them.
 fn two_digits(text: &[u8], from: usize, first: u8) -> u8
     requires inside { from < length text.now → from + 2 ≤ length text.now }
     requires digits { from < length text.now → list_all is_ascii_digit (take 2 (drop from text.now)) ≡ true }
@@ -91,7 +91,7 @@ fn two_digits(text: &[u8], from: usize, first: u8) -> u8
     }
 }
 
-/// The fraction of a second that stands before the `Z`, in nanoseconds; 0 where there is none.
+/// The fraction of a second before the `Z`, in nanoseconds; 0 if there is none.
 fn nanosecond(text: &[u8]) -> u32
     requires few { length text.now ≤ 30 }
     requires digits { list_all is_ascii_digit (take (length text.now - 1 - 20) (drop 20 text.now)) ≡ true }
@@ -105,7 +105,7 @@ fn nanosecond(text: &[u8]) -> u32
     number(fraction) * 10u32.pow(9 - fraction.len() as u32)
 }
 
-/// What a text of one of the forms says, also where the calendar has no such day.
+/// What a text of one of the forms says, even if the calendar has no such day.
 fn stated(text: &[u8]) -> Option<Date>
     ensures date { result ≡ date_of text.now }
     ensures year { IfSome result (λ date. date.year ≤ 9999) }
@@ -124,7 +124,7 @@ fn stated(text: &[u8]) -> Option<Date>
     })
 }
 
-/// The days from 1 January of the year -9999, where the calendar of `jiff` begins, to a day that the calendar has.
+/// The days from 1 January of the year -9999, where the calendar of `jiff` begins, to a day in the calendar.
 fn days_since_first(year: u16, month: u8, day: u8) -> Option<u32>
     requires { year ≤ 9999 }
     ensures civil { IsSome result ↔ IsCivilDate (pos year) month day }
@@ -161,7 +161,7 @@ fn time_of(date: &Date) -> Option<u64>
 }
 
 /// The first instant of a date: `YYYY`, `YYYY-MM`, `YYYY-MM-DD`, `YYYY-MM-DDThh:mmZ`, `YYYY-MM-DDThh:mm:ssZ` or the
-/// last with a fraction of one to nine digits behind its seconds (ISO 28500:2017, 5.4; the W3C note on date and time
+/// last with a fraction of one to nine digits after its seconds (ISO 28500:2017, 5.4; the W3C note on date and time
 /// formats). None for any other text, for a day that the Gregorian calendar doesn't have, for an hour 24 and for a
 /// second 60.
 #[tactic(auto, unfolding(crate::specs::Dates::instant_of))]

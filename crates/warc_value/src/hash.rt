@@ -12,7 +12,7 @@ use warc_field::Value;
 pub enum Wanted {
     /// The twenty bytes of its SHA-1.
     Sha1([u8; 20]),
-    /// Nothing is wanted that could be checked.
+    /// No digest that can be checked.
     Unchecked,
 }
 

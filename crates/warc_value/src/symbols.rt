@@ -2,10 +2,10 @@ ghost use Rattle.std.specs.Prelude.{◌≡◌, ◌<◌, ◌≤◌, length, unwra
 ghost use Rattle.std.specs.List.{list_all, flat_map};
 ghost use Rattle.warc_value.specs.Base32.{bits_of, number_of_bits, symbol_of, symbol_value, is_symbol, base32_of, decoded_of, unbase32_of};
 
-/// The characters that stand for 0 to 31.
+/// The characters that mean 0 to 31.
 const SYMBOLS: [u8; 32] = *b"ABCDEFGHIJKLMNOPQRSTUVWXYZ234567";
 
-/// The character that stands for five bits.
+/// The character that means five bits.
 #[tactic(auto, unfolding(crate::specs::Base32::symbol_of))]
 fn symbol(bits: u8) -> u8
     requires { bits < 32 }
@@ -14,10 +14,10 @@ fn symbol(bits: u8) -> u8
     SYMBOLS[bits as usize]
 }
 
-/// What the table has for a byte that stands for nothing: 2^20, more than any four characters write.
+/// What the table has for a byte that means nothing: 2^20, more than any four characters write.
 const NONE: u32 = 1_048_576;
 
-/// The five bits that each byte stands for in either case, or `NONE`.
+/// The five bits that each byte means in either case, or `NONE`.
 const VALUES: [u32; 256] = [
     NONE, NONE, NONE, NONE, NONE, NONE, NONE, NONE, NONE, NONE, NONE, NONE, NONE, NONE, NONE, NONE,
     NONE, NONE, NONE, NONE, NONE, NONE, NONE, NONE, NONE, NONE, NONE, NONE, NONE, NONE, NONE, NONE,
@@ -36,7 +36,7 @@ const VALUES: [u32; 256] = [
     NONE, NONE, NONE, NONE, NONE, NONE, NONE, NONE, NONE, NONE,
 ];
 
-/// The five bits that a character stands for, or `NONE`.
+/// The five bits that a character means, or `NONE`.
 fn value(symbol: u8) -> u64
     ensures value { result ≡ unwrap_or (symbol_value symbol) 1_048_576 }
     ensures most { result ≤ 1_048_576 }
@@ -75,7 +75,7 @@ pub fn base32(bytes: &[u8; 20]) -> [u8; 32]
     text
 }
 
-/// The twenty bits that four characters write, unless one stands for nothing.
+/// The twenty bits that four characters write, unless one means nothing.
 fn twenty_bits(symbols: &[u8]) -> Option<u64>
     requires { length symbols.now ≡ 4 }
     ensures bits { result ≡ (if list_all is_symbol symbols.now
@@ -88,7 +88,7 @@ fn twenty_bits(symbols: &[u8]) -> Option<u64>
     if bits < NONE as u64 { Some(bits) } else { None }
 }
 
-/// Writes the five bytes that eight characters write, unless one stands for nothing.
+/// Writes the five bytes that eight characters write, unless one means nothing.
 fn decode_group(symbols: &[u8], bytes: &mut [u8]) -> Option<()>
     requires symbols { length symbols.now ≡ 8 }
     requires bytes { length bytes.old ≡ 5 }

@@ -8,7 +8,7 @@ use std::alloc::{Allocator, Global};
 use std::marker::Model;
 use warc_frame::{MemSink, MemSource, ReadFault, Sink, Source, WriteFault, is_failed, raise};
 
-/// A source in memory whose read of that number fails, counted from 1. Else it is a `MemSource`.
+/// A source in memory whose n-th read fails, counted from 1. Otherwise it is a `MemSource`.
 #[derive(Drop)]
 pub struct BrokenSource<A: Allocator = Global> {
     inner: MemSource<A>,
@@ -81,7 +81,7 @@ impl<A: Allocator> Source for BrokenSource<A> {
     }
 }
 
-/// A source in memory that gives other bytes from the read of that number on, counted from 1.
+/// A source in memory that gives other bytes from its n-th read on, counted from 1.
 /// So nothing is known of what it holds.
 #[derive(Drop)]
 pub struct ChangingSource<A: Allocator = Global> {
@@ -169,11 +169,11 @@ pub enum Break {
     /// This write fails.
     Fails,
 
-    /// This write and each later one takes at most so many bytes.
+    /// This write and each later one takes at most n bytes.
     Takes(usize),
 }
 
-/// A sink in memory that breaks at the write of that number, counted from 1.
+/// A sink in memory that breaks at its n-th write, counted from 1.
 #[derive(Drop)]
 pub struct BrokenWriter<A: Allocator = Global> {
     inner: MemSink<A>,
@@ -206,7 +206,7 @@ impl<A: Allocator> BrokenWriter<A> {
         }
     }
 
-    /// The same writer, of which each write takes at most so many bytes.
+    /// The same writer, of which each write takes at most n bytes.
     pub fn taking(self, most: usize) -> BrokenWriter<A>
         ensures { result ≡ self }
     {

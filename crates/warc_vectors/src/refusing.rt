@@ -9,7 +9,7 @@ use std::cell::Cell;
 pub struct RefusingAllocator<B: Allocator> {
     inner: B,
 
-    /// How many requests come up to the refused one, with that one; 0 where none will be refused.
+    /// The number of requests up to the refused one, with that one; 0 if none will be refused.
     left: Cell<u64>,
 }
 
@@ -17,7 +17,7 @@ pub struct RefusingAllocator<B: Allocator> {
 pub type Heap<'a> = &'a RefusingAllocator<Global>;
 
 impl<B: Allocator> RefusingAllocator<B> {
-    /// Refuses the request of that number, counted from 1; at 0 it refuses none.
+    /// Refuses the n-th request, counted from 1; at 0 it refuses none.
     pub fn new(inner: B, number: u64) -> RefusingAllocator<B>
         ensures { result.inner ≡ inner }
     {
@@ -27,7 +27,7 @@ impl<B: Allocator> RefusingAllocator<B> {
         }
     }
 
-    /// Whether the request of that number has come and was refused, or there was none to refuse.
+    /// Whether that request has come and was refused, or there was none to refuse.
     /// No contract can say what a cell holds.
     pub fn has_refused(&self) -> bool {
         self.left.get() == 0

@@ -1,4 +1,4 @@
--- A record of WARC 1.0 written anew as one of WARC 1.1: of its targets, which 1.0 writes between < and > and
+-- A record of WARC 1.0 rewritten as one of WARC 1.1: of its targets, which 1.0 writes between < and > and
 -- 1.1 without, the bare texts stay (ISO 28500:2017, 5.14). All else stays as it is.
 use Rattle.std.specs.Prelude.{◌≡◌, List, map, codes, if◌then◌else◌}
 use Rattle.warc_field.specs.Text.{same, AreFields}
@@ -19,7 +19,7 @@ converted_fields fields = map converted_field fields
 unfoldable pub converted : Record → Record
 converted r = record { version = V1_1; fields = converted_fields r.fields; block = r.block }
 
--- converted twice is converted once
+-- converting twice gives what converting once gives
 abbrev pub ConversionIsIdempotent : Type 0
 ConversionIsIdempotent = (r : Record) → AreFields r.fields → converted (converted r) ≡ converted r
 
@@ -27,6 +27,6 @@ ConversionIsIdempotent = (r : Record) → AreFields r.fields → converted (conv
 abbrev pub ConvertedStaysGood : Type 0
 ConvertedStaysGood = (r : Record) → IsGood r → IsGood (converted r)
 
--- a converted head says what it said
+-- a converted head says what it said before
 abbrev pub ConvertedSaysTheSame : Type 0
 ConvertedSaysTheSame = (r : Record) → AreFields r.fields → reading_of (converted r).fields ≡ reading_of r.fields

@@ -1,4 +1,4 @@
--- That split records join again (ISO 28500:2017, 7: the block of a segmented record is that of its segments, joined).
+-- That split records join again (ISO 28500:2017, 7: the block of a segmented record is its segments' blocks, joined).
 use Rattle.std.specs.Prelude.{◌≡◌, ℕ, false, List, [], ◌∷◌, map, Ok}
 use Rattle.std.specs.List.{AllByRecursion}
 use Rattle.warc_frame.specs.Record.{Record}
@@ -17,7 +17,7 @@ abbrev pub JoinsTo : List ℕ → List Record → Type 0
 JoinsTo block [] = ⊥
 JoinsTo block (first ∷ more) = joined_block (map read_of (first ∷ more)) (read_of first) ≡ Ok block
 
--- no record's block has another digest than it states
+-- no record's block has another digest than the one that it states
 abbrev pub NoBadDigest : List Record → Type 0
 NoBadDigest records = AllByRecursion (λ r. has_bad_digest r ≡ false) records
 

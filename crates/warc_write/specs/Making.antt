@@ -1,4 +1,4 @@
--- Records that are made anew (ISO 28500:2017, 6.3, 6.6 and 6.8: resource, metadata and conversion records).
+-- New records (ISO 28500:2017, 6.3, 6.6 and 6.8: resource, metadata and conversion records).
 -- Which fields they have, their order, and the refusals are this project's own.
 use Rattle.std.specs.Prelude.{◌≡◌, ⊤, ℕ, Bool, not, ◌&&◌, ◌==◌, nat_le, List, [], ◌∷◌, length, codes, decimal}
 use Rattle.std.specs.Prelude.{Option, Some, None, Result, Ok, Err, if◌then◌else◌}
@@ -82,7 +82,7 @@ made plan = do
   _ ← checks (is_block plan.block) TooLong
   fitted (made_fields type uuid plan) plan.block
 
--- what a call answered is that, unless memory ran out
+-- what a call returned is that, unless memory ran out
 abbrev pub Makes : Result Record MakeFault → Result Record MakeFault → Type 0
 Makes (Ok r) made = made ≡ Ok r
 Makes (Err Memory) made = ⊤

@@ -6,7 +6,7 @@ abbrev pub ◌>>=◌ : {A B E : Type 0} → Result A E → (A → Result B E) �
 (Ok x) >>= f = f x
 (Err e) >>= f = Err e
 
--- a row of the table: the refusal, where there is nothing
+-- a row of the table: the refusal, if there is nothing
 abbrev pub needs : {A E : Type 0} → Option A → E → Result A E
 needs None fault = Err fault
 needs (Some x) fault = Ok x

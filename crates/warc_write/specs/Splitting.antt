@@ -43,7 +43,7 @@ may_be_split Other = false
 abbrev pub has_field : List ℕ → List Pair → Bool
 has_field name fields = is_some (first_value name fields)
 
--- a field of segments stands
+-- there is a field of segments
 abbrev pub is_segmented : List Pair → Bool
 is_segmented fields =
     has_field (codes "WARC-Segment-Number") fields
@@ -68,7 +68,7 @@ splittable fields n = do
 abbrev pub version_5 : List ℕ → List ℕ → List ℕ
 version_5 space name = with_version (with_variant (take 16 (sha1 (space ++ name))) RFC4122) Sha1
 
--- the fields of the first segment: those given, in their order, without block digests, the length that of the segment;
+-- the fields of the first segment: the given ones, in their order, without block digests, the length its own;
 -- then its number, and its digest
 abbrev pub with_len : ℕ → Pair → Pair
 with_len len field = if same field.0 content_length then (field.0, decimal len) else field
@@ -147,7 +147,7 @@ has_room r = nat_le (canonical_len r.version r.fields) max_head
 abbrev pub AllFramed : List Record → Type 0
 AllFramed records = AllByRecursion IsFramed records
 
--- the record itself where its block has at most n bytes, or else its segments, if each head is short enough
+-- the record itself if its block has at most n bytes, or else its segments, if each head is short enough
 abbrev pub cut_of : Record → List ℕ → ℕ → Result (List Record) SplitFault
 cut_of r uuid n =
     if nat_le (length r.block) n then Ok (r ∷ [])
@@ -161,7 +161,7 @@ split_of r n = do
   _ ← checks (not (has_bad_digest r)) BadDigest
   cut_of r uuid n
 
--- what a call answered is that, unless memory ran out
+-- what a call returned is that, unless memory ran out
 abbrev pub Splits : {X : Type 0} → Result X SplitFault → Result X SplitFault → Type 0
 Splits (Ok x) split = split ≡ Ok x
 Splits (Err Memory) split = ⊤

@@ -1,4 +1,4 @@
--- How the fields of new records are written (their names: ISO 28500:2017, 5). Ids stand between < and > (5.2)
+-- How the fields of new records are written (their names: ISO 28500:2017, 5). Ids are between < and > (5.2)
 -- as UUIDs in lower case with hyphens (RFC 9562, 4), digests are SHA-1 in base32 (5.8, which leaves algorithm
 -- and encoding open).
 use Rattle.std.specs.Prelude.{ℕ, List, ◌++◌, codes}

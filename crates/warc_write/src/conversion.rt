@@ -1,4 +1,4 @@
-//! Records of WARC 1.0 written anew as records of WARC 1.1.
+//! Records of WARC 1.0 rewritten as records of WARC 1.1.
 ghost use Rattle.std.specs.Prelude.{◌≡◌, IfOk};
 ghost use Rattle.warc_write.specs.Conversion.{converted, converted_field, converted_fields};
 
@@ -9,7 +9,7 @@ use warc_frame::{Framed, Version};
 use warc_record::bare;
 use warc_record::laws::bare_texts_of_values;
 
-/// The field's value as WARC 1.1 writes it: of a target its bare text.
+/// The field's value as WARC 1.1 writes it: the bare text of a target.
 fn converted_value<A: Allocator>(
     alloc: A,
     name: &Name<A>,
@@ -42,7 +42,7 @@ fn converted_all<A: Allocator + Copy>(
 }
 
 /// The fields of a head as WARC 1.1 writes them, without a block in memory: each value of a `WARC-Target-URI` field is
-/// its bare text, and all else is as it was. It fails only where memory is refused.
+/// its bare text, and all else is as it was. It fails only if memory is refused.
 pub fn convert_fields<A: Allocator + Copy>(
     alloc: A,
     fields: &Fields<A>,
@@ -52,9 +52,9 @@ pub fn convert_fields<A: Allocator + Copy>(
     converted_all(alloc, fields.as_slice())
 }
 
-/// The record as one of WARC 1.1 (ISO 28500:2017, 5.14, whose targets stand without brackets): its version is
+/// The record as one of WARC 1.1 (ISO 28500:2017, 5.14, whose targets have no brackets): its version is
 /// 1.1, each value of a `WARC-Target-URI` field is its bare text, and all else is as it was. It fails only
-/// where memory is refused.
+/// if memory is refused.
 pub fn convert<A: Allocator + Copy>(alloc: A, framed: &Framed<A>) -> Result<Framed<A>, AllocError>
     ensures { IfOk result (λ new. new ≡ converted framed.now) }
 {

@@ -20,7 +20,7 @@ fn has_room<A: Allocator>(version: Version, fields: &Fields<A>) -> bool
     }
 }
 
-/// Whether a segment's head is short enough, whichever its digest is: a digest's text has 37 bytes.
+/// Whether a segment's head is short enough, with any digest: a digest's text has 37 bytes.
 fn has_short_head<A: Allocator + Copy>(
     alloc: A,
     version: Version,
@@ -58,8 +58,8 @@ fn all_fit<A: Allocator + Copy>(
 }
 
 /// How a record is split into segments of `size` bytes: the sixteen bytes of its UUID, from which the segments' ids are
-/// made, or `None` where its block has no more bytes than a segment. It is told by the record's version and fields, how
-/// many bytes its block has, and whether the digest of its block is checked and differs. The refusals are those of
+/// made, or `None` if its block has no more bytes than a segment. It depends on the record's version and fields, on how
+/// many bytes its block has, and on whether the digest of its block is checked and differs. The refusals are those of
 /// `split`, in the same order.
 pub fn cut<A: Allocator + Copy>(
     alloc: A,

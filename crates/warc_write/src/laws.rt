@@ -5,7 +5,7 @@ ghost use Rattle.warc_write.specs.Rendering.{RenderedOpensAsSame};
 
 use warc_frame::laws::{canonical_text_spells, spelling_is_unambiguous};
 
-/// What is written of good records spells exactly these.
+/// What is written of good records spells exactly these records.
 pub fn rendered_opens_as_same()
     ensures { RenderedOpensAsSame }
 {
@@ -23,7 +23,7 @@ pub fn converted_stays_good()
     ensures { ConvertedStaysGood }
 {}
 
-/// A converted head says what it said, so that no reading of a record changes.
+/// A converted head says what it said before, so no reading of a record changes.
 pub fn converted_says_the_same()
     ensures { ConvertedSaysTheSame }
 {}

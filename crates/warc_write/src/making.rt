@@ -24,14 +24,14 @@ use warc_value::{digest, read_date};
 /// Why no record is made: M1 to M5.
 #[derive(Clone, Copy, PartialEq, Eq, Debug, Error)]
 pub enum MakeFault {
-    /// The date is none.
+    /// The date isn't valid.
     Date,
 
-    /// The target is empty, no value or not its own bare text; or the id is no UUID; or the content type is
-    /// empty or no value.
+    /// The target is empty, not a value or not its own bare text; or the id isn't a UUID; or the content type is
+    /// empty or not a value.
     Text,
 
-    /// The head would pass 65,536 bytes, or the block 2^40.
+    /// The head would be longer than 65,536 bytes, or the block than 2^40.
     TooLong,
 
     /// A growth of the memory was refused.
@@ -153,7 +153,7 @@ fn fitting<A: Allocator>(fields: Fields<A>, block: Vec<u8, A>) -> Result<Framed<
     }
 }
 
-/// The id, or the first refusal of what a record of a kind that is made has but its block.
+/// The id, or the first refusal of all that a record has but its block.
 fn judge(uri: &[u8], date: &[u8], uuid: &[u8], content_type: &[u8]) -> Result<Uuid, MakeFault>
     ensures date { OnOk result (is_date date.now ≡ true) }
     ensures target { OnOk result (is_target uri.now ≡ true) }
@@ -184,8 +184,8 @@ fn judge(uri: &[u8], date: &[u8], uuid: &[u8], content_type: &[u8]) -> Result<Uu
     Ok(uuid)
 }
 
-/// Why no record is made of these and a block of more than 2^40 bytes, whichever they are: the first refusal of the
-/// order of `make`.
+/// Why no record is made of these and a block of more than 2^40 bytes, if anything else is wrong or not: the first
+/// refusal in the order of `make`.
 pub fn refusal_of_long(
     kind: Kind,
     uri: &[u8],
@@ -214,7 +214,7 @@ pub fn refusal_of_long(
 /// The record of WARC 1.1 with this kind, target, date, id and content type, and this block: the kind is
 /// resource, metadata or conversion; the id a UUID in any form that `uuid` reads, written between `<` and `>`
 /// in lower case with hyphens. It has the block's digest. The refusals come in the order M5, M1, M2, M3, and M4
-/// where memory is refused.
+/// if memory is refused.
 pub fn make<A: Allocator + Copy>(
     alloc: A,
     kind: Kind,

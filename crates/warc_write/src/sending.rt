@@ -88,13 +88,13 @@ fn put_records<A: Allocator, W: Sink>(
 }
 
 /// Writes the canonical texts of records, in their order: names in their case, each version as it is. It takes
-/// no memory, so that it fails only where a write failed, and answers `Write` with the number of bytes that
+/// no memory, so it fails only if a write failed, and returns `Write` with the number of bytes that
 /// went out, up to 2^64 - 1.
 pub fn render<A: Allocator, W: Sink>(records: &[Framed<A>], out: &mut W) -> Result<(), OutFault>
     ensures told { OnOk result ((W.seen out.new).tells ≡ append_known (W.seen out.old).tells
         (canonical_texts records.now)) }
 
-    // After a failed write just so many bytes of them went out.
+    // After a failed write exactly this many bytes of them went out.
     ensures cut { IfErr result (λ e. WentOut (W.seen out.old).tells (canonical_texts records.now) (W.seen out.new).tells
         (sent_of e)) }
     ensures write { IfErr result (λ e. e ≡ Write (sent_of e)) }

@@ -34,10 +34,10 @@ use warc_value::{Running, digest};
 /// Why a record isn't split: S1 to S7.
 #[derive(Clone, Copy, PartialEq, Eq, Debug, Error)]
 pub enum SplitFault {
-    /// The id is no UUID.
+    /// The id isn't a UUID.
     NotUuid,
 
-    /// A field of segments stands.
+    /// There is a field of segments.
     AlreadySegmented,
 
     /// The head isn't good; or the record is a continuation, a warcinfo or of no known kind; or it has no target.
@@ -49,7 +49,7 @@ pub enum SplitFault {
     /// A growth of the memory was refused.
     Memory,
 
-    /// A segment's head would pass 65,536 bytes.
+    /// A segment's head would be longer than 65,536 bytes.
     TooLong,
 
     /// The block's digest is checked and differs.
@@ -82,7 +82,7 @@ impl From<AllocError> for SplitFault {
     }
 }
 
-/// What a segment's head says of the segment, beside what it takes from the head of the record that is split.
+/// What a segment's head says of the segment, besides what it takes from the head of the record that is split.
 #[derive(Clone, Copy, Debug)]
 pub struct Part {
     /// Its number, from 1 on.
@@ -113,7 +113,7 @@ fn may_be_split(kind: Kind) -> bool
     }
 }
 
-/// Whether a field of segments stands.
+/// Whether there is a field of segments.
 fn is_segmented<A: Allocator>(fields: &Fields<A>) -> bool
     ensures { result ≡ is_segmented fields.now }
 {
@@ -147,8 +147,8 @@ fn read_kind<A: Allocator + Copy>(alloc: A, fields: &Fields<A>) -> Result<(Kind,
     }
 }
 
-/// The sixteen bytes of the UUID of a head that may be split into segments of so many bytes. The refusals come
-/// in the order S4, S3, S2, S1, and S5 where memory is refused.
+/// The sixteen bytes of the UUID of a head that may be split into segments of `size` bytes. The refusals come
+/// in the order S4, S3, S2, S1, and S5 if memory is refused.
 pub fn splittable<A: Allocator + Copy>(
     alloc: A,
     fields: &Fields<A>,
@@ -199,7 +199,7 @@ fn add_kept_field<A: Allocator + Copy>(
     add_copy(alloc, fields, name.bytes(), value.bytes())
 }
 
-/// Adds what a first segment keeps of the fields given.
+/// Adds what a first segment keeps of the given fields.
 fn add_kept<A: Allocator + Copy>(
     alloc: A,
     given: &[(Name<A>, Value<A>)],
@@ -234,7 +234,7 @@ fn first_fields<A: Allocator + Copy>(
     Ok(fields)
 }
 
-/// The fields that tell a further segment's own id and that of its record.
+/// The fields with a further segment's own id and its record's id.
 fn origin_fields<A: Allocator + Copy>(
     alloc: A,
     given: &Fields<A>,
@@ -269,7 +269,7 @@ fn origin_fields<A: Allocator + Copy>(
     Ok(fields)
 }
 
-/// Adds the length of the whole block, where it is told.
+/// Adds the length of the whole block, if it is stated.
 fn add_total<A: Allocator + Copy>(
     alloc: A,
     total: Option<u64>,
@@ -306,7 +306,7 @@ fn next_fields<A: Allocator + Copy>(
 }
 
 /// The fields of a segment, without a block in memory: from the fields of the record that is split, the bytes
-/// of its UUID, and what is to be said of the segment. It fails only where memory is refused.
+/// of its UUID, and what is to be said of the segment. It fails only if memory is refused.
 pub fn segment_head<A: Allocator + Copy>(
     alloc: A,
     given: &Fields<A>,
@@ -322,7 +322,7 @@ pub fn segment_head<A: Allocator + Copy>(
     }
 }
 
-/// How many segments of so many bytes each a block of `len` bytes is cut into, the last one shorter or equal.
+/// How many segments of `size` bytes each a block of `len` bytes is cut into, the last one shorter or equal.
 pub fn segment_count(size: u64, len: u64) -> u64
     requires some { 0 < size }
     requires more { 0 < len }
@@ -345,7 +345,7 @@ fn piece_at(block: &[u8], size: u64, at: u64) -> &[u8]
     }
 }
 
-/// What the head of the segment at a place, counted from 0, is to say of it, where a block of `len` bytes is cut into
+/// What the head of the segment at a place, counted from 0, is to say of it, if a block of `len` bytes is cut into
 /// segments of `size` bytes and this is the SHA-1 of the segment's bytes.
 pub fn part_at(size: u64, len: u64, at: u64, digest: [u8; 20]) -> Part
     requires some { 0 < size }
@@ -447,8 +447,8 @@ fn whole<A: Allocator + Copy>(alloc: A, framed: &Framed<A>) -> Result<Vec<Framed
     Ok(all)
 }
 
-/// The record cut into segments of so many bytes, each of the record's version; the record itself where its
-/// block has no more bytes. The refusals come in the order S4, S3, S2, S1, S7, S6, and S5 where memory is
+/// The record cut into segments of `size` bytes, each of the record's version; the record itself if its
+/// block has no more bytes. The refusals come in the order S4, S3, S2, S1, S7, S6, and S5 if memory is
 /// refused.
 pub fn split<A: Allocator + Copy>(
     alloc: A,
