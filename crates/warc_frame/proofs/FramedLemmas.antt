@@ -7,7 +7,8 @@ use Rattle.warc_field.specs.Decimal.{decimal_of}
 use Rattle.warc_frame.specs.declared.fault.FaultKind.{FaultKind}
 use Rattle.warc_frame.specs.declared.fault.FaultKind.TheVariants.{Missing, Repeated, Length}
 use Rattle.warc_frame.specs.declared.fault.Mandatory.TheVariants.{ContentLength}
-use Rattle.warc_frame.specs.Record.{Record, IsFramed, block_len, block_number, or_length, content_length, max_head, max_block}
+use Rattle.warc_frame.specs.Names.{content_length}
+use Rattle.warc_frame.specs.Record.{Record, IsFramed, block_len, block_number, or_length, max_head, max_block}
 use Rattle.warc_frame.proofs.EmptyLineLemmas.{true_or_false}
 use Rattle.warc_frame.proofs.CanonicalLemmas.{canonical_size}
 

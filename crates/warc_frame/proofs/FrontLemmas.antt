@@ -12,7 +12,8 @@ use Rattle.warc_frame.specs.declared.fault.FaultKind.{FaultKind}
 use Rattle.warc_frame.specs.declared.fault.FaultKind.TheVariants.{Version as NoVersion, HeadTooLong, Field, Missing, Repeated, Length, End, Truncated, Memory}
 use Rattle.warc_frame.specs.declared.fault.Mandatory.TheVariants.{ContentLength}
 use Rattle.warc_frame.specs.declared.fault.Fault.{Fault}
-use Rattle.warc_frame.specs.Record.{Record, canonical_len, block_len, block_number, or_length, content_length, max_head, max_block, max_archive}
+use Rattle.warc_frame.specs.Names.{content_length}
+use Rattle.warc_frame.specs.Record.{Record, canonical_len, block_len, block_number, or_length, max_head, max_block, max_archive}
 use Rattle.warc_frame.specs.Spelling.{Spells}
 use Rattle.warc_frame.specs.Reading.{◌>>=◌, Head, any_fields, fault, begins, version_of, head_len, head_of, block_at, record_of, refuses, at_front, fields_or_line, OrMemory, AnswersAs}
 use Rattle.warc_frame.specs.Faults.{within_limit, goes_on, behind, ReadsAs, limited, IsFrameFault}

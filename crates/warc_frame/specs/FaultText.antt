@@ -8,13 +8,14 @@ use Rattle.warc_frame.specs.declared.fault.Fault.{Fault}
 use Rattle.warc_frame.specs.declared.fault.OutFault.{OutFault}
 use Rattle.warc_frame.specs.declared.fault.OutFault.TheVariants.{Read as ReadFailed, Write as WriteFailed, Memory as OutOfMemory}
 use Rattle.warc_frame.specs.declared.send.SendFault.{SendFault}
+use Rattle.warc_frame.specs.Names.{content_length, warc_type, warc_record_id, warc_date}
 
 -- the name of a field, as the standard writes it (ISO 28500:2017, which is WARC 1.1: section 5, named fields)
 abbrev pub name_of : Mandatory → List ℕ
-name_of ContentLength = codes "Content-Length"
-name_of «Type» = codes "WARC-Type"
-name_of RecordId = codes "WARC-Record-ID"
-name_of DateField = codes "WARC-Date"
+name_of ContentLength = content_length
+name_of «Type» = warc_type
+name_of RecordId = warc_record_id
+name_of DateField = warc_date
 
 -- a fault's number and name, and the field that it is about
 abbrev pub kind_text : FaultKind → List ℕ

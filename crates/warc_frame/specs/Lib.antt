@@ -1,4 +1,5 @@
 pub mod Count
+pub mod Names
 pub mod Device
 pub mod FaultText
 pub mod Send

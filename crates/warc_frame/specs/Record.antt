@@ -1,6 +1,6 @@
 -- A record: a version, named fields and a block (ISO 28500:2017, which is WARC 1.1: section 4, file and record model;
 -- its Content-Length: section 5, named fields). The bounds and the canonical head are this project's own notions.
-use Rattle.std.specs.Prelude.{◌≡◌, ℕ, ◌^◌, ◌≤◌, ◌==◌, nat_le, nat_lt, List, ◌++◌, length, codes, Option, Some, None, Result, Ok, Err, option_and_then, if◌then◌else◌}
+use Rattle.std.specs.Prelude.{◌≡◌, ℕ, ◌^◌, ◌≤◌, ◌==◌, nat_le, nat_lt, List, ◌++◌, length, Option, Some, None, Result, Ok, Err, option_and_then, if◌then◌else◌}
 use Rattle.warc_field.specs.Text.{AreFields}
 use Rattle.warc_field.specs.Lines.{crlf}
 use Rattle.warc_field.specs.Area.{Pair, first_value, count_of, canonical_fields}
@@ -12,6 +12,7 @@ use Rattle.warc_frame.specs.declared.fault.FaultKind.TheVariants.{HeadTooLong, M
 use Rattle.warc_frame.specs.declared.framed.FramedFault.{FramedFault}
 use Rattle.warc_frame.specs.declared.framed.FramedFault.TheVariants.{HeadTooLong as NoRoom, Missing as NoLength, Repeated as Lengths, Length as BadLength}
 use Rattle.warc_frame.specs.declared.fault.Mandatory.TheVariants.{ContentLength}
+use Rattle.warc_frame.specs.Names.{content_length}
 
 pub record Record : Type 0 where
   pub version : Version
@@ -35,9 +36,6 @@ head_text version area = version_line version ++ area ++ crlf
 -- the length of the head in which each field is written as name, colon, space, value
 unfoldable pub canonical_len : Version → List Pair → ℕ
 canonical_len version fields = length (head_text version (canonical_fields fields))
-
-abbrev pub content_length : List ℕ
-content_length = codes "Content-Length"
 
 -- the number that a value writes, if a block may be so long
 abbrev pub block_number : Option (List ℕ) → Option ℕ

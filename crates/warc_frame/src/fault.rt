@@ -3,6 +3,7 @@ ghost use Rattle.std.specs.Prelude.{◌≡◌, ◌≤◌, ◌++◌, decimal, len
 ghost use Rattle.warc_frame.specs.Send.{sent_of};
 ghost use Rattle.warc_frame.specs.FaultText.{name_of, kind_text, fault_text, out_fault_text};
 
+use crate::names;
 use crate::send::SendFault;
 use std::alloc::AllocError;
 use std::fmt;
@@ -23,10 +24,10 @@ impl Mandatory {
         ensures { result.now ≡ name_of self }
     {
         match self {
-            Mandatory::ContentLength => "Content-Length",
-            Mandatory::Type => "WARC-Type",
-            Mandatory::RecordId => "WARC-Record-ID",
-            Mandatory::Date => "WARC-Date",
+            Mandatory::ContentLength => names::CONTENT_LENGTH,
+            Mandatory::Type => names::WARC_TYPE,
+            Mandatory::RecordId => names::WARC_RECORD_ID,
+            Mandatory::Date => names::WARC_DATE,
         }
     }
 }

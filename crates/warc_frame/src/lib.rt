@@ -6,6 +6,7 @@ mod ends;
 mod fault;
 mod framed;
 pub mod laws;
+pub mod names;
 mod pieces;
 mod ranges;
 mod reading;

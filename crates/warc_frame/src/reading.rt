@@ -1,5 +1,6 @@
 ghost use Rattle.std.specs.Prelude.{◌≡◌, ◌≢◌, ◌<◌, ◌+◌, ◌*◌, ◌≤◌, ◌⊎◌, ℕ, ◌++◌, List, [], Ok, Err, Some, None, length, take, not, nat_lt, OnOk, IfOk, IfErr, IfSome, MatchResult};
 ghost use Rattle.warc_frame.specs.declared.version.Version.{Version};
+ghost use Rattle.warc_frame.specs.Names.{content_length};
 ghost use Rattle.warc_frame.specs.Record.{Record, canonical_len, block_len, fault_kind_of, max_block, max_head};
 ghost use Rattle.warc_frame.specs.Spelling.{Spells};
 ghost use Rattle.warc_frame.specs.Reading.{any_fields, begins, block_at, head_front, head_len, head_of, record_of, version_of, AnswersAs, OrMemory};
@@ -10,6 +11,7 @@ ghost use Rattle.warc_frame.specs.declared.framed.FramedFault.TheVariants.{Missi
 use crate::ends::{begins_as, find_empty_line, version_across};
 use crate::fault::{Fault, FaultKind};
 use crate::framed::{Framed, FramedFault};
+use crate::names;
 use crate::version::Version;
 use std::alloc::Allocator;
 use warc_field::{AreaFault, Fields, Value, canonical_len, decimal, read_area_in};
@@ -99,6 +101,15 @@ fn only_value<'a, A: Allocator>(
     found.ok_or(FramedFault::Missing)
 }
 
+/// The value of the only `Content-Length`.
+fn length_value<A: Allocator>(fields: &Fields<A>) -> Result<&Value<A>, FramedFault>
+    ensures { let count = count_of content_length fields.now in MatchResult result
+        (λ value. (count ≡ 1) × (first_value content_length fields.now ≡ Some value.now))
+        (λ fault. ((count ≡ 0) × (fault ≡ Missing)) ⊎ ((2 ≤ count) × (fault ≡ Repeated))) }
+{
+    only_value(fields, names::CONTENT_LENGTH.as_bytes())
+}
+
 /// The number of the only `Content-Length`.
 #[tactic(auto, unfolding(crate::specs::Record::block_len))]
 pub(crate) fn read_block_len<A: Allocator>(fields: &Fields<A>) -> Result<u64, FramedFault>
@@ -106,7 +117,7 @@ pub(crate) fn read_block_len<A: Allocator>(fields: &Fields<A>) -> Result<u64, Fr
         (λ fault. block_len fields.now ≡ Err (fault_kind_of fault)) }
     ensures small { IfOk result (λ n. n ≤ max_block) }
 {
-    let value = only_value(fields, b"Content-Length")?;
+    let value = length_value(fields)?;
     match decimal(value.bytes()) {
         Some(n) if n <= MAX_BLOCK => Ok(n),
         _ => Err(FramedFault::Length),

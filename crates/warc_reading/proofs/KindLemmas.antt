@@ -6,7 +6,8 @@ use Rattle.warc_field.specs.Lines.{crlf}
 use Rattle.warc_frame.specs.Faults.{HasFault, limited, or_too_long}
 use Rattle.warc_frame.specs.FaultText.{name_of}
 use Rattle.warc_frame.specs.Reading.{◌>>=◌, Head, any_fields, at_front, begins, block_at, fault, fields_or_line, head_len, head_of, needs, record_of, refuses, version_of}
-use Rattle.warc_frame.specs.Record.{Record, block_len, block_number, canonical_len, content_length, max_archive, max_head, or_length}
+use Rattle.warc_frame.specs.Names.{content_length}
+use Rattle.warc_frame.specs.Record.{Record, block_len, block_number, canonical_len, max_archive, max_head, or_length}
 use Rattle.warc_frame.specs.declared.fault.Fault.{Fault}
 use Rattle.warc_frame.specs.declared.fault.FaultKind.{FaultKind}
 use Rattle.warc_frame.specs.declared.fault.FaultKind.TheVariants.{Version as NoVersion, BadType, Date, End, HeadTooLong, Id, Missing, Read, Repeated, TooLong, Truncated}

@@ -281,7 +281,3 @@ absent name = record { within = tt; first = refl; again = refl }
 -- of no fields each spot is absent
 pub none_added : AreSpots [] (replicate 20 Absent)
 none_added known = rw (get_or-replicate 20 (known_place known) Absent Absent (below known)) (absent (known_name known))
-
--- two readings of a list that are equal are equal at each place
-pub same_at : {X : Type 0} (f g : X → List ℕ) (xs : List X) (i : ℕ) (d : X) → i < length xs → map f xs ≡ map g xs → f (get_or xs i d) ≡ g (get_or xs i d)
-same_at f g xs i d lt is = sym (get_or-map-at f xs i d [] lt) ∙ ap (λ ys. get_or ys i []) is ∙ get_or-map-at g xs i d [] lt

@@ -1,10 +1,11 @@
 -- What is found wrong with a record, besides what refuses it: N1 to N11, in the order of their numbers. For N1 to N3
 -- the fields are in the order of the table, for N9 in their order in the record. Findings are this project's own: it
 -- measures records by ISO 28500:2017, 5 to 7, and by its own field table.
-use Rattle.std.specs.Prelude.{ℕ, ◌-◌, Bool, true, false, not, ◌&&◌, ◌||◌, ◌==◌, nat_lt, List, [], ◌∷◌, ◌++◌, length, map, filter, codes, is_some, is_none, Option, Some, None, slice_index, if◌then◌else◌}
+use Rattle.std.specs.Prelude.{ℕ, ◌-◌, Bool, true, false, not, ◌&&◌, ◌||◌, ◌==◌, nat_lt, List, [], ◌∷◌, ◌++◌, length, map, filter, is_some, is_none, Option, Some, None, slice_index, if◌then◌else◌}
 use Rattle.std.specs.Option.{option_map_or}
 use Rattle.std.specs.Str.{is_utf8, str_eq_ignore_ascii_case}
 use Rattle.warc_field.specs.Area.{Pair, count_of}
+use Rattle.warc_frame.specs.Names.{content_type, warc_target_uri, warc_profile, warc_segment_origin_id, warc_segment_total_length}
 use Rattle.warc_record.specs.declared.types.Kind.{Kind}
 use Rattle.warc_record.specs.declared.readings.SegmentNumber.{SegmentNumber as NumberStated}
 use Rattle.warc_record.specs.declared.readings.SegmentNumber.TheVariants as stated
@@ -59,7 +60,7 @@ once found holds = if holds then found ∷ [] else []
 -- the field isn't absent: a target is absent if its bare text is empty, any other field if its value is
 abbrev pub stands : List ℕ → List Pair → Bool
 stands name fields =
-    if str_eq_ignore_ascii_case name (codes "WARC-Target-URI") then is_some (present_bare name fields)
+    if str_eq_ignore_ascii_case name warc_target_uri then is_some (present_bare name fields)
     else is_some (present_value name fields)
 
 -- N1: a required field is absent. N2: a forbidden one isn't. N3: a field that may not be repeated is.
@@ -85,7 +86,7 @@ is_bad_number kind (stated.Number number) = if is_continuation kind then nat_lt 
 
 abbrev pub is_bad_total : Reading → List Pair → Bool
 is_bad_total reading fields =
-    is_continuation reading.kind && is_some (present_value (codes "WARC-Segment-Total-Length") fields)
+    is_continuation reading.kind && is_some (present_value warc_segment_total_length fields)
     && is_none reading.segment.total
 
 abbrev pub has_bad_segment : Reading → List Pair → Bool
@@ -96,12 +97,12 @@ has_bad_segment reading fields =
 abbrev pub lacks_content_type : Kind → List Pair → ℕ → Bool
 lacks_content_type kind fields size =
     is_known kind && not (is_continuation kind) && not (size == 0)
-    && is_none (present_value (codes "Content-Type") fields)
+    && is_none (present_value content_type fields)
 
 -- N8: a revisit's profile isn't known
 abbrev pub has_unknown_profile : Reading → List Pair → Bool
 has_unknown_profile reading fields =
-    is_revisit reading.kind && is_some (present_value (codes "WARC-Profile") fields)
+    is_revisit reading.kind && is_some (present_value warc_profile fields)
     && not reading.reference.known_profile
 
 -- N9: a value isn't UTF-8; the name is spelled as in the record
@@ -121,7 +122,7 @@ has_bare_id reading = option_map_or (λ value. not (stands_in_brackets value)) r
 -- N11: a continuation's origin holds no id
 abbrev pub lacks_origin : Reading → List Pair → Bool
 lacks_origin reading fields =
-    is_continuation reading.kind && is_some (present_value (codes "WARC-Segment-Origin-ID") fields)
+    is_continuation reading.kind && is_some (present_value warc_segment_origin_id fields)
     && is_none reading.segment.origin
 
 -- the findings of a record: N4 if its block's digest is bad, N6 if an earlier record has its id

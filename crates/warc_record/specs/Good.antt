@@ -1,10 +1,11 @@
 -- Good records: framed ones whose heads have no fault (ISO 28500:2017, 4: the mandatory fields; 5.2, 5.4 and 5.5: id,
 -- date and type), and what those heads say. The word is this project's own.
-use Rattle.std.specs.Prelude.{◌≡◌, ◌↔◌, ℕ, ◌≤◌, Bool, true, List, codes, Some, None}
+use Rattle.std.specs.Prelude.{◌≡◌, ◌↔◌, ℕ, ◌≤◌, Bool, true, List, Some, None}
 use Rattle.warc_field.specs.Text.{is_name}
 use Rattle.warc_field.specs.Area.{Pair, count_of, first_value}
 use Rattle.warc_value.specs.Dates.{Instant, instant_of}
 use Rattle.warc_frame.specs.Record.{Record, IsFramed}
+use Rattle.warc_frame.specs.Names.{warc_type, warc_record_id, warc_date}
 use Rattle.warc_record.specs.Ids.{id_key, is_id}
 use Rattle.warc_record.specs.Kinds.{kind_named}
 use Rattle.warc_record.specs.Readings.{Reading, reading_of}
@@ -19,9 +20,9 @@ pub record StandsOnce (name : List ℕ) (test : List ℕ → Bool) (fields : Lis
 
 -- the type occurs exactly once and is a token, the id is in brackets or bare, the date is one
 pub record IsGoodHead (fields : List Pair) : Type 0 where
-  pub type_is : StandsOnce (codes "WARC-Type") is_name fields
-  pub id_is : StandsOnce (codes "WARC-Record-ID") is_id fields
-  pub date_is : StandsOnce (codes "WARC-Date") is_date fields
+  pub type_is : StandsOnce warc_type is_name fields
+  pub id_is : StandsOnce warc_record_id is_id fields
+  pub date_is : StandsOnce warc_date is_date fields
 
 -- a good record can be framed, and its head is good
 pub record IsGood (r : Record) : Type 0 where

@@ -1,6 +1,7 @@
 -- The names that a head is read by, and the places of their fields: a state of the code.
-use Rattle.std.specs.Prelude.{◌≡◌, ℕ, Bool, ◌==◌, ◌<◌, nat_lt, true, false, List, codes, length, get_or, slice_get, Option, Some, None, option_and_then, option_map, ⊤, if◌then◌else◌}
+use Rattle.std.specs.Prelude.{◌≡◌, ℕ, Bool, ◌==◌, ◌<◌, nat_lt, true, false, List, length, get_or, slice_get, Option, Some, None, option_and_then, option_map, ⊤, if◌then◌else◌}
 use Rattle.warc_field.specs.Area.{Pair, count_of, first_value}
+use Rattle.warc_frame.specs.Names.{content_type, warc_type, warc_record_id, warc_date, warc_target_uri, warc_concurrent_to, warc_ip_address, warc_refers_to, warc_refers_to_target_uri, warc_refers_to_date, warc_filename, warc_profile, warc_warcinfo_id, warc_segment_number, warc_segment_origin_id, warc_segment_total_length, warc_block_digest, warc_payload_digest, warc_truncated, warc_identified_payload_type}
 use Rattle.warc_record.specs.declared.known.Known.{Known}
 use Rattle.warc_record.specs.declared.known.Spot.{Spot}
 use Rattle.warc_record.specs.declared.known.Places.{Places}
@@ -8,26 +9,26 @@ use Rattle.warc_record.specs.declared.known.Spot.TheVariants.{Absent, Once, Repe
 use Rattle.warc_record.specs.declared.known.Known.TheVariants.{«Type», RecordId, Date, TargetUri, ConcurrentTo, IpAddress, RefersTo, RefersToTargetUri, RefersToDate, Filename, Profile, WarcinfoId, SegmentNumber, SegmentOriginId, SegmentTotalLength, BlockDigest, PayloadDigest, Truncated, IdentifiedPayloadType, ContentType}
 
 abbrev pub known_name : Known → List ℕ
-known_name «Type» = codes "WARC-Type"
-known_name RecordId = codes "WARC-Record-ID"
-known_name Date = codes "WARC-Date"
-known_name TargetUri = codes "WARC-Target-URI"
-known_name ConcurrentTo = codes "WARC-Concurrent-To"
-known_name IpAddress = codes "WARC-IP-Address"
-known_name RefersTo = codes "WARC-Refers-To"
-known_name RefersToTargetUri = codes "WARC-Refers-To-Target-URI"
-known_name RefersToDate = codes "WARC-Refers-To-Date"
-known_name Filename = codes "WARC-Filename"
-known_name Profile = codes "WARC-Profile"
-known_name WarcinfoId = codes "WARC-Warcinfo-ID"
-known_name SegmentNumber = codes "WARC-Segment-Number"
-known_name SegmentOriginId = codes "WARC-Segment-Origin-ID"
-known_name SegmentTotalLength = codes "WARC-Segment-Total-Length"
-known_name BlockDigest = codes "WARC-Block-Digest"
-known_name PayloadDigest = codes "WARC-Payload-Digest"
-known_name Truncated = codes "WARC-Truncated"
-known_name IdentifiedPayloadType = codes "WARC-Identified-Payload-Type"
-known_name ContentType = codes "Content-Type"
+known_name «Type» = warc_type
+known_name RecordId = warc_record_id
+known_name Date = warc_date
+known_name TargetUri = warc_target_uri
+known_name ConcurrentTo = warc_concurrent_to
+known_name IpAddress = warc_ip_address
+known_name RefersTo = warc_refers_to
+known_name RefersToTargetUri = warc_refers_to_target_uri
+known_name RefersToDate = warc_refers_to_date
+known_name Filename = warc_filename
+known_name Profile = warc_profile
+known_name WarcinfoId = warc_warcinfo_id
+known_name SegmentNumber = warc_segment_number
+known_name SegmentOriginId = warc_segment_origin_id
+known_name SegmentTotalLength = warc_segment_total_length
+known_name BlockDigest = warc_block_digest
+known_name PayloadDigest = warc_payload_digest
+known_name Truncated = warc_truncated
+known_name IdentifiedPayloadType = warc_identified_payload_type
+known_name ContentType = content_type
 
 abbrev pub known_place : Known → ℕ
 known_place «Type» = 0
@@ -116,9 +117,9 @@ next_spot (Repeated first) place = Repeated first
 
 -- the places of the first fields of the names by which a good head is read again: past the end for an absent one
 pub record ArePlaces (fields : List Pair) (places : Places) : Type 0 where
-  pub kind : value_at fields places.kind ≡ first_value (codes "WARC-Type") fields
-  pub date : value_at fields places.date ≡ first_value (codes "WARC-Date") fields
-  pub id : value_at fields places.id ≡ first_value (codes "WARC-Record-ID") fields
-  pub target : value_at fields places.target ≡ first_value (codes "WARC-Target-URI") fields
-  pub digest : value_at fields places.digest ≡ first_value (codes "WARC-Block-Digest") fields
-  pub truncated : value_at fields places.truncated ≡ first_value (codes "WARC-Truncated") fields
+  pub kind : value_at fields places.kind ≡ first_value warc_type fields
+  pub date : value_at fields places.date ≡ first_value warc_date fields
+  pub id : value_at fields places.id ≡ first_value warc_record_id fields
+  pub target : value_at fields places.target ≡ first_value warc_target_uri fields
+  pub digest : value_at fields places.digest ≡ first_value warc_block_digest fields
+  pub truncated : value_at fields places.truncated ≡ first_value warc_truncated fields

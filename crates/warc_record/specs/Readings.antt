@@ -10,6 +10,7 @@ use Rattle.warc_value.specs.Dates.{Instant, instant_of}
 use Rattle.warc_value.specs.Digests.{wanted_digest}
 use Rattle.warc_value.specs.declared.hash.Wanted.{Wanted}
 use Rattle.warc_value.specs.declared.hash.Wanted.TheVariants.{Unchecked}
+use Rattle.warc_frame.specs.Names.{warc_type, warc_record_id, warc_date, warc_target_uri, warc_refers_to, warc_refers_to_target_uri, warc_refers_to_date, warc_profile, warc_segment_number, warc_segment_origin_id, warc_segment_total_length, warc_block_digest, warc_payload_digest, warc_truncated}
 use Rattle.warc_record.specs.declared.types.Kind.{Kind}
 use Rattle.warc_record.specs.declared.types.Kind.TheVariants.{Other}
 use Rattle.warc_record.specs.declared.readings.SegmentNumber.{SegmentNumber}
@@ -49,10 +50,10 @@ both (Some a) None = None
 both (Some a) (Some b) = Some (a, b)
 
 abbrev pub kind_of : List Pair → Kind
-kind_of fields = option_map_or kind_named (first_value (codes "WARC-Type") fields) Other
+kind_of fields = option_map_or kind_named (first_value warc_type fields) Other
 
 abbrev pub target_of : List Pair → Option (List ℕ)
-target_of fields = present_bare (codes "WARC-Target-URI") fields
+target_of fields = present_bare warc_target_uri fields
 
 -- the profiles of revisits (WARC 1.1, 6.7; the older pair is from WARC 1.0)
 abbrev pub known_profiles : List (List ℕ)
@@ -73,15 +74,15 @@ pub record ReferenceReading : Type 0 where
 
 abbrev pub reference_of : List Pair → ReferenceReading
 reference_of fields = record {
-  known_profile = option_map_or is_known_profile (present_value (codes "WARC-Profile") fields) false;
-  named_id = key_in (codes "WARC-Refers-To") fields;
+  known_profile = option_map_or is_known_profile (present_value warc_profile fields) false;
+  named_id = key_in warc_refers_to fields;
   named_pair =
-      both (present_bare (codes "WARC-Refers-To-Target-URI") fields) (instant_in (codes "WARC-Refers-To-Date") fields);
+      both (present_bare warc_refers_to_target_uri fields) (instant_in warc_refers_to_date fields);
 }
 
 -- no number, a number, or a value that isn't one
 abbrev pub segment_number : List Pair → SegmentNumber
-segment_number fields = number_by (present_value (codes "WARC-Segment-Number") fields)
+segment_number fields = number_by (present_value warc_segment_number fields)
   where
     number_by : Option (List ℕ) → SegmentNumber
     number_by None = Absent
@@ -96,13 +97,13 @@ pub record SegmentReading : Type 0 where
 abbrev pub segment_reading : List Pair → SegmentReading
 segment_reading fields = record {
   number = segment_number fields;
-  origin = key_in (codes "WARC-Segment-Origin-ID") fields;
-  total = number_in (codes "WARC-Segment-Total-Length") fields;
+  origin = key_in warc_segment_origin_id fields;
+  total = number_in warc_segment_total_length fields;
 }
 
 -- the digest that the block should have
 abbrev pub digest_wanted : List Pair → Wanted
-digest_wanted fields = option_map_or wanted_digest (present_value (codes "WARC-Block-Digest") fields) Unchecked
+digest_wanted fields = option_map_or wanted_digest (present_value warc_block_digest fields) Unchecked
 
 -- all that a head says: the texts of its type, id and date, and the readings
 pub record Reading : Type 0 where
@@ -122,15 +123,15 @@ pub record Reading : Type 0 where
 abbrev pub reading_of : List Pair → Reading
 reading_of fields = record {
   kind = kind_of fields;
-  type_text = first_value (codes "WARC-Type") fields;
-  id_text = first_value (codes "WARC-Record-ID") fields;
-  date_text = first_value (codes "WARC-Date") fields;
-  id = option_and_then id_key (first_value (codes "WARC-Record-ID") fields);
-  instant = option_and_then instant_of (first_value (codes "WARC-Date") fields);
+  type_text = first_value warc_type fields;
+  id_text = first_value warc_record_id fields;
+  date_text = first_value warc_date fields;
+  id = option_and_then id_key (first_value warc_record_id fields);
+  instant = option_and_then instant_of (first_value warc_date fields);
   target = target_of fields;
   reference = reference_of fields;
   segment = segment_reading fields;
   wanted = digest_wanted fields;
-  payload_digest = present_value (codes "WARC-Payload-Digest") fields;
-  truncated = is_some (present_value (codes "WARC-Truncated") fields);
+  payload_digest = present_value warc_payload_digest fields;
+  truncated = is_some (present_value warc_truncated fields);
 }

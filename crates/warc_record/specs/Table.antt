@@ -1,10 +1,12 @@
 -- The field table: which kinds of record must have a field, which must not, and whether it may occur more
 -- than once. It is this project's own profile of ISO 28500:2017, 5 and 6: a finding refuses no record.
-use Rattle.std.specs.Prelude.{ℕ, Bool, true, false, ◌==◌, List, [], ◌∷◌, codes}
+use Rattle.std.specs.Prelude.{ℕ, Bool, true, false, ◌==◌, List, [], ◌∷◌}
 use Rattle.std.specs.List.{list_any}
+use Rattle.warc_frame.specs.Names.{content_type, warc_target_uri, warc_concurrent_to, warc_ip_address, warc_refers_to, warc_refers_to_target_uri, warc_refers_to_date, warc_filename, warc_profile, warc_warcinfo_id, warc_segment_number, warc_segment_origin_id, warc_segment_total_length, warc_block_digest, warc_payload_digest, warc_truncated, warc_identified_payload_type}
 use Rattle.warc_record.specs.declared.types.Kind.{Kind}
 use Rattle.warc_record.specs.declared.types.Kind.TheVariants.{Warcinfo, Response, Resource, Request, Metadata, Revisit, Conversion, Continuation, Other}
 use Rattle.warc_record.specs.declared.table.FieldRule.{FieldRule}
+use Rattle.warc_record.specs.Known.{known_name}
 
 pub record Rule : Type 0 where
   pub name : List ℕ
@@ -42,32 +44,36 @@ all_but_continuation = Warcinfo ∷ Response ∷ Resource ∷ Request ∷ Metada
 
 unfoldable pub rules : List Rule
 rules =
-    rule (codes "WARC-Target-URI") (Response ∷ Resource ∷ Request ∷ Revisit ∷ Conversion ∷ Continuation ∷ [])
+    rule warc_target_uri (Response ∷ Resource ∷ Request ∷ Revisit ∷ Conversion ∷ Continuation ∷ [])
     (Warcinfo ∷ [])
     ∷ record {
-      name = codes "WARC-Concurrent-To";
+      name = warc_concurrent_to;
       required = [];
       forbidden = Warcinfo ∷ Conversion ∷ Continuation ∷ [];
       repeats = true;
     }
-    ∷ rule (codes "WARC-IP-Address") [] (Warcinfo ∷ Conversion ∷ Continuation ∷ [])
-    ∷ rule (codes "WARC-Refers-To") [] (Warcinfo ∷ Response ∷ Resource ∷ Request ∷ Continuation ∷ [])
-    ∷ rule (codes "WARC-Refers-To-Target-URI") [] all_but_revisit
-    ∷ rule (codes "WARC-Refers-To-Date") [] all_but_revisit
-    ∷ rule (codes "WARC-Filename") [] all_but_warcinfo
-    ∷ rule (codes "WARC-Profile") (Revisit ∷ []) []
-    ∷ rule (codes "WARC-Warcinfo-ID") [] (Warcinfo ∷ [])
-    ∷ rule (codes "WARC-Segment-Number") (Continuation ∷ []) []
-    ∷ rule (codes "WARC-Segment-Origin-ID") (Continuation ∷ []) all_but_continuation
-    ∷ rule (codes "WARC-Segment-Total-Length") [] all_but_continuation
-    ∷ rule (codes "WARC-Block-Digest") [] []
-    ∷ rule (codes "WARC-Payload-Digest") [] []
-    ∷ rule (codes "WARC-Truncated") [] []
-    ∷ rule (codes "WARC-Identified-Payload-Type") [] []
-    ∷ rule (codes "Content-Type") [] []
+    ∷ rule warc_ip_address [] (Warcinfo ∷ Conversion ∷ Continuation ∷ [])
+    ∷ rule warc_refers_to [] (Warcinfo ∷ Response ∷ Resource ∷ Request ∷ Continuation ∷ [])
+    ∷ rule warc_refers_to_target_uri [] all_but_revisit
+    ∷ rule warc_refers_to_date [] all_but_revisit
+    ∷ rule warc_filename [] all_but_warcinfo
+    ∷ rule warc_profile (Revisit ∷ []) []
+    ∷ rule warc_warcinfo_id [] (Warcinfo ∷ [])
+    ∷ rule warc_segment_number (Continuation ∷ []) []
+    ∷ rule warc_segment_origin_id (Continuation ∷ []) all_but_continuation
+    ∷ rule warc_segment_total_length [] all_but_continuation
+    ∷ rule warc_block_digest [] []
+    ∷ rule warc_payload_digest [] []
+    ∷ rule warc_truncated [] []
+    ∷ rule warc_identified_payload_type [] []
+    ∷ rule content_type [] []
     ∷ []
 
 -- a row of the table in code
 abbrev pub rule_seen : FieldRule → Rule
-rule_seen row =
-    record { name = row.name.now; required = row.required.now; forbidden = row.forbidden.now; repeats = row.repeats }
+rule_seen row = record {
+  name = known_name row.known;
+  required = row.required.now;
+  forbidden = row.forbidden.now;
+  repeats = row.repeats;
+}

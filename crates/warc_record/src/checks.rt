@@ -113,7 +113,7 @@ impl TableCheck {
     fn finding(self, rule: &FieldRule) -> Finding<'static>
         ensures { finding_seen result ≡ broken_rule self (rule_seen rule.now) }
     {
-        let name = rule.name.as_bytes();
+        let name = rule.name().as_bytes();
         match self {
             TableCheck::Lacks => Finding::Absent(name),
             TableCheck::HasForbidden => Finding::Forbidden(name),
@@ -134,8 +134,7 @@ fn stands<A: Allocator>(fields: &ByName<'_, A>, name: Known) -> bool
 
 /// Whether a field that may not be repeated occurs again.
 fn stands_again<A: Allocator>(fields: &ByName<'_, A>, rule: &FieldRule) -> bool
-    requires { known_name rule.now.known ≡ rule.now.name.now }
-    ensures { result ≡ (not rule.now.repeats && nat_lt 1 (count_of rule.now.name.now fields.now)) }
+    ensures { result ≡ (not rule.now.repeats && nat_lt 1 (count_of (known_name rule.now.known) fields.now)) }
 {
     !rule.repeats && fields.repeats(rule.known)
 }
@@ -147,7 +146,6 @@ fn is_broken<A: Allocator>(
     fields: &ByName<'_, A>,
     rule: &FieldRule,
 ) -> bool
-    requires { known_name rule.now.known ≡ rule.now.name.now }
     ensures { result ≡ is_broken check kind fields.now (rule_seen rule.now) }
 {
     match check {

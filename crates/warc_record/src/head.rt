@@ -1,8 +1,10 @@
-ghost use Rattle.std.specs.Prelude.{◌≡◌, [], IfOk, MatchResult, Some, None, true, codes, option_and_then, option_map, unwrap_or};
+ghost use Rattle.std.specs.Prelude.{◌≡◌, [], IfOk, MatchResult, Some, None, true, option_and_then, option_map, unwrap_or};
 ghost use Rattle.std.specs.Option.{option_copied};
 ghost use Rattle.warc_field.specs.Area.{first_value};
 ghost use Rattle.warc_value.specs.Dates.{instant_of};
 ghost use Rattle.warc_frame.specs.FaultText.{name_of};
+ghost use Rattle.warc_frame.specs.Names.{warc_type, warc_record_id, warc_date, warc_refers_to_target_uri};
+ghost use Rattle.warc_frame.specs.Names.{warc_refers_to_date};
 ghost use Rattle.warc_record.specs.Ids.{is_id};
 ghost use Rattle.warc_record.specs.Readings.{bare_present, both, present_bare, instant_in, unless_empty, reference_of, segment_reading, digest_wanted, reading_of, target_of};
 ghost use Rattle.warc_record.specs.Known.{ArePlaces, known_name, value_at};
@@ -95,8 +97,8 @@ fn named_pair<A: Allocator + Copy>(
     fields: &ByName<'_, A>,
 ) -> Result<Option<NamedPair<A>>, AllocError>
     ensures { IfOk result (λ pair. option_map pair_said pair
-        ≡ both (present_bare (codes "WARC-Refers-To-Target-URI") fields.now)
-        (instant_in (codes "WARC-Refers-To-Date") fields.now)) }
+        ≡ both (present_bare warc_refers_to_target_uri fields.now)
+        (instant_in warc_refers_to_date fields.now)) }
 {
     let Some(target) = bare_in(alloc, fields, Known::RefersToTargetUri)? else {
         return Ok(None);
@@ -180,7 +182,7 @@ fn only<'a, A: Allocator>(
 /// The value of the head's type.
 fn type_text<'a, A: Allocator>(fields: &ByName<'a, A>) -> Result<&'a Value<A>, FaultKind>
     ensures { MatchResult result
-        (λ value. (type_fault fields.now ≡ None) × (first_value (codes "WARC-Type") fields.now ≡ Some value.now))
+        (λ value. (type_fault fields.now ≡ None) × (first_value warc_type fields.now ≡ Some value.now))
         (λ fault. type_fault fields.now ≡ Some fault) }
 {
     let value = only(fields, Known::Type, Mandatory::Type)?;
@@ -194,7 +196,7 @@ fn type_text<'a, A: Allocator>(fields: &ByName<'a, A>) -> Result<&'a Value<A>, F
 /// The value of the head's id.
 fn id_text<'a, A: Allocator>(fields: &ByName<'a, A>) -> Result<&'a Value<A>, FaultKind>
     ensures { MatchResult result
-        (λ value. (id_fault fields.now ≡ None) × (first_value (codes "WARC-Record-ID") fields.now ≡ Some value.now)
+        (λ value. (id_fault fields.now ≡ None) × (first_value warc_record_id fields.now ≡ Some value.now)
         × (is_id value.now ≡ true))
         (λ fault. id_fault fields.now ≡ Some fault) }
 {
@@ -215,10 +217,10 @@ fn read_typed<A: Allocator + Copy>(
     date_text: &Value<A>,
     moment: Moment,
 ) -> Result<Typed<A>, AllocError>
-    requires of_type { first_value (codes "WARC-Type") fields.now ≡ Some type_text.now }
-    requires of_id { first_value (codes "WARC-Record-ID") fields.now ≡ Some id_text.now }
+    requires of_type { first_value warc_type fields.now ≡ Some type_text.now }
+    requires of_id { first_value warc_record_id fields.now ≡ Some id_text.now }
     requires id { is_id id_text.now ≡ true }
-    requires of_date { first_value (codes "WARC-Date") fields.now ≡ Some date_text.now }
+    requires of_date { first_value warc_date fields.now ≡ Some date_text.now }
     requires date { instant_of date_text.now ≡ Some moment }
     ensures { IfOk result (λ typed. said typed ≡ reading_of fields.now) }
 {

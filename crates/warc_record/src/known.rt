@@ -9,6 +9,7 @@ ghost use Rattle.warc_record.specs.Known.{known_name, known_place, known_by, nex
 use std::alloc::Allocator;
 use std::marker::Model;
 use warc_field::{Fields, Name, Value};
+use warc_frame::names;
 
 /// A name of the standard by which a head is read.
 #[derive(Clone, Copy, Debug, PartialEq, Eq)]
@@ -98,30 +99,30 @@ fn eighth(text: &[u8]) -> u8
 
 impl Known {
     /// The name, as the standard writes it.
-    pub(crate) fn name(self) -> &'static [u8]
+    pub(crate) fn name(self) -> &'static str
         ensures { result.now ≡ known_name self }
     {
         match self {
-            Known::Type => b"WARC-Type",
-            Known::RecordId => b"WARC-Record-ID",
-            Known::Date => b"WARC-Date",
-            Known::TargetUri => b"WARC-Target-URI",
-            Known::ConcurrentTo => b"WARC-Concurrent-To",
-            Known::IpAddress => b"WARC-IP-Address",
-            Known::RefersTo => b"WARC-Refers-To",
-            Known::RefersToTargetUri => b"WARC-Refers-To-Target-URI",
-            Known::RefersToDate => b"WARC-Refers-To-Date",
-            Known::Filename => b"WARC-Filename",
-            Known::Profile => b"WARC-Profile",
-            Known::WarcinfoId => b"WARC-Warcinfo-ID",
-            Known::SegmentNumber => b"WARC-Segment-Number",
-            Known::SegmentOriginId => b"WARC-Segment-Origin-ID",
-            Known::SegmentTotalLength => b"WARC-Segment-Total-Length",
-            Known::BlockDigest => b"WARC-Block-Digest",
-            Known::PayloadDigest => b"WARC-Payload-Digest",
-            Known::Truncated => b"WARC-Truncated",
-            Known::IdentifiedPayloadType => b"WARC-Identified-Payload-Type",
-            Known::ContentType => b"Content-Type",
+            Known::Type => names::WARC_TYPE,
+            Known::RecordId => names::WARC_RECORD_ID,
+            Known::Date => names::WARC_DATE,
+            Known::TargetUri => names::WARC_TARGET_URI,
+            Known::ConcurrentTo => names::WARC_CONCURRENT_TO,
+            Known::IpAddress => names::WARC_IP_ADDRESS,
+            Known::RefersTo => names::WARC_REFERS_TO,
+            Known::RefersToTargetUri => names::WARC_REFERS_TO_TARGET_URI,
+            Known::RefersToDate => names::WARC_REFERS_TO_DATE,
+            Known::Filename => names::WARC_FILENAME,
+            Known::Profile => names::WARC_PROFILE,
+            Known::WarcinfoId => names::WARC_WARCINFO_ID,
+            Known::SegmentNumber => names::WARC_SEGMENT_NUMBER,
+            Known::SegmentOriginId => names::WARC_SEGMENT_ORIGIN_ID,
+            Known::SegmentTotalLength => names::WARC_SEGMENT_TOTAL_LENGTH,
+            Known::BlockDigest => names::WARC_BLOCK_DIGEST,
+            Known::PayloadDigest => names::WARC_PAYLOAD_DIGEST,
+            Known::Truncated => names::WARC_TRUNCATED,
+            Known::IdentifiedPayloadType => names::WARC_IDENTIFIED_PAYLOAD_TYPE,
+            Known::ContentType => names::CONTENT_TYPE,
         }
     }
 
@@ -163,7 +164,7 @@ fn known_as<A: Allocator>(name: &Name<A>) -> Option<Known>
 {
     let bytes = name.bytes();
     let known = candidate(bytes.len(), eighth(bytes))?;
-    if name.is(known.name()) {
+    if name.is(known.name().as_bytes()) {
         Some(known)
     } else {
         None

@@ -7,7 +7,8 @@ use crate::types::Kind;
 
 /// A row of the field table.
 pub struct FieldRule {
-    pub name: &'static str,
+    /// Its name, by which heads are read.
+    pub(crate) known: Known,
 
     /// The kinds of record that must have the field.
     pub required: &'static [Kind],
@@ -17,9 +18,15 @@ pub struct FieldRule {
 
     /// Whether it may occur more than once.
     pub repeats: bool,
+}
 
-    /// Its name, as heads are read by it.
-    pub(crate) known: Known,
+impl FieldRule {
+    /// The name of the field.
+    pub fn name(&self) -> &'static str
+        ensures { result.now ≡ known_name self.now.known }
+    {
+        self.known.name()
+    }
 }
 
 const ALL_BUT_REVISIT: &[Kind] = &[
@@ -54,7 +61,7 @@ const ALL_BUT_CONTINUATION: &[Kind] = &[
 
 static FIELD_RULES: [FieldRule; 17] = [
     FieldRule {
-        name: "WARC-Target-URI",
+        known: Known::TargetUri,
         required: &[
             Kind::Response,
             Kind::Resource,
@@ -65,24 +72,21 @@ static FIELD_RULES: [FieldRule; 17] = [
         ],
         forbidden: &[Kind::Warcinfo],
         repeats: false,
-        known: Known::TargetUri,
     },
     FieldRule {
-        name: "WARC-Concurrent-To",
+        known: Known::ConcurrentTo,
         required: &[],
         forbidden: &[Kind::Warcinfo, Kind::Conversion, Kind::Continuation],
         repeats: true,
-        known: Known::ConcurrentTo,
     },
     FieldRule {
-        name: "WARC-IP-Address",
+        known: Known::IpAddress,
         required: &[],
         forbidden: &[Kind::Warcinfo, Kind::Conversion, Kind::Continuation],
         repeats: false,
-        known: Known::IpAddress,
     },
     FieldRule {
-        name: "WARC-Refers-To",
+        known: Known::RefersTo,
         required: &[],
         forbidden: &[
             Kind::Warcinfo,
@@ -92,105 +96,90 @@ static FIELD_RULES: [FieldRule; 17] = [
             Kind::Continuation,
         ],
         repeats: false,
-        known: Known::RefersTo,
     },
     FieldRule {
-        name: "WARC-Refers-To-Target-URI",
-        required: &[],
-        forbidden: ALL_BUT_REVISIT,
-        repeats: false,
         known: Known::RefersToTargetUri,
-    },
-    FieldRule {
-        name: "WARC-Refers-To-Date",
         required: &[],
         forbidden: ALL_BUT_REVISIT,
         repeats: false,
-        known: Known::RefersToDate,
     },
     FieldRule {
-        name: "WARC-Filename",
+        known: Known::RefersToDate,
+        required: &[],
+        forbidden: ALL_BUT_REVISIT,
+        repeats: false,
+    },
+    FieldRule {
+        known: Known::Filename,
         required: &[],
         forbidden: ALL_BUT_WARCINFO,
         repeats: false,
-        known: Known::Filename,
     },
     FieldRule {
-        name: "WARC-Profile",
+        known: Known::Profile,
         required: &[Kind::Revisit],
         forbidden: &[],
         repeats: false,
-        known: Known::Profile,
     },
     FieldRule {
-        name: "WARC-Warcinfo-ID",
+        known: Known::WarcinfoId,
         required: &[],
         forbidden: &[Kind::Warcinfo],
         repeats: false,
-        known: Known::WarcinfoId,
     },
     FieldRule {
-        name: "WARC-Segment-Number",
-        required: &[Kind::Continuation],
-        forbidden: &[],
-        repeats: false,
         known: Known::SegmentNumber,
+        required: &[Kind::Continuation],
+        forbidden: &[],
+        repeats: false,
     },
     FieldRule {
-        name: "WARC-Segment-Origin-ID",
+        known: Known::SegmentOriginId,
         required: &[Kind::Continuation],
         forbidden: ALL_BUT_CONTINUATION,
         repeats: false,
-        known: Known::SegmentOriginId,
     },
     FieldRule {
-        name: "WARC-Segment-Total-Length",
+        known: Known::SegmentTotalLength,
         required: &[],
         forbidden: ALL_BUT_CONTINUATION,
         repeats: false,
-        known: Known::SegmentTotalLength,
     },
     FieldRule {
-        name: "WARC-Block-Digest",
-        required: &[],
-        forbidden: &[],
-        repeats: false,
         known: Known::BlockDigest,
-    },
-    FieldRule {
-        name: "WARC-Payload-Digest",
         required: &[],
         forbidden: &[],
         repeats: false,
+    },
+    FieldRule {
         known: Known::PayloadDigest,
-    },
-    FieldRule {
-        name: "WARC-Truncated",
         required: &[],
         forbidden: &[],
         repeats: false,
+    },
+    FieldRule {
         known: Known::Truncated,
-    },
-    FieldRule {
-        name: "WARC-Identified-Payload-Type",
         required: &[],
         forbidden: &[],
         repeats: false,
+    },
+    FieldRule {
         known: Known::IdentifiedPayloadType,
-    },
-    FieldRule {
-        name: "Content-Type",
         required: &[],
         forbidden: &[],
         repeats: false,
+    },
+    FieldRule {
         known: Known::ContentType,
+        required: &[],
+        forbidden: &[],
+        repeats: false,
     },
 ];
 
 /// The rows of the field table, in their order.
 pub(crate) fn rows() -> &'static [FieldRule]
-    ensures rules { map rule_seen result.now ≡ rules }
-    ensures names { map (λ row. known_name row.known) result.now ≡ map (λ row. row.name.now) result.now }
+    ensures { map rule_seen result.now ≡ rules }
 {
     &FIELD_RULES
 }

@@ -25,7 +25,8 @@ use Rattle.warc_frame.specs.declared.fault.Mandatory.TheVariants.{«Type», Reco
 use Rattle.warc_frame.specs.declared.fault.FaultKind.{FaultKind}
 use Rattle.warc_frame.specs.declared.fault.FaultKind.TheVariants.{Missing, Repeated, BadType, Id, Date}
 use Rattle.warc_frame.specs.FaultText.{name_of}
-use Rattle.warc_frame.specs.Record.{Record, IsFramed, canonical_len, content_length, block_len, block_number}
+use Rattle.warc_frame.specs.Names.{content_length}
+use Rattle.warc_frame.specs.Record.{Record, IsFramed, canonical_len, block_len, block_number}
 use Rattle.warc_frame.specs.Record.{or_length}
 use Rattle.warc_record.specs.declared.types.Kind.TheVariants.{Other}
 use Rattle.warc_record.specs.Ids.{bare_text, is_id, id_key}

@@ -6,7 +6,7 @@ use Rattle.std.proofs.lemmas.Bool.{cases_Bool}
 use Rattle.std.proofs.lemmas.List.Sums.{sum_by-cons}
 use Rattle.warc_field.specs.Text.{same}
 use Rattle.warc_field.specs.Area.{Pair, first_value, count_of}
-use Rattle.warc_frame.specs.Record.{content_length}
+use Rattle.warc_frame.specs.Names.{content_length}
 use Rattle.warc_write.specs.Splitting.{kept, with_len}
 use Rattle.warc_write.proofs.ConversionLemmas.{same_goes_on}
 

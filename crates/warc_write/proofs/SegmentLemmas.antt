@@ -28,7 +28,8 @@ use Rattle.warc_frame.specs.declared.fault.FaultKind.{FaultKind}
 use Rattle.warc_frame.specs.declared.fault.FaultKind.TheVariants.{Missing, Repeated, BadType, Id, Date}
 use Rattle.warc_frame.specs.declared.fault.Mandatory.{Mandatory}
 use Rattle.warc_frame.specs.declared.fault.Mandatory.TheVariants.{«Type», RecordId, Date as DateField, ContentLength}
-use Rattle.warc_frame.specs.Record.{Record, IsFramed, block_len, block_number, content_length, max_block, or_length}
+use Rattle.warc_frame.specs.Names.{content_length}
+use Rattle.warc_frame.specs.Record.{Record, IsFramed, block_len, block_number, max_block, or_length}
 use Rattle.warc_record.proofs.GoodLemmas.{good_heads_have_no_fault}
 use Rattle.warc_record.specs.Good.{IsGood, SaysAll}
 use Rattle.warc_record.specs.Heads.{is_date, head_fault}

@@ -9,7 +9,7 @@ use Rattle.std.proofs.lemmas.List.{map-append, take_more}
 use Rattle.std.proofs.lemmas.List.Elements.{filter-append}
 use Rattle.warc_field.specs.Text.{is_blank, is_value, is_value_byte, same}
 use Rattle.warc_field.specs.Area.{Pair}
-use Rattle.warc_frame.specs.Record.{content_length}
+use Rattle.warc_frame.specs.Names.{content_length}
 use Rattle.uuid.specs.Text.{parsed_urn}
 use Rattle.warc_frame.specs.declared.fault.FaultKind.{FaultKind}
 use Rattle.warc_frame.specs.declared.fault.FaultKind.TheVariants.{Memory as OutOfMemory}

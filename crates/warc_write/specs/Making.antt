@@ -7,6 +7,7 @@ use Rattle.sha1.specs.Sha1.{sha1}
 use Rattle.uuid.specs.Text.{parsed}
 use Rattle.warc_field.specs.Text.{is_value}
 use Rattle.warc_field.specs.Area.{Pair}
+use Rattle.warc_frame.specs.Names.{content_length, content_type, warc_type, warc_record_id, warc_date, warc_target_uri, warc_block_digest}
 use Rattle.warc_frame.specs.declared.version.Version.TheVariants.{V1_1}
 use Rattle.warc_frame.specs.Record.{Record, canonical_len, max_block, max_head}
 use Rattle.warc_record.specs.declared.types.Kind.{Kind}
@@ -51,13 +52,13 @@ is_target uri = is_one_text uri && bytes_eq (bare_text uri) uri
 -- the fields of a record with this type and id, in their order
 abbrev pub made_fields : List ℕ → List ℕ → Plan → List Pair
 made_fields type uuid plan =
-    (codes "WARC-Type", type)
-    ∷ (codes "WARC-Record-ID", id_text uuid)
-    ∷ (codes "WARC-Date", plan.date)
-    ∷ (codes "WARC-Target-URI", plan.uri)
-    ∷ (codes "Content-Type", plan.content_type)
-    ∷ (codes "WARC-Block-Digest", digest_text (sha1 plan.block))
-    ∷ (codes "Content-Length", decimal (length plan.block))
+    (warc_type, type)
+    ∷ (warc_record_id, id_text uuid)
+    ∷ (warc_date, plan.date)
+    ∷ (warc_target_uri, plan.uri)
+    ∷ (content_type, plan.content_type)
+    ∷ (warc_block_digest, digest_text (sha1 plan.block))
+    ∷ (content_length, decimal (length plan.block))
     ∷ []
 
 -- a record of WARC 1.1

@@ -11,7 +11,8 @@ use Rattle.uuid.specs.Parts.{with_variant, with_version}
 use Rattle.uuid.specs.Text.{parsed_urn}
 use Rattle.warc_field.specs.Text.{same}
 use Rattle.warc_field.specs.Area.{Pair, first_value}
-use Rattle.warc_frame.specs.Record.{Record, IsFramed, canonical_len, content_length, max_head}
+use Rattle.warc_frame.specs.Names.{content_length, warc_type, warc_record_id, warc_date, warc_target_uri, warc_segment_number, warc_segment_origin_id, warc_segment_total_length, warc_block_digest}
+use Rattle.warc_frame.specs.Record.{Record, IsFramed, canonical_len, max_head}
 use Rattle.warc_record.specs.declared.types.Kind.{Kind}
 use Rattle.warc_record.specs.declared.types.Kind.TheVariants.{Warcinfo, Response, Resource, Request, Metadata}
 use Rattle.warc_record.specs.declared.types.Kind.TheVariants.{Revisit}
@@ -46,9 +47,9 @@ has_field name fields = is_some (first_value name fields)
 -- there is a field of segments
 abbrev pub is_segmented : List Pair → Bool
 is_segmented fields =
-    has_field (codes "WARC-Segment-Number") fields
-    || has_field (codes "WARC-Segment-Origin-ID") fields
-    || has_field (codes "WARC-Segment-Total-Length") fields
+    has_field warc_segment_number fields
+    || has_field warc_segment_origin_id fields
+    || has_field warc_segment_total_length fields
 
 -- the first value of a name, or nothing
 abbrev pub value_in : List ℕ → List Pair → List ℕ
@@ -62,7 +63,7 @@ splittable fields n = do
   _ ← checks (may_be_split (kind_of fields)) BadKind
   _ ← checks (is_some (target_of fields)) BadKind
   _ ← checks (not (is_segmented fields)) AlreadySegmented
-  needs (parsed_urn (bare_text (value_in (codes "WARC-Record-ID") fields))) NotUuid
+  needs (parsed_urn (bare_text (value_in warc_record_id fields))) NotUuid
 
 -- the UUID of version 5 of a name in a UUID's namespace
 abbrev pub version_5 : List ℕ → List ℕ → List ℕ
@@ -74,7 +75,7 @@ abbrev pub with_len : ℕ → Pair → Pair
 with_len len field = if same field.0 content_length then (field.0, decimal len) else field
 
 abbrev pub is_kept : Pair → Bool
-is_kept field = not (same field.0 (codes "WARC-Block-Digest"))
+is_kept field = not (same field.0 warc_block_digest)
 
 abbrev pub kept : ℕ → List Pair → List Pair
 kept len given = map (with_len len) (filter is_kept given)
@@ -82,31 +83,31 @@ kept len given = map (with_len len) (filter is_kept given)
 abbrev pub first_fields : List Pair → Part → List Pair
 first_fields given part =
     kept part.len given
-    ++ (codes "WARC-Segment-Number", codes "1")
-    ∷ (codes "WARC-Block-Digest", digest_text part.digest)
+    ++ (warc_segment_number, codes "1")
+    ∷ (warc_block_digest, digest_text part.digest)
     ∷ []
 
 -- the fields of a further segment of the record with these fields and this UUID
 abbrev pub origin_fields : List Pair → List ℕ → ℕ → List Pair
 origin_fields given uuid number =
-    (codes "WARC-Type", codes "continuation")
-    ∷ (codes "WARC-Record-ID", id_text (version_5 uuid (decimal number)))
-    ∷ (codes "WARC-Date", value_in (codes "WARC-Date") given)
-    ∷ (codes "WARC-Target-URI", bare_text (value_in (codes "WARC-Target-URI") given))
-    ∷ (codes "WARC-Segment-Origin-ID", value_in (codes "WARC-Record-ID") given)
+    (warc_type, codes "continuation")
+    ∷ (warc_record_id, id_text (version_5 uuid (decimal number)))
+    ∷ (warc_date, value_in warc_date given)
+    ∷ (warc_target_uri, bare_text (value_in warc_target_uri given))
+    ∷ (warc_segment_origin_id, value_in warc_record_id given)
     ∷ []
 
 abbrev pub total_fields : Option ℕ → List Pair
 total_fields None = []
-total_fields (Some total) = (codes "WARC-Segment-Total-Length", decimal total) ∷ []
+total_fields (Some total) = (warc_segment_total_length, decimal total) ∷ []
 
 abbrev pub next_fields : List Pair → List ℕ → Part → List Pair
 next_fields given uuid part =
     origin_fields given uuid part.number
-    ++ (codes "WARC-Segment-Number", decimal part.number)
+    ++ (warc_segment_number, decimal part.number)
     ∷ total_fields part.total
-    ++ (codes "WARC-Block-Digest", digest_text part.digest)
-    ∷ (codes "Content-Length", decimal part.len)
+    ++ (warc_block_digest, digest_text part.digest)
+    ∷ (content_length, decimal part.len)
     ∷ []
 
 abbrev pub segment_fields : List Pair → List ℕ → Part → List Pair

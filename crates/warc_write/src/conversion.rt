@@ -5,7 +5,7 @@ ghost use Rattle.warc_write.specs.Conversion.{converted, converted_field, conver
 use crate::parts::framed_of;
 use std::alloc::{AllocError, Allocator};
 use warc_field::{Fields, Name, Value};
-use warc_frame::{Framed, Version};
+use warc_frame::{Framed, Version, names};
 use warc_record::bare;
 use warc_record::laws::bare_texts_of_values;
 
@@ -18,7 +18,7 @@ fn converted_value<A: Allocator>(
     ensures { IfOk result (λ text. (name.now, text) ≡ converted_field (name.now, value.now)) }
 {
     bare_texts_of_values();
-    if name.is(b"WARC-Target-URI") {
+    if name.is(names::WARC_TARGET_URI.as_bytes()) {
         Value::from_checked(alloc, bare(value.bytes()))
     } else {
         Value::from_checked(alloc, value.bytes())

@@ -7,7 +7,7 @@ ghost use Rattle.warc_write.specs.Written.{label_text};
 use itoa::Buffer;
 use std::alloc::{AllocError, Allocator};
 use warc_field::{Fields, Name, Value};
-use warc_frame::{Framed, Version};
+use warc_frame::{Framed, Version, names};
 
 /// The record of these parts.
 pub(crate) fn framed_of<A: Allocator>(
@@ -42,21 +42,21 @@ pub(crate) enum Label {
 impl Label {
     /// The field's name, as the standard writes it.
     #[tactic(auto, unfolding(warc_field::specs::Text::is_name, warc_field::specs::Text::is_name_byte))]
-    fn name(self) -> &'static [u8]
+    fn name(self) -> &'static str
         ensures text { result.now ≡ label_text self }
         ensures named { is_name result.now ≡ true }
     {
         match self {
-            Label::Type => b"WARC-Type",
-            Label::RecordId => b"WARC-Record-ID",
-            Label::Date => b"WARC-Date",
-            Label::TargetUri => b"WARC-Target-URI",
-            Label::ContentType => b"Content-Type",
-            Label::BlockDigest => b"WARC-Block-Digest",
-            Label::ContentLength => b"Content-Length",
-            Label::SegmentNumber => b"WARC-Segment-Number",
-            Label::SegmentOriginId => b"WARC-Segment-Origin-ID",
-            Label::SegmentTotalLength => b"WARC-Segment-Total-Length",
+            Label::Type => names::WARC_TYPE,
+            Label::RecordId => names::WARC_RECORD_ID,
+            Label::Date => names::WARC_DATE,
+            Label::TargetUri => names::WARC_TARGET_URI,
+            Label::ContentType => names::CONTENT_TYPE,
+            Label::BlockDigest => names::WARC_BLOCK_DIGEST,
+            Label::ContentLength => names::CONTENT_LENGTH,
+            Label::SegmentNumber => names::WARC_SEGMENT_NUMBER,
+            Label::SegmentOriginId => names::WARC_SEGMENT_ORIGIN_ID,
+            Label::SegmentTotalLength => names::WARC_SEGMENT_TOTAL_LENGTH,
         }
     }
 }
@@ -88,7 +88,7 @@ pub(crate) fn add_field<A: Allocator + Copy>(
     requires { is_value value.now ≡ true }
     ensures { OnOk result (fields.new ≡ fields.old ++ (label_text label, value.now) ∷ []) }
 {
-    add_copy(alloc, fields, label.name(), value)
+    add_copy(alloc, fields, label.name().as_bytes(), value)
 }
 
 /// Adds a field at the end, by its name and the number that its value writes.
@@ -114,5 +114,5 @@ pub(crate) fn add_number<A: Allocator + Copy>(
 ) -> Result<(), AllocError>
     ensures { OnOk result (fields.new ≡ fields.old ++ (label_text label, decimal number) ∷ []) }
 {
-    add_digits(alloc, fields, label.name(), number)
+    add_digits(alloc, fields, label.name().as_bytes(), number)
 }

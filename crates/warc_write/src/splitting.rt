@@ -2,7 +2,7 @@
 ghost use Rattle.std.specs.Prelude.{◌≡◌, ℕ, List, [], ◌∷◌, ◌++◌, true, IfOk, ◌+◌, ◌-◌, ◌*◌, ◌<◌, length, IfErr, OnOk};
 ghost use Rattle.std.specs.Prelude.{Ok, Err, Some, is_none, is_some, decimal};
 ghost use Rattle.std.specs.List.{list_all};
-ghost use Rattle.warc_field.specs.Text.{is_value};
+ghost use Rattle.warc_field.specs.Text.{is_value, same};
 ghost use Rattle.warc_frame.specs.Record.{IsFramed};
 ghost use Rattle.warc_record.specs.Heads.{head_fault};
 ghost use Rattle.warc_record.specs.Readings.{kind_of, target_of};
@@ -13,7 +13,7 @@ ghost use Rattle.warc_write.specs.Splitting.{AllFramed, OrMemory, segment_count}
 ghost use Rattle.warc_record.specs.Blocks.{has_bad_digest};
 ghost use Rattle.warc_write.specs.Splitting.{has_room, split_of, piece_at, segment_of, segments_of};
 ghost use Rattle.warc_write.specs.Cutting.{part_with};
-ghost use Rattle.warc_write.specs.Splitting.{Splits, first_fields, is_segmented, kept};
+ghost use Rattle.warc_write.specs.Splitting.{Splits, first_fields, has_field, is_segmented, kept};
 ghost use Rattle.warc_write.specs.Splitting.{may_be_split, next_fields, origin_fields};
 ghost use Rattle.warc_write.specs.Splitting.{segment_fields, split_fault_text, splittable, total_fields};
 ghost use Rattle.warc_write.specs.Splitting.{value_in, version_5};
@@ -26,7 +26,7 @@ use std::fmt;
 use thiserror::Error;
 use uuid::Uuid;
 use warc_field::{Fields, Name, Value};
-use warc_frame::{FaultKind, Framed};
+use warc_frame::{FaultKind, Framed, names};
 use warc_record::laws::{bare_texts_of_values, good_heads_read};
 use warc_record::{Kind, bare, type_head, urn_uuid, wanted};
 use warc_value::{Running, digest};
@@ -113,21 +113,28 @@ fn may_be_split(kind: Kind) -> bool
     }
 }
 
+/// Whether there is a field of this name.
+fn has_field<A: Allocator>(fields: &Fields<A>, name: &str) -> bool
+    ensures { result ≡ has_field name.now fields.now }
+{
+    fields.first(name.as_bytes()).is_some()
+}
+
 /// Whether there is a field of segments.
 fn is_segmented<A: Allocator>(fields: &Fields<A>) -> bool
     ensures { result ≡ is_segmented fields.now }
 {
-    fields.first(b"WARC-Segment-Number").is_some()
-        || fields.first(b"WARC-Segment-Origin-ID").is_some()
-        || fields.first(b"WARC-Segment-Total-Length").is_some()
+    has_field(fields, names::WARC_SEGMENT_NUMBER)
+        || has_field(fields, names::WARC_SEGMENT_ORIGIN_ID)
+        || has_field(fields, names::WARC_SEGMENT_TOTAL_LENGTH)
 }
 
 /// The first value of a name, or nothing.
-fn value_in<'a, A: Allocator>(fields: &'a Fields<A>, name: &[u8]) -> &'a [u8]
+fn value_in<'a, A: Allocator>(fields: &'a Fields<A>, name: &str) -> &'a [u8]
     ensures text { result.now ≡ value_in name.now fields.now }
     ensures value { is_value result.now ≡ true }
 {
-    match fields.first(name) {
+    match fields.first(name.as_bytes()) {
         Some(value) => value.bytes(),
         None => b"",
     }
@@ -169,7 +176,7 @@ pub fn splittable<A: Allocator + Copy>(
     if is_segmented(fields) {
         return Err(SplitFault::AlreadySegmented);
     }
-    urn_uuid(bare(value_in(fields, b"WARC-Record-ID"))).ok_or(SplitFault::NotUuid)
+    urn_uuid(bare(value_in(fields, names::WARC_RECORD_ID))).ok_or(SplitFault::NotUuid)
 }
 
 /// The id of the segment with this number, of the record with this UUID.
@@ -178,6 +185,13 @@ fn segment_id(uuid: &[u8; 16], number: u64) -> Uuid
 {
     let mut digits = Buffer::new();
     Uuid::new_v5(&Uuid::from_bytes(*uuid), digits.format(number).as_bytes())
+}
+
+/// Whether a name is this text: ASCII case doesn't matter.
+fn is_named<A: Allocator>(name: &Name<A>, text: &str) -> bool
+    ensures { result ≡ same name.now text.now }
+{
+    name.is(text.as_bytes())
 }
 
 /// Adds what a first segment keeps of a field.
@@ -190,10 +204,10 @@ fn add_kept_field<A: Allocator + Copy>(
 ) -> Result<(), AllocError>
     ensures { OnOk result (fields.new ≡ fields.old ++ kept len ((name.now, value.now) ∷ [])) }
 {
-    if name.is(b"WARC-Block-Digest") {
+    if is_named(name, names::WARC_BLOCK_DIGEST) {
         return Ok(());
     }
-    if name.is(b"Content-Length") {
+    if is_named(name, names::CONTENT_LENGTH) {
         return add_digits(alloc, fields, name.bytes(), len);
     }
     add_copy(alloc, fields, name.bytes(), value.bytes())
@@ -244,7 +258,7 @@ fn origin_fields<A: Allocator + Copy>(
     ensures { IfOk result (λ fields. fields ≡ origin_fields given.now uuid.now number) }
 {
     bare_texts_of_values();
-    let target = bare(value_in(given, b"WARC-Target-URI"));
+    let target = bare(value_in(given, names::WARC_TARGET_URI));
     let mut fields = Fields::new(alloc);
     add_field(alloc, &mut fields, Label::Type, b"continuation")?;
     add_field(
@@ -257,14 +271,14 @@ fn origin_fields<A: Allocator + Copy>(
         alloc,
         &mut fields,
         Label::Date,
-        value_in(given, b"WARC-Date"),
+        value_in(given, names::WARC_DATE),
     )?;
     add_field(alloc, &mut fields, Label::TargetUri, target)?;
     add_field(
         alloc,
         &mut fields,
         Label::SegmentOriginId,
-        value_in(given, b"WARC-Record-ID"),
+        value_in(given, names::WARC_RECORD_ID),
     )?;
     Ok(fields)
 }

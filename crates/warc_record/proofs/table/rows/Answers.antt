@@ -4,4 +4,4 @@ use Rattle.warc_record.proofs.table.rows.Goals as goal
 
 pub returns : goal.returns
 unfolding rules
-returns c = record { rules = refl; names = refl }
+returns c = refl
