@@ -1,6 +1,9 @@
 ghost use Rattle.std.specs.Prelude.{◌≡◌};
 ghost use Rattle.warc_field.specs.Decimal.{decimal_of};
 
+/// The greatest number that is read.
+const MAX_NUMBER: u64 = 1 << 48;
+
 /// The number that a text of decimal digits writes: at least one digit and nothing else, leading zeros allowed, at most
 /// 2^48; else `None`.
 #[tactic(auto, using(crate::proofs::NumberLemmas::too_large), unfolding(crate::specs::Decimal::decimal_of))]
@@ -16,7 +19,7 @@ pub fn decimal(text: &[u8]) -> Option<u64>
             return None;
         }
         number = number * 10 + (*b - b'0') as u64;
-        if number > 1 << 48 {
+        if number > MAX_NUMBER {
             return None;
         }
     }

@@ -8,7 +8,7 @@ use Rattle.warc_frame.specs.declared.stream.Event.{Event}
 use Rattle.warc_frame.specs.declared.stream.Event.TheVariants as events
 use Rattle.warc_frame.specs.declared.stream.Phase.{Phase}
 use Rattle.warc_frame.specs.declared.stream.Phase.TheVariants as phases
-use Rattle.warc_frame.specs.Record.{max_head}
+use Rattle.warc_frame.specs.Record.{max_head, max_archive}
 use Rattle.warc_frame.specs.Spelling.{SpellsAll}
 use Rattle.warc_frame.specs.Reading.{version_of, empty_line, head_len, fault}
 use Rattle.warc_frame.specs.Faults.{IsFrameFault}
@@ -25,8 +25,8 @@ pub record State : Type 0 where
 
 -- what is true of every decoder, whatever it took
 pub record IsSound (position : ℕ) (kept : List ℕ) (matched : ℕ) : Type 0 where
-  pub limit : position ≤ 2 ^ 48
-  pub room : length kept ≤ 65536
+  pub limit : position ≤ max_archive
+  pub room : length kept ≤ max_head
   pub taken : length kept ≤ position
   pub unended : empty_line kept ≡ None
   pub fewer : matched < 4

@@ -2,6 +2,7 @@ ghost use Rattle.std.specs.Prelude.{◌≡◌, ℕ, ◌+◌, ◌-◌, ◌<◌, �
 ghost use Rattle.warc_field.specs.Lines.{crlf_at};
 ghost use Rattle.warc_frame.specs.Reading.{empty_line, version_of, begins};
 ghost use Rattle.warc_frame.specs.Decoding.{ends_behind, closing};
+ghost use Rattle.warc_frame.specs.Record.{max_head};
 
 use crate::version::Version;
 use warc_field::find_crlf;
@@ -23,7 +24,7 @@ fn byte_at(kept: &[u8], piece: &[u8], place: usize) -> u8
 /// Whether a CRLF CRLF ends with this byte of the piece.
 fn ends_at(kept: &[u8], piece: &[u8], place: usize) -> bool
     requires within { place < length piece.now }
-    requires short { length kept.now + length piece.now ≤ 65536 }
+    requires short { length kept.now + length piece.now ≤ max_head }
     ensures { result ≡ ends_behind (kept.now ++ piece.now) (length kept.now + place) }
 {
     let end = kept.len() + place;
@@ -67,7 +68,7 @@ pub(crate) fn find_empty_line(text: &[u8]) -> Option<usize>
 /// How many bytes of the piece end the first CRLF CRLF, if the kept bytes hold none. Only those that begin in the
 /// kept bytes are looked for byte by byte.
 pub(crate) fn find_end(kept: &[u8], piece: &[u8]) -> Option<usize>
-    requires short { length kept.now + length piece.now ≤ 65536 }
+    requires short { length kept.now + length piece.now ≤ max_head }
     requires none { empty_line kept.now ≡ None }
     ensures within { IfSome result (λ n. (0 < n) × (n ≤ length piece.now) × (4 ≤ length kept.now + n)) }
     ensures end { MatchOption result (empty_line (kept.now ++ piece.now) ≡ None)

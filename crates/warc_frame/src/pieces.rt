@@ -1,6 +1,6 @@
 ghost use Rattle.std.specs.Prelude.{◌≡◌, ℕ, ◌+◌, ◌≤◌, ◌^◌, ◌++◌, List, [], ◌∷◌, length, IfOk, IfErr, OnOk, OnErr, MatchResult};
 ghost use Rattle.std.specs.List.{flat_map};
-ghost use Rattle.warc_frame.specs.Record.{Record};
+ghost use Rattle.warc_frame.specs.Record.{Record, max_archive};
 ghost use Rattle.warc_frame.specs.Spelling.{SpellsAll};
 ghost use Rattle.warc_frame.specs.Told.{tell};
 ghost use Rattle.warc_frame.specs.Pieces.{start_on, Keeps, IsPieceFault, IsMemoryFault, MayKeep, IsPiecesFault};
@@ -121,7 +121,7 @@ pub fn decode<A: Allocator + Copy>(
     at: u64,
     pieces: &[&[u8]],
 ) -> Result<Vec<Framed<A>, A>, Fault>
-    requires { at ≤ 2 ^ 48 }
+    requires { at ≤ max_archive }
     ensures spelled { IfOk result (λ records. SpellsAll records.items (flat_map (λ piece. piece.now) pieces.now)) }
     // No other list of records is spelled.
     ensures only { IfOk result

@@ -5,6 +5,7 @@ ghost use Rattle.warc_frame.specs.Decoding.{IsAt, IsFailed, Finishes, TakesWithi
 ghost use Rattle.warc_frame.specs.Steps.{Near, ClosesHead};
 ghost use Rattle.warc_frame.specs.declared.fault.Fault.{Fault};
 ghost use Rattle.warc_frame.specs.declared.stream.Event.TheVariants as events;
+ghost use Rattle.warc_frame.specs.Record.{max_archive};
 
 use crate::ends::{closes_on, find_end, version_across};
 use crate::fault::{Fault, FaultKind};
@@ -77,7 +78,7 @@ impl<A: Allocator> Model for Decoder<A> {
 impl<A: Allocator + Copy> Decoder<A> {
     /// A decoder of a stream whose first byte is at this offset, at most 2^48. It takes no memory.
     pub fn new(alloc: A, at: u64) -> Decoder<A>
-        requires { at ≤ 2 ^ 48 }
+        requires { at ≤ max_archive }
         ensures { IsAt at [] nothing result }
     {
         Decoder {
@@ -103,7 +104,7 @@ impl<A: Allocator + Copy> Decoder<A> {
         ensures history { (at : ℕ) (taken : List ℕ) (told : Told) → IsAt at taken told self.now
             → (result ≡ at + length taken) × Lies taken told }
         ensures value { result ≡ self.now.position }
-        ensures limit { result ≤ 2 ^ 48 }
+        ensures limit { result ≤ max_archive }
     {
         self.position
     }
@@ -161,7 +162,7 @@ impl<A: Allocator + Copy> Decoder<A> {
 
     /// Takes bytes of a head; `crosses` says that bytes at the limit follow the given ones.
     fn take_head(&mut self, near: &[u8], crosses: bool) -> Result<(usize, Event<A>), Fault>
-        requires room { self.old.position + length near.now ≤ 2 ^ 48 }
+        requires room { self.old.position + length near.now ≤ max_archive }
         ensures history { (at : ℕ) (taken text : List ℕ) (told : Told) → self.old.phase ≡ Phase.Head
             → IsAt at taken told self.old → Near crosses at text (taken ++ near.now)
             → MatchResult result (λ r. Takes at taken told self.new near.now r.0 r.1)
@@ -197,7 +198,7 @@ impl<A: Allocator + Copy> Decoder<A> {
         requires version { version_of (self.old.kept ++ end.now) ≡ Some version }
         requires len { head_len (self.old.kept ++ end.now) ≡ Some (length (self.old.kept ++ end.now)) }
         requires some { 0 < length end.now }
-        requires room { self.old.position + length end.now ≤ 2 ^ 48 }
+        requires room { self.old.position + length end.now ≤ max_archive }
         ensures closes { ClosesHead self.old self.new end.now result }
         ensures within { IfOk result (λ r. TakesWithin (length end.now) r.0 r.1) }
         ensures head { IfOk result (λ r. r.1 ≢ Event.More) }
@@ -232,7 +233,7 @@ impl<A: Allocator + Copy> Decoder<A> {
 
     /// Takes bytes of a block or of what closes the record.
     fn take_block(&mut self, near: &[u8], crosses: bool) -> Result<(usize, Event<A>), Fault>
-        requires room { self.old.position + length near.now ≤ 2 ^ 48 }
+        requires room { self.old.position + length near.now ≤ max_archive }
         ensures history { (at : ℕ) (taken text : List ℕ) (told : Told) → self.old.phase ≡ Phase.Block
             → IsAt at taken told self.old → Near crosses at text (taken ++ near.now)
             → MatchResult result (λ r. Takes at taken told self.new near.now r.0 r.1)
@@ -259,7 +260,7 @@ impl<A: Allocator + Copy> Decoder<A> {
 
     /// Takes bytes of what closes the record.
     fn take_end(&mut self, near: &[u8], crosses: bool) -> Result<(usize, Event<A>), Fault>
-        requires room { self.old.position + length near.now ≤ 2 ^ 48 }
+        requires room { self.old.position + length near.now ≤ max_archive }
         requires some { 0 < length near.now }
         ensures history { (at : ℕ) (taken text : List ℕ) (told : Told) → self.old.phase ≡ Phase.Block
             → self.old.left ≡ 0 → IsAt at taken told self.old → Near crosses at text (taken ++ near.now)

@@ -4,11 +4,18 @@ use Rattle.httparse.specs.Grammar.{ResponseHead, ReadsResponse, print_response, 
 use Rattle.warc_payload.specs.Coding.{is_coded}
 use Rattle.warc_payload.specs.declared.HeadInfo.{HeadInfo}
 
--- the text is the head, of at most 65,536 bytes and 256 field lines, and then the rest
+-- the most bytes of a block in which its head is looked for, and the most field lines of a head
+abbrev pub most_head_bytes : ℕ
+most_head_bytes = 65_536
+
+abbrev pub most_field_lines : ℕ
+most_field_lines = 256
+
+-- the text is the head, which is no longer, and then the rest
 pub record BeginsWithHead (text : List ℕ) (head : ResponseHead) (rest : List ℕ) : Type 0 where
   pub reads : ReadsResponse text head rest
-  pub size : length (print_response head) ≤ 65_536
-  pub lines : length head.fields ≤ 256
+  pub size : length (print_response head) ≤ most_head_bytes
+  pub lines : length head.fields ≤ most_field_lines
 
 -- no such head is at the front of the text
 abbrev pub HasNoHead : List ℕ → Type 0
@@ -23,4 +30,4 @@ pub record IsInfoOf (text : List ℕ) (info : HeadInfo) (head : ResponseHead) : 
 
 -- the part of a block in which a head is looked for
 unfoldable pub front_of : List ℕ → List ℕ
-front_of block = take 65_536 block
+front_of block = take most_head_bytes block

@@ -6,7 +6,7 @@ ghost use Rattle.std.specs.List.{list_any};
 ghost use Rattle.httparse.specs.Grammar.{ResponseHead};
 ghost use Rattle.httparse.specs.Spans.{IsHeaderWithin, header_bytes};
 ghost use Rattle.warc_payload.specs.Coding.{names_coding};
-ghost use Rattle.warc_payload.specs.Head.{HasNoHead, IsInfoOf, front_of};
+ghost use Rattle.warc_payload.specs.Head.{HasNoHead, IsInfoOf, front_of, most_head_bytes};
 ghost use Rattle.warc_payload.specs.Texts.{AreHeadTexts};
 
 use httparse::Status;
@@ -84,7 +84,7 @@ pub fn front(block: &[u8]) -> &[u8]
 /// 65,536 bytes, or the whole block if that is shorter (RFC 9112, sections 2 to 5). `BadHead`
 /// if there is no whole head of at most 256 field lines. It takes no memory.
 pub fn body_start(text: &[u8]) -> Result<HeadInfo, BadHead>
-    requires { length text.now ≤ 65_536 }
+    requires { length text.now ≤ most_head_bytes }
     ensures found { IfOk result (λ info. (head : ResponseHead) × IsInfoOf text.now info head) }
     ensures none { OnErr result (HasNoHead text.now) }
 {
@@ -134,7 +134,7 @@ impl fmt::Display for HeadFault {
 
 /// The head of a response at the beginning of `text`, as `body_start` finds it, and the texts that it gives.
 pub fn read_head<A: Allocator + Copy>(alloc: A, text: &[u8]) -> Result<StoredHead<A>, HeadFault>
-    requires { length text.now ≤ 65_536 }
+    requires { length text.now ≤ most_head_bytes }
     ensures found { IfOk result (λ h. (head : ResponseHead) × IsInfoOf text.now h.info head
         × AreHeadTexts head h.media_type.items h.codings.items) }
     ensures none { IfErr result (λ fault. fault ≡ HeadFault.Bad → HasNoHead text.now) }

@@ -93,7 +93,7 @@ impl<A: Allocator + Copy, L: Keep<A> + Drop> Reading<A, L> {
     fn behind(rows: Rows<A>, beside: L) -> Reading<A, L>
         ensures rows { result.rows ≡ rows }
         ensures beside { result.beside ≡ beside }
-        ensures limit { result.begin ≤ 2 ^ 48 }
+        ensures limit { result.begin ≤ max_archive }
         ensures begin { (bytes : List ℕ) → IsArchiveOf bytes rows → result.begin ≡ length bytes }
         ensures current { result.current ≡ None }
     {
@@ -291,13 +291,13 @@ fn take_piece<A: Allocator + Copy, L: Keep<A> + Drop>(
 
 /// Reads at an offset, as the source does, and asks for no byte above offset 2^48.
 fn read_near<S: Source>(source: &mut S, at: u64, buf: &mut [u8]) -> Result<usize, ReadFault>
-    requires { at ≤ 2 ^ 48 }
+    requires { at ≤ max_archive }
     ensures bound { IfOk result (λ n. n ≤ length buf.new) }
     ensures bytes { (bytes : List ℕ) → (S.seen source.old).holds ≡ Some bytes
         → IfOk result (Gives bytes at buf.new) }
     ensures read { IsReadAt at (min (max_archive + 1 - at) (length buf.old)) (is_err result) (S.seen source.old)
         (S.seen source.new) }
-    ensures near { IfOk result (λ n. at + n ≤ 2 ^ 48 + 1) }
+    ensures near { IfOk result (λ n. at + n ≤ max_archive + 1) }
     ensures order { GoesOn at result (S.seen source.old) (S.seen source.new) }
 {
     let room = (MAX_ARCHIVE + 1 - at).min(buf.len() as u64) as usize;
@@ -312,7 +312,7 @@ fn read_through<S: Source, A: Allocator + Copy, L: Keep<A> + Drop>(
     reading: &mut Reading<A, L>,
 ) -> Result<(), Fault>
     requires room { 0 < length buf.old }
-    requires limit { reading.old.begin ≤ 2 ^ 48 }
+    requires limit { reading.old.begin ≤ max_archive }
     requires begin { (bytes : List ℕ) → IsArchiveOf bytes reading.old.rows → reading.old.begin ≡ length bytes }
     requires current { reading.old.current ≡ None }
     ensures grows { Grows (IsKeptOf L.keeps) (reading.old.rows, reading.old.beside) (S.seen source.old)

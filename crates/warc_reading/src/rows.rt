@@ -1,6 +1,7 @@
 //! What an archive keeps of its records, in flat lists: where each is, and its texts one after another.
 ghost use Rattle.std.specs.Prelude.{◌≡◌, ℕ, ◌+◌, ◌≤◌, ◌^◌, List, [], ◌∷◌, ◌++◌, length, take, slice_range, vec_capacity, vec_len, IfNone, IfSome, OnErr, OnOk};
 ghost use Rattle.std.specs.List.{slice_get, sum_by};
+ghost use Rattle.warc_frame.specs.Record.{max_archive};
 ghost use Rattle.warc_reading.specs.Archive.{IsArchiveOf};
 ghost use Rattle.warc_reading.specs.Keeping.{texts_len};
 ghost use Rattle.warc_reading.specs.Fitting.{Fits, RowsFit};
@@ -289,7 +290,7 @@ impl<A: Allocator> Rows<A> {
 
     /// The offset after the last record, at most 2^48.
     pub fn end(&self) -> u64
-        ensures limit { result ≤ 2 ^ 48 }
+        ensures limit { result ≤ max_archive }
         ensures end { (bytes : List ℕ) → IsArchiveOf bytes self.now → result ≡ length bytes }
     {
         let Some(last) = self.entries.len().checked_sub(1) else {
