@@ -9,7 +9,7 @@ ghost use Rattle.warc_reading.specs.Row.{Placed};
 use std::alloc::{AllocError, Allocator};
 use warc_field::Fields;
 use warc_index::{Index, RecordIndex, UnorderedIndex};
-use warc_order::EntryList;
+use warc_order::{EntryList, HasEntries, Order, Unordered};
 use warc_record::{Typed, type_head};
 use warc_segment::{Parts, Place};
 
@@ -120,54 +120,53 @@ fn keep_first<O: EntryList, A: Allocator + Copy>(
 
 /// What finds the records of an archive, and what joins those that are segmented.
 #[derive(Drop)]
-pub struct Lookup<A: Allocator> {
-    pub index: Index<A>,
+pub struct RecordLookup<O: HasEntries, A: Allocator> {
+    pub index: RecordIndex<O, A>,
     pub parts: Parts<A>,
 }
 
-impl<A: Allocator + Copy> Lookup<A> {
+/// The lookup of records that are in order.
+pub type Lookup<A> = RecordLookup<Order<A>, A>;
+
+/// The lookup of records that come at once, and are put in order when all are there.
+pub type UnorderedLookup<A> = RecordLookup<Unordered<A>, A>;
+
+impl<A: Allocator + Copy> RecordLookup<Order<A>, A> {
     /// Of no records.
     pub fn new(alloc: A) -> Lookup<A>
         ensures { AreOf [] result.index result.parts }
     {
-        Lookup {
+        RecordLookup {
             index: Index::new(alloc),
             parts: Parts::new(alloc),
         }
     }
 }
 
-/// The same for records that come at once, which are put in order when all are there.
-#[derive(Drop)]
-pub struct UnorderedLookup<A: Allocator> {
-    pub filling: UnorderedIndex<A>,
-    pub parts: Parts<A>,
-}
-
-impl<A: Allocator + Copy> UnorderedLookup<A> {
+impl<A: Allocator + Copy> RecordLookup<Unordered<A>, A> {
     /// Of no records.
     pub fn new(alloc: A) -> UnorderedLookup<A>
-        ensures { AreOf [] result.filling result.parts }
+        ensures { AreOf [] result.index result.parts }
     {
-        UnorderedLookup {
-            filling: UnorderedIndex::new(alloc),
+        RecordLookup {
+            index: UnorderedIndex::new(alloc),
             parts: Parts::new(alloc),
         }
     }
 
     /// Puts the records in order. It takes no memory.
     pub fn into_lookup(self) -> Lookup<A>
-        ensures index { result.index ≡ self.filling }
+        ensures index { result.index ≡ self.index }
         ensures parts { result.parts ≡ self.parts }
     {
-        Lookup {
-            index: self.filling.into_index(),
+        RecordLookup {
+            index: self.index.into_index(),
             parts: self.parts,
         }
     }
 }
 
-impl<A: Allocator + Copy> Keep<A> for Lookup<A> {
+impl<O: EntryList, A: Allocator + Copy> Keep<A> for RecordLookup<O, A> {
     ghost keeps = { λ l records. AreOf records l.index l.parts };
 
     fn keep(
@@ -189,30 +188,5 @@ impl<A: Allocator + Copy> Keep<A> for Lookup<A> {
 
     fn truncate(&mut self, count: usize) {
         keep_first(&mut self.index, &mut self.parts, count);
-    }
-}
-
-impl<A: Allocator + Copy> Keep<A> for UnorderedLookup<A> {
-    ghost keeps = { λ l records. AreOf records l.filling l.parts };
-
-    fn keep(
-        &mut self,
-        alloc: A,
-        position: usize,
-        fields: &Fields<A>,
-        place: Place,
-    ) -> Result<(), AllocError> {
-        add_head(
-            alloc,
-            &mut self.filling,
-            &mut self.parts,
-            position,
-            fields,
-            place,
-        )
-    }
-
-    fn truncate(&mut self, count: usize) {
-        keep_first(&mut self.filling, &mut self.parts, count);
     }
 }

@@ -8,7 +8,7 @@ mod rereading;
 mod rows;
 mod spare_fields;
 
-pub use keeping::{Keep, Lookup, RowsAlone, UnorderedLookup};
+pub use keeping::{Keep, Lookup, RecordLookup, RowsAlone, UnorderedLookup};
 pub use reading::{read_front, read_on};
 pub use rereading::{Reread, RereadFault, head_buffer, read_again, reread_head};
 pub use rows::{Row, Rows, rows_fit};
