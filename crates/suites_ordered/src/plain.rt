@@ -4,7 +4,7 @@ ghost use Rattle.std.specs.Prelude.{◌<◌, IfSome, length};
 
 use crate::rows::{Row, bytes_of};
 use std::alloc::{AllocError, Allocator, Global};
-use warc_order::{Found, Mark, Order};
+use warc_order::{FoundEntry, Mark, Order};
 
 fn is_above(a: Mark, b: Mark) -> bool {
     a.major > b.major || (a.major == b.major && a.minor > b.minor)
@@ -54,7 +54,11 @@ fn plain<'a>(rows: &[Row<'a>], query: Query<'_>) -> Option<Row<'a>> {
 }
 
 /// Whether what was found is an entry.
-fn is_row<A: Allocator + Copy>(order: &Order<A>, found: Option<Found>, row: Option<Row<'_>>) -> bool
+fn is_row<A: Allocator + Copy>(
+    order: &Order<A>,
+    found: Option<FoundEntry>,
+    row: Option<Row<'_>>,
+) -> bool
     requires { IfSome found (λ f. f.index < length order.now) }
 {
     match (found, row) {
@@ -160,7 +164,7 @@ pub(crate) fn holds<A: Allocator + Copy>(
 }
 
 /// The next entry of the same text.
-fn next<A: Allocator + Copy>(order: &Order<A>, found: Found) -> Option<Found> {
+fn next<A: Allocator + Copy>(order: &Order<A>, found: FoundEntry) -> Option<FoundEntry> {
     if (found.index as usize) < order.len() {
         order.next(found)
     } else {

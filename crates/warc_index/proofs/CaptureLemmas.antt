@@ -7,7 +7,7 @@ use Rattle.std.proofs.lemmas.List.Elements.{All-contains, All-push, Contains-app
 use Rattle.std.proofs.lemmas.List.Quantifiers.{all_pairs_push}
 use Rattle.warc_value.specs.Dates.{Instant}
 use Rattle.warc_record.specs.Texts.{is_text}
-use Rattle.warc_order.specs.declared.Found.{Found}
+use Rattle.warc_order.specs.declared.FoundEntry.{FoundEntry}
 use Rattle.warc_order.specs.Entries.{Entry, comes_later, mark_lt, entry_at, entry_of, IsAfter, IsFirst, IsFrom, IsNone}
 use Rattle.warc_index.specs.Captures.{AreCapturesOf, Indexed, IsCaptureOf, IsLaterAt, is_capture, is_capture_of, is_later}
 use Rattle.warc_index.specs.Links.{first_mark}
@@ -89,7 +89,7 @@ pub record IsNext (all : List Indexed) (uri : List ℕ) (es : List Entry) (posit
   pub before : (q : ℕ) → IsCaptureOf all uri q → IsLaterAt all q (entry_at es i).position → Contains positions q
   pub after : All (λ p. IsLaterAt all p (entry_at es i).position) positions
 
-pub record IsGathered (all : List Indexed) (uri : List ℕ) (es : List Entry) (next : Option Found) (positions : List ℕ)
+pub record IsGathered (all : List Indexed) (uri : List ℕ) (es : List Entry) (next : Option FoundEntry) (positions : List ℕ)
     : Type 0 where
   pub captures : All (IsCaptureOf all uri) positions
   pub order : AllPairs (IsLaterAt all) positions
@@ -121,7 +121,7 @@ module _ (all : List Indexed) (uri : List ℕ) (es : List Entry) (timed : AreTim
       let missed = no_capture all uri timed (subst (λ (l : List Entry). IsNone l (IsFrom uri first_mark)) held none) q is.it is.there in
       absurd (true≢false (sym is.capture ∙ missed))
 
-  begun : (o : Option Found) → IfSome o (λ found. IsFirst es (IsFrom uri first_mark) (entry_at es found.index))
+  begun : (o : Option FoundEntry) → IfSome o (λ found. IsFirst es (IsFrom uri first_mark) (entry_at es found.index))
       → IfNone o (IsNone es (IsFrom uri first_mark))
       → MatchOption o ((q : ℕ) → IsCaptureOf all uri q → Contains [] q) (λ found. IsNext all uri es [] found.index)
   begun None first none = λ q is. never q is none
@@ -140,7 +140,7 @@ module _ (all : List Indexed) (uri : List ℕ) (es : List Entry) (timed : AreTim
         after = none_of (λ p. IsLaterAt all p e.position);
       }
 
-  pub begins : (o : Option Found) → IfSome o (λ found. IsFirst es (IsFrom uri first_mark) (entry_at es found.index))
+  pub begins : (o : Option FoundEntry) → IfSome o (λ found. IsFirst es (IsFrom uri first_mark) (entry_at es found.index))
       → IfNone o (IsNone es (IsFrom uri first_mark)) → IsGathered all uri es o []
   begins o first none = record {
     captures = none_of (IsCaptureOf all uri);
@@ -170,7 +170,7 @@ module _ (all : List Indexed) (uri : List ℕ) (es : List Entry) (timed : AreTim
               subst (Contains more) at (Contains-push positions here.position)
         ]
 
-    stepped : (o : Option Found) → IfSome o (λ found. IsFirst es (IsAfter here) (entry_at es found.index))
+    stepped : (o : Option FoundEntry) → IfSome o (λ found. IsFirst es (IsAfter here) (entry_at es found.index))
         → IfNone o (IsNone es (IsAfter here))
         → MatchOption o ((q : ℕ) → IsCaptureOf all uri q → Contains more q) (λ found. IsNext all uri es more found.index)
     stepped None first none = λ q is.
@@ -204,7 +204,7 @@ module _ (all : List Indexed) (uri : List ℕ) (es : List Entry) (timed : AreTim
               (later_at all uri here.position e.position here e one other first.passes.later);
         }
 
-    pub steps_on : (o : Option Found) → AllPairs (IsLaterAt all) positions → IfSome o (λ found. IsFirst es (IsAfter here) (entry_at es found.index))
+    pub steps_on : (o : Option FoundEntry) → AllPairs (IsLaterAt all) positions → IfSome o (λ found. IsFirst es (IsAfter here) (entry_at es found.index))
         → IfNone o (IsNone es (IsAfter here)) → IsGathered all uri es o more
     steps_on o order first none = record {
       captures = All-push (IsCaptureOf all uri) positions here.position captures (capture_of all uri here.position here one);
@@ -213,18 +213,18 @@ module _ (all : List Indexed) (uri : List ℕ) (es : List Entry) (timed : AreTim
     }
 
 -- what was gathered at the end of the way
-pub gathered : (all : List Indexed) (uri : List ℕ) (es : List Entry) (o : Option Found) (positions : List ℕ) → o ≡ None
+pub gathered : (all : List Indexed) (uri : List ℕ) (es : List Entry) (o : Option FoundEntry) (positions : List ℕ) → o ≡ None
     → IsGathered all uri es o positions → AreCapturesOf all uri positions
 gathered all uri es o positions is by =
-    let P : Option Found → Type 0 = λ n. MatchOption n ((q : ℕ) → IsCaptureOf all uri q → Contains positions q) (λ found. IsNext all uri es positions found.index) in
+    let P : Option FoundEntry → Type 0 = λ n. MatchOption n ((q : ℕ) → IsCaptureOf all uri q → Contains positions q) (λ found. IsNext all uri es positions found.index) in
     let whole : (q : ℕ) → IsCaptureOf all uri q → Contains positions q = subst P is by.way in
     record {
       each = λ p. ((λ among. All-contains (IsCaptureOf all uri) positions p by.captures among), whole p);
       order = by.order;
     }
 
-pub next_on_way : (all : List Indexed) (uri : List ℕ) (es : List Entry) (o : Option Found) (found : Found) (positions : List ℕ) → o ≡ Some found
+pub next_on_way : (all : List Indexed) (uri : List ℕ) (es : List Entry) (o : Option FoundEntry) (found : FoundEntry) (positions : List ℕ) → o ≡ Some found
     → IsGathered all uri es o positions → IsNext all uri es positions found.index
 next_on_way all uri es o found positions is by =
-    let P : Option Found → Type 0 = λ n. MatchOption n ((q : ℕ) → IsCaptureOf all uri q → Contains positions q) (λ f. IsNext all uri es positions f.index) in
+    let P : Option FoundEntry → Type 0 = λ n. MatchOption n ((q : ℕ) → IsCaptureOf all uri q → Contains positions q) (λ f. IsNext all uri es positions f.index) in
     subst P is by.way

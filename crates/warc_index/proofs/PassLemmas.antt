@@ -3,7 +3,7 @@ use Rattle.std.proofs.Common.{◌≡◌, ℕ, zero, suc, ◌<◌, ◌≤◌, Boo
 use Rattle.std.specs.Prelude.{Contains, nat_lt, MatchOption, IfSome, IfNone}
 use Rattle.std.proofs.lemmas.Bool.{cases_Bool}
 use Rattle.std.proofs.lemmas.Bool.Decides.{nat_tests}
-use Rattle.warc_order.specs.declared.Found.{Found}
+use Rattle.warc_order.specs.declared.FoundEntry.{FoundEntry}
 use Rattle.warc_order.specs.declared.mark.Mark.{Mark}
 use Rattle.warc_order.specs.Entries.{Entry, entry_at, comes_later, IsFrom, IsUpTo, IsAfter, IsBefore, IsFirst, IsLast, IsNone}
 
@@ -117,7 +117,7 @@ pub record IsReached (ahead : Entry → Entry → Bool) (es : List Entry) (Passe
 abbrev pub IsMissed : List Entry → (Entry → Type 0) → (Mark → ℕ → Bool) → Type 0
 IsMissed es Passes test = (q : Entry) → Contains es q → Passes q → tested test q ≡ false
 
-abbrev pub IsOnWay : (Entry → Entry → Bool) → List Entry → (Entry → Type 0) → (Mark → ℕ → Bool) → Option Found → Type 0
+abbrev pub IsOnWay : (Entry → Entry → Bool) → List Entry → (Entry → Type 0) → (Mark → ℕ → Bool) → Option FoundEntry → Type 0
 IsOnWay ahead es Passes test next =
     MatchOption next (IsMissed es Passes test) (λ found. IsReached ahead es Passes test found.index)
 
@@ -234,22 +234,22 @@ falls ahead text Passes way e f (q ∷ es) (suc k, lt, is) h =
     ]
 
 -- what is left of the way
-abbrev pub left : (Entry → Entry → Bool) → List Entry → Option Found → ℕ
+abbrev pub left : (Entry → Entry → Bool) → List Entry → Option FoundEntry → ℕ
 left ahead es None = 0
 left ahead es (Some found) = suc (ahead_of ahead (entry_at es found.index) es)
 
 -- ---- as the code steps
 
 pub reached_some : (ahead : Entry → Entry → Bool) (es : List Entry) (Passes : Entry → Type 0) (test : Mark → ℕ → Bool)
-    (o : Option Found) (found : Found) → o ≡ Some found → IsOnWay ahead es Passes test o →
+    (o : Option FoundEntry) (found : FoundEntry) → o ≡ Some found → IsOnWay ahead es Passes test o →
     IsReached ahead es Passes test found.index
 reached_some ahead es Passes test o found is on = subst (IsOnWay ahead es Passes test) is on
 
 pub missed_none : (ahead : Entry → Entry → Bool) (es : List Entry) (Passes : Entry → Type 0) (test : Mark → ℕ → Bool)
-    (o : Option Found) → o ≡ None → IsOnWay ahead es Passes test o → IsMissed es Passes test
+    (o : Option FoundEntry) → o ≡ None → IsOnWay ahead es Passes test o → IsMissed es Passes test
 missed_none ahead es Passes test o is on = subst (IsOnWay ahead es Passes test) is on
 
-pub forward_starts : (es : List Entry) (text : List ℕ) (mark : Mark) (test : Mark → ℕ → Bool) (o : Option Found) →
+pub forward_starts : (es : List Entry) (text : List ℕ) (mark : Mark) (test : Mark → ℕ → Bool) (o : Option FoundEntry) →
     IfSome o (λ found. found.index < length es) →
     IfSome o (λ found. IsFirst es (IsFrom text mark) (entry_at es found.index)) → IfNone o (IsNone es (IsFrom text
     mark)) → IsOnWay forward es (IsFrom text mark) test o
@@ -260,7 +260,7 @@ forward_starts es text mark test (Some found) within first none =
       first = first.first;
     })
 
-pub back_starts : (es : List Entry) (text : List ℕ) (mark : Mark) (test : Mark → ℕ → Bool) (o : Option Found) →
+pub back_starts : (es : List Entry) (text : List ℕ) (mark : Mark) (test : Mark → ℕ → Bool) (o : Option FoundEntry) →
     IfSome o (λ found. found.index < length es) →
     IfSome o (λ found. IsLast es (IsUpTo text mark) (entry_at es found.index)) → IfNone o (IsNone es (IsUpTo text
     mark)) → IsOnWay back es (IsUpTo text mark) test o
@@ -285,7 +285,7 @@ back_step es e f last = record {
 }
 
 pub forward_steps : (es : List Entry) (text : List ℕ) (mark : Mark) (test : Mark → ℕ → Bool) (i : ℕ)
-    (o : Option Found) → IsReached forward es (IsFrom text mark) test i → tested test (entry_at es i) ≡ false →
+    (o : Option FoundEntry) → IsReached forward es (IsFrom text mark) test i → tested test (entry_at es i) ≡ false →
     IfSome o (λ found. found.index < length es) →
     IfSome o (λ found. IsFirst es (IsAfter (entry_at es i)) (entry_at es found.index)) →
     IfNone o (IsNone es (IsAfter (entry_at es i))) → IsOnWay forward es (IsFrom text mark) test o
@@ -297,7 +297,7 @@ forward_steps es text mark test i (Some found) reached miss within first none =
     (forward_step es (entry_at es i) (entry_at es found.index) first)
 
 pub back_steps : (es : List Entry) (text : List ℕ) (mark : Mark) (test : Mark → ℕ → Bool) (i : ℕ)
-    (o : Option Found) → IsReached back es (IsUpTo text mark) test i → tested test (entry_at es i) ≡ false →
+    (o : Option FoundEntry) → IsReached back es (IsUpTo text mark) test i → tested test (entry_at es i) ≡ false →
     IfSome o (λ found. found.index < length es) →
     IfSome o (λ found. IsLast es (IsBefore (entry_at es i)) (entry_at es found.index)) →
     IfNone o (IsNone es (IsBefore (entry_at es i))) → IsOnWay back es (IsUpTo text mark) test o
@@ -308,7 +308,7 @@ back_steps es text mark test i (Some found) reached miss within last none =
     steps back text (IsUpTo text mark) (back_way text mark) es test i found.index reached miss within
     (back_step es (entry_at es i) (entry_at es found.index) last)
 
-pub forward_left : (es : List Entry) (i : ℕ) (o : Option Found) →
+pub forward_left : (es : List Entry) (i : ℕ) (o : Option FoundEntry) →
     IfSome o (λ found. IsFirst es (IsAfter (entry_at es i)) (entry_at es found.index)) →
     left forward es o < suc (ahead_of forward (entry_at es i) es)
 forward_left es i None first = omega arith
@@ -318,7 +318,7 @@ forward_left es i (Some found) first =
     e.text e.mark) (forward_way e.text e.mark) e (entry_at es found.index) es first.stands first.passes.later in
     omega arith
 
-pub back_left : (es : List Entry) (i : ℕ) (o : Option Found) →
+pub back_left : (es : List Entry) (i : ℕ) (o : Option FoundEntry) →
     IfSome o (λ found. IsLast es (IsBefore (entry_at es i)) (entry_at es found.index)) →
     left back es o < suc (ahead_of back (entry_at es i) es)
 back_left es i None last = omega arith

@@ -50,7 +50,7 @@ use waiting::Waiting;
 /// An entry that a look-up found: the number of entries that were added before it. It also keeps the entry's place
 /// in the order, so that a step from it needs no search.
 #[derive(Clone, Copy, Debug)]
-pub struct Found {
+pub struct FoundEntry {
     pub index: u32,
     place: Place,
 }
@@ -189,7 +189,7 @@ impl<A: Allocator + Copy> Order<A> {
     }
 
     /// The last entry of a text whose mark isn't above one.
-    pub fn last_up_to(&self, text: &[u8], mark: Mark) -> Option<Found>
+    pub fn last_up_to(&self, text: &[u8], mark: Mark) -> Option<FoundEntry>
         ensures within { IfSome result (λ found. found.index < length self.now) }
         ensures some { IfSome result (λ found. IsLast self.now (IsUpTo text.now mark) (entry_at self.now found.index)) }
         ensures none { IfNone result (IsNone self.now (IsUpTo text.now mark)) }
@@ -198,7 +198,7 @@ impl<A: Allocator + Copy> Order<A> {
     }
 
     /// The first entry of a text whose mark isn't below one.
-    pub fn first_from(&self, text: &[u8], mark: Mark) -> Option<Found>
+    pub fn first_from(&self, text: &[u8], mark: Mark) -> Option<FoundEntry>
         ensures within { IfSome result (λ found. found.index < length self.now) }
         ensures some { IfSome result (λ found. IsFirst self.now (IsFrom text.now mark)
             (entry_at self.now found.index)) }
@@ -208,7 +208,7 @@ impl<A: Allocator + Copy> Order<A> {
     }
 
     /// The next entry of the same text.
-    pub fn next(&self, found: Found) -> Option<Found>
+    pub fn next(&self, found: FoundEntry) -> Option<FoundEntry>
         requires { found.index < length self.now }
         ensures within { IfSome result (λ next. next.index < length self.now) }
         ensures some { IfSome result (λ next. IsFirst self.now (IsAfter (entry_at self.now found.index))
@@ -219,7 +219,7 @@ impl<A: Allocator + Copy> Order<A> {
     }
 
     /// The entry of the same text before one.
-    pub fn previous(&self, found: Found) -> Option<Found>
+    pub fn previous(&self, found: FoundEntry) -> Option<FoundEntry>
         requires { found.index < length self.now }
         ensures within { IfSome result (λ next. next.index < length self.now) }
         ensures some { IfSome result (λ next. IsLast self.now (IsBefore (entry_at self.now found.index))
@@ -230,7 +230,7 @@ impl<A: Allocator + Copy> Order<A> {
     }
 
     /// The text of an entry.
-    pub fn text(&self, found: Found) -> &[u8]
+    pub fn text(&self, found: FoundEntry) -> &[u8]
         requires { found.index < length self.now }
         ensures { result.now ≡ (entry_at self.now found.index).text }
     {
@@ -246,7 +246,7 @@ impl<A: Allocator + Copy> Order<A> {
     }
 
     /// The mark of an entry.
-    pub fn mark(&self, found: Found) -> Mark
+    pub fn mark(&self, found: FoundEntry) -> Mark
         requires { found.index < length self.now }
         ensures { result ≡ (entry_at self.now found.index).mark }
     {
@@ -254,7 +254,7 @@ impl<A: Allocator + Copy> Order<A> {
     }
 
     /// The position of an entry.
-    pub fn position(&self, found: Found) -> usize
+    pub fn position(&self, found: FoundEntry) -> usize
         requires { found.index < length self.now }
         ensures { result ≡ (entry_at self.now found.index).position }
     {

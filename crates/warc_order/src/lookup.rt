@@ -7,7 +7,7 @@ ghost use Rattle.warc_order.specs.Ranking.{IsRanked};
 ghost use Rattle.warc_order.specs.Entries.{entry_at, IsUpTo, IsFrom, IsAfter, IsBefore, IsFirst, IsLast, IsNone};
 ghost use Rattle.warc_order.specs.Layout.{slot_order, slot_for, slots_of, IsOrderOf, IsOrdered};
 
-use crate::Found;
+use crate::FoundEntry;
 use crate::compare::{Below, ByText, NotAbove};
 use crate::entries::Entries;
 use crate::hash::hash_of;
@@ -40,10 +40,10 @@ pub(crate) fn slot_of<A: Allocator + Copy>(entries: &Entries<A>, index: u32) -> 
 }
 
 /// What was found, as callers see it.
-fn found_at(standing: Standing) -> Found
+fn found_at(standing: Standing) -> FoundEntry
     ensures { result.index ≡ standing.slot.index }
 {
-    Found {
+    FoundEntry {
         index: standing.slot.index,
         place: standing.place,
     }
@@ -78,7 +78,7 @@ pub(crate) fn last_up_to<A: Allocator + Copy>(
     ranked: &Ranked<A>,
     text: &[u8],
     mark: Mark,
-) -> Option<Found>
+) -> Option<FoundEntry>
     requires { IsOrdered entries.now ranked.now.list }
     ensures within { IfSome result (λ found. found.index < length entries.now) }
     ensures some { IfSome result (λ found. IsLast entries.now (IsUpTo text.now mark)
@@ -103,7 +103,7 @@ pub(crate) fn first_from<A: Allocator + Copy>(
     ranked: &Ranked<A>,
     text: &[u8],
     mark: Mark,
-) -> Option<Found>
+) -> Option<FoundEntry>
     requires { IsOrdered entries.now ranked.now.list }
     ensures within { IfSome result (λ found. found.index < length entries.now) }
     ensures some { IfSome result (λ found. IsFirst entries.now (IsFrom text.now mark)
@@ -128,7 +128,7 @@ pub(crate) fn next<A: Allocator + Copy>(
     ranked: &Ranked<A>,
     index: u32,
     place: Place,
-) -> Option<Found>
+) -> Option<FoundEntry>
     requires order { IsOrdered entries.now ranked.now.list }
     requires index { index < length entries.now }
     ensures within { IfSome result (λ found. found.index < length entries.now) }
@@ -150,7 +150,7 @@ pub(crate) fn previous<A: Allocator + Copy>(
     ranked: &Ranked<A>,
     index: u32,
     place: Place,
-) -> Option<Found>
+) -> Option<FoundEntry>
     requires order { IsOrdered entries.now ranked.now.list }
     requires index { index < length entries.now }
     ensures within { IfSome result (λ found. found.index < length entries.now) }

@@ -8,7 +8,7 @@ use Rattle.std.proofs.lemmas.List.Elements.{All-push, All-weaker, All-contains, 
 use Rattle.std.proofs.lemmas.List.Quantifiers.{all_pairs_push}
 use Rattle.std.proofs.lemmas.List.Sums.{sum_by-cons}
 use Rattle.std.proofs.lemmas.Option.{slice_get-get_or, slice_get_within, get_or_from_slice_get}
-use Rattle.warc_order.specs.declared.Found.{Found}
+use Rattle.warc_order.specs.declared.FoundEntry.{FoundEntry}
 use Rattle.warc_order.specs.declared.mark.Mark.{Mark}
 use Rattle.warc_order.specs.Entries.{Entry, entry_at, no_entry, mark_lt, comes_later, IsFrom, IsAfter, IsFirst, IsNone}
 use Rattle.warc_segment.specs.declared.held.TotalAndPlace.{TotalAndPlace}
@@ -341,10 +341,10 @@ whole p id es fs series held some done = record {
 
 -- ---- as the code steps
 
-abbrev Waits : List ℕ → List Entry → List Continuation → Option Found → Type 0
+abbrev Waits : List ℕ → List Entry → List Continuation → Option FoundEntry → Type 0
 Waits id es series next = MatchOption next (IsDone id es series) (λ found. IsNext id es series found.index)
 
-pub first_step : (id : List ℕ) (es : List Entry) (o : Option Found) → IfSome o (λ found. found.index < length es)
+pub first_step : (id : List ℕ) (es : List Entry) (o : Option FoundEntry) → IfSome o (λ found. found.index < length es)
     → IfSome o (λ found. IsFirst es (IsFrom id (record { major = 0; minor = 0 })) (entry_at es found.index))
     → IfNone o (IsNone es (IsFrom id (record { major = 0; minor = 0 })))
     → (series : List Continuation) → series ≡ []
@@ -355,7 +355,7 @@ first_step id es (Some found) within first none series empty =
     subst (λ (s : List Continuation). Waits id es s (Some found)) (sym empty) (starts id es found.index within first)
 
 pub next_step : (p : ℕ) (id : List ℕ) (es : List Entry) (fs : List TotalAndPlace) (series after : List Continuation) (i : ℕ)
-    (c : Continuation) (o : Option Found) → AreHeld p es fs → IsNext id es series i → IsEntry es fs i c
+    (c : Continuation) (o : Option FoundEntry) → AreHeld p es fs → IsNext id es series i → IsEntry es fs i c
     → after ≡ series ++ c ∷ [] → IfSome o (λ found. found.index < length es)
     → IfSome o (λ found. IsFirst es (IsAfter (entry_at es i)) (entry_at es found.index))
     → IfNone o (IsNone es (IsAfter (entry_at es i)))
@@ -366,12 +366,12 @@ next_step p id es fs series after i c (Some found) held next entry is within fir
     subst (λ (s : List Continuation). Waits id es s (Some found)) (sym is)
     (goes_on p id es fs series i found.index c held next entry within first)
 
-pub some_waits : (id : List ℕ) (es : List Entry) (series : List Continuation) (o : Option Found) (found : Found)
+pub some_waits : (id : List ℕ) (es : List Entry) (series : List Continuation) (o : Option FoundEntry) (found : FoundEntry)
     → o ≡ Some found
     → MatchOption o (IsDone id es series) (λ f. IsNext id es series f.index) → IsNext id es series found.index
 some_waits id es series o found is waits = subst (Waits id es series) is waits
 
-pub none_waits : (id : List ℕ) (es : List Entry) (series : List Continuation) (o : Option Found) → o ≡ None
+pub none_waits : (id : List ℕ) (es : List Entry) (series : List Continuation) (o : Option FoundEntry) → o ≡ None
     → MatchOption o (IsDone id es series) (λ f. IsNext id es series f.index) → IsDone id es series
 none_waits id es series o is waits = subst (Waits id es series) is waits
 

@@ -10,7 +10,7 @@ ghost use Rattle.warc_segment.specs.Held.{side_by_side, AreHeld, IsWholeSeries, 
 use crate::place::Place;
 use crate::series::Continuation;
 use std::alloc::{AllocError, Allocator};
-use warc_order::{Found, Mark, Order};
+use warc_order::{FoundEntry, Mark, Order};
 use warc_record::{Kind, SegmentNumber, Typed};
 
 /// What the order doesn't hold of a continuation.
@@ -94,7 +94,7 @@ pub(crate) fn put<A: Allocator + Copy>(
 fn continuation_at<A: Allocator + Copy>(
     order: &Order<A>,
     facts: &[TotalAndPlace],
-    found: Found,
+    found: FoundEntry,
 ) -> Continuation
     requires found { found.index < length order.now }
     requires same { length facts.now ≡ length order.now }

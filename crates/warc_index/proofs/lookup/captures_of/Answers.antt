@@ -1,5 +1,5 @@
 use Rattle.std.proofs.Common.{◌∙◌, ◌<◌, ◌∷◌, ◌++◌, [], Option, ap, sym, subst}
-use Rattle.warc_order.specs.declared.Found.{Found}
+use Rattle.warc_order.specs.declared.FoundEntry.{FoundEntry}
 use Rattle.warc_index.proofs.CaptureLemmas.{IsGathered, begins, gathered, next_on_way, steps_on}
 use Rattle.warc_index.proofs.PassLemmas.{forward, forward_left, left}
 use Rattle.warc_index.proofs.lookup.captures_of.Goals as goal
@@ -26,7 +26,7 @@ loop-next-preserved g c = record {
 
 pub loop-next-smaller : goal.loop-next-smaller
 loop-next-smaller g c =
-    subst (λ (o : Option Found). left forward c.args.by_target.now c.next-next.result < left forward
+    subst (λ (o : Option FoundEntry). left forward c.args.by_target.now c.next-next.result < left forward
     c.args.by_target.now o) (sym c.in-Some.is) (forward_left c.args.by_target.now c.in-Some.found.index
     c.next-next.result c.next-next.ensures.some)
 

@@ -1,5 +1,5 @@
 use Rattle.std.proofs.Common.{◌≡◌, ◌∙◌, ◌<◌, ℕ, Option, Some, false, ap, sym, subst}
-use Rattle.warc_order.specs.declared.Found.{Found}
+use Rattle.warc_order.specs.declared.FoundEntry.{FoundEntry}
 use Rattle.warc_order.specs.Entries.{Entry, entry_at, IsFrom}
 use Rattle.warc_order.specs.declared.mark.Mark.{Mark}
 use Rattle.warc_index.specs.Links.{is_same_mark, link_at, has_payload_as}
@@ -29,7 +29,7 @@ loop-next-preserved g c =
 
 pub loop-next-smaller : goal.loop-next-smaller
 loop-next-smaller g c =
-    subst (λ (o : Option Found). left forward c.args.by_target.now c.next-next.result < left forward
+    subst (λ (o : Option FoundEntry). left forward c.args.by_target.now c.next-next.result < left forward
     c.args.by_target.now o) (sym c.in-Some.is) (forward_left c.args.by_target.now c.in-Some.found.index
     c.next-next.result c.next-next.ensures.some)
 

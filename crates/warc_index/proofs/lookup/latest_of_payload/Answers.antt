@@ -1,5 +1,5 @@
 use Rattle.std.proofs.Common.{◌∙◌, ◌<◌, ℕ, Option, Some, ap, sym, subst}
-use Rattle.warc_order.specs.declared.Found.{Found}
+use Rattle.warc_order.specs.declared.FoundEntry.{FoundEntry}
 use Rattle.warc_order.specs.Entries.{IsUpTo}
 use Rattle.warc_order.specs.declared.mark.Mark.{Mark}
 use Rattle.warc_index.specs.Links.{link_at, states_digest}
@@ -37,7 +37,7 @@ loop-previous-preserved g c =
 
 pub loop-previous-smaller : goal.loop-previous-smaller
 loop-previous-smaller g c =
-    subst (λ (o : Option Found). left back c.args.by_target.now c.previous-previous.result < left back
+    subst (λ (o : Option FoundEntry). left back c.args.by_target.now c.previous-previous.result < left back
     c.args.by_target.now o) (sym c.in-Some.is) (back_left c.args.by_target.now c.in-Some.found.index
     c.previous-previous.result c.previous-previous.ensures.some)
 
