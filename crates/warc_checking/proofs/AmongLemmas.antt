@@ -6,60 +6,60 @@ use Rattle.std.specs.List.{filter}
 use Rattle.warc_field.specs.Area.{Pair}
 use Rattle.warc_record.specs.Readings.{Reading, reading_of}
 use Rattle.warc_record.specs.Table.{Rule}
-use Rattle.warc_record.specs.Findings.{Found, Digest, SegmentNumber, IdUsed, NoContentType, Profile, NotUtf8, BareId, NoOrigin, Absent, Forbidden, Repeated, findings_by, findings_of, once}
+use Rattle.warc_record.specs.Findings.{SeenFinding, Digest, SegmentNumber, IdUsed, NoContentType, Profile, NotUtf8, BareId, NoOrigin, Absent, Forbidden, Repeated, findings_by, findings_of, once}
 use Rattle.warc_checking.specs.OwnFindings.{is_late, with_used}
 
-all_told : {X : Type 0} (test : Found → Bool) (f : X → Found) (xs : List X) → ((x : X) → test (f x) ≡ true) → filter test (map f xs) ≡ map f xs
+all_told : {X : Type 0} (test : SeenFinding → Bool) (f : X → SeenFinding) (xs : List X) → ((x : X) → test (f x) ≡ true) → filter test (map f xs) ≡ map f xs
 all_told test f [] is = refl
 all_told test f (x ∷ xs) is = rw (is x) (ap (λ l. f x ∷ l) (all_told test f xs is))
 
-none_told : {X : Type 0} (test : Found → Bool) (f : X → Found) (xs : List X) → ((x : X) → test (f x) ≡ false) → filter test (map f xs) ≡ []
+none_told : {X : Type 0} (test : SeenFinding → Bool) (f : X → SeenFinding) (xs : List X) → ((x : X) → test (f x) ≡ false) → filter test (map f xs) ≡ []
 none_told test f [] is = refl
 none_told test f (x ∷ xs) is = rw (is x) (none_told test f xs is)
 
-once_before : (n : Found) (b : Bool) → is_late false n ≡ true → filter (is_late false) (once n b) ≡ once n b
+once_before : (n : SeenFinding) (b : Bool) → is_late false n ≡ true → filter (is_late false) (once n b) ≡ once n b
 once_before n true is = rw is refl
 once_before n false is = refl
 
-once_behind : (n : Found) (b : Bool) → is_late true n ≡ true → filter (is_late true) (once n b) ≡ once n b
+once_behind : (n : SeenFinding) (b : Bool) → is_late true n ≡ true → filter (is_late true) (once n b) ≡ once n b
 once_behind n true is = rw is refl
 once_behind n false is = refl
 
-once_not : (late : Bool) (n : Found) (b : Bool) → is_late late n ≡ false → filter (is_late late) (once n b) ≡ []
+once_not : (late : Bool) (n : SeenFinding) (b : Bool) → is_late late n ≡ false → filter (is_late late) (once n b) ≡ []
 once_not late n true is = rw is refl
 once_not late n false is = refl
 
-eleven : (test : Found → Bool) (a b c d e f g h i j k : List Found) → filter test (a ++ b ++ c ++ d ++ e ++ f ++ g ++ h ++ i ++ j ++ k)
+eleven : (test : SeenFinding → Bool) (a b c d e f g h i j k : List SeenFinding) → filter test (a ++ b ++ c ++ d ++ e ++ f ++ g ++ h ++ i ++ j ++ k)
     ≡ filter test a ++ filter test b ++ filter test c ++ filter test d ++ filter test e ++ filter test f ++ filter test g ++ filter test h ++ filter test i ++ filter test j ++ filter test k
 eleven test a b c d e f g h i j k = simp filter-append
 
 -- the first five of eleven lists, and the last five
-five_first : (test : Found → Bool) (a b c d e f g h i j k : List Found) → filter test a ≡ a → filter test b ≡ b → filter test c ≡ c → filter test d ≡ d → filter test e ≡ e → filter test f ≡ []
+five_first : (test : SeenFinding → Bool) (a b c d e f g h i j k : List SeenFinding) → filter test a ≡ a → filter test b ≡ b → filter test c ≡ c → filter test d ≡ d → filter test e ≡ e → filter test f ≡ []
     → filter test g ≡ [] → filter test h ≡ [] → filter test i ≡ [] → filter test j ≡ [] → filter test k ≡ [] → filter test (a ++ b ++ c ++ d ++ e ++ f ++ g ++ h ++ i ++ j ++ k) ≡ a ++ b ++ c ++ d ++ e
 five_first test a b c d e f g h i j k ia ib ic id ie nf ng nh ni nj nk = eleven test a b c d e f g h i j k ∙ rw (ia, ib, ic, id, ie, nf, ng, nh, ni, nj, nk) (simp append-nil)
 
-five_last : (test : Found → Bool) (a b c d e f g h i j k : List Found) → filter test a ≡ [] → filter test b ≡ [] → filter test c ≡ [] → filter test d ≡ [] → filter test e ≡ [] → filter test f ≡ []
+five_last : (test : SeenFinding → Bool) (a b c d e f g h i j k : List SeenFinding) → filter test a ≡ [] → filter test b ≡ [] → filter test c ≡ [] → filter test d ≡ [] → filter test e ≡ [] → filter test f ≡ []
     → filter test g ≡ g → filter test h ≡ h → filter test i ≡ i → filter test j ≡ j → filter test k ≡ k → filter test (a ++ b ++ c ++ d ++ e ++ f ++ g ++ h ++ i ++ j ++ k) ≡ g ++ h ++ i ++ j ++ k
 five_last test a b c d e f g h i j k na nb nc nd ne nf ig ih ii ij ik = eleven test a b c d e f g h i j k ∙ rw (na, nb, nc, nd, ne, nf, ig, ih, ii, ij, ik) refl
 
-abbrev absent : Rule → Found
+abbrev absent : Rule → SeenFinding
 absent = λ rule. Absent rule.name
 
-abbrev forbidden : Rule → Found
+abbrev forbidden : Rule → SeenFinding
 forbidden = λ rule. Forbidden rule.name
 
-abbrev repeated : Rule → Found
+abbrev repeated : Rule → SeenFinding
 repeated = λ rule. Repeated rule.name
 
-abbrev about_field : Pair → Found
+abbrev about_field : Pair → SeenFinding
 about_field field = NotUtf8 field.0
 
-parted : (a b c d e f g h i j k : List Found) → (a ++ b ++ c ++ d ++ e) ++ f ++ (g ++ h ++ i ++ j ++ k) ≡ a ++ b ++ c ++ d ++ e ++ f ++ g ++ h ++ i ++ j ++ k
+parted : (a b c d e f g h i j k : List SeenFinding) → (a ++ b ++ c ++ d ++ e) ++ f ++ (g ++ h ++ i ++ j ++ k) ≡ a ++ b ++ c ++ d ++ e ++ f ++ g ++ h ++ i ++ j ++ k
 parted a b c d e f g h i j k = simp append_assoc
 
 -- what is about a field by the table, the other numbers with N6 or without it, and the fields whose values aren't UTF-8
 module _ (ls fs rs : List Rule) (b4 b5 b7 b8 b10 b11 : Bool) (names : List Pair) (used : Bool) where
-  abbrev all_by : List Found → List Found
+  abbrev all_by : List SeenFinding → List SeenFinding
   all_by n = map absent ls ++ map forbidden fs ++ map repeated rs ++ once Digest b4 ++ once SegmentNumber b5 ++ n ++ once NoContentType b7 ++ once Profile b8 ++ map about_field names ++ once BareId b10 ++ once NoOrigin b11
 
   among : filter (is_late false) (all_by []) ++ once IdUsed used ++ filter (is_late true) (all_by []) ≡ all_by (once IdUsed used)
@@ -82,7 +82,7 @@ module _ (ls fs rs : List Rule) (b4 b5 b7 b8 b10 b11 : Bool) (names : List Pair)
       ∙ ap (λ x. (l ++ f ++ r ++ once Digest b4 ++ once SegmentNumber b5) ++ once IdUsed used ++ x) back
       ∙ parted l f r (once Digest b4) (once SegmentNumber b5) (once IdUsed used) (once NoContentType b7) (once Profile b8) u (once BareId b10) (once NoOrigin b11)
 
-eleven_len : (a b c d e f g h i j k : List Found) (n : ℕ) → length f ≡ n → length (a ++ b ++ c ++ d ++ e ++ [] ++ g ++ h ++ i ++ j ++ k) + n ≡ length (a ++ b ++ c ++ d ++ e ++ f ++ g ++ h ++ i ++ j ++ k)
+eleven_len : (a b c d e f g h i j k : List SeenFinding) (n : ℕ) → length f ≡ n → length (a ++ b ++ c ++ d ++ e ++ [] ++ g ++ h ++ i ++ j ++ k) + n ≡ length (a ++ b ++ c ++ d ++ e ++ f ++ g ++ h ++ i ++ j ++ k)
 eleven_len a b c d e f g h i j k n is = simp length-append (omega (arith, is))
 
 once_len : (b : Bool) → length (once IdUsed b) ≡ (if b then 1 else 0)

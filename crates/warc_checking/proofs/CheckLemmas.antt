@@ -7,7 +7,7 @@ use Rattle.warc_frame.specs.Device.{Staged}
 use Rattle.warc_frame.specs.Effects.{Puts}
 use Rattle.warc_frame.specs.Seen.{Seen}
 use Rattle.warc_frame.specs.declared.send.SendFault.{SendFault}
-use Rattle.warc_record.specs.Findings.{Found}
+use Rattle.warc_record.specs.Findings.{SeenFinding}
 use Rattle.warc_record.specs.Good.{SaysAll}
 use Rattle.warc_record.specs.Ids.{id_key}
 use Rattle.warc_record.specs.Readings.{reading_of}
@@ -33,10 +33,10 @@ pub finding_line : (position number : ℕ) (a c d e : List ℕ) → a ≡ decima
     → concat (a ∷ codes " N" ∷ c ∷ d ∷ e ∷ codes "\n" ∷ []) ≡ numbered_line (decimal position) number (d ++ e)
 finding_line position number a c d e is_a is_c = six a (codes " N") c d e (codes "\n") ∙ rw (is_a, is_c) refl
 
-pub text_append : (position : ℕ) (xs ys : List Found) → record_lines position (xs ++ ys) ≡ record_lines position xs ++ record_lines position ys
+pub text_append : (position : ℕ) (xs ys : List SeenFinding) → record_lines position (xs ++ ys) ≡ record_lines position xs ++ record_lines position ys
 text_append position xs ys = ap (flat_map line_text) (map-append (about_record position) xs ys) ∙ flat_map-append line_text (map (about_record position) xs) (map (about_record position) ys)
 
-module _ {X : Type 0} (seen : X → Found) where
+module _ {X : Type 0} (seen : X → SeenFinding) where
   -- one more finding
   pub findings_more : (position : ℕ) (xs : List X) (i : ℕ) (d : X) (output : List ℕ) → i < length xs
       → (output ++ record_lines position (map seen (take i xs))) ++ line_text (about_record position (seen (get_or xs i d))) ≡ output ++ record_lines position (map seen (take (i + 1) xs))

@@ -8,7 +8,7 @@ use Rattle.warc_frame.specs.Record.{Record}
 use Rattle.warc_reading.specs.Archive.{contents}
 use Rattle.warc_reading.specs.Row.{Placed, Row}
 use Rattle.warc_record.specs.Blocks.{has_bad_digest}
-use Rattle.warc_record.specs.Findings.{Found, findings_of}
+use Rattle.warc_record.specs.Findings.{SeenFinding, findings_of}
 use Rattle.warc_record.specs.Good.{GoodHeadsRead}
 use Rattle.warc_record.specs.Ids.{id_key}
 use Rattle.warc_record.specs.declared.checks.ArchiveFacts.{ArchiveFacts}
@@ -29,7 +29,7 @@ found_there records i p at =
     ap (λ o. unwrap_or o []) (slice_get-map own_findings (contents records) i ∙ ap (option_map own_findings) (content_at records i p at))
 
 -- the record at a place, where the ids of those before it are held
-pub next_at : (bytes : List ℕ) (records : List Placed) (rows : List Row) (found : List (List Found)) (i : ℕ) (row : Row) (ids : Ids) → GoodHeadsRead → AreJudged bytes records rows found
+pub next_at : (bytes : List ℕ) (records : List Placed) (rows : List Row) (found : List (List SeenFinding)) (i : ℕ) (row : Row) (ids : Ids) → GoodHeadsRead → AreJudged bytes records rows found
     → IsTally (length rows) rows ids.counts → slice_get rows i ≡ Some row → HoldsIdsOf (take i (contents records)) ids
     → (p : Placed) × (slice_get records i ≡ Some p) × IsDue (take i (contents records)) p row (found_at found i) ids
 next_at bytes records rows found i row ids law findings tally is has =
@@ -46,7 +46,7 @@ next_at bytes records rows found i row ids law findings tally is has =
     )
 
 -- the findings of the next record, whose id is used or isn't
-module _ (law : GoodHeadsRead) (before : List Record) (p : Placed) (row : Row) (found : List Found) (ids : Ids) (next : IsDue before p row found ids) (used : Bool)
+module _ (law : GoodHeadsRead) (before : List Record) (p : Placed) (row : Row) (found : List SeenFinding) (ids : Ids) (next : IsDue before p row found ids) (used : Bool)
     (is : used ≡ is_used before (id_key row.id)) where
   used_is : used ≡ is_used before (record_key p.content)
   used_is = is ∙ ap (is_used before) (sym (key_by_row p row next.row_is (law p.content.fields next.good)))
@@ -84,7 +84,7 @@ next_number records i p at =
     ∙ number_more records i p p.content.fields (length p.content.block) (facts_of before p.content) at (record { fields_are = refl; bad_digest = refl; used_id = refl }) refl
 
 -- what is kept of an archive, whatever it is called
-pub judged_by : {S : Type 0} → HeadsAreRead → (bytes : List ℕ) (judged : Judged S) (is : IsJudgedOf bytes judged) (rows : List Row) (found : List (List Found)) → rows ≡ judged.listing.rows → found ≡ judged.findings
+pub judged_by : {S : Type 0} → HeadsAreRead → (bytes : List ℕ) (judged : Judged S) (is : IsJudgedOf bytes judged) (rows : List Row) (found : List (List SeenFinding)) → rows ≡ judged.listing.rows → found ≡ judged.findings
     → AreJudged bytes is.listed.are.records rows found
 judged_by law bytes judged is rows found same also =
     record { can = checkable_archive law bytes judged.listing.rows is.listed rows same; found_is = also ∙ is.found_is }

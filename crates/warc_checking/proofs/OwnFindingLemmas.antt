@@ -6,7 +6,7 @@ use Rattle.std.proofs.lemmas.List.Elements.{filter-append}
 use Rattle.std.specs.List.{AllByRecursion, filter}
 use Rattle.warc_reading.specs.Archive.{contents}
 use Rattle.warc_reading.specs.Row.{Placed}
-use Rattle.warc_record.specs.Findings.{Found, Absent, Forbidden, Repeated, Digest, SegmentNumber, IdUsed, NoContentType, Profile, NotUtf8, BareId, NoOrigin, Empty, finding_field, finding_number, once}
+use Rattle.warc_record.specs.Findings.{SeenFinding, Absent, Forbidden, Repeated, Digest, SegmentNumber, IdUsed, NoContentType, Profile, NotUtf8, BareId, NoOrigin, Empty, finding_field, finding_number, once}
 use Rattle.warc_checking.specs.Checking.{about_record, line_text}
 use Rattle.warc_checking.specs.Examining.{record_lines}
 use Rattle.warc_checking.specs.Judged.{own_findings}
@@ -53,7 +53,7 @@ module _ {X : Type 0} (P : X → Type 0) where
   all_at (x ∷ xs) (suc i) d (here, all) lt = all_at xs i d all (omega (arith, lt))
 
 -- a finding has its number, and the name of its field if it is about one
-pub numbered_named : (f : Found) (name : List ℕ) → finding_field f ≡ Some name → finding_by_number (finding_number f) name ≡ f
+pub numbered_named : (f : SeenFinding) (name : List ℕ) → finding_field f ≡ Some name → finding_by_number (finding_number f) name ≡ f
 numbered_named (Absent name) other is = let same : name ≡ other = cc in rw same refl
 numbered_named (Forbidden name) other is = let same : name ≡ other = cc in rw same refl
 numbered_named (Repeated name) other is = let same : name ≡ other = cc in rw same refl
@@ -67,7 +67,7 @@ numbered_named BareId other is = refl
 numbered_named NoOrigin other is = refl
 numbered_named Empty other is = refl
 
-pub numbered_bare : (f : Found) (name : List ℕ) → finding_field f ≡ None → finding_by_number (finding_number f) name ≡ f
+pub numbered_bare : (f : SeenFinding) (name : List ℕ) → finding_field f ≡ None → finding_by_number (finding_number f) name ≡ f
 numbered_bare (Absent name) other is = absurd cc
 numbered_bare (Forbidden name) other is = absurd cc
 numbered_bare (Repeated name) other is = absurd cc
@@ -104,14 +104,14 @@ module _ (names new name : List ℕ) (ns : List PackedFinding) (n : PackedFindin
   pub packed_name : slice_range new n.start n.end ≡ name
   packed_name = ap (λ l. slice_range l n.start n.end) names_is ∙ slice_behind n.start n.end names name start (end ∙ ap length names_is)
 
-  pub packed_more : (f : Found) → finding_in new n ≡ f → all_found new (ns ++ n ∷ []) ≡ all_found names ns ++ f ∷ []
+  pub packed_more : (f : SeenFinding) → finding_in new n ≡ f → all_found new (ns ++ n ∷ []) ≡ all_found names ns ++ f ∷ []
   packed_more f is =
       map-append (finding_in new) ns (n ∷ [])
       ∙ ap (λ l. l ++ finding_in new n ∷ []) (ap (λ l. all_found l ns) names_is ∙ found_stays names name ns named)
       ∙ ap (λ g. all_found names ns ++ g ∷ []) is
 
 -- parts
-part_stays : (findings more : List Found) (ps : List Part) → AreParts (length findings) ps → found_by_part (findings ++ more) ps ≡ found_by_part findings ps
+part_stays : (findings more : List SeenFinding) (ps : List Part) → AreParts (length findings) ps → found_by_part (findings ++ more) ps ≡ found_by_part findings ps
 part_stays findings more [] all = refl
 part_stays findings more (p ∷ ps) (here, all) =
     ap (λ f. f ∷ found_by_part (findings ++ more) ps) (slice_front p.start p.end findings more here.order here.end)
@@ -122,7 +122,7 @@ parts_longer a b [] le all = tt
 parts_longer a b (p ∷ ps) le (here, all) = (record { order = here.order; end = omega (arith, here.end, le) }, parts_longer a b ps le all)
 
 -- more findings, in no part
-pub parts_kept : (findings new more : List Found) (ps : List Part) → new ≡ findings ++ more → AreParts (length findings) ps
+pub parts_kept : (findings new more : List SeenFinding) (ps : List Part) → new ≡ findings ++ more → AreParts (length findings) ps
     → AreParts (length new) ps × (found_by_part new ps ≡ found_by_part findings ps)
 parts_kept findings new more ps is all = (
   parts_longer (length findings) (length new) ps (omega (arith, ap length is, length-append findings more)) all,
@@ -130,7 +130,7 @@ parts_kept findings new more ps is all = (
 )
 
 -- one more part
-pub part_more : (findings new more : List Found) (ps : List Part) (p : Part) → new ≡ findings ++ more → p.start ≡ length findings → p.end ≡ length new → AreParts (length findings) ps
+pub part_more : (findings new more : List SeenFinding) (ps : List Part) (p : Part) → new ≡ findings ++ more → p.start ≡ length findings → p.end ≡ length new → AreParts (length findings) ps
     → AreParts (length new) (ps ++ p ∷ []) × (found_by_part new (ps ++ p ∷ []) ≡ found_by_part findings ps ++ more ∷ [])
 part_more findings new more ps p is start end all =
     let (within, same) = parts_kept findings new more ps is all in
@@ -146,7 +146,7 @@ own_more records p = sym (ap (map own_findings) (map-append (λ (q : Placed). q.
 pub own_first : (n : ℕ) (records : List Placed) → take n (map own_findings (contents records)) ≡ map own_findings (contents (take n records))
 own_first n records = take-map own_findings n (contents records) ∙ ap (map own_findings) (take-map (λ (q : Placed). q.content) n records)
 
-module _ {X : Type 0} (seen : X → Found) (test : Found → Bool) where
+module _ {X : Type 0} (seen : X → SeenFinding) (test : SeenFinding → Bool) where
   -- the lines of one more finding, if it is told
   pub told_more : (position : ℕ) (xs : List X) (i : ℕ) (d : X) (output : List ℕ) → i < length xs
       → (output ++ record_lines position (filter test (map seen (take i xs)))) ++ record_lines position (filter test (seen (get_or xs i d) ∷ []))
@@ -169,13 +169,13 @@ module _ {X : Type 0} (seen : X → Found) (test : Found → Bool) where
       ∙ ap (record_lines position) (sym (filter-append test (map seen (take i xs)) (map seen (drop i xs))) ∙ ap (filter test) (sym (map-append seen (take i xs) (drop i xs)) ∙ ap (map seen) (take-append-drop i xs))))
 
 -- three texts of a record, one behind another
-pub two_texts : (position : ℕ) (a b : List Found) (output : List ℕ) → (output ++ record_lines position a) ++ record_lines position b ≡ output ++ record_lines position (a ++ b)
+pub two_texts : (position : ℕ) (a b : List SeenFinding) (output : List ℕ) → (output ++ record_lines position a) ++ record_lines position b ≡ output ++ record_lines position (a ++ b)
 two_texts position a b output = append_assoc output (record_lines position a) (record_lines position b) ∙ ap (λ l. output ++ l) (sym (text_append position a b))
 
-pub three_texts : (position : ℕ) (a b c : List Found) (output : List ℕ) → ((output ++ record_lines position a) ++ record_lines position b) ++ record_lines position c ≡ output ++ record_lines position (a ++ b ++ c)
+pub three_texts : (position : ℕ) (a b c : List SeenFinding) (output : List ℕ) → ((output ++ record_lines position a) ++ record_lines position b) ++ record_lines position c ≡ output ++ record_lines position (a ++ b ++ c)
 three_texts position a b c output = ap (λ l. l ++ record_lines position c) (two_texts position a b output) ∙ two_texts position (a ++ b) c output
 
-pub last_texts : (position : ℕ) (a b c : List Found) (output : List ℕ) → (output ++ record_lines position a) ++ record_lines position (b ++ c) ≡ output ++ record_lines position (a ++ b ++ c)
+pub last_texts : (position : ℕ) (a b c : List SeenFinding) (output : List ℕ) → (output ++ record_lines position a) ++ record_lines position (b ++ c) ≡ output ++ record_lines position (a ++ b ++ c)
 last_texts position a b c output = two_texts position a (b ++ c) output ∙ ap (λ l. output ++ record_lines position l) (sym (append_assoc a b c))
 
 -- the findings of a part of the packed ones
@@ -183,7 +183,7 @@ pub part_found : (names : List ℕ) (findings : List PackedFinding) (p : Part) �
 part_found names findings p =
     sym (ap (take (p.end - p.start)) (drop-map (finding_in names) p.start findings) ∙ take-map (finding_in names) (p.end - p.start) (drop p.start findings))
 
-pub part_len : (findings : List Found) (p : Part) → IsPart (length findings) p → p.end - p.start ≡ length (findings_of_part findings p)
+pub part_len : (findings : List SeenFinding) (p : Part) → IsPart (length findings) p → p.end - p.start ≡ length (findings_of_part findings p)
 part_len findings p is = sym (length-take-le (p.end - p.start) (drop p.start findings) (omega (arith, length-drop p.start findings, is.order, is.end)))
 
 -- the line of N6, if it holds

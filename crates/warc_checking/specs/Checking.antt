@@ -3,7 +3,7 @@
 use Rattle.std.specs.Prelude.{ℕ, Bool, List, [], ◌∷◌, ◌++◌, length, map, take, codes, decimal, Option, Some, None}
 use Rattle.std.specs.List.{enumerate_from, flat_map, list_any}
 use Rattle.warc_frame.specs.Record.{Record}
-use Rattle.warc_record.specs.Findings.{Found, Empty, finding_field, findings_of, finding_number}
+use Rattle.warc_record.specs.Findings.{SeenFinding, Empty, finding_field, findings_of, finding_number}
 use Rattle.warc_record.specs.Blocks.{has_bad_digest}
 use Rattle.warc_record.specs.Readings.{reading_of}
 use Rattle.warc_record.specs.Texts.{is_same_text}
@@ -11,7 +11,7 @@ use Rattle.warc_record.specs.Texts.{is_same_text}
 -- a finding, and the position of the record that it is about, if it is about one
 pub record Line : Type 0 where
   pub position : Option ℕ
-  pub finding : Found
+  pub finding : SeenFinding
 
 -- the key of a record's id
 abbrev pub record_key : Record → Option (List ℕ)
@@ -22,10 +22,10 @@ abbrev pub is_used : List Record → Option (List ℕ) → Bool
 is_used records key = list_any (λ r. is_same_text (record_key r) key) records
 
 -- the findings of a record, by those before it
-abbrev pub findings_behind : List Record → Record → List Found
+abbrev pub findings_behind : List Record → Record → List SeenFinding
 findings_behind before r = findings_of r.fields (length r.block) (has_bad_digest r) (is_used before (record_key r))
 
-abbrev pub about_record : ℕ → Found → Line
+abbrev pub about_record : ℕ → SeenFinding → Line
 about_record position found = record { position = Some position; finding = found }
 
 -- the findings of the record at a position

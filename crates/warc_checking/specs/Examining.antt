@@ -9,7 +9,7 @@ use Rattle.warc_frame.specs.Send.{IsStaged, WentOut, sent_of}
 use Rattle.warc_frame.specs.Record.{Record}
 use Rattle.warc_frame.specs.declared.fault.OutFault.{OutFault}
 use Rattle.warc_record.specs.Blocks.{has_bad_digest}
-use Rattle.warc_record.specs.Findings.{Found, findings_of}
+use Rattle.warc_record.specs.Findings.{SeenFinding, findings_of}
 use Rattle.warc_record.specs.declared.checks.ArchiveFacts.{ArchiveFacts}
 use Rattle.warc_field.specs.Area.{Pair}
 use Rattle.warc_checking.specs.Checking.{Line, about_record, check_text, findings_at, findings_of_archive, findings_of_records, is_used, record_key, line_text}
@@ -21,11 +21,11 @@ pub record IsExamined (before : List Record) (r : Record) (fields : List Pair) (
   pub used_id : facts.used_id ≡ is_used before (record_key r)
 
 -- the findings of a record of these fields, by the length of its block and what the archive says of it
-abbrev pub findings_by_facts : List Pair → ℕ → ArchiveFacts → List Found
+abbrev pub findings_by_facts : List Pair → ℕ → ArchiveFacts → List SeenFinding
 findings_by_facts fields block_len facts = findings_of fields block_len facts.bad_digest facts.used_id
 
 -- the lines of the findings of the record at a position
-abbrev pub record_lines : ℕ → List Found → List ℕ
+abbrev pub record_lines : ℕ → List SeenFinding → List ℕ
 record_lines position found = flat_map line_text (map (about_record position) found)
 
 -- the lines of all findings of records

@@ -4,17 +4,17 @@ use Rattle.std.specs.Prelude.{◌≡◌, ℕ, false, List, length, map, Result, 
 use Rattle.warc_frame.specs.Record.{Record}
 use Rattle.warc_frame.specs.declared.fault.Fault.{Fault}
 use Rattle.warc_record.specs.Blocks.{has_bad_digest}
-use Rattle.warc_record.specs.Findings.{Found, findings_of}
+use Rattle.warc_record.specs.Findings.{SeenFinding, findings_of}
 use Rattle.warc_reading.specs.Archive.{Contents, IsArchiveOf, contents}
 
 -- the findings of a record that it alone shows
-abbrev pub own_findings : Record → List Found
+abbrev pub own_findings : Record → List SeenFinding
 own_findings r = findings_of r.fields (length r.block) (has_bad_digest r) false
 
 -- a listing, and with it the findings of each record
 pub record Judged (S : Type 0) : Type 0 where
   pub listing : Contents S
-  pub findings : List (List Found)
+  pub findings : List (List SeenFinding)
 
 -- they are the findings of the good records that these bytes spell
 pub record IsJudgedOf {S : Type 0} (bytes : List ℕ) (judged : Judged S) : Type 0 where

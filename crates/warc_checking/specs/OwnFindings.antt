@@ -2,7 +2,7 @@
 -- public clause cites them.
 use Rattle.std.specs.Prelude.{◌≡◌, ℕ, ◌≤◌, Bool, true, false, nat_lt, List, [], ◌++◌, map, ◌==◌, slice_range, unwrap_or, None, if◌then◌else◌}
 use Rattle.std.specs.List.{AllByRecursion, filter, slice_get}
-use Rattle.warc_record.specs.Findings.{Found, Absent, Forbidden, Repeated, Digest, SegmentNumber, IdUsed, NoContentType, Profile, NotUtf8, BareId, NoOrigin, Empty, finding_number, once}
+use Rattle.warc_record.specs.Findings.{SeenFinding, Absent, Forbidden, Repeated, Digest, SegmentNumber, IdUsed, NoContentType, Profile, NotUtf8, BareId, NoOrigin, Empty, finding_number, once}
 use Rattle.warc_frame.specs.Record.{Record}
 use Rattle.warc_reading.specs.Archive.{contents}
 use Rattle.warc_reading.specs.Row.{Placed, Row, row_of}
@@ -15,7 +15,7 @@ use Rattle.warc_checking.specs.declared.own_findings.PackedFinding.{PackedFindin
 use Rattle.warc_checking.specs.declared.own_findings.Part.{Part}
 
 -- the finding of a number, with the name of a field if it is about one
-abbrev pub finding_by_number : ℕ → List ℕ → Found
+abbrev pub finding_by_number : ℕ → List ℕ → SeenFinding
 finding_by_number number name =
     if number == 1 then Absent name
     else if number == 2 then Forbidden name
@@ -31,10 +31,10 @@ finding_by_number number name =
     else Empty
 
 -- the finding that is packed, its name among the bytes
-abbrev pub finding_in : List ℕ → PackedFinding → Found
+abbrev pub finding_in : List ℕ → PackedFinding → SeenFinding
 finding_in names n = finding_by_number n.number (slice_range names n.start n.end)
 
-abbrev pub all_found : List ℕ → List PackedFinding → List Found
+abbrev pub all_found : List ℕ → List PackedFinding → List SeenFinding
 all_found names findings = map (finding_in names) findings
 
 -- its name is within the first bytes, as many as this
@@ -54,27 +54,27 @@ abbrev pub AreParts : ℕ → List Part → Type 0
 AreParts count parts = AllByRecursion (IsPart count) parts
 
 -- the findings of a part, and of each
-abbrev pub findings_of_part : List Found → Part → List Found
+abbrev pub findings_of_part : List SeenFinding → Part → List SeenFinding
 findings_of_part findings p = slice_range findings p.start p.end
 
-abbrev pub found_by_part : List Found → List Part → List (List Found)
+abbrev pub found_by_part : List SeenFinding → List Part → List (List SeenFinding)
 found_by_part findings parts = map (findings_of_part findings) parts
 
 -- those at a place, none past the end
-abbrev pub found_at : List (List Found) → ℕ → List Found
+abbrev pub found_at : List (List SeenFinding) → ℕ → List SeenFinding
 found_at found position = unwrap_or (slice_get found position) []
 
 -- whether a finding comes after N6, or else before it
-abbrev pub is_late : Bool → Found → Bool
+abbrev pub is_late : Bool → SeenFinding → Bool
 is_late true f = nat_lt (finding_number IdUsed) (finding_number f)
 is_late false f = nat_lt (finding_number f) (finding_number IdUsed)
 
 -- findings with N6 among them, if it holds
-abbrev pub with_used : List Found → Bool → List Found
+abbrev pub with_used : List SeenFinding → Bool → List SeenFinding
 with_used found used = filter (is_late false) found ++ once IdUsed used ++ filter (is_late true) found
 
 -- what is known of the record whose findings are written next: its row, its findings, and the ids used before it
-pub record IsDue (before : List Record) (p : Placed) (row : Row) (found : List Found) (ids : Ids) : Type 0 where
+pub record IsDue (before : List Record) (p : Placed) (row : Row) (found : List SeenFinding) (ids : Ids) : Type 0 where
   pub row_is : row ≡ row_of p
   pub good : head_fault p.content.fields ≡ None
   pub found_is : found ≡ own_findings p.content
@@ -82,7 +82,7 @@ pub record IsDue (before : List Record) (p : Placed) (row : Row) (found : List F
   pub lone : IsAlone before ids (id_key row.id)
 
 -- these are the rows of records that can be checked, and what was found of each
-pub record AreJudged (bytes : List ℕ) (records : List Placed) (rows : List Row) (found : List (List Found))
+pub record AreJudged (bytes : List ℕ) (records : List Placed) (rows : List Row) (found : List (List SeenFinding))
     : Type 0 where
   pub can : AreCheckable bytes records rows
   pub found_is : found ≡ map own_findings (contents records)

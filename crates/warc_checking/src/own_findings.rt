@@ -4,7 +4,7 @@ ghost use Rattle.std.specs.List.{filter};
 ghost use Rattle.warc_frame.specs.Count.{capped};
 ghost use Rattle.warc_frame.specs.Effects.{Puts};
 ghost use Rattle.warc_reading.specs.Archive.{contents};
-ghost use Rattle.warc_record.specs.Findings.{Found, IdUsed, finding_seen, findings_of, once};
+ghost use Rattle.warc_record.specs.Findings.{SeenFinding, IdUsed, finding_seen, findings_of, once};
 ghost use Rattle.warc_checking.specs.Examining.{record_lines};
 ghost use Rattle.warc_checking.specs.Judged.{own_findings};
 ghost use Rattle.warc_checking.specs.OwnFindings.{AreNamed, AreParts, IsNamed, IsPart, all_found, found_at, found_by_part, finding_in, is_late, findings_of_part, finding_by_number, with_used};
@@ -205,10 +205,10 @@ struct FindingList<A: Allocator> {
 
 impl<A: Allocator> Model for FindingList<A> {
     ghost use Rattle.std.specs.Prelude.{List, length};
-    ghost use Rattle.warc_record.specs.Findings.{Found};
+    ghost use Rattle.warc_record.specs.Findings.{SeenFinding};
     ghost use Rattle.warc_checking.specs.OwnFindings.{AreNamed, all_found};
 
-    ghost Value = { List Found };
+    ghost Value = { List SeenFinding };
 
     ghost view = { λ n. all_found n.names.items n.findings.items };
 
@@ -299,7 +299,7 @@ fn add_all<A: Allocator>(
     findings: &mut FindingList<A>,
 ) -> Result<(), AllocError>
     ensures ok { OnOk result (findings.new ≡ findings.old ++ map finding_seen found.now) }
-    ensures more { (more : List Found) × (findings.new ≡ findings.old ++ more) }
+    ensures more { (more : List SeenFinding) × (findings.new ≡ findings.old ++ more) }
 {
     'adding: for finding in found {
         findings.push(finding)?;
@@ -317,7 +317,7 @@ fn add_own<A: Allocator + Copy>(
 ) -> Result<(), AllocError>
     ensures ok { OnOk result (findings.new ≡ findings.old
         ++ findings_of fields.now place.len (is_bad place.verdict) false) }
-    ensures more { (more : List Found) × (findings.new ≡ findings.old ++ more) }
+    ensures more { (more : List SeenFinding) × (findings.new ≡ findings.old ++ more) }
 {
     let facts = ArchiveFacts {
         bad_digest: place.verdict.is_bad(),
@@ -336,7 +336,7 @@ struct Part {
 
 /// The part at a place, an empty one past the end.
 fn part_at(parts: &[Part], position: usize) -> Part
-    ensures is { (findings : List Found) → findings_of_part findings result
+    ensures is { (findings : List SeenFinding) → findings_of_part findings result
         ≡ found_at (found_by_part findings parts.now) position }
     ensures within { (count : ℕ) → AreParts count parts.now → IsPart count result }
 {
@@ -382,10 +382,10 @@ pub(crate) struct OwnFindings<A: Allocator> {
 
 impl<A: Allocator> Model for OwnFindings<A> {
     ghost use Rattle.std.specs.Prelude.{List, length};
-    ghost use Rattle.warc_record.specs.Findings.{Found};
+    ghost use Rattle.warc_record.specs.Findings.{SeenFinding};
     ghost use Rattle.warc_checking.specs.OwnFindings.{AreParts, found_by_part};
 
-    ghost Value = { List (List Found) };
+    ghost Value = { List (List SeenFinding) };
 
     ghost view = { λ n. found_by_part n.findings n.parts.items };
 

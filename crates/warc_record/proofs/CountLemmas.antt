@@ -13,10 +13,10 @@ use Rattle.warc_record.specs.declared.checks.TableCheck.TheVariants.{Lacks, HasF
 use Rattle.warc_record.specs.Readings.{Reading, reading_of}
 use Rattle.warc_record.specs.Table.{Rule, rules}
 use Rattle.warc_record.specs.FindingLaws.{FindingsAreFew, FindingsAreShort, told_len}
-use Rattle.warc_record.specs.Findings.{Found, NotUtf8, Digest, SegmentNumber, IdUsed, NoContentType, Profile, BareId, NoOrigin, broken_rule, finding_number, by_table, findings_by, findings_of, is_broken, is_not_utf8, not_utf8, has_bad_segment, has_bare_id, has_unknown_profile, lacks_content_type, lacks_origin, once}
+use Rattle.warc_record.specs.Findings.{SeenFinding, NotUtf8, Digest, SegmentNumber, IdUsed, NoContentType, Profile, BareId, NoOrigin, broken_rule, finding_number, by_table, findings_by, findings_of, is_broken, is_not_utf8, not_utf8, has_bad_segment, has_bare_id, has_unknown_profile, lacks_content_type, lacks_origin, once}
 use Rattle.warc_record.specs.Kinds.{is_known}
 
-few_of : {X : Type 0} (f : X → Found) (p : X → Bool) (xs : List X) → length (map f (filter p xs)) ≤ length xs
+few_of : {X : Type 0} (f : X → SeenFinding) (p : X → Bool) (xs : List X) → length (map f (filter p xs)) ≤ length xs
 few_of f p xs = omega (arith, length-map (filter p xs) f, length-filter p xs, count_by-le-length p xs)
 
 table_few : (check : TableCheck) (kind : Kind) (fields : List Pair) → length (by_table check kind fields) ≤ 17
@@ -25,11 +25,11 @@ table_few check kind fields =
     let size : length rules ≡ 17 = refl in
     omega (arith, size, few_of (broken_rule check) (is_broken check kind fields) rules)
 
-once_few : (found : Found) (holds : Bool) → length (once found holds) ≤ 1
+once_few : (found : SeenFinding) (holds : Bool) → length (once found holds) ≤ 1
 once_few found true = omega arith
 once_few found false = omega arith
 
-eleven : (a b c d e f g h i j k : List Found) (n : ℕ) → length a ≤ 17 → length b ≤ 17 → length c ≤ 17 → length d ≤ 1 → length e ≤ 1 → length f ≤ 1 → length g ≤ 1 → length h ≤ 1
+eleven : (a b c d e f g h i j k : List SeenFinding) (n : ℕ) → length a ≤ 17 → length b ≤ 17 → length c ≤ 17 → length d ≤ 1 → length e ≤ 1 → length f ≤ 1 → length g ≤ 1 → length h ≤ 1
     → length i ≤ n → length j ≤ 1 → length k ≤ 1 → length (a ++ b ++ c ++ d ++ e ++ f ++ g ++ h ++ i ++ j ++ k) ≤ n + 58
 eleven a b c d e f g h i j k n la lb lc ld le lf lg lh li lj lk = simp length-append (omega arith)
 
@@ -43,12 +43,12 @@ pub findings_are_few : FindingsAreFew
 unfolding findings_of
 findings_are_few fields size bad_digest used_id = few_by (reading_of fields) fields size bad_digest used_id
 
-told_map : {X : Type 0} (f : X → Found) (xs : List X) → sum_by told_len (map f xs) ≡ sum_by (λ x. told_len (f x)) xs
+told_map : {X : Type 0} (f : X → SeenFinding) (xs : List X) → sum_by told_len (map f xs) ≡ sum_by (λ x. told_len (f x)) xs
 told_map f [] = refl
 told_map f (x ∷ xs) =
     sum_by-cons told_len (f x) (map f xs) ∙ ap (λ n. told_len (f x) + n) (told_map f xs) ∙ sym (sum_by-cons (λ y. told_len (f y)) x xs)
 
-told_some : {X : Type 0} (f : X → Found) (p : X → Bool) (xs : List X) → sum_by told_len (map f (filter p xs)) ≤ sum_by (λ x. told_len (f x)) xs
+told_some : {X : Type 0} (f : X → SeenFinding) (p : X → Bool) (xs : List X) → sum_by told_len (map f (filter p xs)) ≤ sum_by (λ x. told_len (f x)) xs
 told_some f p xs =
     omega (arith, told_map f (filter p xs), sum_by-filter_both p (λ x. not (p x)) (λ x. refl) (λ x. told_len (f x)) xs)
 
@@ -69,7 +69,7 @@ table_short : (check : TableCheck) (kind : Kind) (fields : List Pair) → sum_by
 table_short check kind fields =
     omega (arith, table_names check, told_some (broken_rule check) (is_broken check kind fields) rules)
 
-once_short : (found : Found) (holds : Bool) → told_len found ≤ 2 → sum_by told_len (once found holds) ≤ 2
+once_short : (found : SeenFinding) (holds : Bool) → told_len found ≤ 2 → sum_by told_len (once found holds) ≤ 2
 once_short found true short = omega (arith, short)
 once_short found false short = omega arith
 
@@ -93,7 +93,7 @@ names_short (f ∷ fs) =
 utf8_short : (fields : List Pair) → sum_by told_len (not_utf8 fields) ≤ length (canonical_fields fields)
 utf8_short fields = omega (arith, told_some (λ (field : Pair). NotUtf8 field.0) is_not_utf8 fields, names_short fields)
 
-eleven_sums : (w : Found → ℕ) (a b c d e f g h i j k : List Found) (n : ℕ) → sum_by w a ≤ 320 → sum_by w b ≤ 320 → sum_by w c ≤ 320 → sum_by w d ≤ 2 → sum_by w e ≤ 2 → sum_by w f ≤ 2
+eleven_sums : (w : SeenFinding → ℕ) (a b c d e f g h i j k : List SeenFinding) (n : ℕ) → sum_by w a ≤ 320 → sum_by w b ≤ 320 → sum_by w c ≤ 320 → sum_by w d ≤ 2 → sum_by w e ≤ 2 → sum_by w f ≤ 2
     → sum_by w g ≤ 2 → sum_by w h ≤ 2 → sum_by w i ≤ n → sum_by w j ≤ 2 → sum_by w k ≤ 2 → sum_by w (a ++ b ++ c ++ d ++ e ++ f ++ g ++ h ++ i ++ j ++ k) ≤ n + 1000
 eleven_sums w a b c d e f g h i j k n la lb lc ld le lf lg lh li lj lk = simp (sum_by-append w) (omega arith)
 

@@ -7,7 +7,7 @@ use Rattle.warc_field.specs.Area.{Pair}
 use Rattle.warc_record.specs.declared.checks.TableCheck.TheVariants.{Lacks, HasForbidden, Repeats}
 use Rattle.warc_record.specs.Kinds.{is_known}
 use Rattle.warc_record.specs.Readings.{Reading}
-use Rattle.warc_record.specs.Findings.{Found, Digest, SegmentNumber, IdUsed, NoContentType, Profile, BareId, NoOrigin, by_table, once, not_utf8, has_bad_segment, lacks_content_type, has_unknown_profile, has_bare_id, lacks_origin, findings_by}
+use Rattle.warc_record.specs.Findings.{SeenFinding, Digest, SegmentNumber, IdUsed, NoContentType, Profile, BareId, NoOrigin, by_table, once, not_utf8, has_bad_segment, lacks_content_type, has_unknown_profile, has_bare_id, lacks_origin, findings_by}
 
 pub utf8_is : (bytes : List ℕ) → IsUtf8 bytes → true ≡ is_utf8 bytes
 utf8_is bytes is = sym (is_utf8-from_IsUtf8 bytes is)
@@ -41,7 +41,7 @@ select_push test told (y ∷ ys) x = more (test y) (select_push test told ys x)
 
 -- the findings, added one number after the other
 pub assembled : (reading : Reading) (fields : List Pair) (size : ℕ) (bad used : Bool)
-    (z a b c four d six e f g h i : List Found) (bad-4 five seven eight ten eleven : Bool)
+    (z a b c four d six e f g h i : List SeenFinding) (bad-4 five seven eight ten eleven : Bool)
     → z ≡ [] → a ≡ z ++ by_table Lacks reading.kind fields → b ≡ a ++ by_table HasForbidden reading.kind fields
     → c ≡ b ++ by_table Repeats reading.kind fields → four ≡ c ++ once Digest bad-4
     → d ≡ four ++ once SegmentNumber five → six ≡ d ++ once IdUsed used → e ≡ six ++ once NoContentType seven → f ≡ e ++ once Profile eight

@@ -12,7 +12,7 @@ use Rattle.warc_record.specs.declared.checks.TableCheck.TheVariants.{Lacks, HasF
 use Rattle.warc_record.specs.Kinds.{is_known}
 use Rattle.warc_record.specs.Readings.{Reading}
 use Rattle.warc_record.specs.Table.{Rule, rules}
-use Rattle.warc_record.specs.Findings.{Found, NotUtf8, Digest, SegmentNumber, IdUsed, NoContentType, Profile, BareId, NoOrigin, finding_number, once, is_broken, broken_rule, by_table, not_utf8, is_not_utf8, has_bad_segment, lacks_content_type, has_unknown_profile, has_bare_id, lacks_origin, findings_by}
+use Rattle.warc_record.specs.Findings.{SeenFinding, NotUtf8, Digest, SegmentNumber, IdUsed, NoContentType, Profile, BareId, NoOrigin, finding_number, once, is_broken, broken_rule, by_table, not_utf8, is_not_utf8, has_bad_segment, lacks_content_type, has_unknown_profile, has_bare_id, lacks_origin, findings_by}
 use Rattle.warc_record.specs.FindingLaws.{IsByTable, IsOnce, IsNotUtf8, IsFinding, sentences, ListedWhereTheyHold, NumbersNeverFall}
 
 -- ---- which stand in the list
@@ -64,28 +64,28 @@ made_from p g (y ∷ xs) x h t = by_test (p y) refl (λ more. made_from p g xs x
 made : {X Y : Type 0} (p : X → Bool) (g : X → Y) (xs : List X) (f : Y) → Contains (map g (filter p xs)) f ↔ IsMade p g xs f
 made {X} {Y} p g xs f = (made_to p g xs f, λ m. subst (λ (z : Y). Contains (map g (filter p xs)) z) (sym m.3) (made_from p g xs m.0 m.1 m.2))
 
-once_to : (n : Found) (b : Bool) (f : Found) → Contains (once n b) f → IsOnce (n, b) f
+once_to : (n : SeenFinding) (b : Bool) (f : SeenFinding) → Contains (once n b) f → IsOnce (n, b) f
 once_to n true f h = (refl, sym (single n f h))
 once_to n false f h = absurd (let lt = h.1 in omega (arith, lt))
 
-once_from : (n : Found) (b : Bool) (f : Found) → IsOnce (n, b) f → Contains (once n b) f
+once_from : (n : SeenFinding) (b : Bool) (f : SeenFinding) → IsOnce (n, b) f → Contains (once n b) f
 once_from n true f m = subst (λ z. Contains (once n true) z) (sym m.1) (first n [])
 once_from n false f m = absurd (true≢false (sym m.0))
 
-utf8_to : (fields : List Pair) (f : Found) → Contains (not_utf8 fields) f → IsNotUtf8 fields f
+utf8_to : (fields : List Pair) (f : SeenFinding) → Contains (not_utf8 fields) f → IsNotUtf8 fields f
 utf8_to fields f h =
     let m = made_to is_not_utf8 (λ (field : Pair). NotUtf8 field.0) fields f h in
     (m.0, m.1, not-true (is_utf8 m.0.1) m.2, m.3)
 
-utf8_from : (fields : List Pair) (f : Found) → IsNotUtf8 fields f → Contains (not_utf8 fields) f
+utf8_from : (fields : List Pair) (f : SeenFinding) → IsNotUtf8 fields f → Contains (not_utf8 fields) f
 utf8_from fields f m =
     let made = made_from is_not_utf8 (λ (field : Pair). NotUtf8 field.0) fields m.0 m.1 (not_from_false (is_utf8 m.0.1) m.2) in
     subst (λ z. Contains (not_utf8 fields) z) (sym m.3) made
 
-table_to : (check : TableCheck) (kind : Kind) (fields : List Pair) (f : Found) → Contains (by_table check kind fields) f → IsByTable check kind fields f
+table_to : (check : TableCheck) (kind : Kind) (fields : List Pair) (f : SeenFinding) → Contains (by_table check kind fields) f → IsByTable check kind fields f
 table_to check kind fields f h = made_to (is_broken check kind fields) (broken_rule check) rules f h
 
-table_from : (check : TableCheck) (kind : Kind) (fields : List Pair) (f : Found) → IsByTable check kind fields f → Contains (by_table check kind fields) f
+table_from : (check : TableCheck) (kind : Kind) (fields : List Pair) (f : SeenFinding) → IsByTable check kind fields f → Contains (by_table check kind fields) f
 table_from check kind fields f m =
     let made = made_from (is_broken check kind fields) (broken_rule check) rules m.0 m.1 m.2 in
     subst (λ z. Contains (by_table check kind fields) z) (sym m.3) made
@@ -97,37 +97,37 @@ or_else xs ys x one other h = elim (Contains-append_cases xs ys x h) [
 ]
 
 -- the findings of the first numbers
-abbrev to_one : Reading → List Pair → ℕ → Bool → Bool → List Found
+abbrev to_one : Reading → List Pair → ℕ → Bool → Bool → List SeenFinding
 to_one r fs size bad used = by_table Lacks r.kind fs
 
-abbrev to_two : Reading → List Pair → ℕ → Bool → Bool → List Found
+abbrev to_two : Reading → List Pair → ℕ → Bool → Bool → List SeenFinding
 to_two r fs size bad used = to_one r fs size bad used ++ by_table HasForbidden r.kind fs
 
-abbrev to_three : Reading → List Pair → ℕ → Bool → Bool → List Found
+abbrev to_three : Reading → List Pair → ℕ → Bool → Bool → List SeenFinding
 to_three r fs size bad used = to_two r fs size bad used ++ by_table Repeats r.kind fs
 
-abbrev to_four : Reading → List Pair → ℕ → Bool → Bool → List Found
+abbrev to_four : Reading → List Pair → ℕ → Bool → Bool → List SeenFinding
 to_four r fs size bad used = to_three r fs size bad used ++ once Digest (is_known r.kind && bad)
 
-abbrev to_five : Reading → List Pair → ℕ → Bool → Bool → List Found
+abbrev to_five : Reading → List Pair → ℕ → Bool → Bool → List SeenFinding
 to_five r fs size bad used = to_four r fs size bad used ++ once SegmentNumber (has_bad_segment r fs)
 
-abbrev to_six : Reading → List Pair → ℕ → Bool → Bool → List Found
+abbrev to_six : Reading → List Pair → ℕ → Bool → Bool → List SeenFinding
 to_six r fs size bad used = to_five r fs size bad used ++ once IdUsed used
 
-abbrev to_seven : Reading → List Pair → ℕ → Bool → Bool → List Found
+abbrev to_seven : Reading → List Pair → ℕ → Bool → Bool → List SeenFinding
 to_seven r fs size bad used = to_six r fs size bad used ++ once NoContentType (lacks_content_type r.kind fs size)
 
-abbrev to_eight : Reading → List Pair → ℕ → Bool → Bool → List Found
+abbrev to_eight : Reading → List Pair → ℕ → Bool → Bool → List SeenFinding
 to_eight r fs size bad used = to_seven r fs size bad used ++ once Profile (has_unknown_profile r fs)
 
-abbrev to_nine : Reading → List Pair → ℕ → Bool → Bool → List Found
+abbrev to_nine : Reading → List Pair → ℕ → Bool → Bool → List SeenFinding
 to_nine r fs size bad used = to_eight r fs size bad used ++ not_utf8 fs
 
-abbrev to_ten : Reading → List Pair → ℕ → Bool → Bool → List Found
+abbrev to_ten : Reading → List Pair → ℕ → Bool → Bool → List SeenFinding
 to_ten r fs size bad used = to_nine r fs size bad used ++ once BareId (has_bare_id r)
 
-abbrev to_eleven : Reading → List Pair → ℕ → Bool → Bool → List Found
+abbrev to_eleven : Reading → List Pair → ℕ → Bool → Bool → List SeenFinding
 to_eleven r fs size bad used = to_ten r fs size bad used ++ once NoOrigin (lacks_origin r fs)
 
 all_of_them : (r : Reading) (fs : List Pair) (size : ℕ) (bad used : Bool) → to_eleven r fs size bad used ≡ findings_by r fs size bad used
@@ -135,98 +135,98 @@ unfolding findings_by
 all_of_them r fs size bad used = refl
 
 -- what stands among the first stands among all
-from_ten : (r : Reading) (fs : List Pair) (size : ℕ) (bad used : Bool) (f : Found) → Contains (to_ten r fs size bad used) f → Contains (to_eleven r fs size bad used) f
+from_ten : (r : Reading) (fs : List Pair) (size : ℕ) (bad used : Bool) (f : SeenFinding) → Contains (to_ten r fs size bad used) f → Contains (to_eleven r fs size bad used) f
 from_ten r fs size bad used f h = Contains-append_left (to_ten r fs size bad used) (once NoOrigin (lacks_origin r fs)) f h
 
-from_nine : (r : Reading) (fs : List Pair) (size : ℕ) (bad used : Bool) (f : Found) → Contains (to_nine r fs size bad used) f → Contains (to_eleven r fs size bad used) f
+from_nine : (r : Reading) (fs : List Pair) (size : ℕ) (bad used : Bool) (f : SeenFinding) → Contains (to_nine r fs size bad used) f → Contains (to_eleven r fs size bad used) f
 from_nine r fs size bad used f h = from_ten r fs size bad used f (Contains-append_left (to_nine r fs size bad used) (once BareId (has_bare_id r)) f h)
 
-from_eight : (r : Reading) (fs : List Pair) (size : ℕ) (bad used : Bool) (f : Found) → Contains (to_eight r fs size bad used) f → Contains (to_eleven r fs size bad used) f
+from_eight : (r : Reading) (fs : List Pair) (size : ℕ) (bad used : Bool) (f : SeenFinding) → Contains (to_eight r fs size bad used) f → Contains (to_eleven r fs size bad used) f
 from_eight r fs size bad used f h = from_nine r fs size bad used f (Contains-append_left (to_eight r fs size bad used) (not_utf8 fs) f h)
 
-from_seven : (r : Reading) (fs : List Pair) (size : ℕ) (bad used : Bool) (f : Found) → Contains (to_seven r fs size bad used) f → Contains (to_eleven r fs size bad used) f
+from_seven : (r : Reading) (fs : List Pair) (size : ℕ) (bad used : Bool) (f : SeenFinding) → Contains (to_seven r fs size bad used) f → Contains (to_eleven r fs size bad used) f
 from_seven r fs size bad used f h = from_eight r fs size bad used f (Contains-append_left (to_seven r fs size bad used) (once Profile (has_unknown_profile r fs)) f h)
 
-from_six : (r : Reading) (fs : List Pair) (size : ℕ) (bad used : Bool) (f : Found) → Contains (to_six r fs size bad used) f → Contains (to_eleven r fs size bad used) f
+from_six : (r : Reading) (fs : List Pair) (size : ℕ) (bad used : Bool) (f : SeenFinding) → Contains (to_six r fs size bad used) f → Contains (to_eleven r fs size bad used) f
 from_six r fs size bad used f h = from_seven r fs size bad used f (Contains-append_left (to_six r fs size bad used) (once NoContentType (lacks_content_type r.kind fs size)) f h)
 
-from_five : (r : Reading) (fs : List Pair) (size : ℕ) (bad used : Bool) (f : Found) → Contains (to_five r fs size bad used) f → Contains (to_eleven r fs size bad used) f
+from_five : (r : Reading) (fs : List Pair) (size : ℕ) (bad used : Bool) (f : SeenFinding) → Contains (to_five r fs size bad used) f → Contains (to_eleven r fs size bad used) f
 from_five r fs size bad used f h = from_six r fs size bad used f (Contains-append_left (to_five r fs size bad used) (once IdUsed used) f h)
 
-from_four : (r : Reading) (fs : List Pair) (size : ℕ) (bad used : Bool) (f : Found) → Contains (to_four r fs size bad used) f → Contains (to_eleven r fs size bad used) f
+from_four : (r : Reading) (fs : List Pair) (size : ℕ) (bad used : Bool) (f : SeenFinding) → Contains (to_four r fs size bad used) f → Contains (to_eleven r fs size bad used) f
 from_four r fs size bad used f h = from_five r fs size bad used f (Contains-append_left (to_four r fs size bad used) (once SegmentNumber (has_bad_segment r fs)) f h)
 
-from_three : (r : Reading) (fs : List Pair) (size : ℕ) (bad used : Bool) (f : Found) → Contains (to_three r fs size bad used) f → Contains (to_eleven r fs size bad used) f
+from_three : (r : Reading) (fs : List Pair) (size : ℕ) (bad used : Bool) (f : SeenFinding) → Contains (to_three r fs size bad used) f → Contains (to_eleven r fs size bad used) f
 from_three r fs size bad used f h = from_four r fs size bad used f (Contains-append_left (to_three r fs size bad used) (once Digest (is_known r.kind && bad)) f h)
 
-from_two : (r : Reading) (fs : List Pair) (size : ℕ) (bad used : Bool) (f : Found) → Contains (to_two r fs size bad used) f → Contains (to_eleven r fs size bad used) f
+from_two : (r : Reading) (fs : List Pair) (size : ℕ) (bad used : Bool) (f : SeenFinding) → Contains (to_two r fs size bad used) f → Contains (to_eleven r fs size bad used) f
 from_two r fs size bad used f h = from_three r fs size bad used f (Contains-append_left (to_two r fs size bad used) (by_table Repeats r.kind fs) f h)
 
-from_one : (r : Reading) (fs : List Pair) (size : ℕ) (bad used : Bool) (f : Found) → Contains (to_one r fs size bad used) f → Contains (to_eleven r fs size bad used) f
+from_one : (r : Reading) (fs : List Pair) (size : ℕ) (bad used : Bool) (f : SeenFinding) → Contains (to_one r fs size bad used) f → Contains (to_eleven r fs size bad used) f
 from_one r fs size bad used f h = from_two r fs size bad used f (Contains-append_left (to_one r fs size bad used) (by_table HasForbidden r.kind fs) f h)
 
 -- what a finding of a number stands for
-say : (r : Reading) (fs : List Pair) (size : ℕ) (bad used : Bool) (n : Found) (b : Bool) (f : Found)
+say : (r : Reading) (fs : List Pair) (size : ℕ) (bad used : Bool) (n : SeenFinding) (b : Bool) (f : SeenFinding)
     → Contains (sentences r fs size bad used) (n, b) → Contains (once n b) f → IsFinding r fs size bad used f
 say r fs size bad used n b f there h = inr (inr ((n, b), there, once_to n b f h))
 
-said_to_one : (r : Reading) (fs : List Pair) (size : ℕ) (bad used : Bool) (f : Found) → Contains (to_one r fs size bad used) f → IsFinding r fs size bad used f
+said_to_one : (r : Reading) (fs : List Pair) (size : ℕ) (bad used : Bool) (f : SeenFinding) → Contains (to_one r fs size bad used) f → IsFinding r fs size bad used f
 said_to_one r fs size bad used f h = inl (Lacks, table_to Lacks r.kind fs f h)
 
-said_to_two : (r : Reading) (fs : List Pair) (size : ℕ) (bad used : Bool) (f : Found) → Contains (to_two r fs size bad used) f → IsFinding r fs size bad used f
+said_to_two : (r : Reading) (fs : List Pair) (size : ℕ) (bad used : Bool) (f : SeenFinding) → Contains (to_two r fs size bad used) f → IsFinding r fs size bad used f
 said_to_two r fs size bad used f =
     or_else (to_one r fs size bad used) (by_table HasForbidden r.kind fs) f (said_to_one r fs size bad used f)
     (λ h. inl (HasForbidden, table_to HasForbidden r.kind fs f h))
 
-said_to_three : (r : Reading) (fs : List Pair) (size : ℕ) (bad used : Bool) (f : Found) → Contains (to_three r fs size bad used) f → IsFinding r fs size bad used f
+said_to_three : (r : Reading) (fs : List Pair) (size : ℕ) (bad used : Bool) (f : SeenFinding) → Contains (to_three r fs size bad used) f → IsFinding r fs size bad used f
 said_to_three r fs size bad used f =
     or_else (to_two r fs size bad used) (by_table Repeats r.kind fs) f (said_to_two r fs size bad used f)
     (λ h. inl (Repeats, table_to Repeats r.kind fs f h))
 
-said_to_four : (r : Reading) (fs : List Pair) (size : ℕ) (bad used : Bool) (f : Found) → Contains (to_four r fs size bad used) f → IsFinding r fs size bad used f
+said_to_four : (r : Reading) (fs : List Pair) (size : ℕ) (bad used : Bool) (f : SeenFinding) → Contains (to_four r fs size bad used) f → IsFinding r fs size bad used f
 said_to_four r fs size bad used f =
     or_else (to_three r fs size bad used) (once Digest (is_known r.kind && bad)) f (said_to_three r fs size bad used f)
     (say r fs size bad used Digest (is_known r.kind && bad) f (0, omega arith, refl))
 
-said_to_five : (r : Reading) (fs : List Pair) (size : ℕ) (bad used : Bool) (f : Found) → Contains (to_five r fs size bad used) f → IsFinding r fs size bad used f
+said_to_five : (r : Reading) (fs : List Pair) (size : ℕ) (bad used : Bool) (f : SeenFinding) → Contains (to_five r fs size bad used) f → IsFinding r fs size bad used f
 said_to_five r fs size bad used f =
     or_else (to_four r fs size bad used) (once SegmentNumber (has_bad_segment r fs)) f (said_to_four r fs size bad used f)
     (say r fs size bad used SegmentNumber (has_bad_segment r fs) f (1, omega arith, refl))
 
-said_to_six : (r : Reading) (fs : List Pair) (size : ℕ) (bad used : Bool) (f : Found) → Contains (to_six r fs size bad used) f → IsFinding r fs size bad used f
+said_to_six : (r : Reading) (fs : List Pair) (size : ℕ) (bad used : Bool) (f : SeenFinding) → Contains (to_six r fs size bad used) f → IsFinding r fs size bad used f
 said_to_six r fs size bad used f =
     or_else (to_five r fs size bad used) (once IdUsed used) f (said_to_five r fs size bad used f)
     (say r fs size bad used IdUsed used f (2, omega arith, refl))
 
-said_to_seven : (r : Reading) (fs : List Pair) (size : ℕ) (bad used : Bool) (f : Found) → Contains (to_seven r fs size bad used) f → IsFinding r fs size bad used f
+said_to_seven : (r : Reading) (fs : List Pair) (size : ℕ) (bad used : Bool) (f : SeenFinding) → Contains (to_seven r fs size bad used) f → IsFinding r fs size bad used f
 said_to_seven r fs size bad used f =
     or_else (to_six r fs size bad used) (once NoContentType (lacks_content_type r.kind fs size)) f (said_to_six r fs size bad used f)
     (say r fs size bad used NoContentType (lacks_content_type r.kind fs size) f (3, omega arith, refl))
 
-said_to_eight : (r : Reading) (fs : List Pair) (size : ℕ) (bad used : Bool) (f : Found) → Contains (to_eight r fs size bad used) f → IsFinding r fs size bad used f
+said_to_eight : (r : Reading) (fs : List Pair) (size : ℕ) (bad used : Bool) (f : SeenFinding) → Contains (to_eight r fs size bad used) f → IsFinding r fs size bad used f
 said_to_eight r fs size bad used f =
     or_else (to_seven r fs size bad used) (once Profile (has_unknown_profile r fs)) f (said_to_seven r fs size bad used f)
     (say r fs size bad used Profile (has_unknown_profile r fs) f (4, omega arith, refl))
 
-said_to_nine : (r : Reading) (fs : List Pair) (size : ℕ) (bad used : Bool) (f : Found) → Contains (to_nine r fs size bad used) f → IsFinding r fs size bad used f
+said_to_nine : (r : Reading) (fs : List Pair) (size : ℕ) (bad used : Bool) (f : SeenFinding) → Contains (to_nine r fs size bad used) f → IsFinding r fs size bad used f
 said_to_nine r fs size bad used f =
     or_else (to_eight r fs size bad used) (not_utf8 fs) f (said_to_eight r fs size bad used f)
     (λ h. inr (inl (utf8_to fs f h)))
 
-said_to_ten : (r : Reading) (fs : List Pair) (size : ℕ) (bad used : Bool) (f : Found) → Contains (to_ten r fs size bad used) f → IsFinding r fs size bad used f
+said_to_ten : (r : Reading) (fs : List Pair) (size : ℕ) (bad used : Bool) (f : SeenFinding) → Contains (to_ten r fs size bad used) f → IsFinding r fs size bad used f
 said_to_ten r fs size bad used f =
     or_else (to_nine r fs size bad used) (once BareId (has_bare_id r)) f (said_to_nine r fs size bad used f)
     (say r fs size bad used BareId (has_bare_id r) f (5, omega arith, refl))
 
-said_to_eleven : (r : Reading) (fs : List Pair) (size : ℕ) (bad used : Bool) (f : Found) → Contains (to_eleven r fs size bad used) f → IsFinding r fs size bad used f
+said_to_eleven : (r : Reading) (fs : List Pair) (size : ℕ) (bad used : Bool) (f : SeenFinding) → Contains (to_eleven r fs size bad used) f → IsFinding r fs size bad used f
 said_to_eleven r fs size bad used f =
     or_else (to_ten r fs size bad used) (once NoOrigin (lacks_origin r fs)) f (said_to_ten r fs size bad used f)
     (say r fs size bad used NoOrigin (lacks_origin r fs) f (6, omega arith, refl))
 
-pick : (s : Found × Bool) (f : Found) (n : Found) (b : Bool) → (n, b) ≡ s → IsOnce s f → Contains (once n b) f
+pick : (s : SeenFinding × Bool) (f : SeenFinding) (n : SeenFinding) (b : Bool) → (n, b) ≡ s → IsOnce s f → Contains (once n b) f
 pick s f n b e m = once_from n b f (subst (λ z. IsOnce z f) (sym e) m)
 
-sentence_from : (r : Reading) (fs : List Pair) (size : ℕ) (bad used : Bool) (f : Found) (s : Found × Bool)
+sentence_from : (r : Reading) (fs : List Pair) (size : ℕ) (bad used : Bool) (f : SeenFinding) (s : SeenFinding × Bool)
     → Contains (sentences r fs size bad used) s → IsOnce s f → Contains (to_eleven r fs size bad used) f
 sentence_from r fs size bad used f s (zero, lt, e) m =
     from_four r fs size bad used f
@@ -250,7 +250,7 @@ sentence_from r fs size bad used f s (suc (suc (suc (suc (suc (suc zero))))), lt
     Contains-append_right (to_ten r fs size bad used) (once NoOrigin (lacks_origin r fs)) f (pick s f NoOrigin (lacks_origin r fs) e m)
 sentence_from r fs size bad used f s (suc (suc (suc (suc (suc (suc (suc k)))))), lt, e) m = absurd (omega (arith, lt))
 
-said_from : (r : Reading) (fs : List Pair) (size : ℕ) (bad used : Bool) (f : Found) → IsFinding r fs size bad used f → Contains (to_eleven r fs size bad used) f
+said_from : (r : Reading) (fs : List Pair) (size : ℕ) (bad used : Bool) (f : SeenFinding) → IsFinding r fs size bad used f → Contains (to_eleven r fs size bad used) f
 said_from r fs size bad used f (inl (Lacks, m)) = from_one r fs size bad used f (table_from Lacks r.kind fs f m)
 said_from r fs size bad used f (inl (HasForbidden, m)) =
     from_two r fs size bad used f
@@ -265,33 +265,33 @@ said_from r fs size bad used f (inr (inr m)) = sentence_from r fs size bad used 
 
 pub listed_where_they_hold : ListedWhereTheyHold
 listed_where_they_hold r fs size bad used f =
-    subst (λ (l : List Found). Contains l f ↔ IsFinding r fs size bad used f) (all_of_them r fs size bad used)
+    subst (λ (l : List SeenFinding). Contains l f ↔ IsFinding r fs size bad used f) (all_of_them r fs size bad used)
     (said_to_eleven r fs size bad used f, said_from r fs size bad used f)
 
 -- ---- in which order
 
-NotBelow : Found → Found → Type 0
+NotBelow : SeenFinding → SeenFinding → Type 0
 NotBelow a b = finding_number a ≤ finding_number b
 
 -- the numbers never fall, and none is above one
-record Rises (top : ℕ) (xs : List Found) : Type 0 where
+record Rises (top : ℕ) (xs : List SeenFinding) : Type 0 where
   pairs : AllPairs NotBelow xs
   tops : All (λ f. finding_number f ≤ top) xs
 
-weaker : (top n : ℕ) (xs : List Found) → top ≤ n → All (λ f. finding_number f ≤ top) xs → All (λ f. finding_number f ≤ n) xs
+weaker : (top n : ℕ) (xs : List SeenFinding) → top ≤ n → All (λ f. finding_number f ≤ top) xs → All (λ f. finding_number f ≤ n) xs
 weaker top n xs le h = All-weaker (λ f. finding_number f ≤ top) (λ f. finding_number f ≤ n) (λ f below. omega (arith, below, le)) xs h
 
 nothing_rises : (top : ℕ) → Rises top []
 nothing_rises top = record { pairs = λ i j d lt below. absurd (omega (arith, below)); tops = All-nil (λ f. finding_number f ≤ top) }
 
-push_rises : (top : ℕ) (xs : List Found) (y : Found) → Rises top xs → top ≤ finding_number y → Rises (finding_number y) (xs ++ y ∷ [])
+push_rises : (top : ℕ) (xs : List SeenFinding) (y : SeenFinding) → Rises top xs → top ≤ finding_number y → Rises (finding_number y) (xs ++ y ∷ [])
 unfolding NotBelow
 push_rises top xs y x le = record {
   pairs = all_pairs_push NotBelow xs y x.pairs (λ k d lt. weaker top (finding_number y) xs le x.tops k d lt);
   tops = All-push (λ f. finding_number f ≤ finding_number y) xs y (weaker top (finding_number y) xs le x.tops) (omega arith);
 }
 
-more_rises : (top n : ℕ) (xs ys : List Found) → Rises top xs → top ≤ n → All (λ f. finding_number f ≡ n) ys → Rises n (xs ++ ys)
+more_rises : (top n : ℕ) (xs ys : List SeenFinding) → Rises top xs → top ≤ n → All (λ f. finding_number f ≡ n) ys → Rises n (xs ++ ys)
 more_rises top n xs [] x le e =
     subst (λ l. Rises n l) (sym (append-nil xs)) (record { pairs = x.pairs; tops = weaker top n xs le x.tops })
 more_rises top n xs (y ∷ ys) x le e =
@@ -310,7 +310,7 @@ utf8_numbers : (fields : List Pair) → All (λ f. finding_number f ≡ 9) (not_
 utf8_numbers fields =
     All-map (λ f. finding_number f ≡ 9) (λ (field : Pair). NotUtf8 field.0) (filter is_not_utf8 fields) (λ k d lt. refl)
 
-once_numbers : (found : Found) (b : Bool) → All (λ f. finding_number f ≡ finding_number found) (once found b)
+once_numbers : (found : SeenFinding) (b : Bool) → All (λ f. finding_number f ≡ finding_number found) (once found b)
 once_numbers found true = All-push (λ f. finding_number f ≡ finding_number found) [] found (All-nil (λ f. finding_number f ≡ finding_number found)) refl
 once_numbers found false = All-nil (λ f. finding_number f ≡ finding_number found)
 
@@ -339,4 +339,4 @@ numbers_never_fall r fs size bad used =
     nine (omega arith) (once_numbers BareId (has_bare_id r)) in
     let eleven = more_rises 10 11 (to_ten r fs size bad used) (once NoOrigin (lacks_origin r fs))
     ten (omega arith) (once_numbers NoOrigin (lacks_origin r fs)) in
-    subst (λ (l : List Found). AllPairs NotBelow l) (all_of_them r fs size bad used) eleven.pairs
+    subst (λ (l : List SeenFinding). AllPairs NotBelow l) (all_of_them r fs size bad used) eleven.pairs

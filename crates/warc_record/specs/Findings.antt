@@ -18,21 +18,21 @@ use Rattle.warc_record.specs.Readings.{present_value, present_bare, Reading, rea
 use Rattle.warc_record.specs.Table.{Rule, rules, is_among}
 
 -- a finding, N1 to N12, some with the name of the field that it is about
-pub data Found : Type 0 where
-  Absent : List ℕ → Found
-  Forbidden : List ℕ → Found
-  Repeated : List ℕ → Found
-  Digest : Found
-  SegmentNumber : Found
-  IdUsed : Found
-  NoContentType : Found
-  Profile : Found
-  NotUtf8 : List ℕ → Found
-  BareId : Found
-  NoOrigin : Found
-  Empty : Found
+pub data SeenFinding : Type 0 where
+  Absent : List ℕ → SeenFinding
+  Forbidden : List ℕ → SeenFinding
+  Repeated : List ℕ → SeenFinding
+  Digest : SeenFinding
+  SegmentNumber : SeenFinding
+  IdUsed : SeenFinding
+  NoContentType : SeenFinding
+  Profile : SeenFinding
+  NotUtf8 : List ℕ → SeenFinding
+  BareId : SeenFinding
+  NoOrigin : SeenFinding
+  Empty : SeenFinding
 
-abbrev pub finding_number : Found → ℕ
+abbrev pub finding_number : SeenFinding → ℕ
 finding_number (Absent name) = 1
 finding_number (Forbidden name) = 2
 finding_number (Repeated name) = 3
@@ -47,14 +47,14 @@ finding_number NoOrigin = 11
 finding_number Empty = 12
 
 -- the name of the field that it is about, if any
-abbrev pub finding_field : Found → Option (List ℕ)
+abbrev pub finding_field : SeenFinding → Option (List ℕ)
 finding_field (Absent name) = Some name
 finding_field (Forbidden name) = Some name
 finding_field (Repeated name) = Some name
 finding_field (NotUtf8 name) = Some name
 finding_field found = None
 
-abbrev pub once : Found → Bool → List Found
+abbrev pub once : SeenFinding → Bool → List SeenFinding
 once found holds = if holds then found ∷ [] else []
 
 -- the field isn't absent: a target is absent if its bare text is empty, any other field if its value is
@@ -69,12 +69,12 @@ is_broken Lacks kind fields rule = is_among kind rule.required && not (stands ru
 is_broken HasForbidden kind fields rule = is_among kind rule.forbidden && stands rule.name fields
 is_broken Repeats kind fields rule = is_known kind && not rule.repeats && nat_lt 1 (count_of rule.name fields)
 
-abbrev pub broken_rule : TableCheck → Rule → Found
+abbrev pub broken_rule : TableCheck → Rule → SeenFinding
 broken_rule Lacks rule = Absent rule.name
 broken_rule HasForbidden rule = Forbidden rule.name
 broken_rule Repeats rule = Repeated rule.name
 
-abbrev pub by_table : TableCheck → Kind → List Pair → List Found
+abbrev pub by_table : TableCheck → Kind → List Pair → List SeenFinding
 by_table check kind fields = map (broken_rule check) (filter (is_broken check kind fields) rules)
 
 -- N5: a segment number that isn't one, or is less than 2 in a continuation, or isn't 1 in another kind; or, in a
@@ -109,7 +109,7 @@ has_unknown_profile reading fields =
 abbrev pub is_not_utf8 : Pair → Bool
 is_not_utf8 field = not (is_utf8 field.1)
 
-abbrev pub not_utf8 : List Pair → List Found
+abbrev pub not_utf8 : List Pair → List SeenFinding
 not_utf8 fields = map (λ (field : Pair). NotUtf8 field.0) (filter is_not_utf8 fields)
 
 -- N10: the value of the id isn't between < and >
@@ -126,7 +126,7 @@ lacks_origin reading fields =
     && is_none reading.segment.origin
 
 -- the findings of a record: N4 if its block's digest is bad, N6 if an earlier record has its id
-unfoldable pub findings_by : Reading → List Pair → ℕ → Bool → Bool → List Found
+unfoldable pub findings_by : Reading → List Pair → ℕ → Bool → Bool → List SeenFinding
 findings_by reading fields size bad_digest used_id =
     by_table Lacks reading.kind fields
     ++ by_table HasForbidden reading.kind fields
@@ -140,11 +140,11 @@ findings_by reading fields size bad_digest used_id =
     ++ once BareId (has_bare_id reading)
     ++ once NoOrigin (lacks_origin reading fields)
 
-unfoldable pub findings_of : List Pair → ℕ → Bool → Bool → List Found
+unfoldable pub findings_of : List Pair → ℕ → Bool → Bool → List SeenFinding
 findings_of fields size bad_digest used_id = findings_by (reading_of fields) fields size bad_digest used_id
 
 -- a finding of the code
-abbrev pub finding_seen : Finding → Found
+abbrev pub finding_seen : Finding → SeenFinding
 finding_seen (seen.Absent name) = Absent name.now
 finding_seen (seen.Forbidden name) = Forbidden name.now
 finding_seen (seen.Repeated name) = Repeated name.now
