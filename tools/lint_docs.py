@@ -4,6 +4,7 @@
 - A block of code in README.md or docs/LIBRARY.md is part of a file of crates/example_*, of c/ or of python/ or
   rust/examples, word for word.
 - The table of crates in docs/ARCHITECTURE.md names the libraries that crates.txt names.
+- A call that docs/PROMISES.md lists, and a law that it cites, is in the crate of its heading.
 - docs/PROGRAM.md has a section, and README.md a row, for each command of the program and for no other.
 - A link or a path that a page names is there.
 - README.md has at most 9 KB.
@@ -44,6 +45,30 @@ def crates_elsewhere():
             yield f"docs/ARCHITECTURE.md: {name} uses {' '.join(uses[name])}"
 
 
+def calls_elsewhere():
+    """Calls and laws that docs/PROMISES.md lists and that aren't in the crate of the heading."""
+    sections = read("docs/PROMISES.md").split("# Call by call\n")[1].split("\n## ")
+    for heading, *rows in (section.splitlines() for section in sections):
+        for crate, names in calls_of(re.findall(r"`(warc_\w+|warc)`", heading), rows):
+            source = "".join(open(path, encoding="utf-8").read() for path in glob.glob(f"{TOP}/crates/{crate}/src/*.rt"))
+            items = set(re.findall(r"\b(?:fn|struct|enum|trait|type|const|mod) (\w+)", source))
+            for name in sorted(names - items):
+                yield f"docs/PROMISES.md: {crate} has no {name}"
+
+
+def calls_of(crates_named, rows):
+    """Each crate of a section, with the names that the rows list of it."""
+    for row in rows:
+        cells = row.split(" | ")
+        if not cells[0].startswith("| `") or not crates_named:
+            continue
+        first = re.findall(r"`(\w+)`: ", cells[0]) or crates_named
+        names = re.findall(r"`([\w:]+)`(?!:)", cells[0])
+        yield first[0], {part for name in names for part in name.split("::")}
+        if cells[0] == "| `laws`":
+            yield first[0], set(re.findall(r"`(\w+)`", " ".join(re.findall(r"\((`[^)]*`)\)", row))))
+
+
 def commands_elsewhere():
     """Commands that the program has and a page hasn't, or the other way round."""
     own = set(re.findall(r'^        name: "(\w+)",\n        about:', read("crates/warc_commands/src/words.rt"), re.MULTILINE))
@@ -68,7 +93,7 @@ def missing_paths(page):
 
 def main():
     found = [*code_elsewhere("README.md"), *code_elsewhere("docs/LIBRARY.md")]
-    found += [*crates_elsewhere(), *commands_elsewhere(), *make_numbers.wrong()]
+    found += [*crates_elsewhere(), *calls_elsewhere(), *commands_elsewhere(), *make_numbers.wrong()]
     for pattern in PAGES:
         for path in sorted(glob.glob(f"{TOP}/{pattern}")):
             found += missing_paths(os.path.relpath(path, TOP))
