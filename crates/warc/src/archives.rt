@@ -1,8 +1,6 @@
 //! An archive: a listing, and beside it what finds its records and joins those in segments.
-ghost use Rattle.std.specs.Prelude.{◌≡◌, ℕ, List, length, IfErr, IfOk, OnErr, OnOk, is_err, map, min, slice_get, if◌then◌else◌};
-ghost use Rattle.std.specs.Io.KnownBytes.{append_known};
-ghost use Rattle.warc_frame.specs.Count.{raised};
-ghost use Rattle.warc_frame.specs.Send.{WentOut, sent_of};
+ghost use Rattle.std.specs.Prelude.{◌≡◌, ℕ, List, length, IfOk, OnErr, map, min, slice_get};
+ghost use Rattle.warc_frame.specs.Effects.{SendsText};
 ghost use Rattle.warc.specs.Bodies.{GivesBodyAt};
 ghost use Rattle.warc.specs.Bounds.{IsKeptCount};
 ghost use Rattle.warc_checking.specs.Checks.{Checks};
@@ -86,13 +84,7 @@ impl<S: Source, A: Allocator> Archive<S, A> {
 
     /// Writes a line for each record, as a listing does.
     pub fn list<W: Sink>(&self, out: &mut W) -> Result<(), OutFault>
-        ensures told { OnOk result ((W.seen out.new).tells ≡ append_known (W.seen out.old).tells
-            (listing self.now.listing.rows)) }
-        ensures cut { IfErr result (λ e. WentOut (W.seen out.old).tells (listing self.now.listing.rows)
-            (W.seen out.new).tells (sent_of e)) }
-        ensures write { IfErr result (λ e. e ≡ OutFault.Write (sent_of e)) }
-        ensures cause { (W.seen out.new).faults ≡ (if is_err result then raised (W.seen out.old).faults else
-            (W.seen out.old).faults) }
+        ensures { SendsText (W.seen out.old) (W.seen out.new) result (listing self.now.listing.rows) }
     {
         self.listing.list(out)
     }
@@ -330,13 +322,8 @@ impl<S: Source, A: Allocator + Copy> Archive<S, A> {
         outcomes: &[Outcome<A>],
         out: &mut W,
     ) -> Result<(), OutFault>
-        ensures told { OnOk result ((W.seen out.new).tells ≡ append_known (W.seen out.old).tells
-            (captures_text self.now.listing.rows (map outcome_seen outcomes.now))) }
-        ensures cut { IfErr result (λ e. WentOut (W.seen out.old).tells (captures_text self.now.listing.rows
-            (map outcome_seen outcomes.now)) (W.seen out.new).tells (sent_of e)) }
-        ensures write { IfErr result (λ e. e ≡ OutFault.Write (sent_of e)) }
-        ensures cause { (W.seen out.new).faults ≡ (if is_err result then raised (W.seen out.old).faults else
-            (W.seen out.old).faults) }
+        ensures { SendsText (W.seen out.old) (W.seen out.new) result
+            (captures_text self.now.listing.rows (map outcome_seen outcomes.now)) }
     {
         list_outcomes(&self.listing.rows, outcomes, out)
     }

@@ -1,11 +1,8 @@
 //! The line that `captures` writes for a capture.
-ghost use Rattle.std.specs.Prelude.{◌≡◌, ◌≤◌, ◌++◌, ◌==◌, [], length, drop, not, codes, map, None, Some, Ok, IfErr, OnOk, is_err, if◌then◌else◌};
-ghost use Rattle.std.specs.Io.KnownBytes.{append_known};
-ghost use Rattle.warc_frame.specs.Count.{raised};
-ghost use Rattle.warc_frame.specs.Send.{WentOut, sent_of};
+ghost use Rattle.std.specs.Prelude.{◌≡◌, ◌≤◌, ◌++◌, ◌==◌, [], length, drop, not, codes, map, None, Some, Ok};
 ghost use Rattle.std.specs.List.{prefix_len};
 ghost use Rattle.warc_answer.specs.Seen.{stored_seen};
-ghost use Rattle.warc_frame.specs.Effects.{Puts};
+ghost use Rattle.warc_frame.specs.Effects.{Puts, SendsText};
 ghost use Rattle.warc_segment.specs.GapText.{digits_of};
 ghost use Rattle.warc.specs.Captures.{capture_line, captures_text, columns_line, columns_of, date_front, line_by, number_shown, reason_shown};
 ghost use Rattle.warc.specs.Outcomes.{judged_seen, outcome_seen};
@@ -263,13 +260,8 @@ pub(crate) fn list_outcomes<W: Sink, A: Allocator>(
     outcomes: &[Outcome<A>],
     out: &mut W,
 ) -> Result<(), OutFault>
-    ensures told { OnOk result ((W.seen out.new).tells ≡ append_known (W.seen out.old).tells
-        (captures_text rows.now (map outcome_seen outcomes.now))) }
-    ensures cut { IfErr result (λ e. WentOut (W.seen out.old).tells (captures_text rows.now (map outcome_seen
-        outcomes.now)) (W.seen out.new).tells (sent_of e)) }
-    ensures write { IfErr result (λ e. e ≡ OutFault.Write (sent_of e)) }
-    ensures cause { (W.seen out.new).faults ≡ (if is_err result then raised (W.seen out.old).faults else
-        (W.seen out.old).faults) }
+    ensures { SendsText (W.seen out.old) (W.seen out.new) result
+        (captures_text rows.now (map outcome_seen outcomes.now)) }
 {
     let mut buffer = OutBuffer::new();
     'listing: for outcome in outcomes {

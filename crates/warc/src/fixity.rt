@@ -1,9 +1,6 @@
 //! How the blocks of an archive compare with the digests that their heads tell.
-ghost use Rattle.std.specs.Prelude.{◌≡◌, [], codes, IfErr, OnErr, OnOk, is_err, map, slice_get, unwrap_or, if◌then◌else◌};
-ghost use Rattle.std.specs.Io.KnownBytes.{append_known};
-ghost use Rattle.warc_frame.specs.Count.{raised};
-ghost use Rattle.warc_frame.specs.Effects.{Puts};
-ghost use Rattle.warc_frame.specs.Send.{WentOut, sent_of};
+ghost use Rattle.std.specs.Prelude.{◌≡◌, [], codes, OnErr, map, slice_get, unwrap_or};
+ghost use Rattle.warc_frame.specs.Effects.{Puts, SendsText};
 ghost use Rattle.warc_reading.specs.Opening.{Opens};
 ghost use Rattle.warc.specs.Fixity.{IsDigested, counts_line, counts_of, digest_kept, digest_value, fixity_text, digested_of, source_digested};
 ghost use Rattle.warc.specs.Fixity.{unless_good, verdict_line, verdict_text};
@@ -223,13 +220,8 @@ impl<S: Source, A: Allocator> Fixity<S, A> {
     /// Writes a line for each block that isn't good: the position of its record, `bad` or `unchecked`, the bare id and
     /// the digest's value, `-` for none, with a tab between two; and a last line with the counts. It takes no memory.
     pub fn list<W: Sink>(&self, out: &mut W) -> Result<(), OutFault>
-        ensures told { OnOk result ((W.seen out.new).tells ≡ append_known (W.seen out.old).tells
-            (fixity_text self.now.listing.rows self.now.digests)) }
-        ensures cut { IfErr result (λ e. WentOut (W.seen out.old).tells (fixity_text self.now.listing.rows
-            self.now.digests) (W.seen out.new).tells (sent_of e)) }
-        ensures write { IfErr result (λ e. e ≡ OutFault.Write (sent_of e)) }
-        ensures cause { (W.seen out.new).faults ≡ (if is_err result then raised (W.seen out.old).faults else
-            (W.seen out.old).faults) }
+        ensures { SendsText (W.seen out.old) (W.seen out.new) result
+            (fixity_text self.now.listing.rows self.now.digests) }
     {
         let mut buffer = OutBuffer::new();
         'listing: for position in 0..self.rows.len() {

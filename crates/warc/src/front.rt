@@ -1,8 +1,6 @@
 //! The good front of a source: the records before its first fault.
-ghost use Rattle.std.specs.Prelude.{◌≡◌, IfErr, OnOk, is_err, length, slice_get, if◌then◌else◌};
-ghost use Rattle.std.specs.Io.KnownBytes.{append_known};
-ghost use Rattle.warc_frame.specs.Count.{raised};
-ghost use Rattle.warc_frame.specs.Send.{WentOut, sent_of};
+ghost use Rattle.std.specs.Prelude.{◌≡◌, length, slice_get};
+ghost use Rattle.warc_frame.specs.Effects.{SendsText};
 ghost use Rattle.warc.specs.Front.{CopiesFront, OpensFront};
 ghost use Rattle.warc.specs.Listing.{listing};
 
@@ -81,13 +79,7 @@ impl<S: Source, A: Allocator> Front<S, A> {
 
     /// Writes a line for each good record, as a listing does.
     pub fn list<W: Sink>(&self, out: &mut W) -> Result<(), OutFault>
-        ensures told { OnOk result ((W.seen out.new).tells ≡ append_known (W.seen out.old).tells
-            (listing self.now.listing.rows)) }
-        ensures cut { IfErr result (λ e. WentOut (W.seen out.old).tells (listing self.now.listing.rows)
-            (W.seen out.new).tells (sent_of e)) }
-        ensures write { IfErr result (λ e. e ≡ OutFault.Write (sent_of e)) }
-        ensures cause { (W.seen out.new).faults ≡ (if is_err result then raised (W.seen out.old).faults else
-            (W.seen out.old).faults) }
+        ensures { SendsText (W.seen out.old) (W.seen out.new) result (listing self.now.listing.rows) }
     {
         self.listing.list(out)
     }

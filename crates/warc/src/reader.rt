@@ -1,8 +1,6 @@
 //! A listing: the rows of an archive over the source that holds its bytes.
-ghost use Rattle.std.specs.Prelude.{◌≡◌, ℕ, List, length, IfErr, OnErr, OnOk, is_err, slice_get, if◌then◌else◌};
-ghost use Rattle.std.specs.Io.KnownBytes.{append_known};
-ghost use Rattle.warc_frame.specs.Count.{raised};
-ghost use Rattle.warc_frame.specs.Send.{WentOut, sent_of};
+ghost use Rattle.std.specs.Prelude.{◌≡◌, ℕ, List, length, OnErr, slice_get};
+ghost use Rattle.warc_frame.specs.Effects.{SendsText};
 ghost use Rattle.warc_reading.specs.Archive.{IsArchiveOf, rows_of, source_of};
 ghost use Rattle.warc_checking.specs.Checks.{Checks};
 ghost use Rattle.warc.specs.Bodies.{GivesBodyAt};
@@ -94,13 +92,7 @@ impl<S: Source, A: Allocator> Listing<S, A> {
     /// Writes a line for each record: its position and offset, the length of its block, its type,
     /// date, id and target, with a tab between two, and `-` for an absent target. It takes no memory.
     pub fn list<W: Sink>(&self, out: &mut W) -> Result<(), OutFault>
-        ensures told { OnOk result ((W.seen out.new).tells ≡ append_known (W.seen out.old).tells
-            (listing self.now.rows)) }
-        ensures cut { IfErr result (λ e. WentOut (W.seen out.old).tells (listing self.now.rows) (W.seen out.new).tells
-            (sent_of e)) }
-        ensures write { IfErr result (λ e. e ≡ OutFault.Write (sent_of e)) }
-        ensures cause { (W.seen out.new).faults ≡ (if is_err result then raised (W.seen out.old).faults else
-            (W.seen out.old).faults) }
+        ensures { SendsText (W.seen out.old) (W.seen out.new) result (listing self.now.rows) }
     {
         let mut buffer = OutBuffer::new();
         'listing: for position in 0..self.rows.len() {

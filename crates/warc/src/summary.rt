@@ -1,10 +1,7 @@
 //! What an archive holds: how many records of which kind, how many bytes, and from when to when.
-ghost use Rattle.std.specs.Prelude.{◌≡◌, [], IfErr, OnErr, OnOk, is_err, map, option_map, if◌then◌else◌};
-ghost use Rattle.std.specs.Io.KnownBytes.{append_known};
+ghost use Rattle.std.specs.Prelude.{◌≡◌, [], OnErr, map, option_map, if◌then◌else◌};
 ghost use Rattle.std.specs.List.{concat};
-ghost use Rattle.warc_frame.specs.Count.{raised};
-ghost use Rattle.warc_frame.specs.Effects.{Puts};
-ghost use Rattle.warc_frame.specs.Send.{WentOut, sent_of};
+ghost use Rattle.warc_frame.specs.Effects.{Puts, SendsText};
 ghost use Rattle.warc_index.specs.Captures.{is_earlier};
 ghost use Rattle.warc_reading.specs.Opening.{Opens};
 ghost use Rattle.warc.specs.Summary.{IsDateOf, IsEndOf, IsSummarized, IsSummaryOf, has_segment_number, is_nearer, is_numbered, number_line, summary_numbers};
@@ -265,13 +262,7 @@ impl<'a> Summary<'a> {
     /// Writes a line for each number, and one for each date: its name, a tab and its value. An absent date is `-`. It
     /// takes no memory.
     pub fn write<W: Sink>(&self, out: &mut W) -> Result<(), OutFault>
-        ensures told { OnOk result ((W.seen out.new).tells ≡ append_known (W.seen out.old).tells
-            (summary_text self.now)) }
-        ensures cut { IfErr result (λ e. WentOut (W.seen out.old).tells (summary_text self.now) (W.seen out.new).tells
-            (sent_of e)) }
-        ensures write { IfErr result (λ e. e ≡ OutFault.Write (sent_of e)) }
-        ensures cause { (W.seen out.new).faults ≡ (if is_err result then raised (W.seen out.old).faults else
-            (W.seen out.old).faults) }
+        ensures { SendsText (W.seen out.old) (W.seen out.new) result (summary_text self.now) }
     {
         let mut buffer = OutBuffer::new();
         put_numbers(&self.numbers(), &mut buffer, out)?;

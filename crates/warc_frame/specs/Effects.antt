@@ -78,6 +78,13 @@ pub record Sends {X : Type 0} (Says : List ℕ → List ℕ → Type 0) (from fr
   pub cause : to_new.faults ≡ failed_by answer to.faults
   pub fails : FailsBy (λ bytes. (text : List ℕ) × Says bytes text) answer from from_new
 
+-- a text went out, or after a failed write a front of it did, as long as the fault says; nothing else failed
+pub record SendsText {X : Type 0} (old new : Seen) (answer : Result X OutFault) (text : List ℕ) : Type 0 where
+  pub told : OnOk answer (new.tells ≡ append_known old.tells text)
+  pub cut : IfErr answer (λ e. WentOut old.tells text new.tells (sent_of e))
+  pub write : IfErr answer (λ e. e ≡ Write (sent_of e))
+  pub cause : new.faults ≡ (if is_err answer then raised old.faults else old.faults)
+
 -- a text was added to an output by way of a buffer: it is staged, or a write failed and a front of it went out. After
 -- a failed write the buffer is empty, and its count of the bytes that went out is the fault's
 pub record Puts {X : Type 0} (old new : Seen) (waits waiting : Staged) (answer : Result X SendFault) (text : List ℕ)

@@ -1,13 +1,9 @@
 //! Sends the canonical texts of records to a sink.
-ghost use Rattle.std.specs.Prelude.{◌≡◌, OnOk, IfErr, is_err, if◌then◌else◌};
-ghost use Rattle.std.specs.Io.KnownBytes.{append_known};
+ghost use Rattle.std.specs.Prelude.{◌≡◌};
 ghost use Rattle.warc_field.specs.Area.{canonical_line, canonical_fields};
-ghost use Rattle.warc_frame.specs.Count.{raised};
-ghost use Rattle.warc_frame.specs.Effects.{Puts};
+ghost use Rattle.warc_frame.specs.Effects.{Puts, SendsText};
 ghost use Rattle.warc_frame.specs.Record.{head_text};
-ghost use Rattle.warc_frame.specs.Send.{WentOut, sent_of};
 ghost use Rattle.warc_frame.specs.Spelling.{canonical};
-ghost use Rattle.warc_frame.specs.declared.fault.OutFault.TheVariants.{Write};
 ghost use Rattle.warc_write.specs.Rendering.{canonical_texts};
 
 use std::alloc::Allocator;
@@ -91,15 +87,7 @@ fn put_records<A: Allocator, W: Sink>(
 /// no memory, so it fails only if a write failed, and returns `Write` with the number of bytes that
 /// went out, up to 2^64 - 1.
 pub fn render<A: Allocator, W: Sink>(records: &[Framed<A>], out: &mut W) -> Result<(), OutFault>
-    ensures told { OnOk result ((W.seen out.new).tells ≡ append_known (W.seen out.old).tells
-        (canonical_texts records.now)) }
-
-    // After a failed write exactly this many bytes of them went out.
-    ensures cut { IfErr result (λ e. WentOut (W.seen out.old).tells (canonical_texts records.now) (W.seen out.new).tells
-        (sent_of e)) }
-    ensures write { IfErr result (λ e. e ≡ Write (sent_of e)) }
-    ensures cause { (W.seen out.new).faults ≡ (if is_err result then raised (W.seen out.old).faults else
-        (W.seen out.old).faults) }
+    ensures { SendsText (W.seen out.old) (W.seen out.new) result (canonical_texts records.now) }
 {
     let mut buffer = OutBuffer::new();
     put_records(records, &mut buffer, out)?;
@@ -109,12 +97,7 @@ pub fn render<A: Allocator, W: Sink>(records: &[Framed<A>], out: &mut W) -> Resu
 
 /// Writes the canonical text of one record, as `render` does.
 pub fn render_one<A: Allocator, W: Sink>(framed: &Framed<A>, out: &mut W) -> Result<(), OutFault>
-    ensures told { OnOk result ((W.seen out.new).tells ≡ append_known (W.seen out.old).tells (canonical framed.now)) }
-    ensures cut { IfErr result (λ e. WentOut (W.seen out.old).tells (canonical framed.now) (W.seen out.new).tells
-        (sent_of e)) }
-    ensures write { IfErr result (λ e. e ≡ Write (sent_of e)) }
-    ensures cause { (W.seen out.new).faults ≡ (if is_err result then raised (W.seen out.old).faults else
-        (W.seen out.old).faults) }
+    ensures { SendsText (W.seen out.old) (W.seen out.new) result (canonical framed.now) }
 {
     let mut buffer = OutBuffer::new();
     put_record(framed, &mut buffer, out)?;

@@ -20,18 +20,20 @@ listing-preserved g c =
       sound = c.in-Ok.ensures.cause ∙ c.listing.invariant.sound;
     }
 
-pub returns-in-Err-clause-cut : goal.returns-in-Err-clause-cut
-returns-in-Err-clause-cut g c =
+pub returns-in-Err : goal.returns-in-Err
+returns-in-Err g c =
     let next = text_next c.args.rows.now c.args.outcomes.now c.listing.outcome-index c.outcome-item.result c.listing-test.true c.outcome-item.is in
-    same_out (sym (text_front c.args.rows.now c.args.outcomes.now (c.listing.outcome-index + 1)))
-    (longer _ (same_out next (c.in-Err.ensures.cut _ _ c.listing.invariant.staged)))
+    let cut = same_out (sym (text_front c.args.rows.now c.args.outcomes.now (c.listing.outcome-index + 1))) (longer _ (same_out next (c.in-Err.ensures.cut _ _ c.listing.invariant.staged))) in
+    record { told = search rules; cut = search rules; write = search rules; cause = search rules }
 
-pub returns-in-Err-flush-clause-cut : goal.returns-in-Err-flush-clause-cut
-returns-in-Err-flush-clause-cut g c =
+pub returns-in-Err-flush : goal.returns-in-Err-flush
+returns-in-Err-flush g c =
     let text = ap (λ l. captures_text c.args.rows.now (map outcome_seen l)) (take_all _ _ c.listing-test.false) in
-    c.in-Err-flush.ensures.cut _ _ (same_staged text c.listing.invariant.staged)
+    let cut = c.in-Err-flush.ensures.cut _ _ (same_staged text c.listing.invariant.staged) in
+    record { told = search rules; cut = search rules; write = search rules; cause = search rules }
 
-pub returns-in-Ok-flush-clause-told : goal.returns-in-Ok-flush-clause-told
-returns-in-Ok-flush-clause-told g c =
+pub returns-in-Ok-flush : goal.returns-in-Ok-flush
+returns-in-Ok-flush g c =
     let text = ap (λ l. captures_text c.args.rows.now (map outcome_seen l)) (take_all _ _ c.listing-test.false) in
-    c.in-Ok-flush.ensures.told _ _ (same_staged text c.listing.invariant.staged)
+    let told = c.in-Ok-flush.ensures.told _ _ (same_staged text c.listing.invariant.staged) in
+    record { told = search rules; cut = search rules; write = search rules; cause = search rules }

@@ -26,8 +26,8 @@ listing-preserved g c =
       sound = search rules;
     }
 
-pub returns-in_err-put_if-clause-cut : goal.returns-in_err-put_if-clause-cut
-returns-in_err-put_if-clause-cut g c =
+pub returns-in_err-put_if : goal.returns-in_err-put_if
+returns-in_err-put_if g c =
     let i = c.listing.position in
     let rows = same_listed c.self.view_is in
     let digests = same_digests c.self.view_is in
@@ -37,24 +37,25 @@ returns-in_err-put_if-clause-cut g c =
     let next = ap (λ t. fixity_lines c.args.self.now.digests (take i c.args.self.now.listing.rows) ++ t) line ∙ lines_next (fixity_line c.args.self.now.digests) c.args.self.now.listing.rows i c.in-Some.row at in
     let whole = same_out (all_lines c.args.self.now.digests c.args.self.now.listing.rows (i + 1) (counts_line (counts_of c.args.self.now.listing.rows)))
     (longer _ (same_out next (c.in_err-put_if.ensures.cut _ _ c.listing.invariant.staged))) in
-    search rules
+    record { told = search rules; cut = search rules; write = search rules; cause = search rules }
 
-pub returns-in_err-put_counts-clause-cut : goal.returns-in_err-put_counts-clause-cut
-returns-in_err-put_counts-clause-cut g c =
+pub returns-in_err-put_counts : goal.returns-in_err-put_counts
+returns-in_err-put_counts g c =
     let size = c.len-position-end.ensures ∙ ap (λ l. length l) (same_listed c.self.view_is) in
     let text = whole_text c.args.self.now.digests c.args.self.now.listing.rows c.listing.position _ c.counts.result size (omega (arith, c.listing-test.false)) c.counts.ensures in
     let whole = same_out text (c.in_err-put_counts.ensures.cut _ _ c.listing.invariant.staged) in
-    search rules
+    record { told = search rules; cut = search rules; write = search rules; cause = search rules }
 
-pub returns-in_err-flush-clause-cut : goal.returns-in_err-flush-clause-cut
-returns-in_err-flush-clause-cut g c =
+pub returns-in_err-flush : goal.returns-in_err-flush
+returns-in_err-flush g c =
     let size = c.len-position-end.ensures ∙ ap (λ l. length l) (same_listed c.self.view_is) in
     let text = whole_text c.args.self.now.digests c.args.self.now.listing.rows c.listing.position _ c.counts.result size (omega (arith, c.listing-test.false)) c.counts.ensures in
     let whole = c.in_err-flush.ensures.cut _ _ (same_staged text (c.in_ok-put_counts.ensures.out _ _ c.listing.invariant.staged)) in
-    search rules
+    record { told = search rules; cut = search rules; write = search rules; cause = search rules }
 
-pub returns-clause-told : goal.returns-clause-told
-returns-clause-told g c =
+pub returns : goal.returns
+returns g c =
     let size = c.len-position-end.ensures ∙ ap (λ l. length l) (same_listed c.self.view_is) in
     let text = whole_text c.args.self.now.digests c.args.self.now.listing.rows c.listing.position _ c.counts.result size (omega (arith, c.listing-test.false)) c.counts.ensures in
-    c.in_ok-flush.ensures.told _ _ (same_staged text (c.in_ok-put_counts.ensures.out _ _ c.listing.invariant.staged))
+    let told = c.in_ok-flush.ensures.told _ _ (same_staged text (c.in_ok-put_counts.ensures.out _ _ c.listing.invariant.staged)) in
+    record { told = search rules; cut = search rules; write = search rules; cause = search rules }

@@ -13,15 +13,15 @@ listing-init g c = record {
   sound = refl;
 }
 
-pub returns-in_err-put_line-clause-cut : goal.returns-in_err-put_line-clause-cut
-returns-in_err-put_line-clause-cut g c =
+pub returns-in_err-put_line : goal.returns-in_err-put_line
+returns-in_err-put_line g c =
     let i = c.listing.position in
     let rows = same_rows c.self.view_is in
     let at : slice_get c.args.self.now.rows i ≡ Some c.in-Some.row = ap (λ l. slice_get l i) (sym rows) ∙ sym c.get.ensures ∙ c.in-Some.is in
     let next = listing_next c.args.self.now.rows i c.in-Some.row at in
     let out = longer _ (same_out next (c.in_err-put_line.ensures.cut _ _ c.listing.invariant.staged)) in
     let whole = same_out (sym (listing_front c.args.self.now.rows (i + 1))) out in
-    search rules
+    record { told = search rules; cut = search rules; write = search rules; cause = search rules }
 
 pub listing-preserved : goal.listing-preserved
 listing-preserved g c =
