@@ -38,8 +38,8 @@ pub record IsOtherAt (records : List Record) (position : ℕ) : Type 0 where
   pub there : slice_get records position ≡ Some content
   pub other : IsFalse (is_capture (kind_of content.fields))
 
--- What a sink tells after the body of the capture at a position was asked for: as after a replay on the path from that
--- capture; where there is no record, or no capture, what it told before.
+-- What a sink reports after the body of the capture at a position was asked for: as after a replay on the path from
+-- that capture; where there is no record, or no capture, what it reported before.
 abbrev pub IsBodyAt : List Record → ℕ → Result Answer BodyFault → Option (List ℕ) → Option (List ℕ) → Type 0
 IsBodyAt records position (Ok answer) old new =
     IsCaptureAt records position × IsReplayOn records (path_at records position) (Ok answer) old new
@@ -64,8 +64,7 @@ IsSilentAt (Err NoCapture) old new = new ≡ old
 IsSilentAt (Err (Replay fault)) old new = IsSilent {X = Answer} (Err fault) old new
 
 -- The body of the capture at a position, by rows, an index and parts. Where the archive's source holds its bytes, what
--- goes out and what is answered are as the definition says of its records, and the origin's head and the joined blocks
--- alone are read, in at most `path_reads` reads. Any source is asked for no byte behind the archive's
+-- goes out and what is answered are as the definition says of its records
 pub record GivesBodyAt (rows : List Row) (index : Indexes) (parts : Parts) (position : ℕ) (old new : SeenSource)
     (before after : Seen) (answer : Result Answer BodyFault) : Type 0 where
   pub told : IfHeld old.holds (λ bytes. (is : IsArchiveOf bytes rows) → AreOf is.are.records index parts

@@ -9,7 +9,7 @@ use Rattle.warc_reading.specs.Row.{Row}
 abbrev pub head_length : Row → ℕ
 head_length row = row.block_start - row.offset
 
--- n bytes of texts are kept of an archive: no fewer than those of the texts that are listed, and at most twice as many
+-- n bytes of texts are kept of an archive: no fewer than the listed texts have, and at most twice as many
 -- as its heads have
 pub record IsKeptCount {S : Type 0} (archive : Archived S) (n : ℕ) : Type 0 where
   pub exact : n ≡ kept_bytes archive

@@ -28,7 +28,7 @@ number_shown (Some number) = decimal number
 abbrev pub date_front : List ℕ → List ℕ
 date_front date = take (prefix_len (λ b. not (b == 90)) date) date
 
--- the instant of a date in full, to the nanosecond: what a shorter form leaves out is that of its first instant
+-- the instant of a date in full, to the nanosecond: what a shorter form leaves out is as in its first instant
 unfoldable pub full_date : List ℕ → List ℕ
 full_date date = date_front date ++ drop (length (date_front date)) (codes "0000-01-01T00:00:00.000000000Z")
 

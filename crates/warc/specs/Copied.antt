@@ -26,7 +26,7 @@ pub record IsCopiedOf {A : Type 0} (text_of : Record → List ℕ) (p : Placed) 
   pub len : c.block_len ≡ length p.content.block
   pub text : head_text c.version (canonical_fields c.fields) ++ p.content.block ++ crlf ++ crlf ≡ text_of p.content
 
--- the record stands among the bytes where its place says, its head and its block
+-- the record is among the bytes where its place says, its head and its block
 pub record HasWhole (bytes : List ℕ) (p : Placed) : Type 0 where
   pub head : HasHead bytes p
   pub range : HasRange p.block_start (length p.content.block) bytes
@@ -39,7 +39,7 @@ pub record IsTextOf (text_of : Record → List ℕ) (row : Row) (bytes text : Li
   pub row_is : row ≡ row_of placed
   pub is : text ≡ text_of placed.content
 
--- what is written of the rows' records, one behind another, where the bytes have these
+-- what is written of the rows' records, one after another, where the bytes have these
 pub record AreTextsOf (text_of : Record → List ℕ) (rows : List Row) (bytes text : List ℕ) : Type 0 where
   pub records : List Placed
   pub whole : AllByRecursion (HasWhole bytes) records

@@ -14,7 +14,7 @@ use Rattle.warc.specs.Listing.{shown}
 use Rattle.warc.specs.declared.counting.Counted.TheVariants as counted
 use Rattle.warc.specs.declared.fixity.Counts.{Counts}
 
--- the value that tells the digest of a block, empty where no field does
+-- the value that states the digest of a block, empty where no field does
 abbrev pub digest_value : List Pair → List ℕ
 digest_value fields = unwrap_or (first_value (codes "WARC-Block-Digest") fields) []
 

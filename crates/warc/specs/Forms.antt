@@ -19,7 +19,7 @@ abbrev pub record_as : Form → Record → Record
 record_as Canonical r = r
 record_as Converted r = converted r
 
--- what is written of a record: its canonical text, or that of the record as one of WARC 1.1
+-- what is written of a record: its canonical text, or the canonical text of the record as one of WARC 1.1
 abbrev pub text_as : Form → Record → List ℕ
 text_as Canonical r = canonical r
 text_as Converted r = canonical (converted r)
@@ -50,7 +50,7 @@ pub record IsInAnyRow (rows : List Row) (at : ℕ) : Type 0 where
 abbrev pub read_len : Form → Row → ℕ
 read_len form row = (row.block_start - row.offset) + row.block_len
 
--- the same where records are split: a block is read twice, since the digest of a segment stands before it
+-- the same where records are split: a block is read twice, since the digest of a segment is before it
 abbrev pub split_len : Row → ℕ
 split_len row = (row.block_start - row.offset) + 2 * row.block_len
 
@@ -59,7 +59,7 @@ pub record IsOutputOf (text_of : Record → List ℕ) (rows : List Row) (bytes t
   pub is : IsArchiveOf bytes rows
   pub text_is : text ≡ flat_map text_of (contents is.are.records)
 
--- writing an archive of these rows, of each record a text for which so many bytes are read: these texts go out, or a
+-- writing an archive of these rows, of each record a text for which `len_of` bytes are read: these texts go out, or a
 -- front of them, and the records alone are read
 pub record WritesEach (text_of : Record → List ℕ) (len_of : Row → ℕ) (rows : List Row) (old new : SeenSource)
     (before after : Seen) (answer : Result (Unit {0}) OutFault) : Type 0 where

@@ -64,7 +64,7 @@ FaultsAreStable = (bytes more : List ℕ) (fault : Fault) → IsFaultOf bytes fa
 abbrev pub OneFault : Type 0
 OneFault = (bytes : List ℕ) (one other : Fault) → IsFaultOf bytes one → IsFaultOf bytes other → one ≡ other
 
--- what is written of an archive, in each form, has fewer bytes than 2^64: a fault tells exactly how many went out
+-- what is written of an archive, in each form, has fewer bytes than 2^64: a fault says exactly how many went out
 abbrev pub OutputsAreCounted : Type 0
 OutputsAreCounted = (bytes : List ℕ) (rows : List Row) (is : IsArchiveOf bytes rows)
     → (length (listing rows) < 2 ^ 64) × (length (check_text (contents is.are.records)) < 2 ^ 64)
@@ -92,7 +92,7 @@ MigrationKeepsAnswers = (records : List Record) → AreGood records → (rows : 
     → (uri : List ℕ) (moment : Instant) (outcome : Result Given Reason)
     → IsAnswer (contents is.are.records) uri moment outcome ↔ IsAnswer records uri moment outcome
 
--- and what a replay of it tells, and what goes out, one of the records may
+-- and what a replay of it reports, and what goes out, one of the records may
 abbrev pub MigrationKeepsReplays : Type 0
 MigrationKeepsReplays = (records : List Record) → AreGood records → (rows : List Row) (is : IsMigrated records rows)
     → (uri : List ℕ) (moment : Instant) (answer : Result Answer ReplayFault) (old new : Option (List ℕ))

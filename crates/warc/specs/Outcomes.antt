@@ -40,7 +40,7 @@ abbrev pub origin_on : Result Path Unfound → Option ℕ
 origin_on (Ok path) = Some path.given
 origin_on (Err unfound) = None
 
--- what is said of a capture: its position, that of its origin, and what is stored of that or the reason why nothing is
+-- what is said of a capture: its position, its origin's, and what is stored of the origin or the reason why nothing is
 pub record CaptureSeen : Type 0 where
   pub chosen : ℕ
   pub given : Option ℕ

@@ -19,7 +19,7 @@ pub record IsCutOf {A : Type 0} (c : Cut A) (bytes : List ℕ) (r : Record) : Ty
 abbrev pub IsSegmentText : {A : Type 0} → Cut A → ℕ → List ℕ → List ℕ → Type 0
 IsSegmentText c at bytes text = (r : Record) × IsCutOf c bytes r × (text ≡ canonical (segment_of r c.uuid c.size at))
 
--- the texts of its first segments, so many
+-- the texts of its first `count` segments
 abbrev pub AreSegmentTexts : {A : Type 0} → Cut A → ℕ → List ℕ → List ℕ → Type 0
 AreSegmentTexts c count bytes text =
     (r : Record) × IsCutOf c bytes r

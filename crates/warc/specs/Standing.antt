@@ -1,4 +1,4 @@
--- Where the text of a record stands among the bytes of an archive. States of the code: no public clause cites them.
+-- Where the text of a record is among the bytes of an archive. States of the code: no public clause cites them.
 use Rattle.std.specs.Prelude.{◌≡◌, ℕ, ◌+◌, ◌≤◌, List, length, map, take, drop, slice_get, Some, Result, Ok, ⊤}
 use Rattle.warc_frame.specs.Record.{Record, max_archive}
 use Rattle.warc_frame.specs.Spelling.{Spells}
@@ -26,7 +26,7 @@ pub record IsPlacedIn (bytes : List ℕ) (p : Placed) : Type 0 where
   pub spells : Spells p.content (take len (drop p.offset bytes))
   pub block : take (length p.content.block) (drop p.block_start bytes) ≡ p.content.block
 
--- the record of a row stands among the bytes of an archive
+-- the record of a row is among the bytes of an archive
 pub record HasRecordOf (row : Row) (bytes : List ℕ) : Type 0 where
   pub placed : Placed
   pub short : length bytes ≤ max_archive
@@ -77,7 +77,7 @@ pub record IsRowAtEnd (bytes : List ℕ) (path : Path) (parts : Parts) (row : Ro
   pub parts_are : parts ≡ kept_in (map placed_record records)
   pub row_is : row ≡ row_of placed
 
--- and its head stands among the bytes
+-- and its head is among the bytes
 pub record IsRowReached (bytes : List ℕ) (path : Path) (parts : Parts) (row : Row) : Type 0 where
   pub at : IsRowAtEnd bytes path parts row
   pub has : HasHead bytes at.placed

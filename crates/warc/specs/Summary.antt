@@ -79,7 +79,7 @@ IsDateOf end rows date =
     MatchOption date (rows ≡ []) (λ text. (position : ℕ) × (row : Row) × IsEndRow end rows position row
     × (text ≡ row.date))
 
--- what is said of these rows and flags: their number, that of the bytes, and of each kind, verdict and mark; and the
+-- what is said of these rows and flags: their number, the number of bytes, and of each kind, verdict and mark; and the
 -- dates of the first and of the last row
 pub record IsSummaryOf (rows : List Row) (segmented : List Bool) (s : Summary) : Type 0 where
   pub records : s.records ≡ length rows

@@ -1,4 +1,4 @@
--- The texts of what an archive doesn't give, by which the program tells it: this project's own notion.
+-- The texts of what an archive doesn't give, by which the program reports it: this project's own notion.
 use Rattle.std.specs.Prelude.{ℕ, List, codes}
 use Rattle.warc_frame.specs.FaultText.{out_fault_text}
 use Rattle.warc.specs.declared.fault.ExtractFault.{ExtractFault}

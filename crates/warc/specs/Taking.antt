@@ -11,7 +11,7 @@ use Rattle.warc_reading.specs.Row.{Placed, Row}
 use Rattle.warc.specs.declared.fault.TakeFault.{TakeFault}
 use Rattle.warc.specs.declared.fault.TakeFault.TheVariants.{NoRecord, Read, Memory}
 
--- the record that stands there, and none where there is none; where there is one, a read or a growth of the memory may
+-- the record that is there, and none where there is none; where there is one, a read or a growth of the memory may
 -- fail
 abbrev pub IsTaken : Option Placed → Result Record TakeFault → Type 0
 IsTaken found (Ok r) = (p : Placed) × (found ≡ Some p) × (r ≡ p.content)
@@ -26,7 +26,7 @@ take_result (Err NoRecord) = Ok tt
 take_result (Err Read) = Err (outs.Read 0)
 take_result (Err Memory) = Err (outs.Memory 0)
 
--- the offset of a byte of the record of a row, the two line ends behind its block included
+-- the offset of a byte of the record of a row, the two line ends after its block included
 abbrev pub IsInRecord : Option Row → ℕ → Type 0
 IsInRecord None at = ⊥
 IsInRecord (Some row) at = (row.offset ≤ at) × (at < row.block_start + row.block_len + 4)

@@ -1,4 +1,4 @@
-//! An archive: a listing, and beside it what finds its records and joins those in segments.
+//! An archive: a listing, with what finds its records and joins their segments.
 ghost use Rattle.std.specs.Prelude.{◌≡◌, ℕ, List, length, IfOk, OnErr, map, min, slice_get};
 ghost use Rattle.warc_frame.specs.Effects.{SendsText};
 ghost use Rattle.warc.specs.Bodies.{GivesBodyAt};
@@ -75,7 +75,7 @@ impl<S: Source, A: Allocator> Archive<S, A> {
         self.listing.rows()
     }
 
-    /// Gives the source back.
+    /// Returns the source.
     pub fn into_source(self) -> S
         ensures { result ≡ self.listing.source }
     {
@@ -91,8 +91,8 @@ impl<S: Source, A: Allocator> Archive<S, A> {
 }
 
 impl<S: Source, A: Allocator + Copy> Archive<S, A> {
-    /// Reads the source as a listing is read, and keeps beside the rows what finds the records and what joins them. It
-    /// is put in order when all is read, which takes no memory.
+    /// Reads the source as a listing is read, and keeps with the rows what finds the records and joins their segments.
+    /// Once all is read it is put in order, which takes no memory.
     pub fn open(alloc: A, source: S) -> Result<Archive<S, A>, (Fault, S)>
         ensures { Opens IsIndexed (S.seen source) (S.seen (source_left result)) (archive_of result) }
     {
@@ -108,8 +108,8 @@ impl<S: Source, A: Allocator + Copy> Archive<S, A> {
         }
     }
 
-    /// Goes on in a source that begins with the bytes of the old one, as a listing does: then every answer is that of
-    /// the whole opened afresh, and after a refusal every answer is that from before.
+    /// Reads on in a source that begins with the bytes of the old one, as a listing does. Then every answer is as if
+    /// the whole were opened afresh; after a refusal every answer is as before.
     pub fn grow(&mut self, source: S) -> Result<(), (Fault, S)>
     where
         S: Drop,
@@ -125,8 +125,8 @@ impl<S: Source, A: Allocator + Copy> Archive<S, A> {
         answer
     }
 
-    /// How many bytes of texts are kept of the records: those that `list` writes, those by which records are found, and
-    /// the keys of the records that segments are of. They are at most twice as many as the bytes of the heads.
+    /// How many bytes of texts are kept of the records: the texts that `list` writes, those by which records are found,
+    /// and the keys of the records that have segments. They are at most twice as many as the bytes of the heads.
     pub fn kept(&self) -> u64
         ensures sum { result ≡ min (kept_bytes self.now) 18446744073709551615 }
         ensures bounds { (bytes : List ℕ) → IsIndexed bytes self.now → IsKeptCount self.now result }
@@ -162,11 +162,11 @@ impl<S: Source, A: Allocator + Copy> Archive<S, A> {
     }
 
     /// Writes the block of the first record of any kind with the id, in brackets or without, and answers its length.
-    /// Where no record has the id, or the text holds none, it is `NoRecord`, and nothing is written. The block isn't
+    /// If no record has the id, or the text holds none, it is `NoRecord`, and nothing is written. The block isn't
     /// kept: it goes through a buffer of 8,192 bytes.
     ///
     /// A read that fails, or a source that no longer gives what it gave at opening, is `Read`; a write that fails is
-    /// `Write`. Each tells how many bytes went out, which are the first of the block. `Memory` comes before any byte.
+    /// `Write`. Each says how many bytes went out, which are the first of the block. `Memory` comes before any byte.
     pub fn extract<W: Sink>(&mut self, id: &[u8], out: &mut W) -> Result<u64, ExtractFault>
         ensures extracts { Extracts self.old id.now (S.seen self.old.listing.source)
             (S.seen self.new.listing.source) (W.seen out.old) (W.seen out.new) result }
@@ -183,7 +183,7 @@ impl<S: Source, A: Allocator + Copy> Archive<S, A> {
         self.listing.block_to(position, out)
     }
 
-    /// The position of the capture that is chosen for a URI as of a moment, and that of its origin; or the reason P1 to
+    /// The positions of the capture that is chosen for a URI as of a moment, and of its origin; or the reason P1 to
     /// P6.
     pub fn path_for(&self, uri: &[u8], moment: &Moment) -> Result<Path, Unfound>
         ensures { (records : List Placed) → AreOf records self.now.index self.now.parts → result ≡ path_of
@@ -192,7 +192,7 @@ impl<S: Source, A: Allocator + Copy> Archive<S, A> {
         path_in(&self.lookup, uri, moment)
     }
 
-    /// The position of a capture, and that of its origin; or the reason P3 to P6.
+    /// The positions of a capture and of its origin; or the reason P3 to P6.
     pub fn path_at(&self, position: usize) -> Result<Path, Unfound>
         ensures { (records : List Placed) → AreOf records self.now.index self.now.parts → result ≡ path_from
             (map indexed_record records) position }
@@ -202,7 +202,7 @@ impl<S: Source, A: Allocator + Copy> Archive<S, A> {
 
     /// Where the body lies that `replay` writes: its answer, and the spans of the source whose bytes, one after
     /// another, are the body. The source is read for the origin's head, and for the first 65,536 bytes of the joined
-    /// blocks where an HTTP head is looked for. A refusal is that of `replay` before anything is written.
+    /// blocks where an HTTP head is looked for. It is refused as `replay` is before anything is written.
     pub fn locate(&mut self, uri: &[u8], moment: &Moment) -> Result<Located<A>, ReplayFault>
         ensures locates { LocatesFor self.old.listing.rows self.old.index self.old.parts uri.now moment.now
             (S.seen self.old.listing.source) (S.seen self.new.listing.source) result }
@@ -213,8 +213,8 @@ impl<S: Source, A: Allocator + Copy> Archive<S, A> {
         self.listing.locate(&self.lookup, uri, moment)
     }
 
-    /// Where the body lies that `replay_at` writes, as `locate` says it. Where there is no record it is `NoRecord`, and
-    /// where the record there is no capture `NoCapture`.
+    /// Where the body lies that `replay_at` writes, as `locate` says it. If there is no record it is `NoRecord`, and if
+    /// the record there is no capture `NoCapture`.
     pub fn locate_at(&mut self, position: usize) -> Result<Located<A>, BodyFault>
         ensures locates { LocatesAt self.old.listing.rows self.old.index self.old.parts position
             (S.seen self.old.listing.source) (S.seen self.new.listing.source) result }
@@ -226,12 +226,12 @@ impl<S: Source, A: Allocator + Copy> Archive<S, A> {
     }
 
     /// Writes the body that was captured of a URI, as of a moment: the payload of the origin of the latest capture
-    /// that isn't after it, its segments joined, behind the head of an HTTP response. The answer says which records it
+    /// that isn't after it, its segments joined, after the head of an HTTP response. The answer says which records it
     /// comes from, by their positions, the status of the response, whether a record was truncated, and its length. For
     /// a reason P1 to P10 nothing is written. No block is kept: the source is read again.
     ///
     /// A read that fails, or a source that no longer gives what it gave at opening, is `Read`; a write that fails is
-    /// `Write`. Each tells how many bytes went out, which are the first of the body. `Memory` comes before any byte.
+    /// `Write`. Each says how many bytes went out, which are the first of the body. `Memory` comes before any byte.
     pub fn replay<W: Sink>(
         &mut self,
         uri: &[u8],
@@ -248,12 +248,12 @@ impl<S: Source, A: Allocator + Copy> Archive<S, A> {
         self.listing.replay(&self.lookup, uri, moment, out)
     }
 
-    /// Writes the body that the capture at a position gives, as `replay` writes that of the capture that it chooses.
-    /// Where there is no record it is `NoRecord`, and where the record there is no capture `NoCapture`; then, and for a
-    /// reason P3 to P10, nothing is written. No block is kept.
+    /// Writes the body that the capture at a position gives, as `replay` writes the body of the chosen capture. If
+    /// there is no record it is `NoRecord`, and if the record there is no capture `NoCapture`; then, and for a reason
+    /// P3 to P10, nothing is written. No block is kept.
     ///
     /// A read that fails, or a source that no longer gives what it gave at opening, is `Read`; a write that fails is
-    /// `Write`. Each tells how many bytes went out, which are the first of the body. `Memory` comes before any byte.
+    /// `Write`. Each says how many bytes went out, which are the first of the body. `Memory` comes before any byte.
     pub fn replay_at<W: Sink>(&mut self, position: usize, out: &mut W) -> Result<Answer, BodyFault>
         ensures gives { GivesBodyAt self.old.listing.rows self.old.index self.old.parts position
             (S.seen self.old.listing.source) (S.seen self.new.listing.source) (W.seen out.old) (W.seen out.new)

@@ -7,7 +7,7 @@ use warc_frame::{OutBuffer, OutFault, Sink, Source, put_range};
 /// How many bytes a read asks for.
 const PIECE: usize = 8_192;
 
-/// Writes so many bytes at an offset of the source.
+/// Writes `len` bytes at an offset of the source.
 pub(crate) fn send_range<S: Source, W: Sink>(
     source: &mut S,
     at: u64,

@@ -144,7 +144,7 @@ fn outcome_once<S: Source, A: Allocator + Copy>(
     }
 }
 
-/// Preserves for an origin which outcome it was judged for.
+/// Keeps for an origin which outcome it was judged for.
 fn remember<A: Allocator>(slots: &mut Vec<usize, A>, origin: Option<usize>, slot: usize)
     ensures { Remembers slots.old.items slots.new.items origin slot }
 {

@@ -20,11 +20,11 @@ pub enum Form {
     /// Each record in canonical form.
     Canonical,
 
-    /// Each record in canonical form as one of WARC 1.1: its targets stand without brackets.
+    /// Each record in canonical form as one of WARC 1.1: its targets are without brackets.
     Converted,
 }
 
-/// A record to be written, whose block stands in the source.
+/// A record to be written, whose block is in the source.
 #[derive(Drop)]
 pub(crate) struct Copied<A: Allocator> {
     pub(crate) version: Version,

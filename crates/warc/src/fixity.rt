@@ -1,4 +1,4 @@
-//! How the blocks of an archive compare with the digests that their heads tell.
+//! How the blocks of an archive compare with the digests that their heads state.
 ghost use Rattle.std.specs.Prelude.{◌≡◌, [], codes, OnErr, map, slice_get, unwrap_or};
 ghost use Rattle.warc_frame.specs.Effects.{Puts, SendsText};
 ghost use Rattle.warc_reading.specs.Opening.{Opens};
@@ -41,7 +41,7 @@ impl<A: Allocator> Model for Digests<A> {
     ghost view = { λ d. map (λ v. v.items) d.values.items };
 }
 
-/// The value that tells the digest of a block.
+/// The value that states the digest of a block.
 fn digest_value<A: Allocator>(fields: &Fields<A>) -> &[u8]
     ensures { result.now ≡ digest_value fields.now }
 {
@@ -180,7 +180,7 @@ fn put_counts<W: Sink>(counts: Counts, buffer: &mut OutBuffer, out: &mut W) -> R
     put_columns(&columns, buffer, out)
 }
 
-/// An archive whose blocks were compared with the digests that their heads tell. Contracts see its listing, and the
+/// An archive whose blocks were compared with the digests that their heads state. Contracts see its listing, and the
 /// values of the digests by which blocks aren't good.
 #[derive(Drop)]
 pub struct Fixity<S: Source, A: Allocator = Global> {
@@ -210,7 +210,7 @@ impl<S: Source, A: Allocator> Fixity<S, A> {
         }
     }
 
-    /// Gives the source back.
+    /// Returns the source.
     pub fn into_source(self) -> S
         ensures { result ≡ self.listing.source }
     {

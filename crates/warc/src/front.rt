@@ -11,7 +11,7 @@ use std::marker::Model;
 use warc_frame::{Fault, OutFault, Sink, Source};
 use warc_reading::{Row, read_front};
 
-/// The good records at the front of a source, and the fault behind them, if there is one. Contracts see the source, a
+/// The good records at the front of a source, and the fault after them, if there is one. Contracts see the source, a
 /// row for each of these records, and the fault.
 #[derive(Drop)]
 pub struct Front<S: Source, A: Allocator = Global> {
@@ -28,7 +28,7 @@ impl<S: Source, A: Allocator> Model for Front<S, A> {
 }
 
 /// Opens the good front of a source: the rows of the longest list of good records that it begins with, and the fault
-/// behind these by which the whole is refused, if it is. After a failed read, or want of memory, these are the whole
+/// after these by which the whole is refused, if it is. After a failed read, or want of memory, these are the whole
 /// records before it. Nothing is skipped, and nothing is mended.
 pub fn open_front<S: Source, A: Allocator + Copy>(alloc: A, source: S) -> Front<S, A>
     ensures { OpensFront (S.seen source) (S.seen result.listing.source) result }
@@ -63,14 +63,14 @@ impl<S: Source, A: Allocator> Front<S, A> {
         self.listing.row(position)
     }
 
-    /// The fault behind the good records: `None` where the whole source is an archive.
+    /// The fault after the good records: `None` where the whole source is an archive.
     pub fn fault(&self) -> Option<Fault>
         ensures { result ≡ self.now.fault }
     {
         self.fault
     }
 
-    /// Gives the source back.
+    /// Returns the source.
     pub fn into_source(self) -> S
         ensures { result ≡ self.listing.source }
     {
@@ -88,7 +88,7 @@ impl<S: Source, A: Allocator> Front<S, A> {
     /// through a buffer of 8,192 bytes.
     ///
     /// A read that fails, or a source that no longer gives what it gave at opening, is `Read`; a write that fails is
-    /// `Write`. Each tells how many bytes went out, which are the first of these records.
+    /// `Write`. Each says how many bytes went out, which are the first of these records.
     pub fn copy_to<W: Sink>(&mut self, out: &mut W) -> Result<u64, OutFault>
         ensures copies { CopiesFront self.old.listing.rows (S.seen self.old.listing.source)
             (S.seen self.new.listing.source) (W.seen out.old) (W.seen out.new) result }

@@ -45,7 +45,7 @@ pub fn first_fault_is_unique()
     ensures { OneFault }
 {}
 
-/// What is written of an archive has fewer bytes than 2^64, so that a fault tells exactly how many went out.
+/// What is written of an archive has fewer bytes than 2^64, so that a fault says exactly how many went out.
 pub fn outputs_are_counted()
     ensures { OutputsAreCounted }
 {

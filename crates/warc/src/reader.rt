@@ -82,7 +82,7 @@ impl<S: Source, A: Allocator> Listing<S, A> {
         }
     }
 
-    /// Gives the source back.
+    /// Returns the source.
     pub fn into_source(self) -> S
         ensures { result ≡ self.source }
     {
@@ -107,9 +107,9 @@ impl<S: Source, A: Allocator> Listing<S, A> {
 }
 
 impl<S: Source, A: Allocator + Copy> Listing<S, A> {
-    /// Reads the source from its front to its end, or to offset 2^48, where no byte may stand, and keeps
-    /// no block. A refusal hands the source back: `Read` where a read failed, at the offset that was asked
-    /// for, `Memory` at the record for which it didn't suffice, and else the first fault of the bytes.
+    /// Reads the source from its front to its end, or to offset 2^48, where no byte may be, and keeps no block. Returns
+    /// the source with a refusal: `Read` if a read failed, at the offset asked for, `Memory` at the record for which it
+    /// didn't suffice, and else the first fault of the bytes.
     pub fn open(alloc: A, source: S) -> Result<Listing<S, A>, (Fault, S)>
         ensures { Opens IsArchiveOf (S.seen source) (S.seen (source_of result)) (rows_of result) }
     {
@@ -121,10 +121,9 @@ impl<S: Source, A: Allocator + Copy> Listing<S, A> {
         }
     }
 
-    /// Goes on in a source that begins with the bytes of the old one: reads it from their end to its own, and adds the
-    /// records there. Then it is the listing of the whole, and has the new source. A source that isn't longer adds
-    /// nothing. A refusal is that of the whole, as by `open`; it leaves the listing as it was and hands the new source
-    /// back.
+    /// Reads on in a source that begins with the bytes of the old one, from their end to its own, and adds the records
+    /// there. Then it is the listing of the whole, and has the new source. A source that isn't longer adds nothing. It
+    /// is refused as `open` refuses the whole; then the listing is as it was, and the new source is returned.
     pub fn grow(&mut self, source: S) -> Result<(), (Fault, S)>
     where
         S: Drop,
@@ -169,8 +168,8 @@ impl<S: Source, A: Allocator + Copy> Listing<S, A> {
         }
     }
 
-    /// The record at a position, read again: its version, its fields and its block, which take as much memory twice as
-    /// the record is long. A read that fails, or a source that no longer gives what it gave at opening, is `Read`.
+    /// The record at a position, read again: its version, its fields and its block. It takes memory for twice the
+    /// record's length. A read that fails, or a source that no longer gives what it gave at opening, is `Read`.
     pub fn record(&mut self, position: usize) -> Result<Framed<A>, TakeFault>
         ensures takes { GivesRecord self.old.rows position (S.seen self.old.source) (S.seen self.new.source)
             result }
@@ -185,7 +184,7 @@ impl<S: Source, A: Allocator + Copy> Listing<S, A> {
         take_record(alloc, &mut self.source, &row)
     }
 
-    /// The head of the record at a position, read again: its version, its fields, its length and that of its block. No
+    /// The head of the record at a position, read again: its version, its fields, its length and its block's. No
     /// other byte is read. A read that fails, or a source that no longer gives what it gave at opening, is `Read`.
     pub fn head(&mut self, position: usize) -> Result<Head<A>, TakeFault>
         ensures takes { GivesHead self.old.rows position (S.seen self.old.source) (S.seen self.new.source) result }
@@ -201,11 +200,11 @@ impl<S: Source, A: Allocator + Copy> Listing<S, A> {
         take_head(alloc, &mut self.source, &row)
     }
 
-    /// Writes a part of the record at a position, as the source has it, and answers its length. Where there is no
-    /// record it is `NoRecord`, and nothing is written. The part isn't kept: it goes through a buffer of 8,192 bytes.
+    /// Writes a part of the record at a position, as the source has it, and answers its length. If there is no record,
+    /// the answer is `NoRecord`, and nothing is written. The part isn't kept: it goes through a buffer of 8,192 bytes.
     ///
     /// A read that fails, or a source that no longer gives what it gave at opening, is `Read`; a write that fails is
-    /// `Write`. Each tells how many bytes went out, which are the first of the part.
+    /// `Write`. Each says how many bytes went out, which are the first of the part.
     pub fn part_to<W: Sink>(
         &mut self,
         position: usize,
@@ -353,7 +352,7 @@ impl<S: Source, A: Allocator + Copy> Listing<S, A> {
     /// `1 N6`, or `- N12` for an archive without records. Each head is read again.
     ///
     /// A read that fails, or a source that no longer gives what it gave at opening, is `Read`; a
-    /// write that fails is `Write`, and a refused growth of the memory `Memory`. Each tells how many
+    /// write that fails is `Write`, and a refused growth of the memory `Memory`. Each says how many
     /// bytes went out, which are the first of the output.
     pub fn check<W: Sink>(&mut self, out: &mut W) -> Result<usize, OutFault>
         ensures checks { Checks self.old.rows (S.seen self.old.source) (S.seen self.new.source) (W.seen out.old)
@@ -370,7 +369,7 @@ impl<S: Source, A: Allocator + Copy> Listing<S, A> {
     /// is copied from the source.
     ///
     /// A read that fails, or a source that no longer gives what it gave at opening, is `Read`; a write that fails is
-    /// `Write`, and a refused growth of the memory `Memory`. Each tells how many bytes went out, which are the first of
+    /// `Write`, and a refused growth of the memory `Memory`. Each says how many bytes went out, which are the first of
     /// the output.
     pub fn write_as<W: Sink>(&mut self, form: Form, out: &mut W) -> Result<(), OutFault>
         ensures writes { Writes form self.old.rows (S.seen self.old.source) (S.seen self.new.source)
@@ -387,7 +386,7 @@ impl<S: Source, A: Allocator + Copy> Listing<S, A> {
     /// written whole, in canonical form. No block is kept: each piece is read twice, for its digest and to be copied.
     ///
     /// A read that fails, or a source that no longer gives what it gave at opening, is `Read`; a write that fails is
-    /// `Write`, and a refused growth of the memory `Memory`. Each tells how many bytes went out, which are the first of
+    /// `Write`, and a refused growth of the memory `Memory`. Each says how many bytes went out, which are the first of
     /// the output, up to 2^64 - 1.
     pub fn split<W: Sink>(&mut self, size: u64, out: &mut W) -> Result<(), OutFault>
         ensures writes { WritesSplit size self.old.rows (S.seen self.old.source) (S.seen self.new.source)

@@ -12,7 +12,7 @@ use std::alloc::Allocator;
 use warc_frame::{FaultKind, Framed, Source, read_one, read_range};
 use warc_reading::Row;
 
-/// The length of a record, the two line ends behind its block included, where it ends before offset 2^64.
+/// The length of a record, the two line ends after its block included, where it ends before offset 2^64.
 fn record_len(row: &Row<'_>) -> Option<usize>
     ensures within { IfSome result (λ len. (row.now.offset + len ≡ row.now.block_start + row.now.block_len + 4)
         × (row.now.offset + len < 2 ^ 64)) }
@@ -54,7 +54,7 @@ fn whole_record<A: Allocator + Copy>(alloc: A, text: &[u8]) -> Result<Framed<A>,
     Ok(framed)
 }
 
-/// The record that stands at an offset and fills the buffer.
+/// The record that is at an offset and fills the buffer.
 fn read_record<S: Source, A: Allocator + Copy>(
     alloc: A,
     source: &mut S,

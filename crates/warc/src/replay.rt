@@ -55,7 +55,7 @@ pub(crate) fn path_in<A: Allocator + Copy>(
     }
 }
 
-/// Writes the payload of the origin at the end of a path, of which the head says this and whose block stands there.
+/// Writes the payload of the origin at the end of a path, of which the head says this and whose block is there.
 fn replay_origin<S: Source, W: Sink, A: Allocator + Copy>(
     source: &mut S,
     parts: &Parts<A>,

@@ -1,4 +1,4 @@
-//! The records of an archive written anew, one behind another.
+//! The records of an archive written anew, one after another.
 ghost use Rattle.std.specs.Prelude.{◌≤◌, length};
 ghost use Rattle.std.specs.List.{sum_by};
 ghost use Rattle.warc_frame.specs.Effects.{Emits, ReadsOnly, Sends};
@@ -18,7 +18,7 @@ pub(crate) enum Replacement {
     /// The record in a form.
     As(Form),
 
-    /// Its segments of so many bytes, or the record where it is short or isn't split.
+    /// Its segments of this number of bytes, or the record where it is short or isn't split.
     Split(u64),
 }
 

@@ -19,7 +19,7 @@ use warc_reading::Row;
 use warc_value::Running;
 use warc_write::{SplitFault, cut, part_at, segment_count, segment_head};
 
-/// A record that is cut into segments, whose block stands in the source.
+/// A record that is cut into segments, whose block is in the source.
 #[derive(Drop)]
 struct Cut<A: Allocator> {
     version: Version,
@@ -134,7 +134,7 @@ fn put_segments<S: Source, A: Allocator + Copy, W: Sink>(
     Ok(())
 }
 
-/// How a row's record is cut, by its head: the bytes of its UUID, or `None` where it stands whole, since it is short or
+/// How a row's record is cut, by its head: the bytes of its UUID, or `None` where it stays whole, since it is short or
 /// isn't split.
 fn cut_or_whole<A: Allocator + Copy>(
     alloc: A,

@@ -58,7 +58,7 @@ IsGivenBy path origin joined outcome =
     (payload : Result Payload Reason) × IsPayload origin joined payload
     × (outcome ≡ given_by path (is_truncated joined) payload)
 
--- what the record at a position gives; where none stands, nothing
+-- what the record at a position gives; where there is none, nothing
 abbrev pub IsGivenAt : List ReadRecord → Path → Option ReadRecord → Result Given Reason → Type 0
 IsGivenAt all path None outcome = ⊥
 IsGivenAt all path (Some origin) outcome = IsGivenBy path origin (joined_records all origin) outcome

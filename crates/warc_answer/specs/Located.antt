@@ -14,7 +14,7 @@ use Rattle.warc_answer.specs.declared.located.Span.{Span}
 abbrev pub span_bytes : List ℕ → Span → List ℕ
 span_bytes bytes s = take s.len (drop s.start bytes)
 
--- those of spans, one after another
+-- the bytes of spans, one after another
 abbrev pub spans_text : List Span → List ℕ → List ℕ
 spans_text spans bytes = flat_map (span_bytes bytes) spans
 
@@ -27,8 +27,8 @@ pub record Location : Type 0 where
   pub answer : Answer
   pub spans : List Span
 
--- The bytes at the spans are the body of the answer, and lie within the source. A refusal is that of a replay before
--- anything goes out.
+-- The bytes at the spans are the body of the answer, and lie within the source. A refusal is one that a replay gives
+-- before anything goes out.
 abbrev pub IsLocatedOn : List ℕ → List Record → Result Path Unfound → Result Location ReplayFault → Type 0
 IsLocatedOn bytes records found (Ok body) =
     IsAnswerOn records found (given body.answer (spans_text body.spans bytes)) × AreInside body.spans bytes

@@ -21,7 +21,7 @@ use Rattle.warc_answer.specs.declared.answer.Reason.TheVariants.{NotFound, Segme
 abbrev pub read_record : Record → ReadRecord
 read_record r = record { head = reading_of r.fields; block = r.block }
 
--- the blocks of the records that are joined, one behind another
+-- the blocks of the records that are joined, one after another
 abbrev pub whole_block : List ReadRecord → List ℕ
 whole_block joined = flat_map (λ r. r.block) joined
 
@@ -48,7 +48,7 @@ pub record Payload : Type 0 where
   pub status : Option ℕ
   pub bytes : List ℕ
 
--- what the block of an HTTP response gives behind its head
+-- what the block of an HTTP response gives after its head
 abbrev pub IsBehindHead : List ℕ → Result Payload Reason → Type 0
 IsBehindHead block (Ok payload) = (status : ℕ) × (payload.status ≡ Some status) × GivesBody block status payload.bytes
 IsBehindHead block (Err Coded) = GivesCodedBody block

@@ -9,7 +9,7 @@ use Rattle.warc_segment.specs.declared.place.Place.{Place}
 abbrev pub bytes_at : List ℕ → Place → List ℕ
 bytes_at bytes p = take p.len (drop p.start bytes)
 
--- those at places, one behind another, and how many they are
+-- the bytes at places, one after another, and how many they are
 abbrev pub text_at : List Place → List ℕ → List ℕ
 text_at places bytes = flat_map (bytes_at bytes) places
 
@@ -29,6 +29,6 @@ IsInOne places q = (p : Place) × Contains places p × (p.start ≤ q) × (q < p
 abbrev pub IsPlacedText : List Place → ℕ → List ℕ → List ℕ → Type 0
 IsPlacedText places skip bytes text = IsTakenFrom (λ all. drop skip (text_at places all)) (LieIn places) bytes text
 
--- at most so many reads, of the bytes at places alone
+-- at most this number of reads, of the bytes at places alone
 abbrev pub ReadsPlaces : List Place → ℕ → SeenSource → SeenSource → Type 0
 ReadsPlaces places most old new = ReadsOnly (IsInOne places) most old new

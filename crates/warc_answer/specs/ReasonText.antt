@@ -1,4 +1,4 @@
--- The text of a reason, by which the program tells it: this project's own notion.
+-- The text of a reason, by which the program reports it: this project's own notion.
 use Rattle.std.specs.Prelude.{ℕ, List, ◌++◌, codes}
 use Rattle.warc_frame.specs.FaultText.{out_fault_text}
 use Rattle.warc_index.specs.UnfoundText.{unfound_text}

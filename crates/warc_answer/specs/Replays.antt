@@ -26,8 +26,8 @@ abbrev pub body_of : Result Given Why → List ℕ
 body_of (Ok it) = it.body
 body_of (Err why) = []
 
--- What a sink tells after a replay on a path: exactly the body of the answer; for a reason, what it told before; after
--- a failed read or write, a front of the body that there is, as long as the fault tells.
+-- What a sink reports after a replay on a path: exactly the body of the answer; for a reason, what it reported before;
+-- after a failed read or write, a front of the body that there is, as long as the fault says.
 abbrev pub IsReplayOn : List Record → Result Path Unfound → Result Answer ReplayFault → Option (List ℕ)
     → Option (List ℕ) → Type 0
 IsReplayOn records found (Ok answer) old new =

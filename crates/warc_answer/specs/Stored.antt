@@ -61,7 +61,7 @@ IsStoredIn http fields block (Err Coded) = ⊥
 IsStoredIn http fields block (Err (NotFound unfound)) = ⊥
 IsStoredIn http fields block (Err (Segments gap)) = ⊥
 
--- its mark and its length are those of the records that are joined
+-- it has the mark and the length of the records that are joined
 abbrev pub AreMeasures : List ReadRecord → Result StoredBody Reason → Type 0
 AreMeasures joined (Ok s) =
     (s.truncated ≡ is_truncated (Ok joined)) × (s.length ≡ length (drop s.head_len (whole_block joined)))

@@ -59,7 +59,7 @@ pub enum Reason {
 
 impl Reason {
     /// Its number and name, in at most 17 bytes; of a gap its number and name, in at most 13 bytes, and the number of
-    /// the segment that it is about: one behind the other its text.
+    /// the segment that it is about. One after another they are its text.
     pub fn parts(self) -> (&'static str, &'static str, Option<u64>)
         ensures text { result.0.now ++ result.1.now ++ digits_of result.2 ≡ reason_text self }
         ensures short { (length result.0.now ≤ 17) × (length result.1.now ≤ 13) }
@@ -94,7 +94,7 @@ pub enum ReplayFault {
     /// There is no body, for this reason. Nothing was written.
     Reason(Reason),
 
-    /// A read, a write or a growth of the memory failed, after so many bytes of the body.
+    /// A read, a write or a growth of the memory failed, after this number of bytes of the body.
     Out(OutFault),
 }
 

@@ -47,7 +47,7 @@ pub(crate) fn read_front<S: Source>(
     Ok(filled)
 }
 
-/// Adds the joined blocks to the output, without so many bytes at their front.
+/// Adds the joined blocks to the output, without their first `skip` bytes.
 fn put_blocks<S: Source, W: Sink>(
     source: &mut S,
     places: &[Place],
@@ -75,7 +75,7 @@ fn put_blocks<S: Source, W: Sink>(
     Ok(())
 }
 
-/// Writes the joined blocks, without so many bytes at their front.
+/// Writes the joined blocks, without their first `skip` bytes.
 pub fn send_blocks<S: Source, W: Sink>(
     source: &mut S,
     places: &[Place],

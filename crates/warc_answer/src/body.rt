@@ -22,10 +22,10 @@ use warc_segment::Place;
 /// Where a body begins.
 #[derive(Clone, Copy, Debug, PartialEq, Eq)]
 pub(crate) struct BodyStart {
-    /// The status of the HTTP response whose head stands before it.
+    /// The status of the HTTP response whose head is before it.
     pub(crate) status: Option<u16>,
 
-    /// How many bytes stand before it.
+    /// How many bytes are before it.
     pub(crate) skip: u64,
 }
 
@@ -48,7 +48,7 @@ pub(crate) fn is_http_response<A: Allocator>(origin: &Typed<A>) -> bool
     }
 }
 
-/// Where the body begins in the joined blocks, whose front is read through the buffer: behind the HTTP head of an HTTP
+/// Where the body begins in the joined blocks, whose front is read through the buffer: after the HTTP head of an HTTP
 /// response, and else at once.
 fn start_through<S: Source>(
     source: &mut S,

@@ -39,7 +39,7 @@ pub fn paths_end_inside()
     origins_stand();
 }
 
-/// The places of blocks hold as many bytes as the blocks, one behind another.
+/// The places of blocks hold as many bytes as the blocks, one after another.
 pub fn places_are_as_long()
     ensures { PlacesAreAsLong }
 {}

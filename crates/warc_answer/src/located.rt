@@ -89,11 +89,11 @@ fn cut_front<A: Allocator>(
     Ok(spans)
 }
 
-/// Where the payload of an origin lies, and what it is. `places` are those of the blocks that are joined, as
+/// Where the payload of an origin lies, and what it is. `places` are the places of the joined blocks, as
 /// `Parts::join` gives them; `origin` is what the origin's head says. No byte is read but the first 65,536 of the
 /// joined blocks, and those only where an HTTP head is looked for.
 ///
-/// A refusal is that of `replay_joined` before anything is written: a reason, `Read(0)` or `Memory(0)`.
+/// It is refused as `replay_joined` is before anything is written: a reason, `Read(0)` or `Memory(0)`.
 pub fn locate_joined<S: Source, A: Allocator + Copy>(
     alloc: A,
     source: &mut S,

@@ -1,4 +1,4 @@
-//! The end of a replay, behind the look-up of the capture and of its origin, and the joining of its segments.
+//! The end of a replay, after the look-up of the capture and of its origin, and the joining of its segments.
 ghost use Rattle.std.specs.Prelude.{◌≡◌, ℕ, List, drop, Option, Result, Err, IfErr, IfOk};
 ghost use Rattle.std.specs.List.{list_any};
 ghost use Rattle.warc_value.specs.Digests.{is_bad};
@@ -97,7 +97,7 @@ pub(crate) fn begin_body<S: Source, A: Allocator>(
     })
 }
 
-/// Writes the payload of an origin, and answers what it is. `places` are those of the blocks that are joined, as
+/// Writes the payload of an origin, and answers what it is. `places` are the places of the joined blocks, as
 /// `Parts::join` gives them; `origin` is what the origin's head says. For a reason, nothing is written. No block is
 /// kept: the joined blocks are read through a buffer of 8,192 bytes, and the first 65,536 bytes of them twice where an
 /// HTTP head is looked for.

@@ -146,7 +146,7 @@ fn judge_other<A: Allocator + Copy>(
 }
 
 /// What is stored of an origin, coded or not, or the reason why nothing is: a bad digest, or a response whose block
-/// doesn't begin with an HTTP head. `places` are those of the blocks that are joined, as `Parts::join` gives them;
+/// doesn't begin with an HTTP head. `places` are the places of the joined blocks, as `Parts::join` gives them;
 /// `origin` is what the origin's head says, and `own` the value of its own `Content-Type`, empty where it has none. Of
 /// the joined blocks at most the first 65,536 bytes are read, once.
 pub fn judge_joined<S: Source, A: Allocator + Copy>(

@@ -3,7 +3,7 @@ use Rattle.std.specs.Prelude.{◌≡◌, ℕ, ◌+◌, ◌*◌, ◌<◌, ◌≤�
 use Rattle.warc_frame.specs.Record.{max_block}
 use Rattle.warc_frame.specs.Seen.{AsksOnly, IfHeld, SeenSource}
 
--- these first bytes were read, in at most one read for each, none from `most` on and none further behind the end than
+-- these first bytes were read, in at most one read for each, none from `most` on and none further after the end than
 -- there is room in a buffer
 pub record HasReadFront (most room : ℕ) (items : List ℕ) (old new : SeenSource) : Type 0 where
   pub near : AsksOnly (λ at. at < most) old new

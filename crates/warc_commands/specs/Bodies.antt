@@ -10,7 +10,7 @@ use Rattle.warc.specs.declared.fault.BodyFault.TheVariants.{NoRecord, NoCapture,
 use Rattle.warc_commands.specs.Devices.{Devices}
 use Rattle.warc_commands.specs.Program.{AreGoodRecordsOf, IsBadWord, IsNotOpened, Tells, answer_text, replay_status, told_line}
 
--- the line that `body` tells by what was answered, and its status
+-- the line that `body` writes by what was answered, and its status
 abbrev pub body_line : Result Answer BodyFault → List ℕ
 body_line (Ok answer) = answer_text answer ++ codes "\n"
 body_line (Err fault) = told_line (body_fault_text fault)

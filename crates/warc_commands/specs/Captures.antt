@@ -45,7 +45,7 @@ pub record JudgesListed {S A B : Type 0} (old new : Archived S) (uri : Option (L
   pub may : MayHaveFailedBy answer before.faults after.faults
   pub rows : new.listing.rows ≡ old.listing.rows
 
--- where no capture is listed that is told, and the status is 1
+-- where no capture is listed that is reported, and the status is 1
 abbrev pub CountEnds : List CaptureSeen → Seen → Seen → ℕ → Type 0
 CountEnds [] old new status = Tells (told_line (codes "P1 NoCapture")) old new × (status ≡ 1)
 CountEnds (c ∷ cs) old new status = (new ≡ old) × (status ≡ 0)
@@ -93,7 +93,7 @@ pub record IsUnjudged (old new : Devices) (status : ℕ) : Type 0 where
   pub told : Tells (told_line (out_fault_text fault)) old.err new.err
   pub status_is : status ≡ 3
 
--- how `captures` ends, of all captures or of those of a URI
+-- how `captures` ends, of all captures or of the captures of a URI
 abbrev pub CapturesEnds : Option (List ℕ) → Devices → Devices → ℕ → Type 0
 CapturesEnds uri old new status = IsCapturesTold uri old new status
     ⊎ (IsNotOpened old new status ⊎ (IsCapturesCutOff uri old new status ⊎ IsUnjudged old new status))

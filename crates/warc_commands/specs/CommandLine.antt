@@ -95,7 +95,7 @@ layout_seen e = record {
   flags = map (λ w. w.name.now) e.flags.now;
 }
 
--- what clap is told of a word: that it is required, that it may be left out, or that it is a flag `--NAME`
+-- what clap knows of a word: that it is required, that it may be left out, or that it is a flag `--NAME`
 abbrev pub rule_as : Form → Text → Rule
 rule_as Required name = record (new_rule name) { required = true }
 rule_as Optional name = new_rule name
@@ -172,7 +172,7 @@ abbrev pub IsToldBy : Kinds → CommandFault → Type 0
 IsToldBy kinds (Usage text asked) = (kind : ErrorKind) × IsAmong kind kinds × (asked ≡ is_request kind)
 IsToldBy kinds Memory = Unit {0}
 
--- what such a refusal says: clap's text as it stands
+-- what such a refusal says: clap's text as it is
 abbrev pub command_fault_text : CommandFault → List ℕ
 command_fault_text (Usage text asked) = string_bytes text
 command_fault_text Memory = codes "out of memory"

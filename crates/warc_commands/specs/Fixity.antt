@@ -12,7 +12,7 @@ use Rattle.warc.specs.declared.fixity.Counts.{Counts}
 use Rattle.warc_commands.specs.Devices.{Devices}
 use Rattle.warc_commands.specs.Program.{IsNotOpened, Tells, told_line}
 
--- the status where all was told: 1 where a block is bad, else 4 where one can't be checked, else 0
+-- the status where all was written: 1 where a block is bad, else 4 where one can't be checked, else 0
 abbrev pub fixity_status : Counts → ℕ
 fixity_status counts = if nat_lt 0 counts.bad then 1 else if nat_lt 0 counts.unchecked then 4 else 0
 

@@ -13,7 +13,7 @@ use Rattle.warc.specs.declared.part.Part.{Part}
 use Rattle.warc_commands.specs.Devices.{Devices}
 use Rattle.warc_commands.specs.Program.{IsBadWord, IsNotOpened, TellsIf, extract_line, extract_status}
 
--- the position that a word names: decimal digits, a number up to that of the bytes of the longest archive
+-- the position that a word names: decimal digits, a number up to the length of the longest archive
 abbrev pub position_of : List ℕ → Option ℕ
 position_of word = option_and_then (λ n. if nat_le n max_archive then Some n else None) (decimal_of word)
 

@@ -39,7 +39,7 @@ use Rattle.warc_reading.specs.Row.{Row}
 use Rattle.warc_commands.specs.Devices.{Devices}
 use Rattle.warc_frame.specs.Seen.{IfHeld, Seen}
 
--- a text as a line by which the program tells it
+-- a text as a line of the program
 abbrev pub told_line : List ℕ → List ℕ
 told_line text = codes "warc: " ++ text ++ codes "\n"
 
@@ -52,14 +52,14 @@ status_of_kind Read = 3
 status_of_kind Memory = 3
 status_of_kind kind = 2
 
--- a line was told: all of it, unless a write failed, and then a front of it
+-- a line was written: all of it, unless a write failed, and then a front of it
 pub record Tells (line : List ℕ) (old new : Seen) : Type 0 where
   pub count : ℕ
   pub front : new.tells ≡ append_known old.tells (take count line)
   pub whole : new.faults ≡ old.faults → old.faults + 1 < 2 ^ 64 → count ≡ length line
 
 -- a command ends early, before it writes: the bytes were refused for their first fault (status 2), or a read or
--- a growth of the memory failed (status 3). A read fault is told only where the source has failed once more, at
+-- a growth of the memory failed (status 3). A read fault is reported only where the source has failed once more, at
 -- the offset asked last
 pub record IsNotOpened (old new : Devices) (status : ℕ) : Type 0 where
   pub fault : Fault
@@ -122,7 +122,7 @@ pub record IsChecked (old new : Devices) (status : ℕ) : Type 0 where
   pub status_in : (status ≡ 0) ⊎ (status ≡ 1)
 
 -- a front of the text of the good records that the bytes spell went out, and the source has failed once more exactly
--- where a read is told
+-- where a read is reported
 pub record IsFrontOf (text : List Record → List ℕ) (bytes : List ℕ) (fault : OutFault) (old new : Devices)
     : Type 0 where
   pub records : List Record
@@ -151,12 +151,12 @@ abbrev pub CheckEnds : Devices → Devices → ℕ → Type 0
 CheckEnds old new status =
     IsChecked old new status ⊎ (IsNotOpened old new status ⊎ IsCheckCutOff old new status)
 
--- a line was told, or none
+-- a line was written, or none
 abbrev pub TellsIf : Option (List ℕ) → Seen → Seen → Type 0
 TellsIf None old new = new ≡ old
 TellsIf (Some line) old new = Tells line old new
 
--- the line that `extract` tells by what was answered, none where the whole block was written; and its status
+-- the line that `extract` writes by what was answered, none where the whole block was written; and its status
 abbrev pub extract_line : Result ℕ ExtractFault → Option (List ℕ)
 extract_line (Ok n) = None
 extract_line (Err fault) = Some (told_line (extract_fault_text fault))
@@ -204,7 +204,7 @@ answer_text answer =
     ++ codes " status " ++ number_or_dash answer.status
     ++ codes " truncated " ++ yes_or_no answer.truncated ++ codes " length " ++ decimal answer.length
 
--- the line that `replay` tells by what was answered, and its status
+-- the line that `replay` writes by what was answered, and its status
 abbrev pub replay_line : Result Answer ReplayFault → List ℕ
 replay_line (Ok answer) = answer_text answer ++ codes "\n"
 replay_line (Err fault) = told_line (replay_fault_text fault)
@@ -232,7 +232,7 @@ pub record IsReplayed (uri : List ℕ) (moment : Instant) (old new : Devices) (s
   pub told : Tells (replay_line answer) old.err new.err
   pub status_is : status ≡ replay_status answer
 
--- a word isn't what it should be, as is told: nothing was read or written
+-- a word isn't what it should be, as is reported: nothing was read or written
 pub record IsBadWord (why : List ℕ) (old new : Devices) (status : ℕ) : Type 0 where
   pub unread : new.source ≡ old.source
   pub untouched : new.out ≡ old.out
@@ -263,7 +263,7 @@ abbrev pub WriteEnds : (List Record → List ℕ) → Devices → Devices → �
 WriteEnds text old new status =
     IsWritten text old new status ⊎ (IsNotOpened old new status ⊎ IsCutOff text old new status)
 
--- how many bytes a segment is to have, by a word: decimal digits, a number from 1 to that of the longest block
+-- how many bytes a segment is to have, by a word: decimal digits, a number from 1 to the length of the longest block
 abbrev pub size_of : List ℕ → Option ℕ
 size_of word = option_and_then (λ n. if nat_lt 0 n && nat_le n max_block then Some n else None) (decimal_of word)
 

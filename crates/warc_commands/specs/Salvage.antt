@@ -19,13 +19,13 @@ abbrev pub amount_line : List ℕ → ℕ → ℕ → List ℕ
 amount_line word records bytes =
     told_line (word ++ codes " " ++ decimal records ++ codes " records, " ++ decimal bytes ++ codes " bytes")
 
--- what is told: of a good archive one line, and else the fault's line and then one
+-- what is reported: of a good archive one line, and else the fault's line and then one
 abbrev pub TellsAmount : Option Fault → ℕ → ℕ → Seen → Seen → Type 0
 TellsAmount None records bytes old new = Tells (amount_line (codes "good") records bytes) old new
 TellsAmount (Some f) records bytes old new =
     (mid : Seen) × Tells (fault_line f) old mid × Tells (amount_line (codes "salvaged") records bytes) mid new
 
--- the status: 0 where the archive is good, else that of its fault
+-- the status: 0 where the archive is good, else the status of its fault
 abbrev pub salvage_status : Option Fault → ℕ
 salvage_status None = 0
 salvage_status (Some f) = status_of_kind f.kind

@@ -17,7 +17,7 @@ abbrev pub coded_text : Bool → List ℕ → List ℕ
 coded_text true codings = codes " coded" ++ codings
 coded_text false codings = []
 
--- the line that is told by what was answered, and the status
+-- the line by what was answered, and the status
 abbrev pub stored_line : Result StoredAnswer BodyFault → List ℕ
 stored_line (Ok r) =
     answer_text (answer_with r.path r.stored) ++ coded_text r.stored.coded r.stored.codings ++ codes "\n"

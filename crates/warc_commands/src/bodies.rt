@@ -65,7 +65,7 @@ where
     (tell_body(answer, err), archive.into_source())
 }
 
-/// Tells what is said of a body, or why it isn't written, or not whole, and answers the exit status.
+/// Reports what is said of a body, or why it isn't written, or not whole, and answers the exit status.
 pub(crate) fn tell_body<E: Sink>(answer: Result<Answer, BodyFault>, err: &mut E) -> u8
     ensures told { Tells (body_line answer) (E.seen err.old) (E.seen err.new) }
     ensures status { result ≡ body_status answer }

@@ -118,7 +118,7 @@ where
     )
 }
 
-/// Writes the lines of captures, or tells why there are none, and answers the exit status.
+/// Writes the lines of captures, or reports why there are none, and answers the exit status.
 fn tell_outcomes<A, S, W, E>(
     archive: &Archive<S, A>,
     outcomes: &Result<Vec<Outcome<A>, A>, OutFault>,
@@ -188,7 +188,7 @@ fn judge_listed<S: Source, A: Allocator + Copy>(
     archive.outcomes(&positions)
 }
 
-/// Tells where no capture is listed, and answers the exit status.
+/// Reports if no capture is listed, and answers the exit status.
 fn tell_count<E: Sink, A: Allocator>(outcomes: &[Outcome<A>], err: &mut E) -> u8
     ensures { CountEnds (map outcome_seen outcomes.now) (E.seen err.old) (E.seen err.new) result }
 {

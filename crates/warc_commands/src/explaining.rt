@@ -1,4 +1,4 @@
-//! The command that says what a number means that the program prints.
+//! The command that says what a number that the program prints means.
 ghost use Rattle.std.specs.Prelude.{◌≡◌, find, map, option_map};
 ghost use Rattle.std.specs.Str.{str_eq_ignore_ascii_case};
 ghost use Rattle.warc_commands.specs.Devices.{devices};

@@ -1,4 +1,4 @@
-//! The commands that give a block or a body of an archive, and the lines that they tell.
+//! The commands that give a block or a body of an archive, and the lines that they write.
 ghost use Rattle.std.specs.Prelude.{◌≡◌, ◌≤◌, ◌⊎◌, ◌++◌, length, Some, codes};
 ghost use Rattle.warc_value.specs.Dates.{Instant, instant_of};
 ghost use Rattle.warc_answer.specs.ReasonText.{reason_text};
@@ -102,7 +102,7 @@ where
     (tell_replay(answer, err), archive.into_source())
 }
 
-/// Tells why a block isn't written, or not whole, and answers the exit status.
+/// Reports why a block isn't written, or not whole, and answers the exit status.
 pub(crate) fn tell_extract<E: Sink>(answer: Result<u64, ExtractFault>, err: &mut E) -> u8
     ensures told { TellsIf (extract_line answer) (E.seen err.old) (E.seen err.new) }
     ensures status { result ≡ extract_status answer }
@@ -117,7 +117,7 @@ pub(crate) fn tell_extract<E: Sink>(answer: Result<u64, ExtractFault>, err: &mut
     }
 }
 
-/// Tells what is said of a body, or why it isn't written, or not whole, and answers the exit status.
+/// Reports what is said of a body, or why it isn't written, or not whole, and answers the exit status.
 pub(crate) fn tell_replay<E: Sink>(answer: Result<Answer, ReplayFault>, err: &mut E) -> u8
     ensures told { Tells (replay_line answer) (E.seen err.old) (E.seen err.new) }
     ensures status { result ≡ replay_status answer }
@@ -154,7 +154,7 @@ fn mark_text(mark: bool) -> &'static str
     if mark { "yes" } else { "no" }
 }
 
-/// The line that tells what is said of a body.
+/// The line of what is said of a body.
 pub(crate) fn line_of_answer(answer: &Answer) -> ArrayString<LINE>
     ensures { result.bytes ≡ answer_text answer.now ++ codes "\n" }
 {
@@ -174,7 +174,7 @@ pub(crate) fn line_of_answer(answer: &Answer) -> ArrayString<LINE>
     line
 }
 
-/// The line that tells why there is no body.
+/// The line that says why there is no body.
 fn line_of_reason(reason: Reason) -> ArrayString<LINE>
     ensures { result.bytes ≡ told_line (reason_text reason) }
 {

@@ -1,4 +1,4 @@
-//! The command that tells which blocks their digests don't fit.
+//! The command that lists the blocks that don't have the digest that their records state.
 ghost use Rattle.std.specs.Prelude.{◌≡◌, ◌⊎◌};
 ghost use Rattle.warc_commands.specs.Devices.{devices};
 ghost use Rattle.warc_commands.specs.Fixity.{FixityEnds, fixity_status};
@@ -12,7 +12,7 @@ use warc_frame::{Sink, Source};
 /// The exit status where no block is bad, and one can't be checked.
 const UNCHECKED: u8 = 4;
 
-/// The status where all was told.
+/// The status where all was written.
 fn status_of(counts: Counts) -> u8
     ensures value { result ≡ fixity_status counts }
     ensures cases { (result ≡ 0) ⊎ ((result ≡ 1) ⊎ (result ≡ 4)) }

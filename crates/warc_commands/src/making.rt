@@ -73,7 +73,7 @@ pub(crate) fn read_front<S: Source, A: Allocator + Copy>(
     read_through(alloc, source, most, &mut buf)
 }
 
-/// Whether a byte stands at the offset of a source.
+/// Whether a source has a byte at the offset.
 fn has_byte_at<S: Source>(source: &mut S, at: u64) -> Result<bool, OutFault>
     ensures stands { (bytes : List ℕ) → (S.seen source.old).holds ≡ Some bytes → IfOk result (λ stands. stands ≡
         nat_lt at (length bytes)) }
@@ -162,7 +162,7 @@ fn refusal_of(draft: &Draft<'_>) -> MakeFault
     )
 }
 
-/// Writes one record, whose block are the bytes of the source. They are read first, unless they are too many.
+/// Writes one record, whose block is the bytes of the source. They are read first, unless they are too many.
 pub(crate) fn write<A, S, W, E>(
     alloc: A,
     draft: &Draft<'_>,
@@ -198,7 +198,7 @@ where
     }
 }
 
-/// Tells why no record is made, and answers the exit status.
+/// Reports why no record is made, and answers the exit status.
 fn tell_unmade<E: Sink>(fault: MakeFault, err: &mut E) -> u8
     ensures told { Tells (told_line (make_fault_text fault)) (E.seen err.old) (E.seen err.new) }
     ensures status { result ≡ 3 }

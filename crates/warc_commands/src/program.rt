@@ -39,15 +39,14 @@ const REFUSED: u8 = 2;
 /// The exit status where a read, a write or a growth of the memory failed.
 pub(crate) const FAILED: u8 = 3;
 
-/// The most bytes of a line that is told.
+/// The most bytes of a line of the program.
 pub(crate) const LINE: usize = 128;
 
-/// Does what a command says. The output goes to `out` and a line on what went wrong to `err`, where
-/// failures to write are ignored. The answer is the exit status, 0 done, 1 checked and something was
-/// found, or what was asked for isn't there, 2 the archive is refused, 3 a date, a size, a position or a number that is
-/// none, a record that isn't made, or a read, a write or a growth of the memory failed, 4 some block can't be checked;
-/// and the source. A date, a size and a position are judged before the source is read, and a number is explained
-/// without it.
+/// Does what a command says. The output goes to `out`, and a line on what went wrong to `err`, where failed writes are
+/// ignored. Returns the source and the exit status: 0 done; 1 checked and something was found, or what was asked for
+/// isn't there; 2 the archive is refused; 3 a bad date, size, position or number, a record that isn't made, or a read,
+/// a write or a growth of the memory failed; 4 some block can't be checked. A date, a size and a position are judged
+/// before the source is read, and a number is explained without it.
 pub fn perform<A, S, W, E>(
     alloc: A,
     command: &Command<'_>,
@@ -188,7 +187,7 @@ where
     }
 }
 
-/// The status where an archive was checked and so many things were found.
+/// The status where an archive was checked and `count` things were found.
 fn status_of_count(count: usize) -> u8
     ensures value { result ≡ min count 1 }
     ensures cases { (result ≡ 0) ⊎ (result ≡ 1) }
@@ -196,7 +195,7 @@ fn status_of_count(count: usize) -> u8
     if count == 0 { DONE } else { FOUND }
 }
 
-/// Tells why an archive isn't opened, and answers the exit status.
+/// Reports why an archive isn't opened, and answers the exit status.
 pub(crate) fn tell_refusal<E: Sink>(fault: Fault, err: &mut E) -> u8
     ensures told { Tells (fault_line fault) (E.seen err.old) (E.seen err.new) }
     ensures status { result ≡ status_of_kind fault.kind }
@@ -205,7 +204,7 @@ pub(crate) fn tell_refusal<E: Sink>(fault: Fault, err: &mut E) -> u8
     status_of(fault.kind)
 }
 
-/// Tells why an output ends early, and answers the exit status.
+/// Reports why an output ends early, and answers the exit status.
 pub(crate) fn tell_cut<E: Sink>(fault: OutFault, err: &mut E) -> u8
     ensures told { Tells (told_line (out_fault_text fault)) (E.seen err.old) (E.seen err.new) }
     ensures status { result ≡ 3 }
@@ -231,7 +230,7 @@ pub(crate) fn tell<E: Sink>(line: &str, err: &mut E)
     let _ = send_all(err, line.as_bytes());
 }
 
-/// The line that tells why an archive isn't opened.
+/// The line that says why an archive isn't opened.
 fn line_of_fault(fault: Fault) -> ArrayString<LINE>
     ensures { result.bytes ≡ fault_line fault }
 {
@@ -247,7 +246,7 @@ fn line_of_fault(fault: Fault) -> ArrayString<LINE>
     line
 }
 
-/// The line that tells why an output ends early.
+/// The line that says why an output ends early.
 fn line_of_cut(fault: OutFault) -> ArrayString<LINE>
     ensures { result.bytes ≡ told_line (out_fault_text fault) }
 {
@@ -260,7 +259,7 @@ fn line_of_cut(fault: OutFault) -> ArrayString<LINE>
     line
 }
 
-/// The line that tells a short text.
+/// The line of a short text.
 pub(crate) fn line_of(text: &str) -> ArrayString<LINE>
     requires { length text.now ≤ 100 }
     ensures { result.bytes ≡ told_line text.now }
@@ -272,8 +271,8 @@ pub(crate) fn line_of(text: &str) -> ArrayString<LINE>
     line
 }
 
-/// Tells why words name no command: where `clap`'s text was asked for it goes to `out`, and else to
-/// `err`. The answer is the exit status: 0 where it was asked for and written, else 3.
+/// Reports why words name no command: `clap`'s text goes to `out` if it was asked for, and else to `err`. The answer is
+/// the exit status: 0 if it was asked for and written, else 3.
 pub fn refuse<W: Sink, E: Sink>(fault: &CommandFault, out: &mut W, err: &mut E) -> u8
     ensures { FaultEnds fault.now (W.seen out.old) (W.seen out.new) (E.seen err.old) (E.seen err.new) result }
 {

@@ -18,7 +18,7 @@ use warc_frame::{MemSource, OutFault, Sink, Source};
 /// The most bytes of standard input that are kept in memory.
 const MOST_INPUT: u64 = 1 << 30;
 
-/// What is told where standard input is too long for memory, of the path `/dev/stdin` and of `-`.
+/// What is reported where standard input is too long for memory, of the path `/dev/stdin` and of `-`.
 const READ_FAILED: &str = "read failed after 0";
 
 const TOO_LONG: &str = "standard input is too long for this command; write it to a file first";
@@ -57,8 +57,8 @@ enum Place {
     Nowhere,
 }
 
-/// Does what words say, the program's name being the first: all of `main` but opening itself. The answer is the exit
-/// status. Words that aren't text and a file that doesn't open are told on `err`, with status 3. The path `-` is
+/// Does what words say, of which the first is the program's name: all of `main` but opening. The answer is the exit
+/// status. Words that aren't text and a file that doesn't open are reported on `err`, with status 3. The path `-` is
 /// standard input: at any offset where it is a file, as it comes where the command asks for each offset once, in order,
 /// and else read into memory, at most 2^30 bytes of it. The path `/dev/stdin` is always read into memory. A command
 /// that reads nothing opens nothing.
@@ -82,7 +82,7 @@ where
     }
 }
 
-/// Does what words say that are texts.
+/// Does what words that are texts say.
 fn run_words<Y, W, E>(alloc: Global, system: &Y, words: &[String], out: &mut W, err: &mut E) -> u8
 where
     Y: System,
@@ -131,7 +131,7 @@ fn place_of(command: &Command<'_>) -> Place
     }
 }
 
-/// Does what a command says that reads nothing.
+/// Does what a command that reads nothing says.
 fn run_over_nothing<W: Sink, E: Sink>(
     alloc: Global,
     command: &Command<'_>,
@@ -225,7 +225,7 @@ where
     }
 }
 
-/// Does what a command says, over standard input, which is read into memory first. The line is told where it is too
+/// Does what a command says, over standard input, which is read into memory first. The line is written where it is too
 /// long for that.
 fn run_memory<Y, W, E>(
     alloc: Global,
@@ -289,7 +289,7 @@ where
     status
 }
 
-/// Tells why a run can't begin: the text, or that memory was refused; and answers the exit status.
+/// Reports why a run can't begin: the text, or that memory was refused; and answers the exit status.
 fn stop<E: Sink>(error: &io::Error, why: &str, err: &mut E) -> u8
     requires { length why.now ≤ 100 }
     ensures told { Tells (told_line (stop_text why.now (error_kind error.now))) (E.seen err.old) (E.seen err.new) }
@@ -301,7 +301,7 @@ fn stop<E: Sink>(error: &io::Error, why: &str, err: &mut E) -> u8
     }
 }
 
-/// Tells a short text, and answers the exit status.
+/// Reports a short text, and answers the exit status.
 fn tell_stop<E: Sink>(why: &str, err: &mut E) -> u8
     requires { length why.now ≤ 100 }
     ensures told { Tells (told_line why.now) (E.seen err.old) (E.seen err.new) }

@@ -29,7 +29,7 @@ fn line_of_amount(word: &str, records: usize, bytes: u64) -> ArrayString<LINE>
     line
 }
 
-/// Tells how many records and bytes went out.
+/// Reports how many records and bytes went out.
 fn tell_line<E: Sink>(word: &str, records: usize, bytes: u64, err: &mut E)
     requires { length word.now ≤ 8 }
     ensures { Tells (amount_line word.now records bytes) (E.seen err.old) (E.seen err.new) }
@@ -37,7 +37,7 @@ fn tell_line<E: Sink>(word: &str, records: usize, bytes: u64, err: &mut E)
     tell(line_of_amount(word, records, bytes).as_str(), err);
 }
 
-/// Tells a fault and how many records and bytes before it went out, and answers the exit status.
+/// Reports a fault and how many records and bytes before it went out, and answers the exit status.
 fn tell_salvaged<E: Sink>(fault: Fault, records: usize, bytes: u64, err: &mut E) -> u8
     ensures told { TellsAmount (Some fault) records bytes (E.seen err.old) (E.seen err.new) }
     ensures status { result ≡ status_of_kind fault.kind }
@@ -47,7 +47,7 @@ fn tell_salvaged<E: Sink>(fault: Fault, records: usize, bytes: u64, err: &mut E)
     status
 }
 
-/// Tells the fault behind the records that were written, if there is one, and how many they are; and answers the exit
+/// Reports the fault after the records that were written, if there is one, and how many they are; and answers the exit
 /// status.
 fn tell_amount<E: Sink>(found: Option<Fault>, records: usize, bytes: u64, err: &mut E) -> u8
     ensures told { TellsAmount found records bytes (E.seen err.old) (E.seen err.new) }

@@ -67,7 +67,7 @@ where
     (tell_stored(&answer, err), archive.into_source())
 }
 
-/// Tells what is said of what is stored, or why it isn't written, or not whole, and answers the exit status.
+/// Reports what is said of what is stored, or why it isn't written, or not whole, and answers the exit status.
 fn tell_stored<E: Sink, A: Allocator>(answer: &Result<StoredAt<A>, BodyFault>, err: &mut E) -> u8
     ensures told { Tells (stored_line (answer_seen answer.now)) (E.seen err.old) (E.seen err.new) }
     ensures status { result ≡ stored_status (answer_seen answer.now) }
@@ -81,7 +81,7 @@ fn tell_stored<E: Sink, A: Allocator>(answer: &Result<StoredAt<A>, BodyFault>, e
     }
 }
 
-/// Tells what is said of what is stored.
+/// Reports what is said of what is stored.
 fn tell_answer<E: Sink, A: Allocator>(at: &StoredAt<A>, err: &mut E)
     ensures { Tells (answer_text (answer_with at.now.path (stored_seen at.now.stored))
         ++ coded_text at.now.stored.coded at.now.stored.codings.items ++ codes "\n") (E.seen err.old) (E.seen err.new) }
@@ -111,7 +111,7 @@ fn without_end(line: &[u8]) -> &[u8]
     }
 }
 
-/// Tells a line, before whose end stands what is said of a coded body.
+/// Writes a line, and before its end what is said of a coded body.
 fn tell_coded<E: Sink>(line: &str, codings: &[u8], err: &mut E)
     ensures { (text : List ℕ) → line.now ≡ text ++ codes "\n" →
         Tells (text ++ (codes " coded" ++ codings.now) ++ codes "\n") (E.seen err.old) (E.seen err.new) }

@@ -34,7 +34,7 @@ pub(crate) fn bytes_of<A: Allocator + Copy>(alloc: A, word: &str) -> Result<Vec<
     }
 }
 
-/// Tells why digits name no URI, and answers the exit status.
+/// Reports why digits name no URI, and answers the exit status.
 pub(crate) fn tell_fault<E: Sink>(fault: UriFault, err: &mut E) -> u8
     ensures told { Tells (told_line (uri_fault_text fault)) (E.seen err.old) (E.seen err.new) }
     ensures status { result ≡ 3 }

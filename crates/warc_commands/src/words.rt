@@ -66,7 +66,7 @@ pub enum Command<'a> {
         archive: &'a str,
         size: &'a str,
     },
-    /// One record, whose block are the bytes of a file.
+    /// One record, whose block is the bytes of a file.
     Write {
         draft: Draft<'a>,
         file: &'a str,
@@ -93,7 +93,7 @@ pub enum Command<'a> {
     Summary {
         archive: &'a str,
     },
-    /// What a number means that the program prints, and what to do.
+    /// What a number that the program prints means, and what to do.
     Explain {
         number: &'a str,
     },

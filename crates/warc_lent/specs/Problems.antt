@@ -23,7 +23,7 @@ use Rattle.warc_lent.specs.declared.problem.Numbers.{Numbers}
 use Rattle.warc_lent.specs.declared.problem.Problem.{Problem}
 use Rattle.warc_lent.specs.declared.problem.Problem.TheVariants as problems
 
--- its text: of a fault and a reason that of the program
+-- its text: for a fault and a reason the program's text
 abbrev pub problem_text : Problem → List ℕ
 problem_text (problems.Fault fault) = fault_text fault
 problem_text (problems.Reason reason) = reason_text reason

@@ -140,7 +140,7 @@ fn kind_of(code: u32, detail: u32) -> Option<FaultKind> {
     }
 }
 
-/// The number of a gap, and that of the segment that it is about, or 0.
+/// The number of a gap, and the number of the segment that it is about, or 0.
 fn gap_numbers(gap: Gap) -> (u32, u64)
     ensures { result ≡ gap_numbers gap }
 {
