@@ -14,10 +14,9 @@ use Rattle.warc_field.specs.Area.{Pair}
 use Rattle.warc_field.specs.Decimal.{decimal_of, number_of}
 use Rattle.warc_frame.specs.Effects.{FailsBy}
 use Rattle.warc_frame.specs.Seen.{SeenSource}
-use Rattle.warc_frame.proofs.EffectLemmas.{fails_more, reads_both, reads_within}
+use Rattle.warc_frame.proofs.EffectLemmas.{fails_more, reads_both, reads_none, reads_within}
 use Rattle.warc_frame.specs.Record.{Record, max_archive}
 use Rattle.warc_frame.specs.Send.{WentOut, sent_of}
-use Rattle.warc_frame.specs.declared.fault.OutFault.{OutFault}
 use Rattle.warc_record.specs.Readings.{number_in, present_value}
 use Rattle.warc_payload.specs.declared.HeadInfo.{HeadInfo}
 use Rattle.warc_payload.specs.Head.{HasNoHead, IsInfoOf, front_of}
@@ -29,7 +28,7 @@ use Rattle.warc_answer.specs.Answers.{Given, IsAnswerOn, is_truncated, given_by}
 use Rattle.warc_answer.specs.Giving.{BeginsAt, BeginsNowhere, IsStart}
 use Rattle.warc_answer.specs.Laws.{FailsBeforeAll, IsFound, PlacesAreAsLong}
 use Rattle.warc_answer.specs.Payloads.{Payload, IsBehindHead, IsPayload, has_bad_block, is_http_response, read_record, whole_block}
-use Rattle.warc_answer.specs.Origins.{AreBlocksIn, body_reads, front_reads}
+use Rattle.warc_answer.specs.Origins.{AreBlocksIn, ReadsForHead, body_reads}
 use Rattle.warc_answer.specs.Places.{LieIn, ReadsPlaces, len_of, text_at}
 use Rattle.warc_answer.specs.Replays.{IsReplayOn, body_of, given, out_result}
 use Rattle.warc_answer.specs.declared.answer.Path.{Path}
@@ -320,33 +319,31 @@ fails_of_fault X Y fault has = fault_as X Y fault has
 
 -- ---- how often places are read
 
-pub front_reads_of : (http : Bool) (places : List Place) {old new : SeenSource} → http ≡ true
-    → ReadsPlaces places (len_of places) old new → ReadsPlaces places (front_reads http places) old new
-front_reads_of true places is has = has
-front_reads_of false places is has = absurd (cc)
+pub reads_no_head : (http : Bool) (places : List Place) (s : SeenSource) → ReadsForHead http places s s
+reads_no_head true places s = reads_within (λ q in_. in_) (omega arith) reads_none
+reads_no_head false places s = refl
 
-front_then_body : (http : Bool) (places : List Place) → front_reads http places + len_of places ≡ body_reads http places
-front_then_body true places = omega arith
-front_then_body false places = omega arith
+pub reads_head : (http : Bool) (places : List Place) {old new : SeenSource} → http ≡ true
+    → ReadsPlaces places (len_of places) old new → ReadsForHead http places old new
+reads_head true places is has = has
+reads_head false places is has = absurd (cc)
 
-front_before_body : (http : Bool) (places : List Place) → front_reads http places ≤ body_reads http places
-front_before_body true places = omega arith
-front_before_body false places = omega arith
+pub reads_once : (http : Bool) (places : List Place) {old new : SeenSource} → ReadsForHead http places old new
+    → ReadsPlaces places (len_of places) old new
+reads_once true places has = has
+reads_once false places {old} {new} same =
+    subst (λ (s : SeenSource). ReadsPlaces places (len_of places) old s) (sym same) (reads_no_head true places old)
 
-pub front_within : (http : Bool) (places : List Place) → front_reads http places ≤ len_of places
-front_within true places = omega arith
-front_within false places = omega arith
-
-pub reads_front : (http : Bool) (places : List Place) {old new : SeenSource}
-    → ReadsPlaces places (front_reads http places) old new → ReadsPlaces places (body_reads http places) old new
-reads_front http places has = reads_within (λ q in_. in_) (front_before_body http places) has
-
-pub reads_body : (http : Bool) (places : List Place) {old mid new : SeenSource}
-    → ReadsPlaces places (front_reads http places) old mid → ReadsPlaces places (len_of places) mid new
+pub reads_front : (http : Bool) (places : List Place) {old new : SeenSource} → ReadsForHead http places old new
     → ReadsPlaces places (body_reads http places) old new
-reads_body http places has rest =
-    let sum : front_reads http places + len_of places ≡ body_reads http places = front_then_body http places in
-    reads_within (λ q in_. in_) (omega (arith, sum)) (reads_both has rest)
+reads_front true places has = reads_within (λ q in_. in_) (omega arith) has
+reads_front false places same = reads_once false places same
+
+pub reads_body : (http : Bool) (places : List Place) {old mid new : SeenSource} → ReadsForHead http places old mid
+    → ReadsPlaces places (len_of places) mid new → ReadsPlaces places (body_reads http places) old new
+reads_body true places has rest = reads_within (λ q in_. in_) (omega arith) (reads_both has rest)
+reads_body false places {old} {mid} {new} same rest =
+    subst (λ (s : SeenSource). ReadsPlaces places (len_of places) s new) same rest
 
 -- ---- laws
 

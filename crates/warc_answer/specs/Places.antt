@@ -1,5 +1,5 @@
--- The bytes at places of a source, one behind another, and what reading them asks of it. This project's own notion.
-use Rattle.std.specs.Prelude.{◌≡◌, ℕ, ◌+◌, ◌^◌, ◌<◌, ◌≤◌, List, length, take, drop, sum_by, All, Contains}
+-- The bytes at places of a source, one after another, and what reading them asks of it. This project's own notion.
+use Rattle.std.specs.Prelude.{ℕ, ◌+◌, ◌^◌, ◌<◌, ◌≤◌, List, length, take, drop, sum_by, All, Contains}
 use Rattle.std.specs.List.{flat_map}
 use Rattle.warc_frame.specs.Effects.{IsTakenFrom, ReadsOnly}
 use Rattle.warc_frame.specs.Seen.{SeenSource}

@@ -5,9 +5,9 @@ ghost use Rattle.warc_frame.specs.Failing.{failed_by};
 ghost use Rattle.warc_frame.specs.Seen.{IfHeld};
 ghost use Rattle.warc_record.specs.Seen.{said};
 ghost use Rattle.warc_answer.specs.Giving.{IsStart};
-ghost use Rattle.warc_answer.specs.Origins.{front_reads};
+ghost use Rattle.warc_answer.specs.Origins.{ReadsForHead};
 ghost use Rattle.warc_answer.specs.Payloads.{is_http, is_http_response};
-ghost use Rattle.warc_answer.specs.Places.{LieIn, ReadsPlaces, text_at};
+ghost use Rattle.warc_answer.specs.Places.{LieIn, text_at};
 ghost use Rattle.warc_answer.specs.Replays.{WantsNoMemory, out_result};
 
 use crate::answer::{Reason, ReplayFault};
@@ -61,7 +61,7 @@ fn start_through<S: Source>(
         IsStart http (text_at places.now bytes) result) }
     ensures unwritten { (n : ℕ) → failed_by (out_result result) n ≡ n }
     ensures device { IfErr result WantsNoMemory }
-    ensures reads { ReadsPlaces places.now (front_reads http places.now) (S.seen source.old) (S.seen source.new) }
+    ensures reads { ReadsForHead http places.now (S.seen source.old) (S.seen source.new) }
     ensures fails { FailsBy (LieIn places.now) (out_result result) (S.seen source.old) (S.seen source.new) }
 {
     front_tells_head();
@@ -95,7 +95,7 @@ pub(crate) fn find_body<S: Source>(
         IsStart http (text_at places.now bytes) result) }
     ensures unwritten { (n : ℕ) → failed_by (out_result result) n ≡ n }
     ensures device { IfErr result WantsNoMemory }
-    ensures reads { ReadsPlaces places.now (front_reads http places.now) (S.seen source.old) (S.seen source.new) }
+    ensures reads { ReadsForHead http places.now (S.seen source.old) (S.seen source.new) }
     ensures fails { FailsBy (LieIn places.now) (out_result result) (S.seen source.old) (S.seen source.new) }
 {
     let mut front = [0; MOST_HEAD_BYTES];

@@ -10,7 +10,7 @@ ghost use Rattle.warc_frame.specs.Seen.{IfHeld};
 ghost use Rattle.warc_record.specs.Seen.{said};
 ghost use Rattle.warc_index.specs.declared.unfound.Unfound.{Unfound};
 ghost use Rattle.warc_answer.specs.Answers.{IsAnswerOn};
-ghost use Rattle.warc_answer.specs.Origins.{AreBlocksIn, IsJoinedOn, body_reads, front_reads};
+ghost use Rattle.warc_answer.specs.Origins.{AreBlocksIn, IsJoinedOn, ReadsForHead, body_reads};
 ghost use Rattle.warc_answer.specs.Payloads.{is_http_response};
 ghost use Rattle.warc_answer.specs.Places.{ReadsPlaces, len_of, text_at};
 ghost use Rattle.warc_answer.specs.Replays.{IsReplayOn, WantsNoMemory, WritesLate, given, out_result};
@@ -72,8 +72,8 @@ pub(crate) fn begin_body<S: Source, A: Allocator>(
         IfErr result (λ fault. (told : Option (List ℕ)) → IsReplayOn records found (Err fault) told told)) }
     ensures unwritten { (n : ℕ) → failed_by (out_result result) n ≡ n }
     ensures device { IfErr result WantsNoMemory }
-    ensures reads { ReadsPlaces places.now (front_reads (is_http_response (said origin.now)) places.now)
-        (S.seen source.old) (S.seen source.new) }
+    ensures reads { ReadsForHead (is_http_response (said origin.now)) places.now (S.seen source.old)
+        (S.seen source.new) }
     ensures fails { FailsBy (AreBlocksIn places.now) (out_result result) (S.seen source.old) (S.seen source.new) }
 {
     one_of_three();

@@ -1,6 +1,6 @@
 use Rattle.std.proofs.Common.{ℕ, List, length, refl}
 use Rattle.warc_answer.specs.Places.{text_at}
-use Rattle.warc_answer.proofs.GiveLemmas.{front_is, front_reads_of, on_true, info_at, none_at, coded_body, plain_body, head_within}
+use Rattle.warc_answer.proofs.GiveLemmas.{front_is, on_true, info_at, none_at, coded_body, plain_body, head_within}
 use Rattle.warc_answer.proofs.body.start_through.Goals as goal
 
 pub returns-in-Err-clause-begun : goal.returns-in-Err-clause-begun

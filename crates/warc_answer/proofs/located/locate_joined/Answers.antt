@@ -1,6 +1,7 @@
 use Rattle.std.proofs.Common.{sym, subst}
-use Rattle.warc_answer.proofs.GiveLemmas.{fails_of_fault, front_within, none_out, places_lie}
-use Rattle.warc_answer.proofs.PlaceLemmas.{read_no_more}
+use Rattle.warc_answer.proofs.GiveLemmas.{fails_of_fault, none_out, places_lie, reads_once}
+use Rattle.warc_record.specs.Seen.{said}
+use Rattle.warc_answer.specs.Payloads.{is_http_response}
 use Rattle.warc_answer.specs.Answers.{IsAnswerOn}
 use Rattle.warc_answer.specs.Replays.{given}
 use Rattle.warc_answer.specs.declared.replay.Begun.{Begun}
@@ -14,13 +15,13 @@ pub returns-in-Err-clause-fails : goal.returns-in-Err-clause-fails
 returns-in-Err-clause-fails g c = fails_of_fault Begun Location c.in-Err.fault c.in-Err.ensures.fails
 
 pub returns-in-Err-clause-reads : goal.returns-in-Err-clause-reads
-returns-in-Err-clause-reads g c = read_no_more c.args.places.now _ _ _ _ (front_within _ c.args.places.now) c.in-Err.ensures.reads
+returns-in-Err-clause-reads g c = reads_once (is_http_response (said c.args.origin.now)) c.args.places.now c.in-Err.ensures.reads
 
 pub returns-in-Ok-cut_front-clause-reads : goal.returns-in-Ok-cut_front-clause-reads
-returns-in-Ok-cut_front-clause-reads g c = read_no_more c.args.places.now _ _ _ _ (front_within _ c.args.places.now) c.in-Ok.ensures.reads
+returns-in-Ok-cut_front-clause-reads g c = reads_once (is_http_response (said c.args.origin.now)) c.args.places.now c.in-Ok.ensures.reads
 
 pub returns-in-Err-cut_front-clause-reads : goal.returns-in-Err-cut_front-clause-reads
-returns-in-Err-cut_front-clause-reads g c = read_no_more c.args.places.now _ _ _ _ (front_within _ c.args.places.now) c.in-Ok.ensures.reads
+returns-in-Err-cut_front-clause-reads g c = reads_once (is_http_response (said c.args.origin.now)) c.args.places.now c.in-Ok.ensures.reads
 
 pub returns-in-Ok-cut_front-clause-located : goal.returns-in-Ok-cut_front-clause-located
 returns-in-Ok-cut_front-clause-located g c = λ bytes held records found is.
