@@ -1,5 +1,5 @@
 -- Counting the rows that pass a test.
-use Rattle.std.proofs.Common.{◌≡◌, ℕ, ◌+◌, ◌++◌, Bool, true, false, List, [], ◌∷◌, length, take, if◌then◌else◌, filter, refl, ap, ◌∙◌, arith, length-append, Some}
+use Rattle.std.proofs.Common.{◌≡◌, ℕ, ◌+◌, Bool, true, false, List, [], ◌∷◌, length, take, if◌then◌else◌, filter, refl, ap, ◌∙◌, length-append, Some}
 use Rattle.std.proofs.lemmas.List.Elements.{filter-append}
 use Rattle.std.specs.List.{slice_get}
 use Rattle.warc_reading.proofs.PlacedLemmas.{take_one}

@@ -1,6 +1,6 @@
 -- What extracting the block of a record promises.
-use Rattle.std.proofs.Common.{◌≡◌, ℕ, ◌+◌, ◌-◌, ◌≤◌, List, length, take, drop, Option, Some, None, Ok, Err, length-take, refl, sym, ap, subst, ◌∙◌, arith}
-use Rattle.std.specs.Prelude.{option_and_then, option_map, slice_range, Result}
+use Rattle.std.proofs.Common.{◌≡◌, ℕ, ◌+◌, ◌≤◌, List, length, take, drop, Option, Some, None, Ok, Err, length-take, refl, sym, ap, subst, ◌∙◌, arith}
+use Rattle.std.specs.Prelude.{option_and_then, option_map, Result}
 use Rattle.std.specs.Io.KnownBytes.{append_known}
 use Rattle.std.specs.List.{slice_get}
 use Rattle.std.proofs.lemmas.List.{length-drop}
@@ -15,7 +15,7 @@ use Rattle.warc_frame.specs.declared.fault.OutFault.{OutFault}
 use Rattle.warc_frame.specs.declared.fault.OutFault.TheVariants as outs
 use Rattle.warc_reading.specs.Archive.{IsArchiveOf}
 use Rattle.warc.specs.Extracting.{Extracts, IsExtract, extracted, position_with}
-use Rattle.warc.specs.Parts.{GivesPart, IsGiven, IsGivenCut, ReadsPart, part_len, part_start, part_text}
+use Rattle.warc.specs.Parts.{GivesPart, IsGivenCut, ReadsPart, part_len, part_start, part_text}
 use Rattle.warc_reading.specs.Indexed.{Archived, AreOf}
 use Rattle.warc_reading.specs.Row.{Placed, Row, row_of}
 use Rattle.warc.specs.Standing.{IsPlacedIn}

@@ -1,10 +1,9 @@
 -- The lines of blocks that aren't good, and how many blocks have a verdict.
-use Rattle.std.proofs.Common.{◌≡◌, ℕ, ◌+◌, ◌≤◌, List, [], ◌∷◌, ◌++◌, length, map, take, drop, append_assoc, codes, decimal, refl, sym, ap, ◌∙◌, arith, length-append, Some}
-use Rattle.std.proofs.lemmas.List.{append-nil, take_all}
-use Rattle.std.specs.List.{concat, enumerate_from, flat_map, join_with_byte, slice_get}
+use Rattle.std.proofs.Common.{◌≡◌, ℕ, ◌≤◌, List, [], ◌∷◌, ◌++◌, length, take, drop, append_assoc, codes, decimal, refl, sym, ap, ◌∙◌, arith}
+use Rattle.std.proofs.lemmas.List.{take_all}
+use Rattle.std.specs.List.{concat, enumerate_from, flat_map, join_with_byte}
 use Rattle.warc_record.specs.Ids.{bare_text}
 use Rattle.warc_reading.specs.Row.{Row}
-use Rattle.warc_value.specs.declared.hash.Verdict.{Verdict}
 use Rattle.warc_value.specs.declared.hash.Verdict.TheVariants.{Good, Bad, Unchecked}
 use Rattle.warc.specs.Fixity.{Digested, counts_line, counts_of, fixity_line, fixity_lines, fixity_text, verdict_line, verdict_text}
 use Rattle.warc.specs.Listing.{shown}

@@ -1,15 +1,14 @@
 -- A head that is read again is that of the record there.
-use Rattle.std.proofs.Common.{◌≡◌, ◌≢◌, ℕ, zero, suc, ◌+◌, ◌≤◌, min, length, drop, List, [], ◌∷◌, Option, Some, None, Result, Ok, Err, IfErr, refl, sym, ap, subst, ◌∙◌, arith}
+use Rattle.std.proofs.Common.{◌≡◌, ◌≢◌, ℕ, zero, suc, ◌+◌, ◌≤◌, min, length, drop, List, [], ◌∷◌, Some, None, Result, Ok, Err, IfErr, refl, sym, ap, subst, ◌∙◌, arith}
 use Rattle.std.specs.List.{slice_get}
 use Rattle.std.proofs.lemmas.Option.{slice_get_within}
 use Rattle.std.specs.Option.{option_to_list}
-use Rattle.warc_frame.specs.Failing.{HasFailedBy, MayHaveFailedBy}
 use Rattle.warc_frame.specs.Seen.{SeenSource}
 use Rattle.warc_frame.specs.declared.reading.Head.{Head}
 use Rattle.warc_frame.specs.Effects.{FailsBy}
 use Rattle.warc_frame.proofs.EffectLemmas.{fails_more, fails_never}
 use Rattle.warc_reading.specs.Rereading.{HasHeadOf, ReadsHeads}
-use Rattle.warc_reading.specs.Row.{Placed, Row, row_of}
+use Rattle.warc_reading.specs.Row.{Row}
 use Rattle.warc.specs.Heading.{IsHeadTaken, GivesHead}
 use Rattle.warc.specs.Standing.{IsUntaken}
 use Rattle.warc.specs.Taking.{take_result}

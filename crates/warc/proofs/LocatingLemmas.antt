@@ -1,11 +1,8 @@
 -- Where a body lies over the bytes of an archive, and what is read to find it.
-use Rattle.std.proofs.Common.{◌≡◌, ℕ, ◌+◌, ◌-◌, ◌*◌, ◌≤◌, List, [], ◌∷◌, map, Some, None, Result, Ok, Err, slice_get, refl, sym, ◌∙◌, arith}
-use Rattle.warc_frame.specs.Failing.{HasFailedBy}
+use Rattle.std.proofs.Common.{◌≡◌, ℕ, List, None, Ok, Err, slice_get, refl, sym, ◌∙◌}
 use Rattle.warc_frame.specs.Seen.{SeenSource}
-use Rattle.warc_frame.specs.declared.fault.OutFault.{OutFault}
 use Rattle.warc_index.specs.Orders.{Indexes}
 use Rattle.warc_index.specs.declared.unfound.Unfound.{Unfound}
-use Rattle.warc_segment.specs.Joined.{joined_places}
 use Rattle.warc_segment.specs.Kept.{Kept as Parts}
 use Rattle.warc_answer.specs.Answers.{path_at}
 use Rattle.warc_answer.specs.Laws.{ReasonsAreAnswers}
@@ -15,8 +12,7 @@ use Rattle.warc_answer.specs.declared.answer.Reason.TheVariants.{NotFound}
 use Rattle.warc_answer.specs.declared.answer.ReplayFault.{ReplayFault}
 use Rattle.warc_answer.specs.declared.answer.ReplayFault.TheVariants.{Reason}
 use Rattle.warc_reading.specs.Archive.{contents}
-use Rattle.warc_reading.specs.Indexed.{placed_record}
-use Rattle.warc_reading.specs.Row.{Placed, Row, row_of}
+use Rattle.warc_reading.specs.Row.{Row}
 use Rattle.warc.specs.Finding.{IsFoundAt, IsOtherRow}
 use Rattle.warc_frame.specs.Effects.{Preserves}
 use Rattle.warc.specs.Locating.{LocatesAt, LocatesOn}

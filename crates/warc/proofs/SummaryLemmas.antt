@@ -1,5 +1,5 @@
 -- The first and the last of dated rows, and the lines of a summary.
-use Rattle.std.proofs.Common.{◌≡◌, ◌≢◌, ℕ, zero, suc, ◌+◌, ◌<◌, ◌≤◌, Bool, true, false, not, List, [], ◌∷◌, ◌++◌, length, map, take, Option, None, Some, if◌then◌else◌, codes, decimal, option_map, refl, sym, ap, subst, ◌∙◌, arith, ⊎_elim, append_assoc, true≢false, get_or}
+use Rattle.std.proofs.Common.{◌≡◌, ℕ, ◌+◌, ◌<◌, ◌≤◌, Bool, true, false, not, List, [], ◌∷◌, ◌++◌, length, map, Option, None, Some, if◌then◌else◌, codes, option_map, refl, sym, ap, subst, ◌∙◌, arith, ⊎_elim, append_assoc, true≢false, get_or}
 use Rattle.std.proofs.lemmas.Bool.{cases_lt}
 use Rattle.std.proofs.lemmas.Bool.Decides.{nat_tests}
 use Rattle.std.proofs.lemmas.Option.{slice_get_within, slice_get-get_or}
@@ -7,7 +7,7 @@ use Rattle.std.specs.List.{concat, flat_map, slice_get}
 use Rattle.warc_value.specs.Dates.{Instant, is_before}
 use Rattle.warc_index.specs.Captures.{is_earlier}
 use Rattle.warc_reading.specs.Row.{Row}
-use Rattle.warc.specs.Summary.{IsEndOf, IsEndRow, IsFirstRow, IsLastRow, instant_at, is_nearer, number_line, shown_date, summary_numbers, summary_text, text_line}
+use Rattle.warc.specs.Summary.{IsEndOf, IsEndRow, instant_at, is_nearer, number_line, shown_date, summary_numbers, summary_text, text_line}
 use Rattle.warc.specs.declared.summary.Dated.{Dated}
 use Rattle.warc.specs.declared.summary.End.{End}
 use Rattle.warc.specs.declared.summary.Summary.{Summary}

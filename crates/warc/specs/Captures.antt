@@ -1,5 +1,5 @@
 -- The captures of an archive, and the lines that `captures` writes of them.
-use Rattle.std.specs.Prelude.{◌≡◌, ℕ, Bool, not, ◌==◌, List, [], ◌∷◌, ◌++◌, length, take, drop, slice_get, codes, decimal, Option, Some, None, Result, Ok, Err, if◌then◌else◌}
+use Rattle.std.specs.Prelude.{ℕ, not, ◌==◌, List, [], ◌∷◌, ◌++◌, length, take, drop, slice_get, codes, decimal, Option, Some, None, Result, Ok, Err, if◌then◌else◌}
 use Rattle.std.specs.List.{enumerate_from, flat_map, join_with_byte, prefix_len}
 use Rattle.std.specs.Option.{option_map_or}
 use Rattle.warc_record.specs.Kinds.{kind_named}

@@ -1,5 +1,5 @@
 -- What an archive holds, in numbers and dates, and the lines that say so. This project's own notion.
-use Rattle.std.specs.Prelude.{◌≡◌, ◌≢◌, ℕ, ◌<◌, Bool, true, false, not, List, [], ◌∷◌, ◌++◌, length, map, filter, slice_get, codes, decimal, Option, None, Some, is_some, option_map, unwrap_or, MatchOption, Result, Ok, Err}
+use Rattle.std.specs.Prelude.{◌≡◌, ◌≢◌, ℕ, ◌<◌, Bool, true, false, not, List, [], ◌∷◌, ◌++◌, length, map, filter, slice_get, codes, decimal, Option, Some, is_some, option_map, unwrap_or, MatchOption, Result, Ok, Err}
 use Rattle.std.specs.List.{flat_map}
 use Rattle.warc_field.specs.Area.{Pair}
 use Rattle.warc_value.specs.Dates.{Instant, instant_of}

@@ -11,7 +11,7 @@ use Rattle.warc_index.specs.declared.unfound.Unfound.{Unfound}
 use Rattle.warc_index.specs.declared.unfound.Unfound.TheVariants.{Loop, NotYet, NoCapture}
 use Rattle.warc_segment.specs.Joined.{ReadRecord, joined_records}
 use Rattle.warc_segment.specs.declared.gap.Gap.{Gap}
-use Rattle.warc_answer.specs.Answers.{Given, IsAnswer, IsAnswerOn, IsGivenAt, IsGivenOn, given_by, index_of, is_truncated, path_for, path_of}
+use Rattle.warc_answer.specs.Answers.{Given, IsAnswerOn, IsGivenAt, IsGivenOn, given_by, index_of, is_truncated, path_for}
 use Rattle.warc_answer.specs.Laws.{ChosenLoops, IsOfLoop, LoopsAreAnswered, LoopsAreReplayed}
 use Rattle.warc_answer.specs.Payloads.{IsBehindHead, IsPayload, Payload, has_bad_block, is_http_response, read_record, whole_block}
 use Rattle.warc_answer.specs.Replays.{IsReplay}

@@ -1,4 +1,4 @@
-use Rattle.std.proofs.Common.{rules, ◌≡◌, ◌+◌, map, refl, sym, ap, take_all, ◌∙◌}
+use Rattle.std.proofs.Common.{rules, ◌+◌, map, refl, sym, ap, take_all, ◌∙◌}
 use Rattle.warc_frame.proofs.LawLemmas.{longer, same_out, same_staged}
 use Rattle.warc.specs.Captures.{captures_text}
 use Rattle.warc.specs.Outcomes.{outcome_seen}

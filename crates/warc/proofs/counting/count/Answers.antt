@@ -1,6 +1,5 @@
 use Rattle.std.proofs.Common.{◌≡◌, ◌+◌, Some, refl, sym, ap, ap₂, ◌∙◌, arith}
 use Rattle.std.specs.List.{slice_get}
-use Rattle.warc_reading.specs.Row.{Row}
 use Rattle.warc.specs.Counting.{is_counted}
 use Rattle.warc.proofs.CountLemmas.{count_more, one_if}
 use Rattle.warc.proofs.counting.count.Goals as goal

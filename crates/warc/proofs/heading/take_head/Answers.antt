@@ -1,4 +1,4 @@
-use Rattle.std.proofs.Common.{◌≡◌, Err, refl, ap, subst, ◌∙◌, arith}
+use Rattle.std.proofs.Common.{Err, refl, ap, subst, ◌∙◌, arith}
 use Rattle.warc_frame.specs.Effects.{FailsBy}
 use Rattle.warc_reading.specs.Rereading.{HasHeadOf, ended_by}
 use Rattle.warc_reading.specs.declared.rereading.RereadFault.{RereadFault}

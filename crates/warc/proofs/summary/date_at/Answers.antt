@@ -1,4 +1,4 @@
-use Rattle.std.proofs.Common.{◌≡◌, sym, ◌∙◌}
+use Rattle.std.proofs.Common.{sym, ◌∙◌}
 use Rattle.warc.proofs.SummaryLemmas.{no_row}
 use Rattle.warc.proofs.summary.date_at.Goals as goal
 

@@ -1,4 +1,4 @@
-use Rattle.std.proofs.Common.{rules, ℕ, List, [], ◌+◌, ◌++◌, drop, map, ap, ◌∙◌}
+use Rattle.std.proofs.Common.{rules, [], ◌+◌, ◌++◌, drop, map, ap, ◌∙◌}
 use Rattle.std.specs.List.{concat}
 use Rattle.warc_frame.proofs.LawLemmas.{longer, same_out, same_staged}
 use Rattle.warc_frame.proofs.PieceLemmas.{pieces_more, pieces_rest}

@@ -1,8 +1,8 @@
 use Rattle.std.proofs.Common.{rules, ◌≡◌, ◌+◌, ◌++◌, [], length, take, unwrap_or, Some, arith, refl, sym, ap, ◌∙◌}
 use Rattle.std.specs.List.{slice_get}
-use Rattle.warc.specs.Fixity.{counts_line, counts_of, fixity_line, fixity_lines, fixity_text, unless_good, verdict_line}
+use Rattle.warc.specs.Fixity.{counts_line, counts_of, fixity_line, fixity_lines, unless_good, verdict_line}
 use Rattle.warc_frame.proofs.LawLemmas.{longer, same_out, same_staged}
-use Rattle.warc.proofs.LineLemmas.{lines_front, lines_next}
+use Rattle.warc.proofs.LineLemmas.{lines_next}
 use Rattle.warc.proofs.FixityLemmas.{all_lines, same_digests, same_listed, whole_text}
 use Rattle.warc.proofs.fixity.Fixity.list.Goals as goal
 

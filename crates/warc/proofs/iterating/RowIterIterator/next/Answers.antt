@@ -1,4 +1,4 @@
-use Rattle.std.proofs.Common.{◌≡◌, ◌+◌, ◌<◌, min, List, [], ◌∷◌, length, drop, sym, ap, ap₂, ◌∙◌, arith}
+use Rattle.std.proofs.Common.{◌≡◌, min, [], length, sym, ap, ap₂, ◌∙◌, arith}
 use Rattle.warc.proofs.HeadingLemmas.{none_left, some_left}
 use Rattle.warc.proofs.iterating.RowIterIterator.next.Goals as goal
 

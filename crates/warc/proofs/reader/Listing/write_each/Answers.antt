@@ -1,6 +1,4 @@
-use Rattle.std.proofs.Common.{rules, subst, sym, ap, ◌∙◌}
-use Rattle.warc_frame.proofs.EffectLemmas.{fails_more}
-use Rattle.warc.specs.Copied.{AreTextsOf, text_by}
+use Rattle.warc.specs.Copied.{text_by}
 use Rattle.warc_reading.proofs.PlaceLemmas.{same_rows, same_source}
 use Rattle.warc.proofs.WholeLemmas.{output_texts}
 use Rattle.warc.proofs.reader.Listing.write_each.Goals as goal

@@ -1,7 +1,7 @@
-use Rattle.std.proofs.Common.{rules, ◌≡◌, ◌++◌, codes, option_map, refl, ap, ◌∙◌}
+use Rattle.std.proofs.Common.{rules, codes, refl, ap, ◌∙◌}
 use Rattle.std.specs.List.{flat_map}
 use Rattle.warc_frame.proofs.LawLemmas.{longer, same_out, same_staged}
-use Rattle.warc.specs.Summary.{number_line, shown_date, text_line}
+use Rattle.warc.specs.Summary.{number_line, text_line}
 use Rattle.warc.proofs.SummaryLemmas.{all_lines_of, flat, lines_in_turn}
 use Rattle.warc.proofs.summary.Summary.write.Goals as goal
 
