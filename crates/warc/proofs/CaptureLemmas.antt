@@ -1,16 +1,20 @@
 -- The outcomes of captures, each origin judged once, and their lines.
-use Rattle.std.proofs.Common.{◌≡◌, ◌⊎◌, append_assoc, codes, decimal, inl, inr, ℕ, zero, suc, ◌+◌, ◌<◌, ◌≤◌, List, [], ◌∷◌, ◌++◌, length, map, take, drop, get_or, replicate, Option, Some, None, Result, Ok, Err, refl, sym, ap, subst, ◌∙◌, arith, length-append}
+use Rattle.std.proofs.Common.{◌≡◌, ◌⊎◌, append_assoc, codes, decimal, inl, inr, ℕ, zero, suc, ◌+◌, ◌<◌, List, [], ◌∷◌, ◌++◌, length, map, take, drop, get_or, replicate, Option, Some, None, Result, Ok, Err, refl, sym, ap, subst, ◌∙◌, arith, length-append}
 use Rattle.std.specs.Prelude.{IfErr}
 use Rattle.std.proofs.lemmas.Grind.{flat_map-append}
 use Rattle.std.proofs.lemmas.List.{append-nil, take_more, take-append-drop}
 use Rattle.std.proofs.lemmas.Option.{slice_get_within}
-use Rattle.std.specs.List.{AllByRecursion, concat, flat_map, join_with_byte, slice_get}
+use Rattle.std.specs.List.{AllByRecursion, concat, slice_get}
 use Rattle.std.proofs.Math.ListN.{set}
+use Rattle.warc_frame.specs.Effects.{Preserves}
 use Rattle.warc_frame.specs.Failing.{MayHaveFailedBy}
 use Rattle.warc_frame.specs.Record.{Record}
+use Rattle.warc_frame.specs.Seen.{SeenSource}
 use Rattle.warc_frame.specs.declared.fault.OutFault.{OutFault}
 use Rattle.warc_frame.specs.declared.fault.OutFault.TheVariants as outs
+use Rattle.warc_index.specs.Orders.{Indexes}
 use Rattle.warc_index.specs.declared.unfound.Unfound.{Unfound}
+use Rattle.warc_segment.specs.Kept.{Kept as Parts}
 use Rattle.warc_answer.specs.Answers.{path_at}
 use Rattle.warc_answer.specs.Seen.{IsEarly}
 use Rattle.warc_answer.specs.Stored.{IsStoredAt, IsStoredOn}
@@ -20,9 +24,12 @@ use Rattle.warc_reading.specs.Row.{Row}
 use Rattle.warc_answer.specs.declared.answer.Reason.{Reason as Why}
 use Rattle.warc.specs.Captures.{capture_line, captures_text, columns_line, columns_of, date_front, full_date, number_shown, reason_shown}
 use Rattle.warc.specs.Listing.{shown}
-use Rattle.warc.specs.Capturing.{AreSlots, AreSoFar, Remembers}
+use Rattle.warc.specs.Capturing.{AreSlots, AreSoFar, JudgesNext, Remembers}
 use Rattle.warc.specs.Outcomes.{CaptureSeen, IsOutcome, judged_seen, origin_on, outcome_seen}
+use Rattle.warc.specs.Replaying.{AsksInside}
 use Rattle.warc.specs.declared.outcome.Outcome.{Outcome}
+use Rattle.warc.proofs.LookLemmas.{out_may}
+use Rattle.warc.proofs.ReplayLemmas.{asks_both}
 
 -- what is found in a list with one more element
 appended : {X : Type 0} (xs : List X) (x : X) (k : ℕ) (o : X) → slice_get (xs ++ x ∷ []) k ≡ Some o → (slice_get xs k ≡ Some o) ⊎ ((k ≡ length xs) × (o ≡ x))
@@ -106,6 +113,19 @@ memory_early (Err e) is = subst (λ (f : OutFault). IsEarly (Out f)) (sym is) re
 pub memory_may : {X : Type 0} (r : Result X OutFault) (n : ℕ) → IfErr r (λ fault. fault ≡ outs.Memory 0) → MayHaveFailedBy r n n
 memory_may (Ok x) n is = refl
 memory_may {X} (Err e) n is = subst (λ (f : OutFault). MayHaveFailedBy {X = X} (Err f) n n) (sym is) refl
+
+-- ---- what is read
+
+pub preserves_both : {old mid new : SeenSource} → Preserves old mid → Preserves mid new → Preserves old new
+preserves_both first then = record { kept = then.kept ∙ first.kept; watched = then.watched ∙ first.watched }
+
+pub fault_may : (X Y : Type 0) (e : OutFault) (old mid new : ℕ) → mid ≡ old → MayHaveFailedBy {X = X} (Err e) mid new → MayHaveFailedBy {X = Y} (Err e) old new
+fault_may X Y e old mid new same is = out_may X Y e old new (subst (λ (n : ℕ). MayHaveFailedBy {X = X} (Err e) n new) same is)
+
+pub asks_on : {A : Type 0} {rows : List Row} {index : Indexes} {parts : Parts} {position : ℕ} {slots : List ℕ} {outcomes : List (Outcome A)} {old mid new : SeenSource} {answer : Result (Outcome A) OutFault}
+    → Preserves old mid → AsksInside rows index parts old mid → JudgesNext rows index parts position slots outcomes mid new answer → AsksInside rows index parts old new
+asks_on {A} {rows} {index} {parts} {position} {slots} {outcomes} {old} {mid} {new} first inside next = λ bytes is.
+    asks_both (λ at. at < length bytes) old mid new.watched_reads first.watched (inside bytes is) (next.inside bytes is)
 
 -- ---- lines
 

@@ -1,11 +1,13 @@
 -- The good front of a source.
-use Rattle.std.proofs.Common.{◌≡◌, ℕ, ◌+◌, ◌^◌, ◌<◌, ◌≤◌, false, List, [], ◌++◌, length, take, drop, Option, Some, None, Ok, Err, refl, sym, ap, subst, ◌∙◌, arith, length-append}
+use Rattle.std.proofs.Common.{◌≡◌, ℕ, ◌^◌, ◌<◌, ◌≤◌, List, [], ◌++◌, length, take, drop, Option, Some, None, Ok, Err, refl, sym, ap, subst, ◌∙◌, arith, length-append}
 use Rattle.std.specs.Prelude.{Result}
 use Rattle.std.proofs.Math.Seq.{take-append_seam}
 use Rattle.std.proofs.lemmas.List.{append_assoc, append-nil, take-append-drop}
 use Rattle.std.specs.Io.KnownBytes.{append_known}
 use Rattle.warc_frame.specs.Effects.{HasRange, IsRange, ReadsRange, Sends}
+use Rattle.warc_frame.proofs.EffectLemmas.{reads_within}
 use Rattle.warc_frame.specs.Failing.{HasFailedBy, MayHaveFailedBy}
+use Rattle.warc_frame.specs.Record.{max_archive}
 use Rattle.warc_frame.specs.Seen.{Seen, SeenSource}
 use Rattle.warc_frame.specs.Send.{WentOut, sent_of}
 use Rattle.warc_frame.specs.declared.fault.Fault.{Fault}
@@ -68,16 +70,19 @@ may_as_count (Read s) n m is = is
 may_as_count (Write s) n m is = is
 may_as_count (Memory s) n m is = is
 
-module _ (rows : List Row) (end : ℕ) (old new : SeenSource) (before after : Seen) (at : (text : List ℕ) → IsArchiveOf text rows → end ≡ length text)
-    (filled : ReadsRange 0 end old new) where
+module _ (rows : List Row) (end : ℕ) (old new : SeenSource) (before after : Seen) (short : end ≤ max_archive)
+    (at : (text : List ℕ) → IsArchiveOf text rows → end ≡ length text) (filled : ReadsRange 0 end old new) where
   there : (text more : List ℕ) → length (text ++ more) < 2 ^ 64 → IsArchiveOf text rows → HasRange 0 end (text ++ more)
   there text more few is = (omega (arith, at text is, length-append text more), few)
 
   front_bytes : (text more : List ℕ) → IsArchiveOf text rows → take end (drop 0 (text ++ more)) ≡ text
   front_bytes text more is = ap (λ n. take n (text ++ more)) (at text is) ∙ take-append_seam text more
 
-  near : (text : List ℕ) → IsArchiveOf text rows → ((q : ℕ) → q < length text → old.watches q ≡ false) → new.watched_reads ≡ old.watched_reads
-  near text is these = filled.near (λ q within. these q (omega (arith, within.1, at text is)))
+  reads : (text : List ℕ) → IsArchiveOf text rows → ReadsRange 0 (length text) old new
+  reads text is = let P : ℕ → Type 0 = λ n. ReadsRange 0 n old new in subst P (at text is) filled
+
+  near : ReadsRange 0 max_archive old new
+  near = reads_within (λ q in_. (in_.0, omega (arith, in_.1, short))) short filled
 
   pub copies_all : Sends {X = Unit {0}} (IsRange 0 end) old new before after (Ok tt)
       → CopiesFront rows old new before after (Ok end)
@@ -87,9 +92,8 @@ module _ (rows : List Row) (end : ℕ) (old new : SeenSource) (before after : Se
         (told ∙ ap (append_known before.tells) (front_bytes text more is), at text is);
     cut = λ text more held few is. tt;
     failed = λ text more held few is. sends.fails.may;
-    near = λ text more held few is. near text is;
-    cost = λ text more held few is. omega (arith, filled.bound, at text is);
-    kept = filled.kept;
+    reads = reads;
+    near = near;
     may = sends.fails.may;
     cause = sends.cause;
   }
@@ -103,9 +107,8 @@ module _ (rows : List Row) (end : ℕ) (old new : SeenSource) (before after : Se
         subst P (front_bytes text more is) (sends.cut (text ++ more) _ held (there text more few is, refl));
     failed = λ text more held few is.
         failed_as_count e old.faults new.faults (sends.fails.failed (text ++ more) held (_, (there text more few is, refl)));
-    near = λ text more held few is. near text is;
-    cost = λ text more held few is. omega (arith, filled.bound, at text is);
-    kept = filled.kept;
+    reads = reads;
+    near = near;
     may = may_as_count e old.faults new.faults sends.fails.may;
     cause = sends.cause;
   }

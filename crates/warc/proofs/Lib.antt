@@ -19,3 +19,4 @@ pub mod KeptLemmas
 pub mod LookLemmas
 pub mod CaptureLemmas
 pub mod HeadingLemmas
+pub mod JoinedLemmas

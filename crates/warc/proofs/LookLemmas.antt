@@ -1,12 +1,11 @@
 -- What is stored of an origin, over the bytes of an archive.
-use Rattle.std.proofs.Common.{◌≡◌, inl, inr, ℕ, zero, suc, ◌<◌, ◌≤◌, List, [], ◌∷◌, length, map, drop, Option, Some, None, Result, Ok, Err, refl, sym, ap, subst, ◌∙◌, arith}
-use Rattle.std.specs.Prelude.{IfErr, option_map}
+use Rattle.std.proofs.Common.{◌≡◌, inl, inr, ℕ, zero, suc, ◌<◌, ◌≤◌, List, [], ◌∷◌, length, drop, Option, Some, None, Result, Ok, Err, refl, sym, ap, subst, ◌∙◌, arith}
 use Rattle.std.specs.Io.KnownBytes.{append_known}
 use Rattle.std.specs.List.{slice_get}
 use Rattle.std.specs.Option.{option_map_or}
-use Rattle.warc_frame.specs.Effects.{FailsBy}
+use Rattle.warc_frame.specs.Effects.{FailsBy, ReadsOnly}
 use Rattle.warc_frame.specs.Failing.{MayHaveFailedBy, failed_by}
-use Rattle.warc_frame.proofs.EffectLemmas.{fails_as, fails_more}
+use Rattle.warc_frame.proofs.EffectLemmas.{fails_as, fails_more, reads_both, reads_within}
 use Rattle.warc_frame.specs.Record.{Record, max_archive}
 use Rattle.warc_frame.specs.Seen.{Seen, SeenSource}
 use Rattle.warc_frame.specs.Send.{WentOut, sent_of}
@@ -15,14 +14,14 @@ use Rattle.warc_frame.specs.declared.fault.OutFault.TheVariants as outs
 use Rattle.warc_index.specs.Orders.{Indexes}
 use Rattle.warc_index.specs.declared.unfound.Unfound.{Unfound}
 use Rattle.warc_segment.specs.Joined.{ArePlacesOf, ReadRecord, joined_records}
-use Rattle.warc_segment.specs.Kept.{Kept as Parts, kept_in}
+use Rattle.warc_segment.specs.Kept.{Kept as Parts}
 use Rattle.warc_segment.specs.declared.gap.Gap.{Gap}
 use Rattle.warc_segment.specs.declared.place.Place.{Place}
 use Rattle.std.specs.declared.vec.Vec.{Vec}
 use Rattle.warc_answer.specs.Answers.{path_at}
 use Rattle.warc_answer.specs.Laws.{PathsEndInside}
 use Rattle.warc_answer.specs.Payloads.{read_record, whole_block}
-use Rattle.warc_answer.specs.Places.{text_at}
+use Rattle.warc_answer.specs.Places.{IsInOne, ReadsPlaces, len_of}
 use Rattle.warc_answer.specs.Replays.{out_result}
 use Rattle.warc_answer.specs.Seen.{IsEarly, IsJudged, stored_seen}
 use Rattle.warc_answer.specs.Stored.{IsStoredAt, IsStoredBy, IsStoredOn, StoredBody, joined_text, joined_text_at, joined_to}
@@ -37,18 +36,18 @@ use Rattle.warc_reading.specs.Rereading.{ended_by}
 use Rattle.warc_reading.specs.declared.rereading.RereadFault.{RereadFault}
 use Rattle.warc_reading.specs.declared.rereading.RereadFault.TheVariants.{Read, Memory}
 use Rattle.warc_reading.specs.Archive.{IsArchiveOf, contents}
-use Rattle.warc_reading.specs.Indexed.{AreOf, placed_record}
+use Rattle.warc_reading.specs.Indexed.{AreOf}
 use Rattle.warc_reading.specs.Row.{Placed, Row}
-use Rattle.warc.specs.Bodies.{IsCaptureAt}
-use Rattle.warc.specs.Finding.{IsCaptureRow, IsFoundAt, IsOtherRow}
-use Rattle.warc.specs.Looking.{IsLook, IsReason, IsSent, Judges, Looks, SendsStored}
+use Rattle.warc.specs.Finding.{IsFoundAt, IsOtherRow}
+use Rattle.warc.specs.Looking.{ArePlacesIn, AsksWithin, IsLook, IsSent, Judges, Looks, ReadsOrigin, SendsStored}
 use Rattle.warc.specs.Outcomes.{GivesStoredAt, CaptureSeen, IsOutcome, JudgesAt, StoredAnswer, judged_seen, origin_on}
+use Rattle.warc.specs.Replaying.{IsJoined, IsOfOrigin, IsOnPath, ReadsPath, origin_joined, origin_reads, path_reads, reads_of}
 use Rattle.warc.specs.declared.bodies.Found.TheVariants.{Capture}
 use Rattle.warc.specs.declared.fault.BodyFault.TheVariants.{NoRecord, NoCapture, Replay}
 use Rattle.warc.specs.declared.looking.Look.{Look}
 use Rattle.warc.specs.declared.outcome.Outcome.{Outcome}
 use Rattle.warc.proofs.BodyLemmas.{below_there, capture_there, none_there, other_there}
-use Rattle.warc.proofs.ReplayLemmas.{path_by_links, read_all}
+use Rattle.warc.proofs.ReplayLemmas.{path_by_links, read_all, reads_nothing, then_inside}
 
 -- the record at a position of a list
 content_there : (records : List Placed) (i : ℕ) (p : Placed) → slice_get records i ≡ Some p → slice_get (contents records) i ≡ Some p.content
@@ -114,12 +113,75 @@ pub ended_early : (fault : RereadFault) → IsEarly (Out (ended_by fault 0))
 ended_early Read = refl
 ended_early Memory = refl
 
+-- ---- what is read
+
+once_twice : (all : List Placed) (found : Option Placed) {old new : SeenSource} → ReadsOnly (IsOfOrigin all found) (reads_of 1 all found) old new → ReadsOnly (IsOfOrigin all found) (origin_reads all found) old new
+once_twice all None has = has
+once_twice all (Some p) has = reads_within (λ at in_. in_) (omega arith) has
+
+then_sent : (all : List Placed) (found : Option Placed) (items places : List Place) {old mid new : SeenSource} → ReadsOnly (IsOfOrigin all found) (reads_of 1 all found) old mid → ArePlacesIn all found items
+    → places ≡ items → ReadsPlaces places (len_of places) mid new → ReadsOnly (IsOfOrigin all found) (origin_reads all found) old new
+then_sent all None items places first are same then = absurd are
+then_sent all (Some p) items places {old} {mid} {new} first are same then =
+    let second : ReadsOnly (IsOfOrigin all (Some p)) (origin_joined all p) mid new =
+    reads_within (λ at in_. inr (subst (λ r. IsJoined r at) (sym are.are) (subst (λ (l : List Place). IsInOne l at) same in_))) (omega (arith, ap len_of same, are.long)) then in
+    reads_within (λ at in_. in_) (omega arith) (reads_both first second)
+
+module _ {A : Type 0} {rows : List Row} {parts : Parts} {position : ℕ} {old mid : SeenSource} {answer : Result (Look A) ReplayFault} (looks : Looks rows parts position old mid answer) where
+  pub origin_read : ReadsOrigin rows parts position old mid
+  origin_read = λ bytes held is are. once_twice is.are.records (slice_get is.are.records position) (looks.reads bytes held is are).reads
+
+  pub asked_within : AsksWithin rows parts old mid
+  asked_within = λ bytes is are. (looks.inside bytes is are).asks
+
+-- the same judged, without the places
+pub judged_none : {A : Type 0} {rows : List Row} {parts : Parts} {position : ℕ} {old new : SeenSource} (answer : Result (Look A) ReplayFault) (why : Why) → answer ≡ Err (Reason why)
+    → Looks rows parts position old new answer → Judges {A = A} rows parts position old new (Ok (Err why))
+judged_none {A} {rows} {parts} {position} {old} {new} answer why is looks =
+    let has = subst (λ (a : Result (Look A) ReplayFault). Looks rows parts position old new a) is looks in
+    record {
+      told = has.told;
+      reads = origin_read has;
+      inside = asked_within has;
+      early = tt;
+      keeps = has.keeps;
+      fails = record { may = has.fails.may; failed = has.fails.failed };
+    }
+
+pub judged_out : {A : Type 0} {rows : List Row} {parts : Parts} {position : ℕ} {old new : SeenSource} (answer : Result (Look A) ReplayFault) (e : OutFault) → answer ≡ Err (Out e)
+    → Looks rows parts position old new answer → Judges {A = A} rows parts position old new (Err e)
+judged_out {A} {rows} {parts} {position} {old} {new} answer e is looks =
+    let has = subst (λ (a : Result (Look A) ReplayFault). Looks rows parts position old new a) is looks in
+    record {
+      told = λ bytes held of are. tt;
+      reads = origin_read has;
+      inside = asked_within has;
+      early = has.early;
+      keeps = has.keeps;
+      fails = fails_as (Unit {0}) (Result (Stored A) Why) has.fails;
+    }
+
+-- and then the blocks are read that are joined
+module _ {A : Type 0} {rows : List Row} {parts : Parts} {position : ℕ} {old mid : SeenSource} {look : Look A} (looks : Looks rows parts position old mid (Ok look))
+    (places : List Place) (new : SeenSource) (same : places ≡ look.places.items) (then : ReadsPlaces places (len_of places) mid new) where
+  pub sent_read : ReadsOrigin rows parts position old new
+  sent_read = λ bytes held is are.
+      let looked = looks.reads bytes held is are in
+      then_sent is.are.records (slice_get is.are.records position) look.places.items places looked.reads looked.places same then
+
+  pub sent_within : AsksWithin rows parts old new
+  sent_within = λ bytes is are.
+      let looked = looks.inside bytes is are in
+      then_inside bytes look.places.items places old mid new looks.keeps.watched looked.asks looked.ends same then.near
+
 -- ---- by a position
 
 module _ (rows : List Row) (index : Indexes) (parts : Parts) (position : ℕ) where
   pub judges_no_record : {A : Type 0} → (s : SeenSource) → slice_get rows position ≡ None → JudgesAt {A = A} rows index parts position s s (Err NoRecord)
   judges_no_record s none = record {
     told = λ bytes held is are. none_there bytes rows position is none;
+    reads = λ bytes held is are. reads_nothing;
+    inside = λ bytes is off. refl;
     keeps = record { kept = refl; watched = refl };
     fails = record { may = refl; failed = λ bytes held is. refl };
   }
@@ -127,6 +189,8 @@ module _ (rows : List Row) (index : Indexes) (parts : Parts) (position : ℕ) wh
   pub judges_no_capture : {A : Type 0} → (s : SeenSource) → IsOtherRow rows position → JudgesAt {A = A} rows index parts position s s (Err NoCapture)
   judges_no_capture s has = record {
     told = λ bytes held is are. other_there bytes rows position is has;
+    reads = λ bytes held is are. reads_nothing;
+    inside = λ bytes is off. refl;
     keeps = record { kept = refl; watched = refl };
     fails = record { may = refl; failed = λ bytes held is. refl };
   }
@@ -150,6 +214,8 @@ module _ (rows : List Row) (index : Indexes) (parts : Parts) (position : ℕ) wh
       refl,
       outcome_made None (Err (NotFound unfound)) (Err unfound) (contents is.are.records) (path_found (Err unfound) bytes is are found) refl refl,
     );
+    reads = λ bytes held is are. reads_nothing;
+    inside = λ bytes is off. refl;
     keeps = record { kept = refl; watched = refl };
     fails = record { may = refl; failed = λ bytes held is. refl };
   }
@@ -158,6 +224,11 @@ module _ (rows : List Row) (index : Indexes) (parts : Parts) (position : ℕ) wh
       → IsFoundAt rows index parts position (Capture (Ok path)) → path.given < length (contents is.are.records)
   inside_there inside path bytes is are found =
       (inside (contents is.are.records)).1 position (below_there bytes rows position is found.0) path (path_found (Ok path) bytes is are found)
+
+  reads_there : (path : Path) (old new : SeenSource) → IsFoundAt rows index parts position (Capture (Ok path)) → ReadsOrigin rows parts path.given old new
+      → ReadsPath rows index parts (λ records. path_at records position) old new
+  reads_there path old new found by = λ bytes held is are.
+      subst (λ (f : Result Path Unfound). ReadsOnly (IsOnPath is.are.records f) (path_reads is.are.records f) old new) (sym (path_found (Ok path) bytes is are found)) (by bytes held is are.parts_are)
 
   pub judges_made : {A : Type 0} → PathsEndInside → (path : Path) (stored : Result (Stored A) Why) (old new : SeenSource) → IsFoundAt rows index parts position (Capture (Ok path))
       → Judges rows parts path.given old new (Ok stored)
@@ -168,6 +239,8 @@ module _ (rows : List Row) (index : Indexes) (parts : Parts) (position : ℕ) wh
       refl,
       outcome_made (Some path.given) (judged_seen stored) (Ok path) (contents is.are.records) (path_found (Ok path) bytes is are found) refl (by.told bytes held is are.parts_are),
     );
+    reads = reads_there path old new found by.reads;
+    inside = λ bytes (is, are). by.inside bytes is are.parts_are;
     keeps = by.keeps;
     fails = fails_more (λ bytes held (is, are). (is, are.parts_are, inside_there inside path bytes is are found)) (record { may = by.fails.may; failed = by.fails.failed });
   }
@@ -176,6 +249,8 @@ module _ (rows : List Row) (index : Indexes) (parts : Parts) (position : ℕ) wh
       → Judges {A = A} rows parts path.given old new (Err e) → JudgesAt {A = A} rows index parts position old new (Err (Replay (Out e)))
   judges_failed {A} inside path e old new found by = record {
     told = λ bytes held is are. (capture_there bytes rows position is found.0, early_sent e by.early);
+    reads = reads_there path old new found by.reads;
+    inside = λ bytes (is, are). by.inside bytes is are.parts_are;
     keeps = by.keeps;
     fails = fails_more (λ bytes held (is, are). (is, are.parts_are, inside_there inside path bytes is are found)) (fails_as (Result (Stored A) Why) (Unit {0}) by.fails);
   }
@@ -185,6 +260,8 @@ module _ (rows : List Row) (index : Indexes) (parts : Parts) (position : ℕ) wh
   pub gives_none : (s : SeenSource) (o : Seen) → slice_get rows position ≡ None → GivesStoredAt rows index parts position s s o o (Err NoRecord)
   gives_none s o none = record {
     told = λ bytes held is are. (none_there bytes rows position is none, refl);
+    reads = λ bytes held is are. reads_nothing;
+    inside = λ bytes is off. refl;
     silent = refl;
     keeps = record { kept = refl; watched = refl };
     fails = record { may = refl; failed = λ bytes held is. refl };
@@ -194,6 +271,8 @@ module _ (rows : List Row) (index : Indexes) (parts : Parts) (position : ℕ) wh
   pub gives_other : (s : SeenSource) (o : Seen) → IsOtherRow rows position → GivesStoredAt rows index parts position s s o o (Err NoCapture)
   gives_other s o has = record {
     told = λ bytes held is are. (other_there bytes rows position is has, refl);
+    reads = λ bytes held is are. reads_nothing;
+    inside = λ bytes is off. refl;
     silent = refl;
     keeps = record { kept = refl; watched = refl };
     fails = record { may = refl; failed = λ bytes held is. refl };
@@ -212,6 +291,8 @@ module _ (rows : List Row) (index : Indexes) (parts : Parts) (position : ℕ) wh
       reason_there (Err unfound) (NotFound unfound) (contents is.are.records) (path_found (Err unfound) bytes is are found) refl,
       refl,
     );
+    reads = λ bytes held is are. reads_nothing;
+    inside = λ bytes is off. refl;
     silent = refl;
     keeps = record { kept = refl; watched = refl };
     fails = record { may = refl; failed = λ bytes held is. refl };
@@ -225,6 +306,8 @@ module _ (rows : List Row) (index : Indexes) (parts : Parts) (position : ℕ) wh
     told = λ bytes held is are.
         let sent = by.told bytes held is are.parts_are in
         (capture_there bytes rows position is found.0, path_found (Ok path) bytes is are found, sent.0, sent.1);
+    reads = reads_there path old new found by.reads;
+    inside = λ bytes (is, are). by.inside bytes is are.parts_are;
     silent = tt;
     keeps = by.keeps;
     fails = fails_more (λ bytes held (is, are). (is, are.parts_are, inside_there inside path bytes is are found)) (record { may = by.fails.may; failed = by.fails.failed });
@@ -240,6 +323,8 @@ module _ (rows : List Row) (index : Indexes) (parts : Parts) (position : ℕ) wh
           reason_there (Ok path) why (contents is.are.records) (path_found (Ok path) bytes is are found) sent.0,
           sent.1,
         );
+    reads = reads_there path old new found by.reads;
+    inside = λ bytes (is, are). by.inside bytes is are.parts_are;
     silent = by.silent tt;
     keeps = by.keeps;
     fails = fails_more (λ bytes held (is, are). (is, are.parts_are, inside_there inside path bytes is are found)) (record { may = by.fails.may; failed = by.fails.failed });
@@ -252,6 +337,8 @@ module _ (rows : List Row) (index : Indexes) (parts : Parts) (position : ℕ) wh
       path_found (Ok path) bytes is are found,
       by.told bytes held is are.parts_are,
     );
+    reads = reads_there path old new found by.reads;
+    inside = λ bytes (is, are). by.inside bytes is are.parts_are;
     silent = tt;
     keeps = by.keeps;
     fails = fails_more (λ bytes held (is, are). (is, are.parts_are, inside_there inside path bytes is are found)) (record { may = by.fails.may; failed = by.fails.failed });

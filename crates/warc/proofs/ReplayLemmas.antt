@@ -32,7 +32,8 @@ use Rattle.warc_answer.specs.declared.answer.Path.{Path}
 use Rattle.warc_reading.specs.Archive.{SpellsFrom, contents}
 use Rattle.warc_reading.specs.Rereading.{IsInHead, ReadsHeads, ended_by, heads_len}
 use Rattle.warc_reading.specs.Indexed.{indexed_record, place_of, placed_record}
-use Rattle.warc.specs.Replaying.{IsJoined, IsJoinedTo, IsOfOrigin, IsOnPath, joined_len, origin_joined, origin_reads, path_reads}
+use Rattle.warc.specs.Looking.{ArePlacesFor}
+use Rattle.warc.specs.Replaying.{IsJoined, IsJoinedTo, IsOfOrigin, IsOnPath, joined_len, origin_joined, origin_reads, path_reads, reads_of}
 use Rattle.warc_reading.specs.Row.{Placed, Row, row_of}
 use Rattle.warc.specs.Standing.{IsOrigin, IsPlacedIn}
 use Rattle.warc_reading.specs.declared.rereading.RereadFault.{RereadFault}
@@ -59,7 +60,7 @@ pub same_index : (records : List Placed) → index_of (read_all records) ≡ map
 same_index [] = refl
 same_index (p ∷ ps) = ap (λ l. indexed_record p ∷ l) (same_index ps)
 
-read_at : (records : List Placed) (i : ℕ) (p : Placed) → slice_get records i ≡ Some p → slice_get (read_all records) i ≡ Some (read_record p.content)
+pub read_at : (records : List Placed) (i : ℕ) (p : Placed) → slice_get records i ≡ Some p → slice_get (read_all records) i ≡ Some (read_record p.content)
 read_at [] i p is = absurd (cc is)
 read_at (x ∷ xs) zero p is = let same : x ≡ p = cc is in ap (λ (q : Placed). Some (read_record q.content)) same
 read_at (x ∷ xs) (suc i) p is = read_at xs i p is
@@ -100,22 +101,36 @@ module _ (bytes : List ℕ) (records : List Placed) (found : Result Path Unfound
   places_are q places head place law same =
       by_places _ places (subst (λ x. ArePlacesJoined bytes x (joined_records (read_all records) (read_record p.content))) same (joined_as q head place law))
 
+  -- the places that are joined by a head and a place, which are the record's
+  as_placed : (q : PlacedRecord) (items : List Place) → q.head ≡ reading_of p.content.fields → q.place ≡ place_of p
+      → joined_places (map placed_record records) q ≡ Ok items → joined_places (map placed_record records) (placed_record p) ≡ Ok items
+  as_placed q items head place is =
+      let by_head : ◌≡◌ {A = PlacedRecord} q (record { head = reading_of p.content.fields; place = q.place }) = ap (λ h. let x : PlacedRecord = record { head = h; place = q.place } in x) head in
+      let by_place : ◌≡◌ {A = PlacedRecord} (record { head = reading_of p.content.fields; place = q.place }) (placed_record p) = ap (λ y. let x : PlacedRecord = record { head = reading_of p.content.fields; place = y } in x) place in
+      ap (joined_places (map placed_record records)) (sym (by_head ∙ by_place)) ∙ is
+
   in_joined : (q : PlacedRecord) (items places : List Place) (at : ℕ) → q.head ≡ reading_of p.content.fields → q.place ≡ place_of p
       → joined_places (map placed_record records) q ≡ Ok items → places ≡ items → IsInOne places at → IsJoinedTo records p at
   in_joined q items places at head place is same in_ =
-      let by_head : ◌≡◌ {A = PlacedRecord} q (record { head = reading_of p.content.fields; place = q.place }) = ap (λ h. let x : PlacedRecord = record { head = h; place = q.place } in x) head in
-      let by_place : ◌≡◌ {A = PlacedRecord} (record { head = reading_of p.content.fields; place = q.place }) (placed_record p) = ap (λ y. let x : PlacedRecord = record { head = reading_of p.content.fields; place = y } in x) place in
-      let whole : joined_places (map placed_record records) (placed_record p) ≡ Ok items = ap (joined_places (map placed_record records)) (sym (by_head ∙ by_place)) ∙ is in
-      subst (λ r. IsJoined r at) (sym whole) (subst (λ (l : List Place). IsInOne l at) same in_)
+      subst (λ r. IsJoined r at) (sym (as_placed q items head place is)) (subst (λ (l : List Place). IsInOne l at) same in_)
+
+  -- the places are those of what is joined to the origin
+  pub places_for : (q : PlacedRecord) (items : List Place) (joined : List ReadRecord) → q.head ≡ reading_of p.content.fields → q.place ≡ place_of p
+      → joined_places (map placed_record records) q ≡ Ok items → PlacesAreAsLong → joined_records (read_all records) (read_record p.content) ≡ Ok joined → ArePlacesOf bytes items joined
+      → ArePlacesFor records p items
+  places_for q items joined head place is law whole are = record {
+    are = as_placed q items head place is;
+    long = law bytes items joined are ∙ ap joined_len (sym whole);
+  }
 
   -- what is read at the places is what is joined to the origin
-  pub reads_joined : (q : PlacedRecord) (items places : List Place) (joined : List ReadRecord) (most : ℕ) {old new : SeenSource}
+  pub reads_joined : (times : ℕ) (q : PlacedRecord) (items places : List Place) (joined : List ReadRecord) (most : ℕ) {old new : SeenSource}
       → q.head ≡ reading_of p.content.fields → q.place ≡ place_of p → joined_places (map placed_record records) q ≡ Ok items → places ≡ items
       → PlacesAreAsLong → joined_records (read_all records) (read_record p.content) ≡ Ok joined → ArePlacesOf bytes places joined
-      → most ≤ 2 * len_of places → ReadsPlaces places most old new → ReadsOnly (IsJoinedTo records p) (2 * origin_joined records p) old new
-  reads_joined q items places joined most {old} {new} head place from same law whole are within has =
+      → most ≤ times * len_of places → ReadsPlaces places most old new → ReadsOnly (IsJoinedTo records p) (times * origin_joined records p) old new
+  reads_joined times q items places joined most {old} {new} head place from same law whole are within has =
       let size : len_of places ≡ joined_len (joined_records (read_all records) (read_record p.content)) = law bytes places joined are ∙ ap joined_len (sym whole) in
-      reads_within (λ at in_. in_joined q items places at head place from same in_) (omega (arith, within, size)) has
+      reads_within (λ at in_. in_joined q items places at head place from same in_) (subst (λ (n : ℕ). most ≤ times * n) size within) has
 
 -- the place that a row says is the place of its record's block
 pub place_by_row : (p : Placed) (row : Row) → row ≡ row_of p → ◌≡◌ {A = Place} (record { start = row.block_start; len = row.block_len; verdict = row.verdict; truncated = row.is_truncated }) (place_of p)
@@ -180,22 +195,31 @@ head_len_of p row same =
     let one : row.block_start - row.offset ≡ p.block_start - p.offset = ap (λ (r : Row). r.block_start - r.offset) same in
     omega (arith, one, sum_by-cons (λ (r : Row). r.block_start - r.offset) row [])
 
+no_more : {a b : ℕ} (more : ℕ) → a ≡ b → a ≤ b + more
+no_more {a} {b} more is = omega (arith, is)
+
+no_less : (n : ℕ) → n ≤ n
+no_less n = omega arith
+
+both_less : {a b : ℕ} (more : ℕ) → a ≡ b → a + more ≤ b + more
+both_less {a} {b} more is = omega (arith, is)
+
 -- the head of an origin, which is read again
-pub reads_of_head : (records : List Placed) (p : Placed) (row : Row) {old new : SeenSource} → row ≡ row_of p → ReadsHeads (row ∷ []) old new
-    → ReadsOnly (IsOfOrigin records (Some p)) (origin_reads records (Some p)) old new
-reads_of_head records p row {old} {new} same has =
-    reads_within (λ at in_. inl (in_own_head p row at same in_)) (omega (arith, head_len_of p row same)) has
+pub reads_of_head : (times : ℕ) (records : List Placed) (p : Placed) (row : Row) {old new : SeenSource} → row ≡ row_of p → ReadsHeads (row ∷ []) old new
+    → ReadsOnly (IsOfOrigin records (Some p)) (reads_of times records (Some p)) old new
+reads_of_head times records p row {old} {new} same has =
+    reads_within (λ at in_. inl (in_own_head p row at same in_)) (no_more (times * origin_joined records p) (head_len_of p row same)) has
 
 -- the head, and then the joined blocks
-pub reads_of_origin : (records : List Placed) (p : Placed) (row : Row) {old mid new : SeenSource} → row ≡ row_of p → ReadsHeads (row ∷ []) old mid
-    → ReadsOnly (IsJoinedTo records p) (2 * origin_joined records p) mid new
-    → ReadsOnly (IsOfOrigin records (Some p)) (origin_reads records (Some p)) old new
-reads_of_origin records p row {old} {mid} {new} same head joined =
+pub reads_of_origin : (times : ℕ) (records : List Placed) (p : Placed) (row : Row) {old mid new : SeenSource} → row ≡ row_of p → ReadsHeads (row ∷ []) old mid
+    → ReadsOnly (IsJoinedTo records p) (times * origin_joined records p) mid new
+    → ReadsOnly (IsOfOrigin records (Some p)) (reads_of times records (Some p)) old new
+reads_of_origin times records p row {old} {mid} {new} same head joined =
     let first : ReadsOnly (IsOfOrigin records (Some p)) (heads_len (row ∷ [])) old mid =
     reads_within (λ at in_. inl (in_own_head p row at same in_)) (omega arith) head in
-    let second : ReadsOnly (IsOfOrigin records (Some p)) (2 * origin_joined records p) mid new =
-    reads_within (λ at in_. inr in_) (omega arith) joined in
-    reads_within (λ at in_. in_) (omega (arith, head_len_of p row same)) (reads_both first second)
+    let second : ReadsOnly (IsOfOrigin records (Some p)) (times * origin_joined records p) mid new =
+    reads_within (λ at in_. inr in_) (no_less (times * origin_joined records p)) joined in
+    reads_within (λ at in_. in_) (both_less (times * origin_joined records p) (head_len_of p row same)) (reads_both first second)
 
 -- what is read for the origin is read on the path
 pub reads_on_path : (records : List Placed) (found : Result Path Unfound) (path : Path) (p : Placed) {old new : SeenSource} → found ≡ Ok path
@@ -249,13 +273,16 @@ in_all n q places all (p, here, from, to) = omega (arith, to, All-contains (Ends
 
 module _ (bytes : List ℕ) (records : List Placed) (found : Result Path Unfound) (path : Path) (p : Placed) (is : IsOrigin bytes records found path p) where
   -- what is joined to the origin lies among the bytes, whatever its head is read as
+  pub joined_end : (q : PlacedRecord) (items : List Place) → q.place ≡ place_of p → joined_places (map placed_record records) q ≡ Ok items → All (EndsBy (length bytes)) items
+  joined_end q items place joined =
+      let has = written bytes records is.spelled path.given p is.stands in
+      let own : EndsBy (length bytes) q.place = omega (arith, has.end, has.within, ap (λ (x : Place). x.start + x.len) place) in
+      joined_all (EndsBy (length bytes)) _ q.place _ items (all_end 0 (length bytes) records bytes is.spelled (omega arith)) own joined
+
   pub joined_inside : (q : PlacedRecord) (items places : List Place) (watches : ℕ → Bool) (old new : ℕ) → q.place ≡ place_of p → joined_places (map placed_record records) q ≡ Ok items → places ≡ items
       → Asks (IsInOne places) watches old new → Asks (λ at. at < length bytes) watches old new
   joined_inside q items places watches old new place joined same near =
-      let has = written bytes records is.spelled path.given p is.stands in
-      let own : EndsBy (length bytes) q.place = omega (arith, has.end, has.within, ap (λ (x : Place). x.start + x.len) place) in
-      let all = joined_all (EndsBy (length bytes)) _ q.place _ items (all_end 0 (length bytes) records bytes is.spelled (omega arith)) own joined in
-      λ off. near (λ at in_. off at (in_all (length bytes) at items all (subst (λ (l : List Place). IsInOne l at) same in_)))
+      λ off. near (λ at in_. off at (in_all (length bytes) at items (joined_end q items place joined) (subst (λ (l : List Place). IsInOne l at) same in_)))
 
   -- and so does its head
   pub head_inside : (row : Row) (old new : SeenSource) → row ≡ row_of p → ReadsHeads (row ∷ []) old new → AsksOnly (λ at. at < length bytes) old new
@@ -266,3 +293,10 @@ module _ (bytes : List ℕ) (records : List Placed) (found : Result Path Unfound
 -- the head, and then what is joined
 pub asks_both : (These : ℕ → Type 0) (old mid : SeenSource) (new : ℕ) → mid.watches ≡ old.watches → AsksOnly These old mid → Asks These mid.watches mid.watched_reads new → Asks These old.watches old.watched_reads new
 asks_both These old mid new watched first then = λ off. then (λ at in_. ap (λ (w : ℕ → Bool). w at) watched ∙ off at in_) ∙ first off
+
+-- then at places that end before the bytes do
+pub then_inside : (bytes : List ℕ) (items places : List Place) (old mid new : SeenSource) → mid.watches ≡ old.watches → AsksOnly (λ at. at < length bytes) old mid
+    → All (EndsBy (length bytes)) items → places ≡ items → AsksOnly (IsInOne places) mid new → AsksOnly (λ at. at < length bytes) old new
+then_inside bytes items places old mid new watched first all same then =
+    asks_both (λ at. at < length bytes) old mid new.watched_reads watched first
+    (λ off. then (λ at in_. off at (in_all (length bytes) at items all (subst (λ (l : List Place). IsInOne l at) same in_))))

@@ -1,9 +1,9 @@
 -- What the record at a position gives, and what it reads of the source. This project's own notion.
-use Rattle.std.specs.Prelude.{◌≡◌, ℕ, ◌+◌, ◌<◌, ◌≤◌, List, codes, length, slice_get, Option, Some, None, Result, Ok, Err, IsTrue, IsFalse}
-use Rattle.warc_frame.specs.Effects.{FailsBy, Preserves, ReadsOnly}
+use Rattle.std.specs.Prelude.{◌≡◌, ℕ, List, codes, slice_get, Option, Some, None, Result, Ok, Err, IsTrue, IsFalse}
+use Rattle.warc_frame.specs.Effects.{FailsBy, Preserves}
 use Rattle.warc_frame.specs.Failing.{failed_by}
 use Rattle.warc_frame.specs.Record.{Record}
-use Rattle.warc_frame.specs.Seen.{AsksOnly, IfHeld, Seen, SeenSource}
+use Rattle.warc_frame.specs.Seen.{IfHeld, Seen, SeenSource}
 use Rattle.warc_frame.specs.declared.fault.OutFault.{OutFault}
 use Rattle.warc_record.specs.Readings.{kind_of}
 use Rattle.warc_index.specs.Captures.{is_capture}
@@ -16,7 +16,7 @@ use Rattle.warc_answer.specs.declared.answer.Answer.{Answer}
 use Rattle.warc_reading.specs.Archive.{IsArchiveOf, contents}
 use Rattle.warc_reading.specs.Indexed.{AreOf}
 use Rattle.warc_reading.specs.Row.{Row}
-use Rattle.warc.specs.Replaying.{IsIndexedBy, IsOnPath, path_reads}
+use Rattle.warc.specs.Replaying.{AsksInside, IsIndexedBy, ReadsPath}
 use Rattle.warc.specs.declared.fault.BodyFault.{BodyFault}
 use Rattle.warc.specs.declared.fault.BodyFault.TheVariants.{NoRecord, NoCapture, Replay}
 
@@ -69,10 +69,8 @@ pub record GivesBodyAt (rows : List Row) (index : Indexes) (parts : Parts) (posi
     (before after : Seen) (answer : Result Answer BodyFault) : Type 0 where
   pub told : IfHeld old.holds (λ bytes. (is : IsArchiveOf bytes rows) → AreOf is.are.records index parts
       → IsBodyAt (contents is.are.records) position answer before.tells after.tells)
-  pub reads : IfHeld old.holds (λ bytes. (is : IsArchiveOf bytes rows) → AreOf is.are.records index parts
-      → ReadsOnly (IsOnPath is.are.records (path_at (contents is.are.records) position))
-      (path_reads is.are.records (path_at (contents is.are.records) position)) old new)
-  pub inside : (bytes : List ℕ) → IsIndexedBy rows index parts bytes → AsksOnly (λ at. at < length bytes) old new
+  pub reads : ReadsPath rows index parts (λ records. path_at records position) old new
+  pub inside : AsksInside rows index parts old new
   pub keeps : Preserves old new
   pub silent : IsSilentAt answer before.tells after.tells
   pub fails : FailsBy (IsIndexedBy rows index parts) (body_result answer) old new

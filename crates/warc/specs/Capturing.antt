@@ -1,6 +1,7 @@
 -- The outcomes of captures, of which each origin is judged once.
-use Rattle.std.specs.Prelude.{◌≡◌, ◌⊎◌, ℕ, ◌+◌, ◌≤◌, List, length, map, slice_get, Option, Some, Result, Ok, Err, IfErr, IfOk}
+use Rattle.std.specs.Prelude.{◌≡◌, ◌⊎◌, ℕ, ◌+◌, ◌≤◌, List, map, slice_get, Option, Some, Result, IfErr, IfOk}
 use Rattle.std.specs.List.{AllByRecursion}
+use Rattle.warc_frame.specs.Effects.{Preserves}
 use Rattle.warc_frame.specs.Failing.{MayHaveFailedBy}
 use Rattle.warc_frame.specs.Record.{Record}
 use Rattle.warc_frame.specs.Seen.{IfHeld, SeenSource}
@@ -16,8 +17,9 @@ use Rattle.warc_answer.specs.declared.stored.Stored.{Stored}
 use Rattle.warc_reading.specs.Archive.{IsArchiveOf, contents}
 use Rattle.warc_reading.specs.Indexed.{AreOf}
 use Rattle.warc_reading.specs.Row.{Row}
-use Rattle.warc.specs.Looking.{ArePartsOf}
+use Rattle.warc.specs.Looking.{ArePartsOf, AsksWithin}
 use Rattle.warc.specs.Outcomes.{CaptureSeen, IsOutcome, judged_seen, outcome_seen}
+use Rattle.warc.specs.Replaying.{AsksInside}
 use Rattle.warc.specs.declared.outcome.Outcome.{Outcome}
 
 -- these are the outcomes of the captures at the positions, in their order
@@ -35,19 +37,20 @@ pub record JudgesAll {A B : Type 0} (rows : List Row) (index : Indexes) (parts :
   pub told : IfHeld old.holds (λ bytes. (is : IsArchiveOf bytes rows) → AreOf is.are.records index parts
       → IfOk answer (λ outcomes. AreOutcomes (contents is.are.records) positions (outcomes_seen outcomes)))
   pub early : IfErr answer (λ e. IsEarly (Out e))
-  pub kept : new.holds ≡ old.holds
+  pub inside : AsksInside rows index parts old new
+  pub keeps : Preserves old new
   pub may : MayHaveFailedBy answer old.faults new.faults
 
 -- ---- on the way: which outcome each origin was judged for. States of the code
 
--- the outcome that the origin's slot tells
+-- the outcome that the origin's slot names
 pub record IsRecalled {A : Type 0} (slots : List ℕ) (outcomes : List (Outcome A)) (origin : ℕ) (o : Outcome A)
     : Type 0 where
   pub index : ℕ
   pub slot : slice_get slots origin ≡ Some (index + 1)
   pub there : slice_get outcomes index ≡ Some o
 
--- each slot tells an outcome with what is stored of that origin
+-- each slot names an outcome with what is stored of that origin
 abbrev pub Recalls : {A : Type 0} → List Record → List ℕ → List (Outcome A) → Type 0
 Recalls {A} records slots outcomes = (origin : ℕ) (o : Outcome A) → IsRecalled slots outcomes origin o
     → IsStoredAt records origin (judged_seen o.stored)
@@ -59,7 +62,8 @@ pub record JudgesOne {A : Type 0} (rows : List Row) (parts : Parts) (origin : �
       → Recalls (contents is.are.records) slots outcomes
       → IfOk answer (λ judged. IsStoredAt (contents is.are.records) origin (judged_seen judged)))
   pub early : IfErr answer (λ e. IsEarly (Out e))
-  pub kept : new.holds ≡ old.holds
+  pub inside : AsksWithin rows parts old new
+  pub keeps : Preserves old new
   pub may : MayHaveFailedBy answer old.faults new.faults
 
 pub record JudgesNext {A : Type 0} (rows : List Row) (index : Indexes) (parts : Parts) (position : ℕ) (slots : List ℕ)
@@ -69,14 +73,15 @@ pub record JudgesNext {A : Type 0} (rows : List Row) (index : Indexes) (parts : 
       → IfOk answer (λ o. IsOutcome (contents is.are.records) (outcome_seen o)))
   pub chosen : IfOk answer (λ o. o.chosen ≡ position)
   pub early : IfErr answer (λ e. IsEarly (Out e))
-  pub kept : new.holds ≡ old.holds
+  pub inside : AsksInside rows index parts old new
+  pub keeps : Preserves old new
   pub may : MayHaveFailedBy answer old.faults new.faults
 
--- each slot is 0 or tells one of so many outcomes
+-- each slot is 0 or names one of `count` outcomes
 abbrev pub AreSlots : ℕ → List ℕ → Type 0
 AreSlots count slots = (i k : ℕ) → slice_get slots i ≡ Some k → k ≤ count
 
--- which slots are kept, where that of an origin is set
+-- which slots are kept, where an origin's slot is set
 abbrev pub Remembers : List ℕ → List ℕ → Option ℕ → ℕ → Type 0
 Remembers old new origin slot = (i k : ℕ) → slice_get new i ≡ Some k
     → (slice_get old i ≡ Some k) ⊎ ((origin ≡ Some i) × (k ≡ slot))

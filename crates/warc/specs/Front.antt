@@ -1,8 +1,10 @@
 -- The good front of a source: what can be opened of an archive that is refused. This project's own notion.
-use Rattle.std.specs.Prelude.{◌≡◌, ℕ, ◌+◌, ◌^◌, ◌<◌, ◌≤◌, List, ◌++◌, length, take, Option, Some, None, Result, Ok, Err, IfErr, IfOk, OnOk}
+use Rattle.std.specs.Prelude.{◌≡◌, ℕ, ◌^◌, ◌<◌, List, ◌++◌, length, take, Option, Some, None, Result, Ok, Err, IfErr, IfOk, OnOk}
 use Rattle.std.specs.Io.KnownBytes.{append_known}
+use Rattle.warc_frame.specs.Effects.{ReadsRange}
 use Rattle.warc_frame.specs.Failing.{HasFailedBy, MayHaveFailedBy, failed_by}
-use Rattle.warc_frame.specs.Seen.{AsksOnly, IfHeld, Seen, SeenSource}
+use Rattle.warc_frame.specs.Record.{max_archive}
+use Rattle.warc_frame.specs.Seen.{IfHeld, Seen, SeenSource}
 use Rattle.warc_frame.specs.Send.{WentOut, sent_of}
 use Rattle.warc_frame.specs.declared.fault.Fault.{Fault}
 use Rattle.warc_frame.specs.declared.fault.OutFault.{OutFault}
@@ -21,7 +23,7 @@ abbrev pub AreRowsOfFront : List ℕ → Option Fault → List Row → Type 0
 AreRowsOfFront bytes None rows = IsArchiveOf bytes rows
 AreRowsOfFront bytes (Some f) rows = IsLongestFront (take (reach_of f) bytes) rows
 
--- a source that may hold more, the rows of the good records at its front, and the fault behind these, if there is one
+-- a source that may hold more, the rows of the good records at its front, and the fault after these, if there is one
 pub record Fronted (S : Type 0) : Type 0 where
   pub listing : Contents S
   pub fault : Option Fault
@@ -38,16 +40,15 @@ IfBegun source rows P = (text more : List ℕ) → source.holds ≡ Some (text +
     → IsArchiveOf text rows → P text
 
 -- Writing the bytes of the good records at the front of a source. Where it holds them, they go out and are counted, or
--- a front of them does, the source has failed once more exactly where a read is told, and no other byte is asked for.
--- Any source still holds what it held.
+-- a front of them does, and the source has failed once more exactly where a read is reported. Any source is asked for
+-- these bytes alone, in at most one read for each, and for none at an offset from 2^48 on.
 pub record CopiesFront (rows : List Row) (old new : SeenSource) (before after : Seen) (answer : Result ℕ OutFault)
     : Type 0 where
   pub told : IfBegun old rows (λ text.
       OnOk answer (after.tells ≡ append_known before.tells text) × IfOk answer (λ n. n ≡ length text))
   pub cut : IfBegun old rows (λ text. IfErr answer (λ e. WentOut before.tells text after.tells (sent_of e)))
   pub failed : IfBegun old rows (λ text. HasFailedBy answer old.faults new.faults)
-  pub near : IfBegun old rows (λ text. AsksOnly (λ at. at < length text) old new)
-  pub cost : IfBegun old rows (λ text. new.reads ≤ old.reads + length text)
-  pub kept : new.holds ≡ old.holds
+  pub reads : (text : List ℕ) → IsArchiveOf text rows → ReadsRange 0 (length text) old new
+  pub near : ReadsRange 0 max_archive old new
   pub may : MayHaveFailedBy answer old.faults new.faults
   pub cause : after.faults ≡ failed_by answer before.faults

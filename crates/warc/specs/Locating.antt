@@ -17,7 +17,7 @@ use Rattle.warc_reading.specs.Archive.{IsArchiveOf, contents}
 use Rattle.warc_reading.specs.Indexed.{AreOf}
 use Rattle.warc_reading.specs.Row.{Placed, Row}
 use Rattle.warc.specs.Bodies.{IsCaptureAt, IsOtherAt}
-use Rattle.warc.specs.Replaying.{IsIndexedBy, IsOnPath, path_reads}
+use Rattle.warc.specs.Replaying.{IsIndexedBy, IsOnPath, ReadsPath, path_reads}
 use Rattle.warc.specs.declared.fault.BodyFault.{BodyFault}
 use Rattle.warc.specs.declared.fault.BodyFault.TheVariants.{NoRecord, NoCapture, Replay}
 
@@ -62,8 +62,6 @@ pub record LocatesAt (rows : List Row) (index : Indexes) (parts : Parts) (positi
     (answer : Result Location BodyFault) : Type 0 where
   pub located : IfHeld old.holds (λ bytes. (is : IsArchiveOf bytes rows) → AreOf is.are.records index parts
       → IsLocatedAt bytes (contents is.are.records) position answer)
-  pub reads : IfHeld old.holds (λ bytes. (is : IsArchiveOf bytes rows) → AreOf is.are.records index parts
-      → ReadsOnly (IsOnPath is.are.records (path_at (contents is.are.records) position))
-      (path_reads is.are.records (path_at (contents is.are.records) position)) old new)
+  pub reads : ReadsPath rows index parts (λ records. path_at records position) old new
   pub keeps : Preserves old new
   pub fails : FailsBy (IsIndexedBy rows index parts) (location_result answer) old new

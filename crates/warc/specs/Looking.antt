@@ -1,14 +1,16 @@
 -- What is stored of an origin, and where. States of the code: no public clause cites them.
-use Rattle.std.specs.Prelude.{◌≡◌, ℕ, ◌<◌, List, length, map, Option, Result, Ok, Err, IfErr, IfOk, ⊤}
+use Rattle.std.specs.Prelude.{◌≡◌, ℕ, ◌+◌, ◌<◌, ◌≤◌, List, length, map, slice_get, All, Option, Some, None, Result, Ok, Err, IfErr, IfOk, ⊤}
 use Rattle.std.specs.Io.KnownBytes.{append_known}
-use Rattle.warc_frame.specs.Effects.{FailsBy, Preserves}
+use Rattle.warc_frame.specs.Effects.{FailsBy, Preserves, ReadsOnly}
 use Rattle.warc_frame.specs.Failing.{failed_by}
 use Rattle.warc_frame.specs.Record.{Record}
-use Rattle.warc_frame.specs.Seen.{IfHeld, Seen, SeenSource}
+use Rattle.warc_frame.specs.Seen.{AsksOnly, IfHeld, Seen, SeenSource}
 use Rattle.warc_frame.specs.Send.{sent_of}
 use Rattle.warc_frame.specs.declared.fault.OutFault.{OutFault}
+use Rattle.warc_segment.specs.Joined.{joined_places}
 use Rattle.warc_segment.specs.Kept.{Kept as Parts, kept_in}
-use Rattle.warc_answer.specs.Places.{LieIn, text_at}
+use Rattle.warc_segment.specs.declared.place.Place.{Place}
+use Rattle.warc_answer.specs.Places.{LieIn, len_of, text_at}
 use Rattle.warc_answer.specs.Replays.{out_result}
 use Rattle.warc_answer.specs.Seen.{IsEarly, stored_seen}
 use Rattle.warc_answer.specs.Stored.{IsStoredAt, joined_text_at}
@@ -20,6 +22,7 @@ use Rattle.warc_reading.specs.Archive.{IsArchiveOf, contents}
 use Rattle.warc_reading.specs.Indexed.{placed_record}
 use Rattle.warc_reading.specs.Row.{Placed, Row}
 use Rattle.warc.specs.Outcomes.{IsFrontAt, judged_seen, stored_text}
+use Rattle.warc.specs.Replaying.{IsOfOrigin, origin_joined, origin_reads, reads_of}
 use Rattle.warc.specs.declared.looking.Look.{Look}
 
 -- what is stored of the origin at a position, and the places of what is joined; a reason, or nothing where a read or a
@@ -40,11 +43,53 @@ abbrev pub IsRecordAt : List Row → Parts → ℕ → List ℕ → Type 0
 IsRecordAt rows parts position bytes = (is : IsArchiveOf bytes rows) × ArePartsOf is.are.records parts
     × (position < length (contents is.are.records))
 
--- the same by rows and parts: where the source holds the archive's bytes, and the position is that of a record
+-- these are the places of the blocks that are joined to an origin
+pub record ArePlacesFor (all : List Placed) (p : Placed) (places : List Place) : Type 0 where
+  pub are : joined_places (map placed_record all) (placed_record p) ≡ Ok places
+  pub long : len_of places ≡ origin_joined all p
+
+-- the same, none where there is no origin
+abbrev pub ArePlacesIn : List Placed → Option Placed → List Place → Type 0
+ArePlacesIn all None places = ⊥
+ArePlacesIn all (Some p) places = ArePlacesFor all p places
+
+-- over known bytes: an origin's head and the blocks that are joined to it were read, each at most once, and the places
+-- of these blocks are given
+pub record LooksOn {A : Type 0} (all : List Placed) (found : Option Placed) (old new : SeenSource)
+    (answer : Result (Look A) ReplayFault) : Type 0 where
+  pub reads : ReadsOnly (IsOfOrigin all found) (reads_of 1 all found) old new
+  pub places : IfOk answer (λ l. ArePlacesIn all found l.places.items)
+
+-- over any source: no byte after the archive's was asked for, and the places that are given end before it does
+pub record LooksInside {A : Type 0} (bytes : List ℕ) (old new : SeenSource) (answer : Result (Look A) ReplayFault)
+    : Type 0 where
+  pub asks : AsksOnly (λ at. at < length bytes) old new
+  pub ends : IfOk answer (λ l. All (λ p. p.start + p.len ≤ length bytes) l.places.items)
+
+-- the head of the record at the position and the blocks that are joined to it are read, where the source holds the
+-- archive's bytes
+abbrev pub ReadsOrigin : List Row → Parts → ℕ → SeenSource → SeenSource → Type 0
+ReadsOrigin rows parts position old new =
+    IfHeld old.holds (λ bytes. (is : IsArchiveOf bytes rows) → ArePartsOf is.are.records parts
+    → ReadsOnly (IsOfOrigin is.are.records (slice_get is.are.records position))
+    (origin_reads is.are.records (slice_get is.are.records position)) old new)
+
+-- any source is asked for no byte after those of an archive of these rows and parts
+abbrev pub AsksWithin : List Row → Parts → SeenSource → SeenSource → Type 0
+AsksWithin rows parts old new =
+    (bytes : List ℕ) (is : IsArchiveOf bytes rows) → ArePartsOf is.are.records parts
+    → AsksOnly (λ at. at < length bytes) old new
+
+-- what is stored of the origin at a position, by rows and parts: where the source holds the archive's bytes, and the
+-- position is that of a record
 pub record Looks {A : Type 0} (rows : List Row) (parts : Parts) (position : ℕ) (old new : SeenSource)
     (answer : Result (Look A) ReplayFault) : Type 0 where
   pub told : IfHeld old.holds (λ bytes. (is : IsArchiveOf bytes rows) → ArePartsOf is.are.records parts
       → IsLook bytes (contents is.are.records) position answer)
+  pub reads : IfHeld old.holds (λ bytes. (is : IsArchiveOf bytes rows) → ArePartsOf is.are.records parts
+      → LooksOn is.are.records (slice_get is.are.records position) old new answer)
+  pub inside : (bytes : List ℕ) (is : IsArchiveOf bytes rows) → ArePartsOf is.are.records parts
+      → LooksInside bytes old new answer
   pub early : IfErr answer IsEarly
   pub keeps : Preserves old new
   pub fails : FailsBy (IsRecordAt rows parts position) (out_result answer) old new
@@ -59,6 +104,8 @@ pub record Judges {A : Type 0} (rows : List Row) (parts : Parts) (position : ℕ
     (answer : Result (Result (Stored A) Why) OutFault) : Type 0 where
   pub told : IfHeld old.holds (λ bytes. (is : IsArchiveOf bytes rows) → ArePartsOf is.are.records parts
       → IfOk answer (λ judged. IsStoredAt (contents is.are.records) position (judged_seen judged)))
+  pub reads : ReadsOrigin rows parts position old new
+  pub inside : AsksWithin rows parts old new
   pub early : IfErr answer (λ e. IsEarly (Out e))
   pub keeps : Preserves old new
   pub fails : FailsBy (IsRecordAt rows parts position) answer old new
@@ -77,6 +124,8 @@ pub record SendsStored {A : Type 0} (rows : List Row) (parts : Parts) (position 
     (before after : Seen) (answer : Result (Stored A) ReplayFault) : Type 0 where
   pub told : IfHeld old.holds (λ bytes. (is : IsArchiveOf bytes rows) → ArePartsOf is.are.records parts
       → IsSent (contents is.are.records) position answer before.tells after.tells)
+  pub reads : ReadsOrigin rows parts position old new
+  pub inside : AsksWithin rows parts old new
   pub silent : IfErr answer (λ fault. IsReason fault → after.tells ≡ before.tells)
   pub keeps : Preserves old new
   pub fails : FailsBy (IsRecordAt rows parts position) (out_result answer) old new

@@ -1,6 +1,6 @@
 -- What is stored at the end of the path from the record at a position, and what it reads of the source. This project's
 -- own notion.
-use Rattle.std.specs.Prelude.{◌≡◌, ℕ, ◌<◌, ◌⊎◌, List, drop, length, slice_get, Option, Some, None, Result, Ok, Err, IfErr, IfOk}
+use Rattle.std.specs.Prelude.{◌≡◌, ℕ, ◌⊎◌, List, drop, slice_get, Option, Some, None, Result, Ok, Err}
 use Rattle.std.specs.Io.KnownBytes.{append_known}
 use Rattle.warc_frame.specs.Effects.{FailsBy, Preserves}
 use Rattle.warc_frame.specs.Failing.{failed_by}
@@ -17,14 +17,13 @@ use Rattle.warc_answer.specs.Seen.{stored_seen}
 use Rattle.warc_answer.specs.Stored.{IsStoredAt, IsStoredOn, StoredBody, joined_text_at}
 use Rattle.warc_answer.specs.declared.answer.Path.{Path}
 use Rattle.warc_answer.specs.declared.answer.Reason.{Reason as Why}
-use Rattle.warc_answer.specs.declared.answer.ReplayFault.{ReplayFault}
 use Rattle.warc_answer.specs.declared.answer.ReplayFault.TheVariants.{Reason, Out}
 use Rattle.warc_answer.specs.declared.stored.Stored.{Stored}
 use Rattle.warc_reading.specs.Archive.{IsArchiveOf, contents}
 use Rattle.warc_reading.specs.Indexed.{AreOf}
 use Rattle.warc_reading.specs.Row.{Row}
 use Rattle.warc.specs.Bodies.{IsCaptureAt, IsOtherAt}
-use Rattle.warc.specs.Replaying.{IsIndexedBy}
+use Rattle.warc.specs.Replaying.{AsksInside, IsIndexedBy, ReadsPath}
 use Rattle.warc.specs.declared.fault.BodyFault.{BodyFault}
 use Rattle.warc.specs.declared.fault.BodyFault.TheVariants.{NoRecord, NoCapture, Replay}
 use Rattle.warc.specs.declared.outcome.Outcome.{Outcome}
@@ -76,6 +75,8 @@ pub record JudgesAt {A : Type 0} (rows : List Row) (index : Indexes) (parts : Pa
     (old new : SeenSource) (answer : Result (Outcome A) BodyFault) : Type 0 where
   pub told : IfHeld old.holds (λ bytes. (is : IsArchiveOf bytes rows) → AreOf is.are.records index parts
       → IsOutcomeAt (contents is.are.records) position answer)
+  pub reads : ReadsPath rows index parts (λ records. path_at records position) old new
+  pub inside : AsksInside rows index parts old new
   pub keeps : Preserves old new
   pub fails : FailsBy (IsIndexedBy rows index parts) (fault_result answer) old new
 
@@ -130,6 +131,8 @@ pub record GivesStoredAt (rows : List Row) (index : Indexes) (parts : Parts) (po
     (before after : Seen) (answer : Result StoredAnswer BodyFault) : Type 0 where
   pub told : IfHeld old.holds (λ bytes. (is : IsArchiveOf bytes rows) → AreOf is.are.records index parts
       → IsStoredOut (contents is.are.records) position answer before.tells after.tells)
+  pub reads : ReadsPath rows index parts (λ records. path_at records position) old new
+  pub inside : AsksInside rows index parts old new
   pub silent : IsSilentBefore answer before.tells after.tells
   pub keeps : Preserves old new
   pub fails : FailsBy (IsIndexedBy rows index parts) (fault_result answer) old new

@@ -1,5 +1,5 @@
 -- What a replay from an archive answers, what goes out, and how often the source is read.
-use Rattle.std.specs.Prelude.{◌≡◌, ℕ, ◌+◌, ◌-◌, ◌*◌, ◌<◌, ◌≤◌, ◌⊎◌, List, length, map, slice_get, Option, Some, None, Result, Ok, Err}
+use Rattle.std.specs.Prelude.{ℕ, ◌+◌, ◌-◌, ◌*◌, ◌<◌, ◌≤◌, ◌⊎◌, List, length, map, slice_get, Option, Some, None, Result, Ok, Err}
 use Rattle.warc_value.specs.Dates.{Instant}
 use Rattle.warc_frame.specs.Effects.{FailsBy, Preserves, ReadsOnly}
 use Rattle.warc_frame.specs.Record.{Record}
@@ -30,10 +30,14 @@ joined_len (Err gap) = 0
 abbrev pub origin_joined : List Placed → Placed → ℕ
 origin_joined all p = joined_len (joined_records (map read_record (contents all)) (read_record p.content))
 
--- the most reads for an origin: the length of its head, and twice that of its joined block
+-- the length of an origin's head, and `times` the length of its joined block
+abbrev pub reads_of : ℕ → List Placed → Option Placed → ℕ
+reads_of times all None = 0
+reads_of times all (Some p) = p.block_start - p.offset + times * origin_joined all p
+
+-- the most reads for an origin, whose joined block is read twice
 abbrev pub origin_reads : List Placed → Option Placed → ℕ
-origin_reads all None = 0
-origin_reads all (Some p) = p.block_start - p.offset + 2 * origin_joined all p
+origin_reads all p = reads_of 2 all p
 
 -- none where there is no origin
 abbrev pub path_reads : List Placed → Result Path Unfound → ℕ
@@ -64,17 +68,28 @@ IsOnPath all (Err unfound) at = ⊥
 abbrev pub IsIndexedBy : List Row → Indexes → Parts → List ℕ → Type 0
 IsIndexedBy rows index parts bytes = (is : IsArchiveOf bytes rows) × AreOf is.are.records index parts
 
+-- where the source holds the archive's bytes, the origin's head and the joined blocks at the end of the path alone are
+-- read, in at most `path_reads` reads
+abbrev pub ReadsPath : List Row → Indexes → Parts → (List Record → Result Path Unfound) → SeenSource → SeenSource
+    → Type 0
+ReadsPath rows index parts way old new =
+    IfHeld old.holds (λ bytes. (is : IsArchiveOf bytes rows) → AreOf is.are.records index parts
+    → ReadsOnly (IsOnPath is.are.records (way (contents is.are.records)))
+    (path_reads is.are.records (way (contents is.are.records))) old new)
+
+-- any source is asked for no byte after the archive's
+abbrev pub AsksInside : List Row → Indexes → Parts → SeenSource → SeenSource → Type 0
+AsksInside rows index parts old new =
+    (bytes : List ℕ) → IsIndexedBy rows index parts bytes → AsksOnly (λ at. at < length bytes) old new
+
 -- A replay on a way from records to a path, by rows, an index and parts. Where the archive's source holds its bytes,
--- what goes out and what is answered are as the definition of the answer says of its records, and the origin's head and
--- the joined blocks alone are read, in at most `path_reads` reads. Any source is asked for no byte behind the archive's
+-- what goes out and what is answered are as the definition of the answer says of its records
 pub record ReplaysOn (rows : List Row) (index : Indexes) (parts : Parts) (way : List Record → Result Path Unfound)
     (old new : SeenSource) (before after : Seen) (answer : Result Answer ReplayFault) : Type 0 where
   pub told : IfHeld old.holds (λ bytes. (is : IsArchiveOf bytes rows) → AreOf is.are.records index parts
       → IsReplayOn (contents is.are.records) (way (contents is.are.records)) answer before.tells after.tells)
-  pub reads : IfHeld old.holds (λ bytes. (is : IsArchiveOf bytes rows) → AreOf is.are.records index parts
-      → ReadsOnly (IsOnPath is.are.records (way (contents is.are.records)))
-      (path_reads is.are.records (way (contents is.are.records))) old new)
-  pub inside : (bytes : List ℕ) → IsIndexedBy rows index parts bytes → AsksOnly (λ at. at < length bytes) old new
+  pub reads : ReadsPath rows index parts way old new
+  pub inside : AsksInside rows index parts old new
   pub keeps : Preserves old new
   pub late : WritesLate answer before after
   pub fails : FailsBy (IsIndexedBy rows index parts) (out_result answer) old new

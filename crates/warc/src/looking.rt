@@ -1,6 +1,6 @@
 //! What is stored of an origin, and where: its head is read again, and its segments are joined.
-ghost use Rattle.std.specs.Prelude.{◌≡◌, ◌≤◌, List, length, IfErr};
-ghost use Rattle.warc_frame.specs.Effects.{FailsBy, Preserves};
+ghost use Rattle.std.specs.Prelude.{◌≡◌, ◌*◌, ◌≤◌, ℕ, List, length, IfErr, IfOk, Some};
+ghost use Rattle.warc_frame.specs.Effects.{FailsBy, Preserves, ReadsOnly};
 ghost use Rattle.warc_frame.specs.Record.{max_head};
 ghost use Rattle.warc_frame.specs.Seen.{IfHeld};
 ghost use Rattle.warc_record.specs.Seen.{said};
@@ -9,10 +9,12 @@ ghost use Rattle.warc_answer.specs.Seen.{IsEarly};
 ghost use Rattle.warc_answer.specs.Stored.{own_type};
 ghost use Rattle.warc_answer.specs.declared.answer.Path.{Path as GhostPath};
 ghost use Rattle.warc_reading.specs.Archive.{contents};
-ghost use Rattle.warc.specs.Looking.{IsLook, Judges, Looks, SendsStored};
-ghost use Rattle.warc.specs.Standing.{IsReached, IsRowReached};
+ghost use Rattle.warc.specs.Looking.{ArePlacesFor, IsLook, Judges, Looks, LooksInside, LooksOn, SendsStored};
+ghost use Rattle.warc.specs.Replaying.{IsJoinedTo, origin_joined};
+ghost use Rattle.warc.specs.Standing.{IsAtEnd, IsReached, IsRowAtEnd, IsRowReached};
 
 use std::alloc::Allocator;
+use warc_answer::laws::places_are_as_long;
 use warc_answer::{Path, Reason, ReplayFault, Stored, judge_joined, send_blocks};
 use warc_field::Fields;
 use warc_frame::laws::head_of_spelled;
@@ -49,12 +51,22 @@ fn look_origin<S: Source, A: Allocator + Copy>(
     ensures told { IfHeld (S.seen source.old).holds (λ bytes. (path : GhostPath)
         (is : IsReached bytes path parts.now (said origin.now.typed) place) →
         origin.now.fields ≡ is.at.placed.content.fields → IsLook bytes (contents is.at.records) path.given result) }
+    ensures reads { IfHeld (S.seen source.old).holds (λ bytes. (path : GhostPath)
+        (is : IsReached bytes path parts.now (said origin.now.typed) place) →
+        ReadsOnly (IsJoinedTo is.at.records is.at.placed) (1 * origin_joined is.at.records is.at.placed)
+        (S.seen source.old) (S.seen source.new)) }
+    ensures places { IfHeld (S.seen source.old).holds (λ bytes. (path : GhostPath)
+        (is : IsReached bytes path parts.now (said origin.now.typed) place) →
+        IfOk result (λ l. ArePlacesFor is.at.records is.at.placed l.places.items)) }
+    ensures inside { (bytes : List ℕ) (path : GhostPath) → IsAtEnd bytes path parts.now place →
+        LooksInside bytes (S.seen source.old) (S.seen source.new) result }
     ensures early { IfErr result IsEarly }
     ensures keeps { Preserves (S.seen source.old) (S.seen source.new) }
     ensures fails { FailsBy (λ bytes. (path : GhostPath) × IsReached bytes path parts.now (said origin.now.typed) place)
         (out_result result) (S.seen source.old) (S.seen source.new) }
 {
     places_are_of_records();
+    places_are_as_long();
     let places = match parts.join(&origin.typed, place) {
         Ok(places) => places,
         Err(JoinFault::Gap(gap)) => return Err(ReplayFault::Reason(Reason::Segments(gap))),
@@ -78,6 +90,11 @@ fn look_row<S: Source, A: Allocator + Copy>(
     requires { max_head ≤ length buf.old }
     ensures told { IfHeld (S.seen source.old).holds (λ bytes. (path : GhostPath)
         (is : IsRowReached bytes path parts.now row.now) → IsLook bytes (contents is.at.records) path.given result) }
+    ensures reads { IfHeld (S.seen source.old).holds (λ bytes. (path : GhostPath)
+        (is : IsRowReached bytes path parts.now row.now) →
+        LooksOn is.at.records (Some is.at.placed) (S.seen source.old) (S.seen source.new) result) }
+    ensures inside { (bytes : List ℕ) (path : GhostPath) → IsRowAtEnd bytes path parts.now row.now →
+        LooksInside bytes (S.seen source.old) (S.seen source.new) result }
     ensures early { IfErr result IsEarly }
     ensures keeps { Preserves (S.seen source.old) (S.seen source.new) }
     ensures fails { FailsBy (λ bytes. (path : GhostPath) × IsRowReached bytes path parts.now row.now)

@@ -4,10 +4,13 @@ use Rattle.std.specs.List.{slice_get, sum_by}
 use Rattle.std.proofs.lemmas.List.Sums.{sum_by-cons}
 use Rattle.warc_frame.specs.Count.{raised}
 use Rattle.warc_frame.specs.Ranges.{IsReadAt}
-use Rattle.warc_frame.specs.Record.{max_archive, max_block}
-use Rattle.warc_frame.specs.Seen.{AsksOnly, IfHeld, IsInRange, SeenSource}
+use Rattle.warc_frame.specs.Record.{Record, max_archive, max_block}
+use Rattle.warc_frame.specs.Seen.{AsksOnly, IfHeld, IsInRange, Seen, SeenSource}
 use Rattle.warc_frame.specs.declared.fault.Fault.{Fault}
-use Rattle.warc_reading.specs.Archive.{IsArchiveOf, SpellsFrom}
+use Rattle.warc_frame.specs.declared.fault.OutFault.{OutFault}
+use Rattle.warc_index.specs.declared.unfound.Unfound.{Unfound}
+use Rattle.warc_answer.specs.declared.answer.Path.{Path}
+use Rattle.warc_reading.specs.Archive.{IsArchiveOf, SpellsFrom, contents}
 use Rattle.warc_reading.specs.Indexed.{Archived, IsIndexed}
 use Rattle.warc_reading.specs.Opening.{Opens}
 use Rattle.warc_reading.specs.Row.{Placed, Row, row_of}
@@ -16,11 +19,14 @@ use Rattle.warc_reading.proofs.SourceLemmas.{raised_by_one}
 use Rattle.warc_reading.proofs.PlacedLemmas.{placed}
 use Rattle.warc_frame.specs.Effects.{ReadsOnly}
 use Rattle.warc.specs.Forms.{IsInAnyRow, read_len, split_len}
+use Rattle.warc.specs.Front.{CopiesFront, Fronted, OpensFront}
 use Rattle.warc.specs.Parts.{IsInPart, ReadsPart, found_len}
-use Rattle.warc.specs.Replaying.{IsIndexedBy}
+use Rattle.warc.specs.Replaying.{AsksInside, ReadsPath}
 use Rattle.warc.specs.declared.copying.Form.{Form}
 use Rattle.warc.specs.declared.part.Part.{Part}
 use Rattle.warc.specs.declared.part.Part.TheVariants.{Head, Block}
+use Rattle.warc.proofs.FrontLemmas.{front_begins}
+use Rattle.warc.proofs.JoinedLemmas.{path_short}
 use Rattle.warc.proofs.StandLemmas.{written}
 use Rattle.warc_commands.specs.Asking.{AsksFar, HasAsked, HasReadFront, ReadsFront}
 use Rattle.warc_commands.specs.Reads.{AsksNear, ReadsForRecord, ReadsTimes}
@@ -206,10 +212,41 @@ module _ {X : Type 0} {Is : List ℕ → X → Type 0} {old mid last new : SeenS
   })
 
 -- what a replay asks for lies in the archive
-pub replay_near : {S : Type 0} {old mid last new : SeenSource} {archive : Archived S} → Opens IsIndexed old mid (Ok archive) → new ≡ last
-    → ((bytes : List ℕ) → IsIndexedBy archive.listing.rows archive.index archive.parts bytes → AsksOnly (λ at. at < length bytes) mid last) → AsksNear old new
-replay_near {S} {old} {mid} {last} {new} {archive} opens same inside =
+inside_near : {S : Type 0} {old mid : SeenSource} {archive : Archived S} (last : SeenSource) → Opens IsIndexed old mid (Ok archive)
+    → AsksInside archive.listing.rows archive.index archive.parts mid last → AsksNear old last
+inside_near {S} {old} {mid} {archive} last opens inside =
     let is = opens.some.1 in
-    let near : AsksNear old last = near_then (λ at. at < length opens.some.0) old mid last opens.reads.watched opens.reads.near (λ q low. omega (arith, low, is.listed.short)) (inside opens.some.0 (is.listed, is.kept)) in
+    near_then (λ at. at < length opens.some.0) old mid last opens.reads.watched opens.reads.near (λ q low. omega (arith, low, is.listed.short)) (inside opens.some.0 (is.listed, is.kept))
+
+pub replay_near : {S : Type 0} {old mid last new : SeenSource} {archive : Archived S} → Opens IsIndexed old mid (Ok archive) → new ≡ last
+    → AsksInside archive.listing.rows archive.index archive.parts mid last → AsksNear old new
+replay_near {S} {old} {mid} {last} {new} {archive} opens same inside =
     let P : SeenSource → Type 0 = λ t. AsksNear old t in
-    subst P (sym same) near
+    subst P (sym same) (inside_near last opens inside)
+
+-- and is read in at most twice as many reads as the archive has bytes
+pub replay_read : {S : Type 0} {old mid last new : SeenSource} {archive : Archived S} (way : List Record → Result Path Unfound) → Opens IsIndexed old mid (Ok archive) → new ≡ last
+    → ReadsPath archive.listing.rows archive.index archive.parts way mid last → AsksInside archive.listing.rows archive.index archive.parts mid last → ReadsTimes 3 old new
+replay_read {S} {old} {mid} {last} {new} {archive} way opens same reads inside =
+    let read : ReadsTimes 3 old last = record {
+      near = inside_near last opens inside;
+      cost = λ bytes held.
+          let is = opens.accepted bytes held in
+          let path = reads bytes (opens.reads.kept ∙ held) is.listed is.kept in
+          omega (arith, opens.cost bytes held, path.bound, path_short bytes is.listed.are.records (way (contents is.listed.are.records)) is.listed.are.spelled);
+    } in
+    let P : SeenSource → Type 0 = λ t. ReadsTimes 3 old t in
+    subst P (sym same) read
+
+-- a front is opened, and its records are copied
+pub front_read : {S : Type 0} {front : Fronted S} {old mid last new : SeenSource} {before after : Seen} {answer : Result ℕ OutFault} → OpensFront old mid front
+    → CopiesFront front.listing.rows mid last before after answer → new ≡ last → ReadsTimes 2 old new
+front_read {S} {front} {old} {mid} {last} {new} opened copies same =
+    let reads : ReadsTimes 2 old last = record {
+      near = near_then (IsInRange 0 max_archive) old mid last opened.opens.reads.watched opened.opens.reads.near (λ q in_. omega (arith, in_.1)) copies.near.near;
+      cost = λ bytes held.
+          let (text, more, whole, archive) = front_begins bytes front.fault front.listing.rows (opened.rows_are bytes held) in
+          omega (arith, opened.opens.cost bytes held, (copies.reads text archive).bound, ap length whole, length-append text more);
+    } in
+    let P : SeenSource → Type 0 = λ t. ReadsTimes 2 old t in
+    subst P (sym same) reads

@@ -17,6 +17,7 @@ use Rattle.warc_reading.specs.Row.{Placed, Row, row_of}
 use Rattle.warc.specs.Captures.{capture_positions, captures_text}
 use Rattle.warc.specs.Capturing.{AreOutcomes, outcomes_seen}
 use Rattle.warc.specs.Outcomes.{CaptureSeen}
+use Rattle.warc.specs.Replaying.{AsksInside}
 use Rattle.warc.specs.declared.outcome.Outcome.{Outcome}
 use Rattle.std.specs.declared.vec.Vec.{Vec}
 use Rattle.warc_commands.specs.Devices.{Devices}
@@ -41,6 +42,7 @@ pub record JudgesListed {S A B : Type 0} (old new : Archived S) (uri : Option (L
   pub told : IfHeld before.holds (λ bytes. IsIndexed bytes old
       → IfOk answer (λ outcomes. AreCapturesIn uri bytes old.listing.rows (outcomes_seen outcomes)))
   pub early : IfErr answer (λ e. IsEarly (Out e))
+  pub inside : AsksInside old.listing.rows old.index old.parts before after
   pub kept : after.holds ≡ before.holds
   pub may : MayHaveFailedBy answer before.faults after.faults
   pub rows : new.listing.rows ≡ old.listing.rows

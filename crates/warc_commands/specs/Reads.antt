@@ -1,6 +1,5 @@
--- Which bytes of its source a command asks for, and in how many reads at most. Of `captures`, `body --stored` and
--- `salvage` nothing is said here.
-use Rattle.std.specs.Prelude.{◌≡◌, ℕ, ◌+◌, ◌*◌, ◌≤◌, List, length, true, false, ⊤}
+-- Which bytes of its source a command asks for, and in how many reads at most.
+use Rattle.std.specs.Prelude.{◌≡◌, ℕ, ◌+◌, ◌*◌, ◌≤◌, List, length}
 use Rattle.warc_frame.specs.Record.{max_archive, max_block}
 use Rattle.warc_frame.specs.Seen.{AsksOnly, IfHeld, SeenSource}
 use Rattle.warc_commands.specs.declared.words.Command.{Command}
@@ -10,7 +9,7 @@ use Rattle.warc_commands.specs.declared.words.Command.TheVariants as command
 abbrev pub AsksNear : SeenSource → SeenSource → Type 0
 AsksNear old new = AsksOnly (λ at. at ≤ max_archive) old new
 
--- and there are at most so many reads for each byte that the source holds, and one
+-- and there are at most `times` reads for each byte that the source holds, and one
 pub record ReadsTimes (times : ℕ) (old new : SeenSource) : Type 0 where
   pub near : AsksNear old new
   pub cost : IfHeld old.holds (λ bytes. new.reads ≤ old.reads + times * length bytes + 1)
@@ -23,7 +22,7 @@ pub record ReadsForRecord (old new : SeenSource) : Type 0 where
   pub cost : IfHeld old.holds (λ bytes. new.reads ≤ old.reads + 2 * length bytes + 2)
 
 -- what a run of the command reads: an archive is opened in one read for each byte, and one; what is written of it is
--- read again, once, and blocks that are split twice
+-- read again, once, and twice the blocks that are split and the joined blocks of a body
 abbrev pub CommandReads : Command → SeenSource → SeenSource → Type 0
 CommandReads (command.List archive) old new = ReadsTimes 1 old new
 CommandReads (command.Check archive) old new = ReadsTimes 1 old new
@@ -35,10 +34,9 @@ CommandReads (command.Block archive position) old new = ReadsTimes 2 old new
 CommandReads (command.Rewrite archive) old new = ReadsTimes 2 old new
 CommandReads (command.Convert archive) old new = ReadsTimes 2 old new
 CommandReads (command.Split archive size) old new = ReadsTimes 3 old new
-CommandReads (command.Replay archive uri date hex) old new = AsksNear old new
-CommandReads (command.Body archive position false) old new = AsksNear old new
-CommandReads (command.Body archive position true) old new = ⊤
+CommandReads (command.Replay archive uri date hex) old new = ReadsTimes 3 old new
+CommandReads (command.Body archive position stored) old new = ReadsTimes 3 old new
 CommandReads (command.Write draft file) old new = ReadsForRecord old new
-CommandReads (command.Captures archive uri hex) old new = ⊤
-CommandReads (command.Salvage archive) old new = ⊤
+CommandReads (command.Captures archive uri hex) old new = AsksNear old new
+CommandReads (command.Salvage archive) old new = ReadsTimes 2 old new
 CommandReads (command.Explain number) old new = new ≡ old

@@ -4,7 +4,7 @@ ghost use Rattle.warc_commands.specs.Bodies.{BodyEnds, body_line, body_status};
 ghost use Rattle.warc_commands.specs.Devices.{devices};
 ghost use Rattle.warc_commands.specs.Parts.{position_of};
 ghost use Rattle.warc_commands.specs.Program.{Tells};
-ghost use Rattle.warc_commands.specs.Reads.{AsksNear};
+ghost use Rattle.warc_commands.specs.Reads.{ReadsTimes};
 
 use crate::extracting::tell_replay;
 use crate::parts::position_of;
@@ -32,7 +32,7 @@ where
 
     // The source still holds what it held.
     ensures kept { (S.seen result.1).holds ≡ (S.seen source).holds }
-    ensures reads { AsksNear (S.seen source) (S.seen result.1) }
+    ensures reads { ReadsTimes 3 (S.seen source) (S.seen result.1) }
 {
     match position_of(position.as_bytes()) {
         Some(position) => body_at(alloc, position, source, out, err),
@@ -55,7 +55,7 @@ where
 
     // The source still holds what it held.
     ensures kept { (S.seen result.1).holds ≡ (S.seen source).holds }
-    ensures reads { AsksNear (S.seen source) (S.seen result.1) }
+    ensures reads { ReadsTimes 3 (S.seen source) (S.seen result.1) }
 {
     let mut archive = match Archive::open(alloc, source) {
         Ok(archive) => archive,

@@ -5,6 +5,7 @@ ghost use Rattle.warc.specs.Capturing.{outcomes_seen};
 ghost use Rattle.warc.specs.Outcomes.{outcome_seen};
 ghost use Rattle.warc_commands.specs.Captures.{AreListed, CapturesEnds, CountEnds, JudgesListed, LinesEnd, ListedEnds};
 ghost use Rattle.warc_commands.specs.Devices.{devices};
+ghost use Rattle.warc_commands.specs.Reads.{AsksNear};
 ghost use Rattle.warc_commands.specs.Uris.{UriEnds, uri_listed};
 ghost use Rattle.warc_reading.specs.Indexed.{IsIndexed};
 
@@ -34,6 +35,7 @@ where
 
     // The source still holds what it held.
     ensures kept { (S.seen result.1).holds ≡ (S.seen source).holds }
+    ensures reads { AsksNear (S.seen source) (S.seen result.1) }
 {
     if in_hex {
         return captures_in_hex(alloc, uri, source, out, err);
@@ -62,6 +64,7 @@ where
 
     // The source still holds what it held.
     ensures kept { (S.seen result.1).holds ≡ (S.seen source).holds }
+    ensures reads { AsksNear (S.seen source) (S.seen result.1) }
 {
     let Some(word) = uri else {
         return (tell_fault(UriFault::Digits, err), source);
@@ -84,6 +87,7 @@ where
 
     // The source still holds what it held.
     ensures kept { (S.seen result.1).holds ≡ (S.seen source).holds }
+    ensures reads { AsksNear (S.seen source) (S.seen result.1) }
 {
     list_captures(alloc, Some(uri), source, out, err)
 }
@@ -106,6 +110,7 @@ where
 
     // The source still holds what it held.
     ensures kept { (S.seen result.1).holds ≡ (S.seen source).holds }
+    ensures reads { AsksNear (S.seen source) (S.seen result.1) }
 {
     let mut archive = match Archive::open(alloc, source) {
         Ok(archive) => archive,

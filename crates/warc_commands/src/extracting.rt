@@ -4,7 +4,7 @@ ghost use Rattle.warc_value.specs.Dates.{Instant, instant_of};
 ghost use Rattle.warc_answer.specs.ReasonText.{reason_text};
 ghost use Rattle.warc_commands.specs.Devices.{devices};
 ghost use Rattle.warc_commands.specs.Program.{ExtractEnds, ReplayEnds, Tells, TellsIf, answer_text, extract_line, extract_status, number_or_dash, replay_line, replay_status, told_line, yes_or_no};
-ghost use Rattle.warc_commands.specs.Reads.{AsksNear, ReadsTimes};
+ghost use Rattle.warc_commands.specs.Reads.{ReadsTimes};
 
 use crate::program::{DONE, FAILED, FOUND, LINE, tell, tell_cut, tell_refusal};
 use arrayvec::ArrayString;
@@ -62,7 +62,7 @@ where
 
     // The source still holds what it held.
     ensures kept { (S.seen result.1).holds ≡ (S.seen source).holds }
-    ensures reads { AsksNear (S.seen source) (S.seen result.1) }
+    ensures reads { ReadsTimes 3 (S.seen source) (S.seen result.1) }
 {
     match read_date(date.as_bytes()) {
         Some(moment) => replay_as_of(alloc, uri, &moment, source, out, err),
@@ -92,7 +92,7 @@ where
 
     // The source still holds what it held.
     ensures kept { (S.seen result.1).holds ≡ (S.seen source).holds }
-    ensures reads { AsksNear (S.seen source) (S.seen result.1) }
+    ensures reads { ReadsTimes 3 (S.seen source) (S.seen result.1) }
 {
     let mut archive = match Archive::open(alloc, source) {
         Ok(archive) => archive,

@@ -2,6 +2,7 @@
 ghost use Rattle.std.specs.Prelude.{◌≡◌, ◌≤◌, Some, length};
 ghost use Rattle.warc_commands.specs.Devices.{devices};
 ghost use Rattle.warc_commands.specs.Program.{Tells, status_of_kind};
+ghost use Rattle.warc_commands.specs.Reads.{ReadsTimes};
 ghost use Rattle.warc_commands.specs.Salvage.{SalvageEnds, TellsAmount, amount_line, salvage_status};
 
 use crate::program::{DONE, LINE, tell, tell_cut, tell_refusal};
@@ -74,6 +75,7 @@ where
 
     // The source still holds what it held.
     ensures kept { (S.seen result.1).holds ≡ (S.seen source).holds }
+    ensures reads { ReadsTimes 2 (S.seen source) (S.seen result.1) }
 {
     let mut front = open_front(alloc, source);
     match front.copy_to(out) {

@@ -7,6 +7,7 @@ ghost use Rattle.warc.specs.Outcomes.{answer_seen};
 ghost use Rattle.warc_commands.specs.Devices.{devices};
 ghost use Rattle.warc_commands.specs.Parts.{position_of};
 ghost use Rattle.warc_commands.specs.Program.{Tells, answer_text};
+ghost use Rattle.warc_commands.specs.Reads.{ReadsTimes};
 ghost use Rattle.warc_commands.specs.Stored.{StoredEnds, coded_text, stored_line, stored_status};
 
 use crate::bodies::tell_body;
@@ -36,6 +37,7 @@ where
 
     // The source still holds what it held.
     ensures kept { (S.seen result.1).holds ≡ (S.seen source).holds }
+    ensures reads { ReadsTimes 3 (S.seen source) (S.seen result.1) }
 {
     match position_of(position.as_bytes()) {
         Some(position) => stored_at(alloc, position, source, out, err),
@@ -58,6 +60,7 @@ where
 
     // The source still holds what it held.
     ensures kept { (S.seen result.1).holds ≡ (S.seen source).holds }
+    ensures reads { ReadsTimes 3 (S.seen source) (S.seen result.1) }
 {
     let mut archive = match Archive::open(alloc, source) {
         Ok(archive) => archive,

@@ -3,7 +3,7 @@ ghost use Rattle.std.specs.Prelude.{◌≡◌, Err, IfOk, None, Some, true};
 ghost use Rattle.warc_value.specs.Dates.{instant_of};
 ghost use Rattle.warc_commands.specs.Devices.{devices};
 ghost use Rattle.warc_commands.specs.Program.{ReplayEnds, Tells, told_line};
-ghost use Rattle.warc_commands.specs.Reads.{AsksNear};
+ghost use Rattle.warc_commands.specs.Reads.{ReadsTimes};
 ghost use Rattle.warc_commands.specs.Uris.{UriEnds, uri_fault_text, uri_named};
 
 use crate::extracting::replay;
@@ -69,7 +69,7 @@ where
 
     // The source still holds what it held.
     ensures kept { (S.seen result.1).holds ≡ (S.seen source).holds }
-    ensures reads { AsksNear (S.seen source) (S.seen result.1) }
+    ensures reads { ReadsTimes 3 (S.seen source) (S.seen result.1) }
 {
     if in_hex {
         return replay_in_hex(alloc, uri, date, source, out, err);
@@ -97,7 +97,7 @@ where
 
     // The source still holds what it held.
     ensures kept { (S.seen result.1).holds ≡ (S.seen source).holds }
-    ensures reads { AsksNear (S.seen source) (S.seen result.1) }
+    ensures reads { ReadsTimes 3 (S.seen source) (S.seen result.1) }
 {
     match bytes_of(alloc, uri) {
         Ok(bytes) => replay(alloc, &bytes, date, source, out, err),

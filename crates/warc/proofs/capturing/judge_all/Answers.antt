@@ -1,7 +1,7 @@
-use Rattle.std.proofs.Common.{◌≡◌, ◌++◌, ◌∷◌, [], length, map, refl, sym, ap, subst, take_all, ◌∙◌, arith}
+use Rattle.std.proofs.Common.{◌++◌, ◌∷◌, [], length, map, refl, sym, ap, subst, take_all, ◌∙◌}
 use Rattle.warc_reading.specs.Archive.{contents}
 use Rattle.warc.specs.Capturing.{AreSlots, AreSoFar, Recalls}
-use Rattle.warc.proofs.CaptureLemmas.{chosen_more, chosen_seen, more_slots, more_so_far, take_next}
+use Rattle.warc.proofs.CaptureLemmas.{asks_on, chosen_more, chosen_seen, fault_may, more_slots, more_so_far, preserves_both, take_next}
 use Rattle.warc.proofs.capturing.judge_all.Goals as goal
 
 pub judging-preserved : goal.judging-preserved
@@ -16,13 +16,14 @@ judging-preserved g c =
           (subst (λ l. Recalls (contents is.are.records) c.judging.slots.items l) (sym c.deref-in-judging.ensures.value) before.recalls) in
           subst (λ l. AreSoFar (contents is.are.records) c.remember.new.slots.items l) (sym added.items)
           (more_so_far (contents is.are.records) c.judging.slots.items c.remember.new.slots.items c.judging.outcomes.items c.in-Ok-outcome_once.outcome _ before old.slots
-          (next.told bytes (old.kept ∙ held) is are recalls) added.count c.remember.ensures);
+          (next.told bytes (old.keeps.kept ∙ held) is are recalls) added.count c.remember.ensures);
       slots = subst (λ l. AreSlots (length l) c.remember.new.slots.items) (sym added.items)
           (more_slots c.judging.slots.items c.remember.new.slots.items c.judging.outcomes.items c.in-Ok-outcome_once.outcome _ old.slots added.count c.remember.ensures);
       chosen = ap (λ l. map (λ o. o.chosen) l) added.items ∙ chosen_more c.judging.outcomes.items c.in-Ok-outcome_once.outcome
           ∙ ap (λ l. l ++ c.in-Ok-outcome_once.outcome.chosen ∷ []) old.chosen
           ∙ take_next c.args.positions.now c.judging.position-index c.in-Ok-outcome_once.outcome.chosen c.judging-test.true next.chosen;
-      kept = next.kept ∙ old.kept;
+      inside = asks_on old.keeps old.inside next;
+      keeps = preserves_both old.keeps next.keeps;
       sound = next.may ∙ old.sound;
     }
 
@@ -33,6 +34,31 @@ returns g c = record {
     each = (c.judging.invariant.told bytes held is are).each;
   };
   early = tt;
-  kept = c.judging.invariant.kept;
+  inside = c.judging.invariant.inside;
+  keeps = c.judging.invariant.keeps;
   may = c.judging.invariant.sound;
 }
+
+pub returns-in-Err : goal.returns-in-Err
+returns-in-Err g c =
+    let old = c.judging.invariant in
+    let next = c.in-Err.ensures in
+    record {
+      told = λ bytes held is are. tt;
+      early = next.early;
+      inside = asks_on old.keeps old.inside next;
+      keeps = preserves_both old.keeps next.keeps;
+      may = fault_may (Unit {0}) (Unit {0}) c.in-Err.fault _ _ _ old.sound next.may;
+    }
+
+pub returns-in_default-push_outcome : goal.returns-in_default-push_outcome
+returns-in_default-push_outcome g c =
+    let old = c.judging.invariant in
+    let next = c.in-Ok-outcome_once.ensures in
+    record {
+      told = λ bytes held is are. tt;
+      early = refl;
+      inside = asks_on old.keeps old.inside next;
+      keeps = preserves_both old.keeps next.keeps;
+      may = next.may ∙ old.sound;
+    }

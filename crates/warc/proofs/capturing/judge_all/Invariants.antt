@@ -1,8 +1,10 @@
-use Rattle.std.proofs.Common.{◌≡◌, List, length, map, take}
+use Rattle.std.proofs.Common.{◌≡◌, length, map, take}
+use Rattle.warc_frame.specs.Effects.{Preserves}
 use Rattle.warc_frame.specs.Seen.{IfHeld}
 use Rattle.warc_reading.specs.Archive.{IsArchiveOf, contents}
 use Rattle.warc_reading.specs.Indexed.{AreOf}
 use Rattle.warc.specs.Capturing.{AreSlots, AreSoFar}
+use Rattle.warc.specs.Replaying.{AsksInside}
 use Rattle.warc.proofs.capturing.judge_all.Given as goal
 
 -- the outcomes so far, and which of them each origin was judged for
@@ -12,6 +14,7 @@ invariant-judging g l = record {
       → AreSoFar (contents is.are.records) l.slots.items l.outcomes.items);
   slots : AreSlots (length l.outcomes.items) l.slots.items;
   chosen : map (λ o. o.chosen) l.outcomes.items ≡ take l.position-index l.positions;
-  kept : (g.S.Source.seen l.source).holds ≡ (g.S.Source.seen l.fn.source).holds;
+  inside : AsksInside l.rows l.lookup.index l.lookup.parts (g.S.Source.seen l.fn.source) (g.S.Source.seen l.source);
+  keeps : Preserves (g.S.Source.seen l.fn.source) (g.S.Source.seen l.source);
   sound : (g.S.Source.seen l.source).faults ≡ (g.S.Source.seen l.fn.source).faults;
 }

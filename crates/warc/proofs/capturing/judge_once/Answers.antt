@@ -11,7 +11,8 @@ returns-in-Some g c = record {
       IfOk-weaker c.judged_again.result _ _
       (λ r same. subst (λ j. IsStoredAt (contents is.are.records) c.args.origin j) (sym same) (recalls c.args.origin _ c.in-Some.ensures)) c.judged_again.ensures.same;
   early = memory_early _ c.judged_again.ensures.memory;
-  kept = refl;
+  inside = λ bytes is parts off. refl;
+  keeps = record { kept = refl; watched = refl };
   may = memory_may _ _ c.judged_again.ensures.memory;
 }
 
@@ -19,6 +20,7 @@ pub returns-in-None : goal.returns-in-None
 returns-in-None g c = record {
   told = λ bytes held is parts recalls. c.judge_origin.ensures.told bytes held is parts;
   early = c.judge_origin.ensures.early;
-  kept = c.judge_origin.ensures.keeps.kept;
+  inside = c.judge_origin.ensures.inside;
+  keeps = c.judge_origin.ensures.keeps;
   may = c.judge_origin.ensures.fails.may;
 }

@@ -14,7 +14,8 @@ returns-in-Ok-judge_once g c = record {
       (c.in-Ok-judge_once.ensures.told bytes held is are.parts_are recalls);
   chosen = refl;
   early = tt;
-  kept = c.in-Ok-judge_once.ensures.kept;
+  inside = λ bytes (is, are). c.in-Ok-judge_once.ensures.inside bytes is are.parts_are;
+  keeps = c.in-Ok-judge_once.ensures.keeps;
   may = c.in-Ok-judge_once.ensures.may;
 }
 
@@ -23,7 +24,8 @@ returns-in-Err-judge_once g c = record {
   told = λ bytes held is are recalls. tt;
   chosen = tt;
   early = c.in-Err-judge_once.ensures.early;
-  kept = c.in-Err-judge_once.ensures.kept;
+  inside = λ bytes (is, are). c.in-Err-judge_once.ensures.inside bytes is are.parts_are;
+  keeps = c.in-Err-judge_once.ensures.keeps;
   may = out_may (Unit {0}) (Unit {0}) c.in-Err-judge_once.fault _ _ c.in-Err-judge_once.ensures.may;
 }
 
@@ -34,6 +36,7 @@ returns-in-Err g c = record {
       (contents is.are.records) (sym (path_by_links is.are.records c.args.position) ∙ sym (c.in-Err.ensures is.are.records are)) refl refl;
   chosen = refl;
   early = tt;
-  kept = refl;
+  inside = λ bytes is off. refl;
+  keeps = record { kept = refl; watched = refl };
   may = refl;
 }

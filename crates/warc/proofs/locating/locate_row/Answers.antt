@@ -12,7 +12,7 @@ returns-in-Err-clause-located g c = λ bytes held is. record {
   located = λ tells.
       rw c.after.ensures (c.fails_before_all.ensures (contents is.at.records) is.at.found tells (ended_by c.in-Err.fault 0) (origin_inside bytes is.at.records is.at.found c.args.path is.at.placed is.at.origin) (ended_sent c.in-Err.fault));
   reads = reads_on_path is.at.records is.at.found c.args.path is.at.placed is.at.origin.path_is is.at.origin.stands
-      (reads_of_head is.at.records is.at.placed c.args.row.now is.at.row_is c.in-Err.ensures.reads);
+      (reads_of_head 2 is.at.records is.at.placed c.args.row.now is.at.row_is c.in-Err.ensures.reads);
 }
 
 pub returns-in-Err-clause-keeps : goal.returns-in-Err-clause-keeps
@@ -33,7 +33,7 @@ returns-clause-located g c = λ bytes held is.
         head_is = says;
       });
       reads = reads_on_path is.at.records is.at.found c.args.path is.at.placed is.at.origin.path_is is.at.origin.stands
-          (reads_of_origin is.at.records is.at.placed c.args.row.now is.at.row_is c.in-Ok.ensures.reads (c.locate_origin.ensures.reads bytes there (record {
+          (reads_of_origin 2 is.at.records is.at.placed c.args.row.now is.at.row_is c.in-Ok.ensures.reads (c.locate_origin.ensures.reads bytes there (record {
             at = record { records = is.at.records; found = is.at.found; placed = is.at.placed; origin = is.at.origin; parts_are = is.at.parts_are; place_is = place_by_row is.at.placed _ (c.row.view_is ∙ is.at.row_is) };
             head_is = says;
           })));

@@ -2,12 +2,14 @@ use Rattle.std.proofs.Common.{refl, sym, ap, subst, ◌∙◌}
 use Rattle.warc_frame.proofs.EffectLemmas.{fails_after, fails_more}
 use Rattle.warc_answer.specs.Places.{LieIn, text_at}
 use Rattle.warc_reading.specs.Archive.{contents}
-use Rattle.warc.proofs.LookLemmas.{all_sent, early_sound, fault_fails, front_sent, nothing_sent}
+use Rattle.warc.proofs.LookLemmas.{all_sent, asked_within, early_sound, fault_fails, front_sent, nothing_sent, origin_read, sent_read, sent_within}
 use Rattle.warc.proofs.looking.send_origin.Goals as goal
 
 pub returns-in-Err : goal.returns-in-Err
 returns-in-Err g c = record {
   told = λ bytes held is parts. nothing_sent (Unit {0}) (contents is.are.records) c.args.position c.in-Err.fault _ bytes c.in-Err.ensures.early (c.in-Err.ensures.told bytes held is parts);
+  reads = origin_read c.in-Err.ensures;
+  inside = asked_within c.in-Err.ensures;
   silent = λ reason. refl;
   keeps = c.in-Err.ensures.keeps;
   fails = fault_fails (Unit {0}) (Unit {0}) c.in-Err.fault c.in-Err.ensures.fails;
@@ -21,6 +23,8 @@ returns-in-Ok-send_blocks g c = record {
       all_sent (contents is.are.records) c.args.position c.in-Ok.look.stored (text_at c.deref.result.now bytes) _ _ look.0
       (ap (λ l. text_at l bytes) c.deref.ensures.value ∙ look.1)
       (c.in-Ok-send_blocks.ensures.sends.out bytes _ (c.in-Ok.ensures.keeps.kept ∙ held) (subst (λ l. LieIn l bytes) (sym c.deref.ensures.value) look.2, refl));
+  reads = sent_read c.in-Ok.ensures c.deref.result.now _ c.deref.ensures.value c.in-Ok-send_blocks.ensures.reads;
+  inside = sent_within c.in-Ok.ensures c.deref.result.now _ c.deref.ensures.value c.in-Ok-send_blocks.ensures.reads;
   silent = tt;
   keeps = record {
     kept = c.in-Ok-send_blocks.ensures.reads.kept ∙ c.in-Ok.ensures.keeps.kept;
@@ -40,6 +44,8 @@ returns-in-Err-send_blocks g c = record {
       front_sent (Unit {0}) (contents is.are.records) c.args.position _ c.in-Err-send_blocks.fault (text_at c.deref.result.now bytes) _ _ look.0
       (ap (λ l. text_at l bytes) c.deref.ensures.value ∙ look.1)
       (c.in-Err-send_blocks.ensures.sends.cut bytes _ (c.in-Ok.ensures.keeps.kept ∙ held) (subst (λ l. LieIn l bytes) (sym c.deref.ensures.value) look.2, refl));
+  reads = sent_read c.in-Ok.ensures c.deref.result.now _ c.deref.ensures.value c.in-Err-send_blocks.ensures.reads;
+  inside = sent_within c.in-Ok.ensures c.deref.result.now _ c.deref.ensures.value c.in-Err-send_blocks.ensures.reads;
   silent = λ reason. absurd reason;
   keeps = record {
     kept = c.in-Err-send_blocks.ensures.reads.kept ∙ c.in-Ok.ensures.keeps.kept;

@@ -64,7 +64,7 @@ returns-clause-reads g c = λ bytes held is.
     let q : PlacedRecord = record { head = said c.args.origin.now; place = c.args.place } in
     let from = c.in-Ok.ensures (map placed_record at.records) at.parts_are in
     let (joined, same, are) = places_are bytes at.records at.found c.args.path at.placed at.origin q c.in-Ok.places.items is.head_is at.place_is c.places_are_of_records.ensures from in
-    reads_joined bytes at.records at.found c.args.path at.placed at.origin q c.in-Ok.places.items c.deref.result.now joined _ is.head_is at.place_is from c.deref.ensures.value c.places_are_as_long.ensures same
+    reads_joined bytes at.records at.found c.args.path at.placed at.origin 2 q c.in-Ok.places.items c.deref.result.now joined _ is.head_is at.place_is from c.deref.ensures.value c.places_are_as_long.ensures same
     (subst (λ l. ArePlacesOf bytes l joined) (sym c.deref.ensures.value) are) (body_within (is_http_response (said c.args.origin.now)) c.deref.result.now) c.replay_joined.ensures.reads
 
 pub returns-clause-inside : goal.returns-clause-inside

@@ -1,11 +1,9 @@
-use Rattle.std.proofs.Common.{◌<◌, List, length, ap, sym, ◌∙◌}
+use Rattle.std.proofs.Common.{◌<◌, length, ap, sym, ◌∙◌}
 use Rattle.warc_frame.proofs.EffectLemmas.{fails_after, fails_more}
 use Rattle.warc_record.specs.Readings.{reading_of}
-use Rattle.warc_record.specs.Seen.{said}
 use Rattle.warc_reading.proofs.HeadLemmas.{fails_ended}
 use Rattle.warc_reading.specs.Archive.{contents}
 use Rattle.warc_reading.specs.Rereading.{ended_by}
-use Rattle.warc.specs.Standing.{IsReached}
 use Rattle.warc.proofs.ReplayLemmas.{asks_both, ended_late, ended_sent, head_inside, origin_inside, place_by_row, reads_of_head, reads_of_origin}
 use Rattle.warc.proofs.replay.replay_row.Goals as goal
 
@@ -14,7 +12,7 @@ returns-in-Err-clause-told g c = λ bytes held is.
     rw c.after.ensures (c.fails_before_all.ensures (contents is.at.records) is.at.found ((g.W.Sink.seen c.args.out.now).tells) (ended_by c.in-Err.fault 0) (origin_inside bytes is.at.records is.at.found c.args.path is.at.placed is.at.origin) (ended_sent c.in-Err.fault))
 
 pub returns-in-Err-clause-reads : goal.returns-in-Err-clause-reads
-returns-in-Err-clause-reads g c = λ bytes held is. reads_of_head is.at.records is.at.placed c.args.row.now is.at.row_is c.in-Err.ensures.reads
+returns-in-Err-clause-reads g c = λ bytes held is. reads_of_head 2 is.at.records is.at.placed c.args.row.now is.at.row_is c.in-Err.ensures.reads
 
 pub returns-in-Err-clause-inside : goal.returns-in-Err-clause-inside
 returns-in-Err-clause-inside g c = λ bytes at.
@@ -42,7 +40,7 @@ returns-clause-told g c = λ bytes held is.
 pub returns-clause-reads : goal.returns-clause-reads
 returns-clause-reads g c = λ bytes held is.
     let says = c.in-Ok.ensures.said ∙ ap reading_of (c.in-Ok.ensures.read bytes held (record { placed = is.at.placed; has = is.has; row_is = is.at.row_is })) in
-    reads_of_origin is.at.records is.at.placed c.args.row.now is.at.row_is c.in-Ok.ensures.reads
+    reads_of_origin 2 is.at.records is.at.placed c.args.row.now is.at.row_is c.in-Ok.ensures.reads
     (c.replay_origin.ensures.reads bytes (c.in-Ok.ensures.reads.kept ∙ held) (record {
       at = record { records = is.at.records; found = is.at.found; placed = is.at.placed; origin = is.at.origin; parts_are = is.at.parts_are; place_is = place_by_row is.at.placed _ (c.row.view_is ∙ is.at.row_is) };
       head_is = says;

@@ -8,6 +8,7 @@ pub returns-in_default : goal.returns-in_default
 returns-in_default g c = record {
   told = λ bytes held is. tt;
   early = refl;
+  inside = λ bytes is off. refl;
   kept = refl;
   may = refl;
   rows = refl;
@@ -25,7 +26,8 @@ returns g c = record {
       })
       (c.outcomes.ensures.judges.told bytes held is.listed is.kept);
   early = c.outcomes.ensures.judges.early;
-  kept = c.outcomes.ensures.judges.kept;
+  inside = c.outcomes.ensures.judges.inside;
+  kept = c.outcomes.ensures.judges.keeps.kept;
   may = c.outcomes.ensures.judges.may;
   rows = c.outcomes.ensures.rows;
 }

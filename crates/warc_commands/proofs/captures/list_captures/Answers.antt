@@ -1,6 +1,7 @@
-use Rattle.std.proofs.Common.{inl, inr, ap}
+use Rattle.std.proofs.Common.{inl, inr, refl, ap}
 use Rattle.warc_commands.proofs.CaptureLemmas.{captures_end}
 use Rattle.warc_commands.proofs.ProgramLemmas.{not_opened}
+use Rattle.warc_commands.proofs.ReadLemmas.{opened, replay_near}
 use Rattle.warc_commands.proofs.captures.list_captures.Goals as goal
 
 pub returns-in-Err-clause-ends : goal.returns-in-Err-clause-ends
@@ -10,3 +11,9 @@ pub returns-clause-ends : goal.returns-clause-ends
 returns-clause-ends g c =
     captures_end _ _ _ c.judge_listed-outcomes.result _ _ _ _ _ _ _ _ _ c.in-Ok.ensures c.judge_listed-outcomes.ensures
     (ap (λ s. (g.S.Source.seen s).faults) c.into_source.ensures) c.tell_outcomes.ensures
+
+pub returns-in-Err-clause-reads : goal.returns-in-Err-clause-reads
+returns-in-Err-clause-reads g c = (opened c.in-Err.ensures refl).near
+
+pub returns-clause-reads : goal.returns-clause-reads
+returns-clause-reads g c = replay_near c.in-Ok.ensures (ap (λ s. g.S.Source.seen s) c.into_source.ensures) c.judge_listed-outcomes.ensures.inside

@@ -1,8 +1,9 @@
 use Rattle.std.proofs.Common.{inl, inr, refl, sym, ap, ◌∙◌}
+use Rattle.warc_answer.specs.Answers.{path_for}
 use Rattle.warc_answer.specs.Replays.{out_result}
 use Rattle.warc_reading.specs.Archive.{contents}
 use Rattle.warc_commands.proofs.ProgramLemmas.{failed_as, good_records_of, may_have_failed_as, not_opened}
-use Rattle.warc_commands.proofs.ReadLemmas.{opened, replay_near}
+use Rattle.warc_commands.proofs.ReadLemmas.{opened, replay_read, thrice_at_most}
 use Rattle.warc_commands.proofs.extracting.replay_as_of.Goals as goal
 
 pub returns-in-Err-clause-ends : goal.returns-in-Err-clause-ends
@@ -27,7 +28,8 @@ returns-clause-ends g c = inl (record {
 })
 
 pub returns-in-Err-clause-reads : goal.returns-in-Err-clause-reads
-returns-in-Err-clause-reads g c = (opened c.in-Err.ensures refl).near
+returns-in-Err-clause-reads g c = thrice_at_most (opened c.in-Err.ensures refl)
 
 pub returns-clause-reads : goal.returns-clause-reads
-returns-clause-reads g c = replay_near c.in-Ok.ensures (ap (λ s. g.S.Source.seen s) c.into_source.ensures) c.replay-answer.ensures.replays.inside
+returns-clause-reads g c =
+    replay_read (λ records. path_for records c.args.uri.now c.args.moment.now) c.in-Ok.ensures (ap (λ s. g.S.Source.seen s) c.into_source.ensures) c.replay-answer.ensures.replays.reads c.replay-answer.ensures.replays.inside

@@ -1,4 +1,5 @@
 use Rattle.std.proofs.Common.{inl, inr, ap}
+use Rattle.warc_commands.proofs.ReadLemmas.{front_read}
 use Rattle.warc_commands.proofs.SalvageLemmas.{amount_as, salvage_cut, salvaged, status_as}
 use Rattle.warc_commands.proofs.salvage.salvage.Goals as goal
 
@@ -10,3 +11,9 @@ returns-in-Ok-clause-ends g c = inl (salvaged c.open_front-front.result _ _ _ _ 
 pub returns-in-Err-clause-ends : goal.returns-in-Err-clause-ends
 returns-in-Err-clause-ends g c = inr (salvage_cut c.open_front-front.result _ _ _ _ _ _ _ _ _ c.open_front-front.ensures c.in-Err.fault c.in-Err.ensures.copies (ap (λ s. (g.S.Source.seen s).faults) c.into_source-in-Err.ensures)
     c.tell_cut.ensures.told c.tell_cut.ensures.status)
+
+pub returns-in-Ok-clause-reads : goal.returns-in-Ok-clause-reads
+returns-in-Ok-clause-reads g c = front_read c.open_front-front.ensures c.in-Ok.ensures.copies (ap (λ s. g.S.Source.seen s) c.into_source.ensures)
+
+pub returns-in-Err-clause-reads : goal.returns-in-Err-clause-reads
+returns-in-Err-clause-reads g c = front_read c.open_front-front.ensures c.in-Err.ensures.copies (ap (λ s. g.S.Source.seen s) c.into_source-in-Err.ensures)

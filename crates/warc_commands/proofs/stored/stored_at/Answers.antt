@@ -1,7 +1,9 @@
-use Rattle.std.proofs.Common.{inl, inr, sym, ap, ◌∙◌}
+use Rattle.std.proofs.Common.{inl, inr, refl, sym, ap, ◌∙◌}
+use Rattle.warc_answer.specs.Answers.{path_at}
 use Rattle.warc.specs.Outcomes.{answer_seen, fault_result}
 use Rattle.warc_reading.specs.Archive.{contents}
 use Rattle.warc_commands.proofs.ProgramLemmas.{failed_as, good_records_of, may_have_failed_as, not_opened}
+use Rattle.warc_commands.proofs.ReadLemmas.{opened, replay_read, thrice_at_most}
 use Rattle.warc_commands.proofs.stored.stored_at.Goals as goal
 
 pub returns-in-Err-clause-ends : goal.returns-in-Err-clause-ends
@@ -24,3 +26,10 @@ returns-clause-ends g c = inl (record {
   told = c.tell_stored.ensures.told;
   status_is = c.tell_stored.ensures.status;
 })
+
+pub returns-in-Err-clause-reads : goal.returns-in-Err-clause-reads
+returns-in-Err-clause-reads g c = thrice_at_most (opened c.in-Err.ensures refl)
+
+pub returns-clause-reads : goal.returns-clause-reads
+returns-clause-reads g c =
+    replay_read (λ records. path_at records c.args.position) c.in-Ok.ensures (ap (λ s. g.S.Source.seen s) c.into_source.ensures) c.stored_to-answer.ensures.gives.reads c.stored_to-answer.ensures.gives.inside

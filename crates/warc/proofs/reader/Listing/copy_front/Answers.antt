@@ -10,7 +10,7 @@ returns-clause-copies g c =
     let reads = c.send_range.ensures.reads in
     elim c.match-send_range.branch [
       | in-Ok w ↦ rw (w.result-is, sym c.self.view_is)
-          (copies_all rows end.result _ _ _ _ end.ensures.end reads w.in-Ok.ensures.sends)
+          (copies_all rows end.result _ _ _ _ end.ensures.limit end.ensures.end reads w.in-Ok.ensures.sends)
       | in-Err w ↦ rw (w.result-is, sym c.self.view_is)
-          (copies_cut rows end.result _ _ _ _ end.ensures.end reads w.in-Err.fault w.in-Err.ensures.sends)
+          (copies_cut rows end.result _ _ _ _ end.ensures.limit end.ensures.end reads w.in-Err.fault w.in-Err.ensures.sends)
     ]
