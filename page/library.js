@@ -77,13 +77,13 @@ function listLine(row) {
 
 const MOST_REMEMBERED = 128 * 1048576; // bytes of bodies
 
-// The library in its worker. The archive is opened anew for each set of questions, so questions that come meanwhile are
-// asked together, and answers are remembered.
+// The library in its worker. Answers are remembered.
 class Library {
   constructor(module, limit, script, tell) {
     this.forget();
-    this.asked = null; // the questions that the worker has
-    this.pending = [];
+    this.waiting = new Map(); // what waits for an answer, by the number of its message
+    this.asked = 0;
+    this.openings = 0; // how often the worker opened an archive for questions
     const url = URL.createObjectURL(new Blob([script], { type: 'text/javascript' }));
     this.worker = new Worker(url);
     this.worker.onmessage = ({ data }) => (data.id ? this.hear(data) : tell(data));
@@ -96,52 +96,36 @@ class Library {
     this.worker.postMessage({ open: file });
   }
 
-  // The answers to questions: of a URI and a date, or of a position. Null if they are no longer wanted when it is their
-  // turn. Where the archive has to be opened, it is also asked what may be wanted next.
-  ask(questions, isWanted = () => true, next = []) {
+  // The answers to questions: of a URI and a date, or of a position.
+  async ask(questions) {
+    const unknown = questions.filter((it) => !this.known.has(Library.name(it)));
+    const wanted = [...new Map(unknown.map((it) => [Library.name(it), it])).values()], { since } = this;
+    const found = new Map(questions.map((it) => [Library.name(it), this.known.get(Library.name(it))]));
+    const answers = wanted.length ? await this.send(wanted) : [];
+    wanted.forEach((it, number) => found.set(Library.name(it), answers[number]));
+    if (since === this.since) this.remember(wanted, answers);
+    return questions.map((it) => ({ ...found.get(Library.name(it)) }));
+  }
+
+  send(questions) {
     return new Promise((done, failed) => {
-      this.pending.push({ questions, next, isWanted, done, failed });
-      this.send();
+      this.asked += 1;
+      this.waiting.set(this.asked, { done, failed });
+      this.worker.postMessage({ id: this.asked, questions });
     });
   }
 
-  isKnown(question) { return this.known.has(Library.name(question)); }
-
-  // Answers what is known already. Whether nothing is left to ask.
-  isSettled(it) {
-    if (!it.isWanted()) { it.done(null); return true; }
-    if (!it.questions.every((question) => this.isKnown(question))) return false;
-    it.done(it.questions.map((question) => ({ ...this.known.get(Library.name(question)) })));
-    return it.next.every((question) => this.isKnown(question));
-  }
-
-  // Asks what isn't known, each question once, unless the worker is busy.
-  send() {
-    this.pending = this.pending.filter((it) => !this.isSettled(it));
-    if (this.asked || !this.pending.length) return;
-    const waiting = this.pending, all = [...waiting.flatMap((it) => it.questions), ...waiting.flatMap((it) => it.next)];
-    const questions = [...new Map(all.filter((it) => !this.isKnown(it)).map((it) => [Library.name(it), it])).values()];
-    this.pending = [];
-    this.asked = { waiting, questions, since: this.since, begun: performance.now() };
-    this.worker.postMessage({ id: 1, questions });
-  }
-
-  hear({ answers, why }) {
-    const { waiting, questions, since, begun } = this.asked;
-    this.took = (performance.now() - begun) / 1000;
-    this.asked = null;
-    const given = new Map(answers ? questions.map((it, number) => [Library.name(it), answers[number]]) : []);
-    const answerOf = (it) => given.get(Library.name(it)) ?? this.known.get(Library.name(it));
-    for (const it of waiting) {
-      if (answers) it.done(it.questions.map((question) => ({ ...answerOf(question) }))); else it.failed(new Error(why));
-    }
-    if (answers && since === this.since) this.remember(questions, answers);
-    this.send();
+  hear({ id, answers, openings, why }) {
+    const { done, failed } = this.waiting.get(id);
+    this.waiting.delete(id);
+    if (!answers) { failed(new Error(why)); return; }
+    this.openings = openings;
+    done(answers);
   }
 
   static name(question) { return question.uri ? `${question.date} ${latin.decode(question.uri)}` : question.position; }
 
-  forget() { this.known = new Map(); this.remembered = 0; this.since = {}; this.took = 0; }
+  forget() { this.known = new Map(); this.remembered = 0; this.since = {}; }
 
   // An answer is also that of the capture that is chosen.
   remember(questions, answers) {

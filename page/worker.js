@@ -1,14 +1,14 @@
-// The library in a worker: lists a file, keeps it in the module's memory, and answers questions. A long file is listed by
-// helpers: workers with the same script, each with a module of its own, that list its segments side by side.
+// The library in a worker: lists a file, keeps it open in the module's memory, and answers questions. A long file is
+// listed by helpers: workers with the same script, each with a module of its own, that list its segments side by side.
 //
-// Each call of the module is given memory for good, as its contract wants: that part of the memory is never touched
-// again. Once too much of it is spent, the module is started anew.
+// Each call of the module is given memory for good, as its contract requires: nothing here touches it again. Once too
+// much of it is spent, the module is started anew.
 'use strict';
 
 const WASM_PAGE = 65536;
 const UNIT = 16;
 const MEGABYTE = 1048576;
-const ROW = 48, FRONT = 40, OUTCOME = 16, QUESTION = 40, ANSWER = 48, FAULT = 128;
+const ROW = 48, FRONT = 40, OUTCOME = 16, HANDLE = 16, ANSWER = 32, SPAN = 16, TEXT = 128;
 const FIRST_PIECE = MEGABYTE, PIECE = 16 * MEGABYTE, MOST_PIECE = 4096 * MEGABYTE;
 const SEGMENT = PIECE - MEGABYTE; // what a helper lists at once, with the rest of its last record
 const LEAST_RECORD = 81; // bytes: no record is shorter
@@ -20,7 +20,9 @@ const HELPERS = typeof Worker === 'function' ? Math.min(4, navigator.hardwareCon
 const LEAST_SHARED = 32 * MEGABYTE; // bytes: a shorter file is listed by this worker alone
 const MOST_TWICE = navigator.deviceMemory >= 8 ? Infinity : 1024 * MEGABYTE; // bytes: of a longer file there is no second copy in memory, for its findings
 const BEGINNING = '\r\n\r\nWARC/1.'; // what a record's beginning looks like, after the end of the record before it
-const ROOM = 8 * MEGABYTE; // for the bodies of answers
+const SMALL = 4096; // bytes of memory that a question is given
+const SPARE = 64 * MEGABYTE; // what questions may use of an open archive's memory, until it is opened anew
+const SPANS = 64; // for how many parts of a body there is room at first
 
 let compiled = null;
 let script = ''; // this one, for helpers
@@ -29,6 +31,7 @@ let file = null;
 let kept = null; // the instance that holds the archive
 let count = 0, textBytes = 0, end = 0;
 let run = 0; // number of the file that was opened last
+let openings = 0; // how often an archive was opened in a module's memory
 let looking = null; // the helper that looks for findings
 
 const round = (number, to) => Math.ceil(number / to) * to;
@@ -65,15 +68,27 @@ class Instance {
 
   bytes(at, length) { return new Uint8Array(this.memory.buffer, at, length); }
 
+  number(at) { return Number(new DataView(this.memory.buffer).getBigUint64(at, true)); }
+
+  // Puts bytes into memory that is lent, and gives their place and length.
+  put(name, bytes) {
+    const at = this.lend(name, bytes.length);
+    this.bytes(at, bytes.length).set(bytes);
+    return [at, bytes.length];
+  }
+
+  // Calls an export with fresh memory, and gives the state that it puts first into its outcome.
+  once(name, room, parts, outcome) {
+    const at = this.take(room);
+    this.spent += room;
+    this.exports[name](BigInt(at), BigInt(room / UNIT), ...parts.map(BigInt));
+    return this.number(outcome);
+  }
+
   // Calls an export with fresh memory, and with more where that didn't suffice.
   call(name, heap, parts, outcome) {
     for (let room = round(heap, UNIT); ; room *= 4) {
-      const at = this.take(room);
-      this.spent += room;
-      const view = new DataView(this.memory.buffer);
-      view.setBigUint64(outcome, 99n, true);
-      this.exports[name](BigInt(at), BigInt(room / UNIT), ...parts.map(BigInt));
-      const state = Number(new DataView(this.memory.buffer).getBigUint64(outcome, true));
+      const state = this.once(name, room, parts, outcome);
       if (state !== MEMORY) return state;
       if (room >= MOST_HEAP) throw new Error('out of memory');
     }
@@ -91,12 +106,11 @@ function grow(memory, pages) {
 // Lists the records at the front of bytes in the module's memory, which begin with a record.
 function front(instance, at, length) {
   const room = Math.max(length, PIECE), rowsRoom = Math.floor(length / LEAST_RECORD) + 1;
-  const area = { texts: instance.lend('texts', room), fault: instance.lend('fault', FAULT),
+  const area = { texts: instance.lend('texts', room), fault: instance.lend('fault', TEXT),
     rows: instance.lend('rows', (Math.floor(room / LEAST_RECORD) + 1) * ROW), outcome: instance.lend('front', FRONT) };
   const state = instance.call('page_front', Math.max(4 * MEGABYTE, length / 4), [at, length, area.rows, rowsRoom,
-    area.texts, length, area.fault, FAULT, area.outcome], area.outcome + 24);
-  const view = new DataView(instance.memory.buffer, area.outcome, FRONT);
-  const number = (place) => Number(view.getBigUint64(place, true));
+    area.texts, length, area.fault, TEXT, area.outcome], area.outcome + 24);
+  const number = (place) => instance.number(area.outcome + place);
   const records = number(0), texts = number(8);
   return {
     records, texts, end: number(16),
@@ -175,6 +189,7 @@ function keeping(length) {
   const instance = new Instance();
   instance.file = instance.take(length);
   instance.outcome = instance.lend('outcome', OUTCOME);
+  instance.text = instance.lend('text', TEXT);
   return instance;
 }
 
@@ -293,13 +308,31 @@ async function filled() {
 }
 
 // The module that has the good part of the file, or a new one if that has spent too much memory.
-async function ready() {
+async function full() {
   if (!kept || kept.spent >= SPENT) {
     kept = null;
     kept = await filled();
   }
   return kept;
 }
+
+// The same, with the archive open.
+async function ready() {
+  const instance = await full();
+  if (!instance.handle) openIn(instance);
+  return instance;
+}
+
+// Opens the archive in a module, in the place of one that is open there.
+function openIn(instance) {
+  const handle = instance.handle ?? instance.take(HANDLE); // all zeros: none is open
+  const parts = [instance.file, end, handle, instance.text, TEXT, instance.outcome];
+  if (instance.call('page_open', heapFor() + SPARE, parts, instance.outcome) !== DONE) throw new Error(textOfOutcome(instance));
+  instance.handle = handle;
+  openings += 1;
+}
+
+const textOfOutcome = (instance) => text(instance.bytes(instance.text, instance.number(instance.outcome + 8)));
 
 const heapFor = () => 32 * MEGABYTE + 4 * textBytes + 600 * count;
 
@@ -308,14 +341,14 @@ function findings(instance) {
   for (let room = MEGABYTE + 32 * count; ; room *= 8) {
     const out = instance.lend('out', room);
     instance.call('page_findings', heapFor(), [instance.file, end, out, room, instance.outcome], instance.outcome);
-    const length = Number(new DataView(instance.memory.buffer).getBigUint64(instance.outcome + 8, true));
+    const length = instance.number(instance.outcome + 8);
     if (length <= room) return instance.bytes(out, length).slice();
   }
 }
 
 // The findings by a helper, so that questions don't wait for them; of a long archive by this worker.
 async function findBeside(mine) {
-  const helpers = looking = new Helpers(), alone = async () => ({ lines: findings(await ready()) });
+  const helpers = looking = new Helpers(), alone = async () => ({ lines: findings(await full()) });
   const { lines } = await (isAlone() ? alone() : helpers.ask({ find: { file, end, count, textBytes } }).catch(alone));
   helpers.stop();
   if (mine === run) postMessage({ tell: 'findings', lines: text(lines) });
@@ -323,54 +356,56 @@ async function findBeside(mine) {
 
 const isAlone = () => HELPERS < 2 || end > MOST_TWICE;
 
-// Puts questions into the memory of a module, and gives their places.
-function putQuestions(instance, questions) {
-  const encoder = new TextEncoder(), none = new Uint8Array(0);
-  const parts = questions.map((it) => (it.uri ? [it.uri, encoder.encode(it.date)] : [none, none]));
-  const length = parts.reduce((sum, it) => sum + it[0].length + it[1].length, 0);
-  const words = instance.lend('words', length), asked = instance.lend('questions', questions.length * QUESTION);
-  const view = new DataView(instance.memory.buffer);
-  let place = 0;
-  questions.forEach((it, number) => {
-    const [uri, date] = parts[number], middle = place + uri.length, end = middle + date.length;
-    instance.bytes(words + place, uri.length).set(uri);
-    instance.bytes(words + middle, date.length).set(date);
-    [it.uri ? 0 : 1, it.uri ? 0 : it.position, place, middle, end].forEach((value, index) => view.setBigUint64(asked + number * QUESTION + index * 8, BigInt(value), true));
-    place = end;
-  });
-  return { words, length, asked };
+// How a question is asked: the name of the export, and the parameters of its own.
+function asking(instance, { uri, date, position }) {
+  if (!uri) return ['page_body', [position]];
+  return ['page_replay', [...instance.put('uri', uri), ...instance.put('date', new TextEncoder().encode(date))]];
 }
 
-// Asks all questions at once, so that the archive is opened once. Where room or memory doesn't suffice, asks again. A
-// question may say how many bytes its answer is thought to have.
-async function ask(questions) {
-  const thought = questions.reduce((sum, it) => sum + (it.length ?? 0), ROOM);
-  for (let room = round(Math.min(thought, MOST_HEAP / 16), UNIT), heap = heapFor() + 4 * room; ;) {
-    const instance = await ready();
-    const answers = instance.lend('answers', questions.length * ANSWER), out = instance.lend('out', room);
-    const { words, length, asked } = putQuestions(instance, questions);
-    const state = instance.call('page_answers', heap, [instance.file, end, words, length, asked, questions.length,
-      answers, questions.length, out, room, instance.outcome], instance.outcome);
-    const need = Number(new DataView(instance.memory.buffer).getBigUint64(instance.outcome + 8, true));
-    if (state !== DONE) return questions.map(() => ({ reason: text(instance.bytes(out, need)) }));
-    const states = questions.map((_, number) => Number(new DataView(instance.memory.buffer).getBigUint64(answers + number * ANSWER, true)));
-    if (states.includes(MEMORY)) heap *= 4;
-    else if (need > room) { heap += 4 * (need - room); room = round(need, MEGABYTE); }
-    else return questions.map((_, number) => answer(instance, answers + number * ANSWER, out));
-    if (heap > MOST_HEAP) throw new Error('out of memory');
+// The answer to a question. Where the open archive has used up its memory, it is opened anew.
+function answerTo(instance, question) {
+  const [name, own] = asking(instance, question), numbers = instance.lend('numbers', ANSWER);
+  for (let count = SPANS, isFresh = false; ;) {
+    const spans = instance.lend('spans', count * SPAN);
+    instance.bytes(numbers, ANSWER).fill(255); // no position is known
+    const parts = [instance.handle, ...own, numbers, spans, count, instance.text, TEXT, instance.outcome];
+    const state = instance.once(name, SMALL, parts, instance.outcome), length = instance.number(instance.outcome + 8);
+    if (state === MEMORY) {
+      if (isFresh) throw new Error('out of memory');
+      openIn(instance);
+      isFresh = true;
+    } else if (state !== DONE) return { ...positions(instance, numbers), reason: textOfOutcome(instance) };
+    else if (length > count) count = length;
+    else return { ...positions(instance, numbers), ...factsOf(instance, numbers), body: bodyOf(instance, spans, length) };
   }
 }
 
-// One answer as the module's memory has it.
-function answer(instance, at, out) {
-  const view = new DataView(instance.memory.buffer, at, ANSWER);
-  const number = (place) => Number(view.getBigUint64(place, true));
-  const state = number(0), bytes = instance.bytes(out + number(8), number(16));
-  const position = (place) => (view.getBigUint64(place, true) === NOWHERE ? null : number(place));
-  const facts = { chosen: position(24), given: position(32) };
-  if (state !== DONE) return { ...facts, reason: text(bytes) };
-  return { ...facts, status: view.getUint32(40, true) || null, truncated: view.getUint32(44, true) === 1, length: number(16),
-    body: bytes.slice() };
+// The positions of an answer: of the chosen capture and of the origin that gives the body.
+function positions(instance, numbers) {
+  const view = new DataView(instance.memory.buffer, numbers, ANSWER);
+  const position = (place) => (view.getBigUint64(place, true) === NOWHERE ? null : Number(view.getBigUint64(place, true)));
+  return { chosen: position(0), given: position(8) };
+}
+
+function factsOf(instance, numbers) {
+  const view = new DataView(instance.memory.buffer, numbers, ANSWER);
+  return { length: Number(view.getBigUint64(16, true)), status: view.getUint32(24, true) || null, truncated: view.getUint32(28, true) === 1 };
+}
+
+// A body: the parts of the archive that the library names, one after another.
+function bodyOf(instance, spans, count) {
+  const parts = [];
+  for (let at = spans; at < spans + count * SPAN; at += SPAN) parts.push(instance.bytes(instance.file + instance.number(at), instance.number(at + 8)));
+  const body = new Uint8Array(parts.reduce((sum, part) => sum + part.length, 0));
+  parts.reduce((at, part) => { body.set(part, at); return at + part.length; }, 0);
+  return body;
+}
+
+// The answers to questions, one after another.
+async function ask(questions) {
+  const answers = [];
+  for (const question of questions) answers.push(answerTo(await ready(), question));
+  return answers;
 }
 
 async function open(given) {
@@ -386,6 +421,9 @@ async function open(given) {
   if (!holds || (fault && end === 0)) return;
   const found = findBeside(mine).catch((error) => { if (mine === run) fail(0, error); });
   if (isAlone()) await found;
+  if (mine !== run) return;
+  await ready();
+  postMessage({ tell: 'opened' });
 }
 
 // What a helper does: it lists bytes, or looks for the findings of a file.
@@ -408,7 +446,7 @@ const fail = (id, error) => postMessage({ id, tell: 'failed', why: whyOf(error) 
 
 let queue = Promise.resolve();
 function respond({ id, open: given, questions }) {
-  const work = given ? open(given) : ask(questions).then((answers) => postMessage({ id, answers },
+  const work = given ? open(given) : ask(questions).then((answers) => postMessage({ id, answers, openings },
     answers.filter((it) => it.body).map((it) => it.body.buffer)));
   return work.catch((error) => fail(id, error));
 }

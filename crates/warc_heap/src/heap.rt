@@ -6,6 +6,9 @@ use crate::memory::{Memory, UNIT};
 use std::alloc::{AllocError, Allocator};
 use std::cell::Cell;
 
+/// How many units an allocator that lasts is given for itself.
+const OWN: usize = 8;
+
 /// What isn't handed out yet.
 #[derive(Drop)]
 struct Free {
@@ -27,6 +30,21 @@ impl Heap {
     {
         Heap {
             free: Cell::new(Some(Free { memory, units })),
+        }
+    }
+
+    /// An allocator that lasts for good. It lies in the first units of its memory. `None` where they don't suffice.
+    pub fn for_good(memory: Memory, units: usize) -> Option<&'static Heap>
+        requires { memory.units ≡ units }
+    {
+        if units < OWN {
+            return None;
+        }
+        let (own, rest) = memory.cut(OWN, OWN * UNIT);
+        let heap = Heap::new(rest, units - OWN);
+        match Box::new(Heap::new(own, OWN), heap) {
+            Ok(heap) => Some(Box::leak(heap)),
+            Err(_) => None,
         }
     }
 

@@ -1,9 +1,10 @@
 -- What a call puts into the page's buffers, and how it ends: in state 0, in state 1 where there is no result and a text
 -- says why, or in state 2 where memory doesn't suffice. This project's own notion.
-use Rattle.std.specs.Prelude.{◌≡◌, ◌⊎◌, ℕ, List, length, map, Option, Some, None}
+use Rattle.std.specs.Prelude.{◌≡◌, ◌⊎◌, ℕ, List, length, map, Option, Some, None, Result, Ok, Err}
 use Rattle.std.specs.List.{flat_map}
 use Rattle.warc_frame.specs.Count.{capped}
 use Rattle.warc_frame.specs.declared.fault.Fault.{Fault}
+use Rattle.warc_reading.specs.Archive.{IsArchiveOf}
 use Rattle.warc_reading.specs.Row.{Row}
 use Rattle.warc.specs.Front.{AreRowsOfFront}
 use Rattle.warc_lent.specs.Buffers.{HoldsFront}
@@ -43,3 +44,21 @@ abbrev pub PutsFindingLines : List ℕ → PageOutcome → List ℕ → Type 0
 PutsFindingLines bytes outcome out =
     ((outcome.state ≡ 0) × PutsSome (AreFindingsOf bytes) outcome.length out)
     ⊎ ((problem : Problem) × IsRefusedFor bytes problem × EndsBy problem outcome.state outcome.length out)
+
+-- the bytes are an archive, and it is open, or the text of the problem for which they are refused is put
+abbrev pub EndsOpened : List ℕ → PageOutcome → List ℕ → Type 0
+EndsOpened bytes outcome text =
+    ((outcome.state ≡ 0) × (rows : List Row) × IsArchiveOf bytes rows)
+    ⊎ ((outcome.state ≡ 2)
+    ⊎ ((problem : Problem) × IsRefusedFor bytes problem × EndsBy problem outcome.state outcome.length text))
+
+-- a number is answered, or a problem
+abbrev pub EndsWith : Result ℕ Problem → PageOutcome → List ℕ → Type 0
+EndsWith (Ok count) outcome text = (outcome.state ≡ 0) × (outcome.length ≡ count)
+EndsWith (Err problem) outcome text = EndsBy problem outcome.state outcome.length text
+
+-- what is put is right for what is answered
+pub record Replies (Puts : Result ℕ Problem → Type 0) (outcome : PageOutcome) (text : List ℕ) : Type 0 where
+  pub answered : Result ℕ Problem
+  pub puts : Puts answered
+  pub ends : EndsWith answered outcome text

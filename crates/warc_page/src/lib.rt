@@ -1,16 +1,21 @@
-//! What a page of a browser asks of an archive whose bytes lie in its memory.
+//! What a page of a browser asks of an archive whose bytes are in its memory.
 //!
-//! Each call is given memory for good: it isn't touched again, neither by the page nor by a later call. Lent bytes and
-//! buffers are the page's own again when the call returns.
+//! Each call is given memory for good: neither the page nor a later call touches it again. An archive that is opened
+//! keeps its bytes and its memory for good too. Other bytes and buffers are lent: they are the page's own again once
+//! the call returns.
 #![tactic(auto)]
 
 mod answers;
+mod archive;
 mod ending;
 mod findings;
 mod front;
+mod open;
 mod shapes;
 
-pub use answers::page_answers;
+pub use answers::{page_body, page_replay};
+pub use archive::{Open, PageArchive};
 pub use findings::page_findings;
 pub use front::page_front;
-pub use shapes::{PageAnswer, PageFront, PageOutcome, PageQuestion};
+pub use open::page_open;
+pub use shapes::{PageFront, PageOutcome};

@@ -28,32 +28,3 @@ pub struct PageFront {
     pub state: u64,
     pub length: u64,
 }
-
-/// A question: what the capture at a position gives, if `by_position` isn't 0, or what is given for a URI as of a date.
-/// URI and date are parts of a text: from `uri` to `date`, and from there to `end`.
-#[repr(C)]
-#[derive(Clone, Copy)]
-pub struct PageQuestion {
-    pub by_position: u64,
-    pub position: u64,
-    pub uri: u64,
-    pub date: u64,
-    pub end: u64,
-}
-
-/// Where a position isn't known.
-pub(crate) const UNKNOWN: u64 = u64::MAX;
-
-/// An answer: the body's length, or the reason's. Its bytes are in the buffer from `start` on, if there is room for all
-/// of them. The positions of the chosen capture and of its origin are 2^64 - 1 where there is none.
-#[repr(C)]
-#[derive(Clone, Copy)]
-pub struct PageAnswer {
-    pub state: u64,
-    pub start: u64,
-    pub length: u64,
-    pub chosen: u64,
-    pub given: u64,
-    pub status: u32,
-    pub truncated: u32,
-}

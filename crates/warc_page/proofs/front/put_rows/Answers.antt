@@ -1,6 +1,5 @@
 use Rattle.std.proofs.Common.{◌≡◌, ◌+◌, map, take, set, sym, subst, ap, ◌∙◌, Some}
 use Rattle.std.specs.List.{slice_get}
-use Rattle.warc_reading.specs.Row.{Row}
 use Rattle.warc_lent.specs.Buffers.{HoldsFront}
 use Rattle.warc_lent.specs.Rows.{row_numbers}
 use Rattle.warc_lent.proofs.BufferLemmas.{front_next}
