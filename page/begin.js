@@ -20,16 +20,12 @@ function listen() {
   byId('words').addEventListener('input', () => { clearTimeout(waits); waits = setTimeout(() => { room.words = byId('words').value; body().scrollTop = 0; filter(); }, 120); });
   byId('search').addEventListener('submit', (event) => { event.preventDefault(); byId('list').focus(); });
   byId('as-of').addEventListener('submit', (event) => { event.preventDefault(); openAsOf(typed(byId('uri').value.trim()), byId('moment').value.trim(), true); });
+  byId('uri').addEventListener('input', () => { byId('uri').dataset.typed = byId('uri').value; });
+  byId('only').addEventListener('click', () => toggle('only', 'captures', 'captures'));
   byId('list').addEventListener('keydown', listKey);
   body().addEventListener('scroll', () => requestAnimationFrame(drawRows), { passive: true });
   body().addEventListener('click', () => byId('list').focus({ preventScroll: true }));
-  byId('fold').addEventListener('click', () => {
-    const hide = !byId('plots').hidden;
-    byId('plots').hidden = hide;
-    byId('fold').setAttribute('aria-expanded', String(!hide));
-    byId('fold').textContent = hide ? 'Show plots' : 'Hide plots';
-    if (!hide) drawStrip();
-  });
+  byId('fold').addEventListener('click', () => foldPlots(!byId('plots').hidden));
   byId('strip').addEventListener('click', (event) => {
     const part = event.offsetX / byId('strip').clientWidth, offset = part * room.file.size;
     let low = 0, high = room.rows.count - 1;
@@ -38,8 +34,10 @@ function listen() {
   });
   addEventListener('keydown', (event) => {
     if (event.key === '/' && !/^(input|select|textarea)$/i.test(document.activeElement.tagName) && !byId('room').hidden) { event.preventDefault(); byId('words').focus(); }
+    if (event.key === 'Escape' && byId('record').contains(document.activeElement)) leaveRecord();
     if (event.key === 'Escape' && document.activeElement === byId('words')) { byId('words').value = ''; room.words = ''; filter(); byId('list').focus(); }
   });
+  addEventListener('popstate', goBack);
   addEventListener('resize', () => { if (room.file) { drawStrip(); drawRows(); } });
   matchMedia('(prefers-color-scheme: dark)').addEventListener('change', () => { if (room.file) drawStrip(); });
 }

@@ -73,7 +73,7 @@ function showProgress(part) {
 
 function openFile(file) {
   forgetUrls();
-  Object.assign(room, { file, rows: new Rows(), counts: new Counts(), fault: '', end: 0, holds: false, listed: false, findings: null, order: null,
+  Object.assign(room, { file, number: Date.now(), rows: new Rows(), counts: new Counts(), fault: '', end: 0, holds: false, listed: false, isOpen: false, findings: null, order: null,
     current: -1, words: '', captures: null, targets: null, drawn: Infinity, began: performance.now(), visit: room.visit + 1, sort: { by: 'position', up: true } });
   room.filters.clear();
   byId('words').value = '';
@@ -86,6 +86,7 @@ function openFile(file) {
   byId('opened').replaceChildren(make('b', {}, file.name), ` ${size(file.size)}`);
   document.title = `${file.name} – Zogwedu reading room`;
   closeRecord();
+  if (matchMedia('(max-width: 44em)').matches) foldPlots(true);
   say('Reading…');
   showProgress(0);
   drawAll();
@@ -124,6 +125,8 @@ function hear(message) {
     say(`${many(room.rows.count, 'record')} read in ${(room.listedIn / 1000).toFixed(1)} s, findings after ${(room.foundIn / 1000).toFixed(1)} s`);
     showProgress(null);
     drawAll();
+  } else if (message.tell === 'opened') {
+    room.isOpen = true;
   } else if (message.tell === 'failed') {
     showProgress(null);
     const why = /memory/i.test(message.why) ? 'The memory of this browser doesn’t suffice for it.' : message.why;
@@ -189,9 +192,16 @@ function drawNumbers() {
     [room.counts.verdicts[0], 'blocks good'], [room.counts.verdicts[1], 'bad'], [room.counts.verdicts[2], 'unchecked'],
     [room.findings ? room.findings.length : '…', 'findings']];
   const span = room.counts.first <= room.counts.last ? `${dateText(room.counts.first).slice(0, 10)} to ${dateText(room.counts.last).slice(0, 10)}` : '';
-  const named = (name) => (name === 'captures' ? make('button', { className: 'link', type: 'button', title: 'Show only captures: responses, resources and revisits', on: { click: () => toggle('only', 'captures', 'captures') } }, name) : make('span', {}, name));
-  byId('numbers').replaceChildren(...numbers.map(([number, name]) => make('div', {}, make('b', {}, typeof number === 'number' ? number.toLocaleString('en') : number), named(name))),
+  byId('numbers').replaceChildren(...numbers.map(([number, name]) => make('div', {}, make('b', {}, typeof number === 'number' ? number.toLocaleString('en') : number), make('span', {}, name))),
     span ? make('div', {}, make('span', {}, span)) : '');
+}
+
+// Hides or shows the plots.
+function foldPlots(hide) {
+  byId('plots').hidden = hide;
+  byId('fold').setAttribute('aria-expanded', String(!hide));
+  byId('fold').textContent = hide ? 'Show plots' : 'Hide plots';
+  if (!hide && room.file) drawStrip();
 }
 
 // The file from beginning to end. While it is read, only what is new is drawn.
@@ -222,13 +232,30 @@ function drawStrip(isNew = true) {
   if (room.fault) { pen.fillStyle = bad; pen.fillRect(room.end / length * wide, 0, wide, 28); }
 }
 
+// A group of buttons with one stop for the Tab key: the arrow keys lead from one to the next.
+function oneStop(className, buttons, properties = {}, now = 0) {
+  const isStop = (wanted) => buttons.forEach((button) => { button.tabIndex = button === wanted ? 0 : -1; });
+  const live = buttons.filter((button) => !button.disabled);
+  isStop(buttons[now]?.disabled ? live[0] : buttons[now]);
+  return make('div', { className, ...properties, on: {
+    focusin: (event) => { if (live.includes(event.target)) isStop(event.target); },
+    keydown: (event) => {
+      const at = live.indexOf(event.target), last = live.length - 1;
+      const to = { ArrowRight: at + 1, ArrowDown: at + 1, ArrowLeft: at - 1, ArrowUp: at - 1, Home: 0, End: last }[event.key];
+      if (to === undefined || at < 0) return;
+      event.preventDefault();
+      live[Math.max(0, Math.min(last, to))].focus();
+    },
+  } }, ...buttons);
+}
+
 // A bar for each name, which filters the list.
 function bars(name, entries, toneOf = () => 'var(--c8)', titleOf = () => '') {
   const most = Math.max(1, ...entries.map((it) => it[1]));
-  return make('div', { className: 'bars' }, ...entries.map(([value, count, label]) => make('button', {
+  return oneStop('bars', entries.map(([value, count, label]) => make('button', {
     className: 'bar', type: 'button', title: titleOf(value), 'aria-pressed': String(room.filters.get(name)?.value === value),
     style: { '--part': `${Math.max(1, count / most * 100)}%`, '--tone': toneOf(value) }, on: { click: () => toggle(name, value, label ?? value) },
-  }, make('span', { className: 'name' }, label ?? value), make('span', { className: 'count' }, count.toLocaleString('en')))));
+  }, make('span', { className: 'name' }, label ?? value), make('span', { className: 'count' }, count.toLocaleString('en')))), { role: 'group', 'aria-label': `Filter by ${name}` });
 }
 
 const sorted = (map) => [...map].sort((a, b) => b[1] - a[1]);
@@ -260,11 +287,11 @@ function drawTimes() {
   const step = Math.max(1000, Math.ceil((last - first + 1) / BUCKETS)), counts = new Array(Math.floor((last - first) / step) + 1).fill(0);
   times.forEach((time) => { counts[Math.floor((time - first) / step)] += 1; });
   const most = Math.max(...counts), chosen = room.filters.get('time')?.value;
-  plot('times', make('div', { className: 'times' }, ...counts.map((count, number) => {
+  plot('times', oneStop('times', counts.map((count, number) => {
     const from = first + number * step, words = `${many(count, 'capture')}, ${dateText(from)} to ${dateText(from + step - 1000)}`;
     return make('button', { type: 'button', title: words, 'aria-label': words, 'aria-pressed': String(chosen === from), disabled: count === 0, style: { '--part': count ? `${Math.max(3, count / most * 100)}%` : '0' },
       on: { click: () => toggle('time', from, dateText(from), from + step) } }, count ? make('i') : null);
-  })), make('div', { className: 'ends' }, make('span', {}, dateText(first)), first < last ? make('span', {}, dateText(last)) : null));
+  }), { role: 'group', 'aria-label': 'Filter by time of capture' }), make('div', { className: 'ends' }, make('span', {}, dateText(first)), first < last ? make('span', {}, dateText(last)) : null));
 }
 
 function toggle(name, value, label, end) {
@@ -313,7 +340,8 @@ function filter() {
   }
   room.order = sortOrder(found);
   byId('shown').textContent = found.length === room.rows.count ? many(found.length, 'record') : `${found.length.toLocaleString('en')} of ${many(room.rows.count, 'record')}`;
-  byId('filters').replaceChildren(...[...room.filters].map(([name, { label }]) => make('button', { type: 'button', title: 'Remove this filter', 'aria-label': `Remove the filter ${name} ${label}`, on: { click: () => { room.filters.delete(name); drawPlots(); filter(); byId('list').focus({ preventScroll: true }); } } }, `${name}: ${label} ×`)));
+  byId('only').setAttribute('aria-pressed', String(room.filters.has('only')));
+  byId('filters').replaceChildren(...[...room.filters].filter(([name]) => name !== 'only').map(([name, { label }]) => make('button', { type: 'button', title: 'Remove this filter', 'aria-label': `Remove the filter ${name} ${label}`, on: { click: () => { room.filters.delete(name); drawPlots(); filter(); byId('list').focus({ preventScroll: true }); } } }, `${name}: ${label} ×`)));
   drawHead();
   drawRows();
 }
@@ -396,5 +424,5 @@ function listKey(event) {
   const now = room.order?.indexOf(room.current) ?? -1, page = Math.max(1, Math.floor(body().clientHeight / LINE) - 1);
   const moves = { ArrowDown: now + 1, ArrowUp: Math.max(0, now - 1), PageDown: now + page, PageUp: now - page, Home: 0, End: Infinity };
   if (event.key in moves) { event.preventDefault(); moveTo(moves[event.key]); }
-  if (event.key === 'Enter' && room.current >= 0) { event.preventDefault(); openRecord(room.current, WHOLE); }
+  if (event.key === 'Enter' && room.current >= 0) { event.preventDefault(); openRecord(room.current, { focus: WHOLE }); }
 }

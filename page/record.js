@@ -56,12 +56,34 @@ async function answersWithTypes(questions) {
 }
 
 function closeRecord() {
+  room.visit += 1;
   byId('record').hidden = true;
   byId('record').replaceChildren();
   byId('room').classList.remove('has-record');
 }
 
-const closing = () => make('button', { className: 'button quiet close', type: 'button', 'aria-label': 'Close the record', on: { click: () => { room.visit += 1; closeRecord(); drawRows(); byId('list').focus(); } } }, 'Close');
+// Closes the record, and leads back to the list.
+function leaveRecord() {
+  closeRecord();
+  drawRows();
+  byId('list').focus();
+  remember({});
+}
+
+const closing = () => make('button', { className: 'button quiet close', type: 'button', 'aria-label': 'Close the record', on: { click: leaveRecord } }, 'Close');
+
+// What the browser's Back leads to. A browser may refuse where there is too much of it.
+function remember(shows) {
+  try { history.pushState({ file: room.number, ...shows }, ''); } catch { /* Back skips it */ }
+}
+
+// What Back and Forward show, if it is of this file.
+function goBack({ state }) {
+  if (!room.file || (state && state.file !== room.number)) return;
+  if (state?.position !== undefined) openRecord(state.position, { focus: WHOLE, isBack: true });
+  else if (state?.uri) openAsOf(typed(state.uri), state.date, true, true);
+  else { closeRecord(); drawRows(); byId('list').focus(); }
+}
 
 // Shows the record from its top, unless most of it can be seen.
 function bringRecord() {
@@ -70,15 +92,17 @@ function bringRecord() {
 }
 
 // Opens the record at a position, and moves the list to it. The focus goes to the record, or to a part of it, or stays.
-async function openRecord(position, focus = null, note = null) {
+async function openRecord(position, { focus = null, note = null, isBack = false } = {}) {
   forgetUrls();
   const visit = room.visit += 1, row = room.rows.row(position);
+  if (!isBack) remember({ position });
   room.current = position;
   byId('room').classList.add('has-record');
   const place = room.order?.indexOf(position) ?? -1;
   if (place >= 0) bringIntoView(place);
   drawRows();
   const panel = byId('record'), isCapture = CAPTURES.has(row.kind.toLowerCase());
+  if (isCapture && !byId('uri').dataset.typed) byId('uri').value = shown(row.target);
   panel.hidden = false;
   panel.replaceChildren(titleOf(row), make('div', { className: 'panel' }, make('p', { className: 'small' }, 'Reading…')));
   bringRecord();
@@ -86,7 +110,7 @@ async function openRecord(position, focus = null, note = null) {
   const own = await typeOf(row);
   if (visit !== room.visit) return;
   const it = { position, row, own, given: row, type: own.type, http: own.http, isCapture, note };
-  it.answered = isCapture && room.holds ? completed(it, visit) : Promise.resolve();
+  it.answered = isCapture && room.holds ? completed(it) : Promise.resolve();
   it.answered.catch(() => {}); // the tab that waits for it says so
   const tabs = isCapture ? [['Page', pageTab], ['Source', sourceTab], ['HTTP head', httpTab], ['Record head', headTab], ['Facts', factsTab]] : [['Block', blockTab], ['Record head', headTab], ['Facts', factsTab]];
   panel.replaceChildren(titleOf(row), isCapture && row.target.length ? timeline(it) : '', ...tabList(tabs, it, visit));
@@ -95,43 +119,9 @@ async function openRecord(position, focus = null, note = null) {
 
 const WHOLE = '#record'; // the focus goes to the record itself
 
-const NEAR = 5; // captures before and after one that are asked for with it
-const MOST_AHEAD = 1048576, MOST_AHEAD_IN_ALL = 32 * MOST_AHEAD; // bytes of the blocks of what is asked ahead, of one and of all
-
-// What a target seems to give as of a time, by the stored bytes of its latest capture that is no revisit; null where
-// nothing. The body is read only where it may name something else.
-async function seeming(target, time) {
-  const capture = capturesOf(target).filter((it) => it.kind !== 'revisit' && it.time <= time).pop();
-  if (!capture || room.rows.blockLength(capture.position) > MOST_AHEAD) return null;
-  const row = room.rows.row(capture.position), { http, type } = await typeOf(row), length = row.blockLength;
-  if (!/css|html|^$/i.test(type)) return { type, body: new Uint8Array(0), length };
-  const block = await bytesAt(row.blockStart, length);
-  return { type, body: http ? (await decoded(block)).body : block, length };
-}
-
-// The questions that the view of a page will ask, guessed from its stored bytes. Whatever is guessed, the answers are the
-// library's.
-async function askedByView(it) {
-  const found = await seeming(it.row.target, captureTime(it.row.date) ?? 0), uri = shown(it.row.target);
-  if (!found || !isHtml(mediaOf(found.type, found.body, uri))) return [];
-  const [, moment] = moments(it)[1], time = captureTime(moment) ?? Infinity;
-  const guess = async (questions) => Promise.all(questions.map(async (question) => (await seeming(question.uri, time).catch(() => null)) ?? { length: 0 }));
-  const resources = new Resources(guess, moment), { page, base } = parsed(textOf(found.body, found.type), uri);
-  await gather(page, base, referencesOf(page, base), resources);
-  return [...resources.known].map(([name, { length }]) => ({ uri: typed(name), date: moment, length }));
-}
-
-// Adds the library's answer. Since the archive is opened once for all questions, the captures around this one are asked
-// for with it, and what the view of a page will ask for.
-async function completed(it, visit) {
-  const list = capturesOf(it.row.target), now = list.findIndex((capture) => capture.position === it.position);
-  const near = list.slice(Math.max(0, now - NEAR), now + NEAR + 1).filter(({ position }) => position !== it.position);
-  const ahead = [...await askedByView(it).catch(() => []), ...near.map(({ position }) => ({ position, length: room.rows.blockLength(position) }))];
-  let left = MOST_AHEAD_IN_ALL;
-  const next = ahead.filter(({ length }) => length <= MOST_AHEAD && (left -= length) > 0);
-  const answers = await room.library.ask([{ position: it.position, length: it.row.blockLength }], () => visit === room.visit, next);
-  if (!answers) return;
-  it.answer = answers[0];
+// Adds the library's answer, and what is stored of the origin that gives the body.
+async function completed(it) {
+  [it.answer] = await room.library.ask([{ position: it.position }]);
   if (it.answer.given === null || it.answer.given === it.position) return;
   it.given = room.rows.row(it.answer.given);
   const { type, http } = await typeOf(it.given);
@@ -148,11 +138,11 @@ function timeline(it) {
   const list = capturesOf(it.row.target), first = list[0].time, last = list[list.length - 1].time, span = Math.max(1, last - first);
   const now = list.findIndex((capture) => capture.position === it.position);
   const points = list.length > 2000 ? list.filter((_, number) => number % Math.ceil(list.length / 2000) === 0 || number === now) : list;
-  const step = (by, words) => make('button', { className: `link ${words}`, type: 'button', disabled: !list[now + by], on: { click: () => openRecord(list[now + by].position, `.${words}:enabled`) } }, words);
+  const step = (by, words) => make('button', { className: `link ${words}`, type: 'button', disabled: !list[now + by], on: { click: () => openRecord(list[now + by].position, { focus: `.${words}:enabled` }) } }, words);
   return make('div', { className: 'timeline', role: 'group', 'aria-label': 'Captures of this URI' },
     make('div', { className: 'small steps' }, make('span', {}, list.length > 1 ? `Capture ${now + 1} of ${list.length} of this URI` : 'The only capture of this URI'), ...(list.length > 1 ? [step(-1, 'earlier'), step(1, 'later')] : [])),
-    make('div', { className: 'line-of' }, ...points.map((capture) => make('button', { type: 'button', className: capture.kind, title: `${capture.date} ${capture.kind}, record ${capture.position}`, 'aria-label': `${capture.date}, ${capture.kind}`,
-      'aria-current': String(capture.position === it.position), style: { left: `${list.length === 1 ? 50 : span === 1 ? (list.indexOf(capture) / (list.length - 1)) * 100 : (capture.time - first) / span * 100}%` }, on: { click: () => openRecord(capture.position, '.line-of [aria-current="true"]') } }))),
+    oneStop('line-of', points.map((capture) => make('button', { type: 'button', className: capture.kind, title: `${capture.date} ${capture.kind}, record ${capture.position}`, 'aria-label': `${capture.date}, ${capture.kind}`,
+      'aria-current': String(capture.position === it.position), style: { left: `${list.length === 1 ? 50 : span === 1 ? (list.indexOf(capture) / (list.length - 1)) * 100 : (capture.time - first) / span * 100}%` }, on: { click: () => openRecord(capture.position, { focus: '.line-of [aria-current="true"]' }) } })), { role: 'group', 'aria-label': 'Captures as points in time' }, points.findIndex((capture) => capture.position === it.position)),
     make('div', { className: 'ends' }, make('span', {}, list[0].date), list.length > 1 ? make('span', {}, list[list.length - 1].date) : ''));
 }
 
@@ -164,7 +154,7 @@ function tabList(tabs, it, visit) {
     panel.setAttribute('aria-labelledby', `tab-${number}`);
     room.tab = tabs[number][0];
     panel.dataset.ready = 'no';
-    panel.replaceChildren(make('p', { className: 'small' }, 'Asking the archive…', room.library.took > 2 ? ` The last answer took ${room.library.took.toFixed(0)} s.` : ''));
+    panel.replaceChildren(make('p', { className: 'small' }, room.isOpen ? 'Asking the archive…' : 'Opening the archive…'));
     const mine = panel.dataset.turn = String(Math.random());
     let content;
     try {
@@ -193,12 +183,18 @@ const saving = (name, bytes, words) => make('button', { className: 'button', typ
 // Whether the library gives no body since it is stored chunked or compressed.
 const isCoded = (it) => numberOf(it.answer?.reason ?? '') === 'P10';
 
+// A revisit as wget 1.21 writes it: with the digest of no bytes, although it stores the HTTP head.
+const EMPTY_DIGEST = '3I42H3S6NNFQ2MSVX7XZKYAYSCX5QBYJ'; // the SHA-1 of no bytes
+const OF_WGET = 'The digest of this revisit is bad since wget 1.21 states the digest of no bytes in each revisit, although it stores the HTTP head there. It says nothing of the body, which comes from another record with a digest of its own.';
+const isOfWget = ({ row, own }) => row.verdict === 'bad' && row.kind.toLowerCase() === 'revisit' && fieldOf(own.fields, 'WARC-Block-Digest').endsWith(EMPTY_DIGEST);
+
 // What is said before a body: where a revisit leads, or why there is none.
 function wordsBefore(it) {
   const words = [];
   if (it.note) words.push(make('p', { className: 'note plainly' }, it.note));
   if (!room.holds && it.isCapture) words.push(make('p', { className: 'note' }, 'This archive is too long to be replayed here. The block is shown as it is stored.'));
-  if (it.given !== it.row) words.push(make('p', { className: 'note plainly' }, 'This is a revisit: its payload is that of ', make('button', { className: 'link', type: 'button', on: { click: () => openRecord(it.given.position, WHOLE) } }, `record ${it.given.position}`), `, captured ${it.given.date}.`));
+  if (it.given !== it.row) words.push(make('p', { className: 'note plainly' }, 'This is a revisit: its payload is that of ', make('button', { className: 'link', type: 'button', on: { click: () => openRecord(it.given.position, { focus: WHOLE }) } }, `record ${it.given.position}`), `, captured ${it.given.date}.`));
+  if (isOfWget(it)) words.push(make('p', { className: 'note plainly' }, OF_WGET));
   if (it.answer?.reason && !isCoded(it)) {
     const [meaning, hint] = inWords(it.answer.reason);
     words.push(make('div', { className: 'note reason' }, make('p', {}, make('b', {}, `No body: ${it.answer.reason}. `), meaning), hint ? make('p', {}, hint) : ''));
@@ -235,7 +231,7 @@ async function pageTab(it) {
   if (isPicture(media)) return [...words, saved, picture(found.bytes, media)];
   if (isHtml(media)) return [...words, ...(await htmlView(it, found.bytes, saved))];
   if (isText(media)) return [...words, saved, textView(textOf(found.bytes, it.type))];
-  return [...words, saved, make('p', {}, `This page can’t show ${media}. Its bytes:`), hexView(found.bytes)];
+  return [...words, saved, make('p', {}, `The reading room doesn’t show ${media}. Save the bytes, and open them in another program.`), make('details', {}, make('summary', {}, 'The first bytes'), hexView(found.bytes))];
 }
 
 function picture(bytes, media) {
@@ -246,7 +242,7 @@ function picture(bytes, media) {
 
 function textView(words) {
   const front = words.slice(0, MOST_TEXT);
-  return make('pre', { className: 'text', tabIndex: 0 }, front, words.length > MOST_TEXT ? `\n… (the first ${size(MOST_TEXT)} are shown)` : '');
+  return make('pre', { className: 'text', tabIndex: 0, dir: 'auto' }, front, words.length > MOST_TEXT ? `\n… (the first ${size(MOST_TEXT)} are shown)` : '');
 }
 
 function hexView(bytes) {
@@ -279,7 +275,7 @@ function moments(it) {
 
 async function htmlView(it, bytes, saved) {
   const frame = make('iframe', { className: 'view', title: 'The page as a view, without scripts and without network' });
-  frame.setAttribute('sandbox', '');
+  frame.setAttribute('sandbox', 'allow-same-origin'); // no scripts; so that this page can hear a click on a link
   frame.referrerPolicy = 'no-referrer';
   const summary = make('div', { 'aria-live': 'polite', className: 'small' }), below = make('div');
   const choice = make('select', { 'aria-label': 'As of which moment pictures and styles are looked for', on: { change: () => draw(choice.value) } },
@@ -287,20 +283,39 @@ async function htmlView(it, bytes, saved) {
   async function draw(moment) {
     summary.textContent = 'Looking for pictures and styles…';
     const resources = new Resources(answersWithTypes, moment), uri = shown(it.row.target);
-    const { source, links } = await viewOf(textOf(bytes, it.type), uri, resources);
+    const { source, targets } = await viewOf(textOf(bytes, it.type), uri, resources), links = [...new Set(targets.map((target) => target.uri))];
+    frame.onload = () => {
+      frame.contentDocument?.addEventListener('click', (event) => follow(event, targets, uri, moment, summary));
+      frame.contentDocument?.addEventListener('keydown', (event) => { if (event.key === 'Escape') leaveRecord(); });
+    };
     frame.srcdoc = source;
     const decodedCount = resources.there.filter(([, found]) => found.isDecoded).length;
     summary.textContent = `${many(resources.there.length, 'picture or style', 'pictures and styles')} from the archive as of ${moment}${decodedCount ? `, ${decodedCount} of them decoded by this browser` : ''}; ${resources.missing.length} missing.`;
     below.replaceChildren(...listed(resources, links, moment));
   }
   await draw(moments(it)[1][1]);
-  return [make('div', { className: 'note plainly' }, make('p', {}, make('b', {}, 'This is a view. '), 'Scripts and network are off, links don’t lead away, and what isn’t in the archive is missing. The bytes on disk and in the download are never changed.'),
+  return [make('div', { className: 'note plainly' }, make('p', {}, make('b', {}, 'This is a view. '), 'Scripts and network are off, links lead to what is in the archive, and what isn’t there is missing. The bytes on disk and in the download are never changed.'),
     make('div', { className: 'actions' }, make('span', { className: 'small' }, 'Pictures and styles as of'), choice), summary), saved, frame, below];
 }
 
+// Follows a link in a view: to a place on the same page, or to what the archive gives as of the view’s moment.
+async function follow(event, targets, uri, moment, summary) {
+  const link = event.target.closest?.('a[href], area[href]');
+  if (!link) return;
+  event.preventDefault();
+  const target = targets[Number(/^about:srcdoc#(\d+)$/.exec(link.getAttribute('href'))?.[1])];
+  if (!target) return;
+  if (target.place && target.uri === resolved(uri, uri)) { event.view.document.getElementById(nameOf(target.place))?.scrollIntoView(); return; }
+  if (capturesOf(typed(target.uri)).length) openAsOf(typed(target.uri), moment, true);
+  else summary.textContent = `The archive has no capture of ${target.uri}`;
+}
+
+// The name of a place, as it is in the page.
+function nameOf(place) { try { return decodeURIComponent(place); } catch { return place; } }
+
 function listed(resources, links, moment) {
   const parts = [];
-  if (resources.there.length) parts.push(make('details', {}, make('summary', {}, `Pictures and styles in this view (${resources.there.length})`), make('ul', { className: 'plain-list' }, ...resources.there.map(([uri, found]) => make('li', {}, make('button', { className: 'link', type: 'button', on: { click: () => openRecord(found.chosen, WHOLE) } }, uri), ` record ${found.chosen}${found.given !== found.chosen ? `, from ${found.given}` : ''}${found.isDecoded ? ', decoded by this browser' : ''}`)))));
+  if (resources.there.length) parts.push(make('details', {}, make('summary', {}, `Pictures and styles in this view (${resources.there.length})`), make('ul', { className: 'plain-list' }, ...resources.there.map(([uri, found]) => make('li', {}, make('button', { className: 'link', type: 'button', on: { click: () => openRecord(found.chosen, { focus: WHOLE }) } }, uri), ` record ${found.chosen}${found.given !== found.chosen ? `, from ${found.given}` : ''}${found.isDecoded ? ', decoded by this browser' : ''}`)))));
   if (resources.missing.length) parts.push(make('details', {}, make('summary', {}, `Missing (${resources.missing.length})`), make('ul', { className: 'plain-list' }, ...resources.missing.map(([uri, why]) => make('li', { className: 'absent' }, `${uri} `, make('span', { className: 'small' }, why))))));
   if (links.length) {
     const there = links.filter((uri) => capturesOf(typed(uri)).length).length;
@@ -333,10 +348,9 @@ async function blockTab(it) {
   return [it.row.blockLength ? (isBinary ? hexView(bytes) : textView(shown(bytes))) : make('p', {}, 'The block is empty.'), make('div', { className: 'actions' }, make('button', { className: 'button', type: 'button', on: { click: () => download(whole, `block-${it.position}`) } }, 'Save the block'))];
 }
 
-const EMPTY_DIGEST = '3I42H3S6NNFQ2MSVX7XZKYAYSCX5QBYJ'; // the SHA-1 of no bytes
 const VERDICT_WORDS = { good: 'good: the block has the digest that the record states', bad: 'bad: the block doesn’t have the digest that the record states', unchecked: 'unchecked: the record states no digest, or one that can’t be checked' };
 async function factsTab(it) {
-  const stated = fieldOf(it.own.fields, 'WARC-Block-Digest'), isOfWget = it.row.verdict === 'bad' && it.row.kind.toLowerCase() === 'revisit' && stated.endsWith(EMPTY_DIGEST);
+  const stated = fieldOf(it.own.fields, 'WARC-Block-Digest');
   const facts = [['Position', String(it.position)], ['Offset', `byte ${it.row.offset.toLocaleString('en')}`], ['Type', it.row.kind], ['Date', it.row.date], ['Id', latin.decode(it.row.id)], ['Target', shown(it.row.target) || '–'],
     ['Head', size(it.row.blockStart - it.row.offset)], ['Block', `${it.row.blockLength.toLocaleString('en')} bytes from byte ${it.row.blockStart.toLocaleString('en')} on`], ['Digest of the block', VERDICT_WORDS[it.row.verdict]],
     ['Digest as stated', stated || '–']];
@@ -346,20 +360,21 @@ async function factsTab(it) {
   const found = (room.findings ?? []).filter((finding) => finding.position === it.position);
   return [make('dl', { className: 'facts' }, ...facts.flatMap(([name, value]) => [make('dt', {}, name), make('dd', {}, value)])),
     make('p', { className: 'small' }, 'These facts are the library’s answers, whose contracts are proved. “Digest as stated” is read by this page.'),
-    isOfWget ? make('p', { className: 'note plainly' }, 'The digest that is stated is that of no bytes. wget 1.21 writes it into each revisit, although it stores the HTTP head there. It says nothing of the body, which comes from another record with a digest of its own.') : '',
+    isOfWget(it) ? make('p', { className: 'note plainly' }, OF_WGET) : '',
     found.length ? make('div', {}, make('h3', {}, 'Findings'), make('ul', { className: 'plain-list' }, ...found.map((finding) => make('li', {}, `${finding.number} ${finding.field} ${FINDINGS[finding.number] ?? ''}`)))) : make('p', { className: 'small' }, room.findings ? 'Nothing was found wrong with this record.' : '')];
 }
 
 // ---------------------------------------------------------------- a URI as of a date
 
-async function openAsOf(uri, date, focus) {
+async function openAsOf(uri, date, focus, isBack = false) {
   if (!room.holds) { say('This archive is too long to be replayed here.'); return; }
   const [answer] = await room.library.ask([{ uri, date }]);
   if (answer.chosen !== null && answer.chosen !== undefined) {
-    await openRecord(answer.chosen, focus ? WHOLE : null, `As of ${date}, the archive chooses this capture of the URI.`);
+    await openRecord(answer.chosen, { focus: focus ? WHOLE : null, isBack, note: `As of ${date}, the archive chooses this capture of the URI.` });
     return;
   }
-  room.visit += 1;
+  closeRecord();
+  if (!isBack) remember({ uri: shown(uri), date });
   room.current = -1;
   drawRows();
   const [meaning, hint] = inWords(answer.reason), panel = byId('record');

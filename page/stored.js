@@ -185,12 +185,39 @@ const pictureType = (found) => {
 const MISSING = `data:image/svg+xml,${encodeURIComponent('<svg xmlns="http://www.w3.org/2000/svg" width="120" height="60"><rect x="1" y="1" width="118" height="58" fill="#f4f1ea" stroke="#b9b2a3" stroke-dasharray="4 3"/><text x="60" y="34" font-family="sans-serif" font-size="10" fill="#7c756a" text-anchor="middle">not in the archive</text></svg>')}`;
 const REMOVED = 'script, iframe, frame, object, embed, applet, portal, base, noframes, template, meta[http-equiv], link:not([rel~="stylesheet" i])';
 
-// The pictures and styles of a page, and the links on it.
+// Where a link or a frame of a page leads: the exact URI, and the name of a place on that page.
+function targetOf(reference, base) {
+  const uri = resolved(reference, base);
+  return uri && { uri, place: new URL(reference.trim(), base).hash.slice(1) };
+}
+
+// The pictures and styles of a page.
 function referencesOf(page, base) {
   const pictures = [...page.querySelectorAll('img, input[type="image" i], image')].map((node) => ({ node, reference: node.getAttribute('src') ?? node.getAttribute('srcset')?.trim().split(/[\s,]+/)[0] ?? node.getAttribute('href') ?? node.getAttribute('xlink:href') ?? '' }));
   const sheets = [...page.querySelectorAll('link[rel~="stylesheet" i]')].map((node) => ({ node, reference: node.getAttribute('href') ?? '' }));
-  const links = [...page.querySelectorAll('a[href], area[href]')].map((node) => resolved(node.getAttribute('href'), base)).filter((it) => it);
-  return { pictures: pictures.filter((it) => it.reference.trim() && !/^data:/i.test(it.reference)), sheets, links: [...new Set(links)] };
+  return { pictures: pictures.filter((it) => it.reference.trim() && !/^data:/i.test(it.reference)), sheets };
+}
+
+const FRAME_LOOK = 'display:block;border:1px dashed #b9b2a3;padding:0.6em 1em;margin:0.4em 0;font:14px sans-serif;color:#275d7c;background:#fff';
+
+// A link in the place of a frame, which the view doesn't show.
+function linkForFrame(node, base) {
+  const link = node.ownerDocument.createElement('a'), uri = resolved(node.getAttribute('src') ?? '', base);
+  link.textContent = uri ? `A frame that isn’t shown here: ${uri}` : 'A frame that isn’t shown here';
+  link.setAttribute('style', FRAME_LOOK);
+  if (uri) link.setAttribute('href', uri);
+  return link;
+}
+
+// Puts links in the place of frames, and of a set of frames.
+function unframe(page, base) {
+  const set = page.querySelector('frameset');
+  if (set) {
+    const body = page.createElement('body');
+    body.append(...[...set.querySelectorAll('frame')].map((node) => linkForFrame(node, base)));
+    page.body.replaceWith(body);
+  }
+  page.querySelectorAll('iframe').forEach((node) => node.replaceWith(linkForFrame(node, base)));
 }
 
 // Takes out of a page all that runs, loads or leads away. The policy and the sandbox of the frame forbid the same.
@@ -228,8 +255,10 @@ async function gather(page, base, { pictures, sheets }, resources) {
 
 // HTML as a view: the archive's own pictures and styles, as of one moment, and nothing else.
 async function viewOf(html, uri, resources) {
-  const { page, base } = parsed(html, uri), references = referencesOf(page, base), { pictures, sheets, links } = references;
+  const { page, base } = parsed(html, uri), references = referencesOf(page, base), { pictures, sheets } = references;
   await gather(page, base, references, resources);
+  unframe(page, base);
+  const links = [...page.querySelectorAll('a[href], area[href]')].map((node) => ({ node, target: targetOf(node.getAttribute('href'), base) })).filter((it) => it.target);
   const faces = pictures.map(({ node, reference }) => [node, resources.get(resolved(reference, base))]);
   const looks = sheets.map(({ node, reference }) => [node, resolved(reference, base)]);
   page.querySelectorAll('style').forEach((node) => { node.textContent = styleWith(node.textContent, base, resources, 0); });
@@ -245,10 +274,14 @@ async function viewOf(html, uri, resources) {
     const name = node.localName === 'image' ? 'href' : 'src';
     node.setAttribute(name, found ? dataUrl(found.body, pictureType(found)) : MISSING);
   }
+  links.forEach(({ node, target }, number) => {
+    node.setAttribute('href', `about:srcdoc#${number}`); // so that it looks like a link; the page hears the click
+    node.setAttribute('title', target.uri);
+  });
   const policy = page.createElement('meta'), charset = page.createElement('meta');
   policy.setAttribute('http-equiv', 'Content-Security-Policy');
   policy.setAttribute('content', VIEW_POLICY);
   charset.setAttribute('charset', 'utf-8');
   page.head.prepend(policy, charset);
-  return { source: `<!doctype html>${page.documentElement.outerHTML}`, links };
+  return { source: `<!doctype html>${page.documentElement.outerHTML}`, targets: links.map((it) => it.target) };
 }

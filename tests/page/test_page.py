@@ -276,14 +276,20 @@ def by_keyboard(tests, archive):
         browser.press("ArrowRight")
         browser.until("document.getElementById('panel')?.dataset.ready === 'yes'", 30)
         tests.holds(browser.run("document.activeElement.id + document.activeElement.getAttribute('aria-selected')") == "tab-1true", "keyboard: tabs by arrows")
-        for place in ("#types .bar", "#numbers button"):
+        for place in ("#types .bar", "#only"):
             browser.run(f"document.querySelector('{place}').focus()")
             browser.press("Enter", "\r")
             tests.holds(browser.run(f"document.activeElement.matches('{place}')"), f"keyboard: the focus stays at {place}", browser.run("document.activeElement.outerHTML.slice(0, 99)"))
-        browser.run("room.filters.clear(); drawPlots(); filter()")
-        browser.run("document.querySelector('.close').focus()")
-        browser.press("Enter", "\r")
-        tests.holds(browser.run("document.activeElement.id") == "list", "keyboard: closing a record leads to the list", browser.run("document.activeElement.id"))
+        browser.run("room.filters.clear(); drawPlots(); filter(); document.querySelector('#types .bar').focus()")
+        browser.press("ArrowDown")
+        tests.holds(browser.run("document.activeElement === document.querySelectorAll('#types .bar')[1]"), "keyboard: arrows lead from bar to bar")
+        tests.holds(browser.run("document.querySelectorAll('#types .bar[tabindex=\"0\"]').length") == 1, "keyboard: one stop for all bars of a plot")
+        for leave in ("Enter", "Escape"):
+            browser.run("openRecord(2)")
+            browser.until("document.getElementById('panel')?.dataset.ready === 'yes'", 30)
+            browser.run("document.querySelector('.close').focus()")
+            browser.press(leave, "\r" if leave == "Enter" else "")
+            tests.holds(browser.run("document.activeElement.id + document.getElementById('record').hidden") == "listtrue", f"keyboard: {leave} closes a record and leads to the list", browser.run("document.activeElement.id"))
         browser.run("document.activeElement.blur()")
         browser.press("/", "/")
         tests.holds(browser.run("document.activeElement.id") == "words", "keyboard: / goes to the search", browser.run("document.activeElement.id"))
@@ -293,6 +299,28 @@ def by_keyboard(tests, archive):
         tests.holds(not nameless, "each control has a name", [browser.ask("DOM.describeNode", {"backendNodeId": it["backendDOMNodeId"]})["node"].get("attributes") for it in nameless])
     finally:
         browser.close()
+
+
+def follows_links(tests, browser, site):
+    """From the view of page 12, a link leads to page 13, and Back leads to page 12 again. A link that leads nowhere says so."""
+    title = "document.querySelector('#record h2').textContent"
+
+    def click(link):
+        browser.until("document.querySelector('iframe.view')?.contentDocument?.querySelector('a[href]') && document.getElementById('panel').dataset.ready === 'yes'", 30)
+        time.sleep(0.3)
+        browser.run(f"[...document.querySelector('iframe.view').contentDocument.querySelectorAll('a[href]')].find((it) => it.title.endsWith('{link}')).click()")
+
+    click("/page/13")
+    browser.until(f"{title} === '{site}page/13'", 30)
+    browser.run("history.back()")
+    browser.until(f"{title} === '{site}page/12'", 30)
+    tests.passed += 2
+    browser.until("Boolean(document.querySelector('iframe.view')?.contentDocument?.querySelector('a[href]'))", 30)
+    browser.run("capturesOf(typed('x')); room.captures.delete([...room.captures.keys()].find((it) => it.endsWith('/page/11'))); 0")
+    click("/page/11")
+    browser.until("document.getElementById('panel').innerText.includes('The archive has no capture of')", 10)
+    tests.holds(browser.run(title) == f"{site}page/12", "view: a link that leads nowhere stays")
+    browser.run("room.captures = null; scrollTo(0, 0)")
 
 
 def views(tests, archive, site):
@@ -308,16 +336,15 @@ def views(tests, archive, site):
 
     try:
         tests.picture(browser, "overview")
-        browser.run("window.asked = 0; const send = Worker.prototype.postMessage; Worker.prototype.postMessage = function (...all) { window.asked += all[0].questions ? 1 : 0; return send.apply(this, all); }; 0")
         words = show("response", "/page/12")
-        tests.holds(browser.run("window.asked") == 1, "view: one opening for a page and its pictures and styles", browser.run("window.asked"))
         tests.holds("4 pictures and styles from the archive" in words and "1 missing" in words, "view: pictures and styles", words[:400])
         source = browser.run("document.querySelector('iframe.view').srcdoc")
         tests.holds("data:image/png" in source and "line-height" in source, "view: a style that a style names, and a picture")
         tests.holds(source.count("http://") == 0 or "src=\"http" not in source, "view: no reference leads out")
-        tests.holds(browser.run("document.querySelector('iframe.view').getAttribute('sandbox')") == "", "view: an empty sandbox")
+        tests.holds(browser.run("document.querySelector('iframe.view').getAttribute('sandbox')") == "allow-same-origin", "view: a sandbox without scripts")
         browser.run("scrollTo(0, 0)")
         tests.picture(browser, "page")
+        follows_links(tests, browser, site)
         words = show("revisit", "/page/12")
         tests.holds("This is a revisit" in words, "view: where a revisit leads", words[:300])
         for end in ("/packed", "/chunked"):
@@ -334,6 +361,7 @@ def views(tests, archive, site):
         browser.run(f"document.getElementById('uri').value = '{site}page/12'; document.getElementById('moment').value = '9999'; document.getElementById('as-of').requestSubmit()")
         browser.until("document.getElementById('panel')?.dataset.ready === 'yes' && document.getElementById('panel').innerText.includes('chooses this capture')", 30)
         tests.passed += 1
+        tests.holds(browser.run("room.library.openings") == 1, "views: the archive is opened once", browser.run("room.library.openings"))
         tests.holds(not loads(browser), "views: nothing loads", loads(browser))
         errors = [it["params"]["exceptionDetails"] for it in browser.events if it["method"] == "Runtime.exceptionThrown"]
         tests.holds(not errors, "views: no error", errors[:1])
