@@ -79,15 +79,15 @@ const MOST_REMEMBERED = 128 * 1048576; // bytes of bodies
 
 // The library in its worker. Answers are remembered.
 class Library {
-  constructor(module, limit, script, tell) {
+  constructor(module, limit, script, report) {
     this.forget();
     this.waiting = new Map(); // what waits for an answer, by the number of its message
     this.asked = 0;
     this.openings = 0; // how often the worker opened an archive for questions
     const url = URL.createObjectURL(new Blob([script], { type: 'text/javascript' }));
     this.worker = new Worker(url);
-    this.worker.onmessage = ({ data }) => (data.id ? this.hear(data) : tell(data));
-    this.worker.onerror = (event) => tell({ tell: 'failed', why: event.message || 'the worker stopped' });
+    this.worker.onmessage = ({ data }) => (data.id ? this.hear(data) : report(data));
+    this.worker.onerror = (event) => report({ report: 'failed', why: event.message || 'the worker stopped' });
     this.worker.postMessage({ wasm: module, limit, script });
   }
 
@@ -127,7 +127,7 @@ class Library {
 
   forget() { this.known = new Map(); this.remembered = 0; this.since = {}; }
 
-  // An answer is also that of the capture that is chosen.
+  // The chosen capture has the same answer.
   remember(questions, answers) {
     questions.forEach((it, number) => {
       const answer = answers[number];
@@ -145,7 +145,7 @@ class Library {
   }
 }
 
-// Whether this browser has WebAssembly with a 64-bit memory: a module that has one, and nothing else.
+// Whether this browser has 64-bit WebAssembly: it accepts a module that has such a memory and nothing else.
 function hasWideMemory() {
   const tiny = new Uint8Array([0, 97, 115, 109, 1, 0, 0, 0, 5, 3, 1, 4, 1]);
   return typeof WebAssembly === 'object' && WebAssembly.validate(tiny);

@@ -100,14 +100,14 @@ function soon() {
   requestAnimationFrame(() => { drawing = false; drawAll(); });
 }
 
-// What the worker tells while it reads.
+// What the worker reports while it reads.
 function hear(message) {
-  if (message.tell === 'rows') {
+  if (message.report === 'rows') {
     room.rows.add(message);
     say(`Reading: ${many(room.rows.count, 'record')}, ${size(message.read)} of ${size(message.size)}`);
     showProgress(message.size ? message.read / message.size : 1);
     soon();
-  } else if (message.tell === 'listed') {
+  } else if (message.report === 'listed') {
     room.fault = message.fault;
     room.end = message.end;
     room.holds = message.holds;
@@ -118,16 +118,16 @@ function hear(message) {
     say(`${many(room.rows.count, 'record')} read in ${(room.listedIn / 1000).toFixed(1)} s.${looks ? ' Looking for findings…' : room.holds ? '' : ' This archive is too long to be replayed here.'}`);
     showProgress(looks ? -1 : null);
     soon();
-  } else if (message.tell === 'findings') {
+  } else if (message.report === 'findings') {
     room.findingLines = message.lines;
     room.findings = readFindings(message.lines);
     room.foundIn = performance.now() - room.began;
     say(`${many(room.rows.count, 'record')} read in ${(room.listedIn / 1000).toFixed(1)} s, findings after ${(room.foundIn / 1000).toFixed(1)} s`);
     showProgress(null);
     drawAll();
-  } else if (message.tell === 'opened') {
+  } else if (message.report === 'opened') {
     room.isOpen = true;
-  } else if (message.tell === 'failed') {
+  } else if (message.report === 'failed') {
     showProgress(null);
     const why = /memory/i.test(message.why) ? 'The memory of this browser doesn’t suffice for it.' : message.why;
     say(`The library stopped. ${why}`);
@@ -144,7 +144,7 @@ function readFindings(lines) {
   });
 }
 
-// Whether a file begins as one that gzip compressed.
+// Whether a file begins as gzip output does.
 async function isPacked(file) {
   const [first, second] = new Uint8Array(await file.slice(0, 2).arrayBuffer());
   return first === 0x1f && second === 0x8b;
@@ -288,9 +288,10 @@ function drawTimes() {
   times.forEach((time) => { counts[Math.floor((time - first) / step)] += 1; });
   const most = Math.max(...counts), chosen = room.filters.get('time')?.value;
   plot('times', oneStop('times', counts.map((count, number) => {
-    const from = first + number * step, words = `${many(count, 'capture')}, ${dateText(from)} to ${dateText(from + step - 1000)}`;
+    const from = first + number * step, ends = [...new Set([from, from + step - 1].map((time) => dateText(Math.floor(time / 1000) * 1000)))];
+    const words = `${many(count, 'capture')}, ${ends.join(' to ')}`;
     return make('button', { type: 'button', title: words, 'aria-label': words, 'aria-pressed': String(chosen === from), disabled: count === 0, style: { '--part': count ? `${Math.max(3, count / most * 100)}%` : '0' },
-      on: { click: () => toggle('time', from, dateText(from), from + step) } }, count ? make('i') : null);
+      on: { click: () => toggle('time', from, ends[0], from + step) } }, count ? make('i') : null);
   }), { role: 'group', 'aria-label': 'Filter by time of capture' }), make('div', { className: 'ends' }, make('span', {}, dateText(first)), first < last ? make('span', {}, dateText(last)) : null));
 }
 
@@ -374,7 +375,7 @@ const body = () => byId('rows');
 const pixels = () => Math.min(MOST_PIXELS, room.order.length * LINE);
 
 // The number of the line at the top, and how many lines are seen.
-function window_() {
+function visibleLines() {
   const seen = Math.ceil(body().clientHeight / LINE) + 1, all = room.order.length;
   if (all * LINE <= MOST_PIXELS) return { first: Math.floor(body().scrollTop / LINE), seen, top: (number) => number * LINE };
   const part = body().scrollTop / Math.max(1, pixels() - body().clientHeight), first = Math.round(part * Math.max(0, all - seen + 2));
@@ -385,7 +386,7 @@ function window_() {
 function drawRows() {
   const spacer = byId('spacer');
   spacer.style.height = `${pixels()}px`;
-  const { first, seen, top } = window_(), lines = [];
+  const { first, seen, top } = visibleLines(), lines = [];
   for (let number = Math.max(0, first); number < Math.min(room.order.length, first + seen); number += 1) lines.push(drawLine(room.order[number], number, top(number)));
   body().replaceChildren(spacer, ...lines);
   if (!room.order.length) body().append(make('p', { className: 'none', style: { padding: '1em' } }, room.rows.count ? 'No record passes the filters.' : room.listed ? 'The archive has no records.' : ''));

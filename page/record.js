@@ -180,7 +180,7 @@ function tabList(tabs, it, visit) {
 const fileName = (it) => { const path = shown(it.row.target).split(/[?#]/)[0].split('/').pop(); return path || 'page.html'; };
 const saving = (name, bytes, words) => make('button', { className: 'button', type: 'button', on: { click: () => download(new Blob([bytes]), name) } }, words);
 
-// Whether the library gives no body since it is stored chunked or compressed.
+// Whether the library gives no body because it is stored chunked or compressed.
 const isCoded = (it) => numberOf(it.answer?.reason ?? '') === 'P10';
 
 // A revisit as wget 1.21 writes it: with the digest of no bytes, although it stores the HTTP head.
@@ -193,7 +193,7 @@ function wordsBefore(it) {
   const words = [];
   if (it.note) words.push(make('p', { className: 'note plainly' }, it.note));
   if (!room.holds && it.isCapture) words.push(make('p', { className: 'note' }, 'This archive is too long to be replayed here. The block is shown as it is stored.'));
-  if (it.given !== it.row) words.push(make('p', { className: 'note plainly' }, 'This is a revisit: its payload is that of ', make('button', { className: 'link', type: 'button', on: { click: () => openRecord(it.given.position, { focus: WHOLE }) } }, `record ${it.given.position}`), `, captured ${it.given.date}.`));
+  if (it.given !== it.row) words.push(make('p', { className: 'note plainly' }, 'This is a revisit: it has the payload of ', make('button', { className: 'link', type: 'button', on: { click: () => openRecord(it.given.position, { focus: WHOLE }) } }, `record ${it.given.position}`), `, captured ${it.given.date}.`));
   if (isOfWget(it)) words.push(make('p', { className: 'note plainly' }, OF_WGET));
   if (it.answer?.reason && !isCoded(it)) {
     const [meaning, hint] = inWords(it.answer.reason);
@@ -262,7 +262,7 @@ function storedBytes(it, stored) {
 // ---------------------------------------------------------------- HTML as of a moment
 
 // The moments as of which a page's pictures and styles may be looked for: as of each of them the page's URI gives this
-// capture. The first is that of the capture.
+// capture. The first is the moment of the capture.
 function moments(it) {
   const start = captureTime(it.row.date) ?? 0, next = capturesOf(it.row.target).find((capture) => capture.time > start);
   const all = [['at its capture', it.row.date]];

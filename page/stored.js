@@ -6,7 +6,7 @@ const VIEW_POLICY = "default-src 'none'; img-src data:; style-src 'unsafe-inline
 const MOST_ROUNDS = 6; // styles that name styles that name styles
 const MOST_DECODED = 256 * 1048576;
 
-// The fields of a head of HTTP, and where the body begins; null where there is none.
+// The fields of a head of HTTP, and where the body begins; null if there is no head.
 function httpHead(block) {
   const front = latin.decode(block.subarray(0, 65536));
   const found = /\r?\n\r?\n/.exec(front);
@@ -121,7 +121,7 @@ function dataUrl(bytes, media) {
   return `data:${media};base64,${btoa(words)}`;
 }
 
-// The exact URI that a reference means on a page, without its fragment; null where it is none that an archive holds.
+// The exact URI that a reference means on a page, without its fragment; null for one that no archive holds.
 function resolved(reference, base) {
   try {
     const url = new URL(reference.trim(), base);
@@ -147,7 +147,7 @@ class Resources {
   get missing() { return [...this.known].filter(([, found]) => !isThere(found)).map(([uri, found]) => [uri, found.reason ?? `captured with status ${found.status}`]); }
 }
 
-// A body is there, and it isn't that of an error or of a redirect.
+// A body is there, of neither an error nor a redirect.
 const isThere = (found) => Boolean(found.body) && (!found.status || (found.status >= 200 && found.status < 300));
 
 const CSS_URL = /url\(\s*(?:"([^"]*)"|'([^']*)'|([^"')\s]*))\s*\)/gi;
@@ -275,7 +275,7 @@ async function viewOf(html, uri, resources) {
     node.setAttribute(name, found ? dataUrl(found.body, pictureType(found)) : MISSING);
   }
   links.forEach(({ node, target }, number) => {
-    node.setAttribute('href', `about:srcdoc#${number}`); // so that it looks like a link; the page hears the click
+    node.setAttribute('href', `about:srcdoc#${number}`); // it looks like a link; the page handles the click
     node.setAttribute('title', target.uri);
   });
   const policy = page.createElement('meta'), charset = page.createElement('meta');

@@ -128,11 +128,11 @@ function placed(fault, start) {
   return fault.replace(/ at (\d+)$/, (_, offset) => ` at ${Number(offset) + start}`);
 }
 
-// Tells of the records that were found from an offset on. Whether there may be more after the bytes so far.
-function tell(found, start, stop) {
+// Reports the records that were found from an offset on. Returns whether there may be more after the bytes so far.
+function report(found, start, stop) {
   count += found.records;
   textBytes += found.texts;
-  postMessage({ tell: 'rows', base: start, count: found.records, rows: found.rows, words: found.words,
+  postMessage({ report: 'rows', base: start, count: found.records, rows: found.rows, words: found.words,
     read: start + found.end, size: file.size }, [found.rows, found.words]);
   return !found.fault || (found.fault.startsWith('F11 ') && stop < file.size);
 }
@@ -173,7 +173,7 @@ class Filling {
     return next;
   }
 
-  // Takes the next piece, while the one after it is read. Whether the file is still the one that is wanted.
+  // Takes the next piece, while the one after it is read. Returns whether the file is still wanted.
   async take() {
     const bytes = await this.next;
     if (this.mine !== run) return false;
@@ -199,7 +199,7 @@ async function listOn(filling, from) {
   for (let start = from, size = FIRST_PIECE; start < file.size;) {
     const stop = Math.min(file.size, start + size);
     while (filling.stop < stop) if (!await filling.take()) return null;
-    const found = front(instance, instance.file + start, stop - start), goesOn = tell(found, start, stop);
+    const found = front(instance, instance.file + start, stop - start), goesOn = report(found, start, stop);
     end = start + found.end;
     if (!goesOn) return placed(found.fault, start);
     size = found.end > 0 ? PIECE : 4 * size; // a record that doesn't end in the bytes so far
@@ -237,7 +237,7 @@ class Segments {
 
   take(found, start, stop) {
     if (this.filling.mine !== run) return false;
-    tell(found, start, stop);
+    report(found, start, stop);
     end = start + found.end;
     this.isBroken = end < stop;
     return !this.isBroken;
@@ -257,7 +257,7 @@ class Segments {
 }
 
 // Lists a long file by helpers. If a segment doesn't end where the next was thought to begin, this worker lists the rest.
-async function listBeside(filling) {
+async function listByHelpers(filling) {
   const helpers = new Helpers(), segments = new Segments(filling, helpers);
   try {
     while (filling.stop < file.size && !segments.isBroken) {
@@ -273,7 +273,7 @@ async function listBeside(filling) {
 // Lists a file that fits into the module's memory. It is read once.
 async function listKept(mine) {
   const instance = keeping(file.size), filling = new Filling(instance, mine);
-  const fault = await (file.size < LEAST_SHARED || HELPERS < 2 ? listOn(filling, 0) : listBeside(filling));
+  const fault = await (file.size < LEAST_SHARED || HELPERS < 2 ? listOn(filling, 0) : listByHelpers(filling));
   if (fault !== null) kept = instance;
   return fault;
 }
@@ -287,7 +287,7 @@ async function listPieces(mine) {
     const bytes = await read(start, stop), at = instance.lend('bytes', Math.max(bytes.length, PIECE));
     if (mine !== run) return null;
     instance.bytes(at, bytes.length).set(bytes);
-    const found = front(instance, at, bytes.length), goesOn = tell(found, start, stop);
+    const found = front(instance, at, bytes.length), goesOn = report(found, start, stop);
     end = start + found.end;
     if (!goesOn) return placed(found.fault, start);
     size = found.end > 0 ? PIECE : size * 4;
@@ -347,11 +347,11 @@ function findings(instance) {
 }
 
 // The findings by a helper, so that questions don't wait for them; of a long archive by this worker.
-async function findBeside(mine) {
+async function findByHelper(mine) {
   const helpers = looking = new Helpers(), alone = async () => ({ lines: findings(await full()) });
   const { lines } = await (isAlone() ? alone() : helpers.ask({ find: { file, end, count, textBytes } }).catch(alone));
   helpers.stop();
-  if (mine === run) postMessage({ tell: 'findings', lines: text(lines) });
+  if (mine === run) postMessage({ report: 'findings', lines: text(lines) });
 }
 
 const isAlone = () => HELPERS < 2 || end > MOST_TWICE;
@@ -417,13 +417,13 @@ async function open(given) {
   const fault = await (file.size <= limit ? listKept(mine) : listPieces(mine));
   if (fault === null) return;
   const holds = end <= limit;
-  postMessage({ tell: 'listed', fault, end, holds });
+  postMessage({ report: 'listed', fault, end, holds });
   if (!holds || (fault && end === 0)) return;
-  const found = findBeside(mine).catch((error) => { if (mine === run) fail(0, error); });
+  const found = findByHelper(mine).catch((error) => { if (mine === run) fail(0, error); });
   if (isAlone()) await found;
   if (mine !== run) return;
   await ready();
-  postMessage({ tell: 'opened' });
+  postMessage({ report: 'opened' });
 }
 
 // What a helper does: it lists bytes, or looks for the findings of a file.
@@ -442,7 +442,7 @@ async function help({ list, find }) {
 }
 
 const whyOf = (error) => String(error.message || error);
-const fail = (id, error) => postMessage({ id, tell: 'failed', why: whyOf(error) });
+const fail = (id, error) => postMessage({ id, report: 'failed', why: whyOf(error) });
 
 let queue = Promise.resolve();
 function respond({ id, open: given, questions }) {

@@ -504,7 +504,7 @@ def main():
 
 
 def copied(archive, folder):
-    """A copy, beside which the test may write."""
+    """A copy in a folder where the test may write."""
     path = f"{folder}/{os.path.basename(archive)}"
     with open(archive, "rb") as whole, open(path, "wb") as out:
         out.write(whole.read())
