@@ -152,28 +152,28 @@ async function isPacked(file) {
 
 // A file without a record that can be read: what it may be. The room is empty, so it isn't shown.
 async function showUnreadable() {
-  const { file, fault } = room, packed = await isPacked(file), [, ...words] = FAULTS[numberOf(fault)] ?? [];
+  const { file, fault } = room, packed = await isPacked(file), [, ...words] = inWords(fault);
   if (file !== room.file) return;
   byId('damage').replaceChildren(
     make('h2', {}, packed ? 'This file is compressed' : `This file can’t be read: ${fault}`),
     packed ? make('p', {}, 'Decompress it first, as by ', make('code', {}, `gunzip ${file.name.endsWith('.gz') ? file.name : 'a.warc.gz'}`), `, and open what that gives. (${fault})`)
-      : make('p', {}, ['It has no record that is whole.', ...words].join(' ')));
+      : make('p', {}, 'It has no record that is whole. ', ...prose(words.join(' '))));
 }
 
-// A damaged archive: where and why, in the words of docs/FORMAT.md, and its good part.
+// A damaged archive: where and why, and its good part.
 function showDamage() {
   const place = byId('damage');
   place.hidden = !room.fault;
   byId('room').classList.toggle('unreadable', Boolean(room.fault) && !room.end);
   if (!room.fault) return;
   if (!room.end) { showUnreadable(); return; }
-  const [name, meaning, cause] = FAULTS[numberOf(room.fault)] ?? [room.fault, '', ''];
+  const [name, meaning, advice] = inWords(room.fault);
   const offset = Number(/ at (\d+)$/.exec(room.fault)?.[1] ?? 0);
   const field = /(Missing|Repeated) (\S+)/.exec(room.fault)?.[2];
   place.replaceChildren(
     make('h2', {}, `This archive is damaged: ${room.fault}`),
-    make('p', {}, make('b', {}, `${name}${field ? ` ${field}` : ''}. `), meaning, ` At byte ${offset.toLocaleString('en')} of ${room.file.size.toLocaleString('en')}. `, cause),
-    make('p', {}, `Its good part is shown: ${many(room.rows.count, 'record')}, ${size(room.end)}, before the damage. Nothing is skipped, and nothing is repaired. The program refuses the whole archive, and `, make('code', {}, 'warc salvage'), ' writes the good part.'),
+    make('p', {}, make('b', {}, `${name}${field ? ` ${field}` : ''}`), `, at byte ${offset.toLocaleString('en')} of ${room.file.size.toLocaleString('en')}. `, ...prose(`${meaning} ${advice}`)),
+    make('p', {}, `Its good part is shown: ${many(room.rows.count, 'record')}, ${size(room.end)}, before the damage. Nothing is skipped, and nothing is repaired. The program refuses the whole archive.`),
     make('div', { className: 'actions' }, make('button', { className: 'button', type: 'button', on: { click: () => download(room.file.slice(0, room.end), `good-part-of-${room.file.name}`) } }, 'Save the good part')));
 }
 
@@ -278,7 +278,7 @@ function drawPlots() {
   if (!room.findings) { plot('findings', make('p', { className: 'none' }, room.listed && !room.holds ? 'not looked for: the archive is too long' : 'not looked for yet')); return; }
   const numbers = new Map();
   room.findings.forEach((it) => numbers.set(it.number, (numbers.get(it.number) ?? 0) + 1));
-  plot('findings', numbers.size ? bars('finding', sorted(numbers).map(([number, count]) => [number, count, `${number} ${FINDINGS[number] ?? ''}`]), () => 'var(--warn)', (number) => FINDINGS[number]) : make('p', { className: 'none' }, 'none'));
+  plot('findings', numbers.size ? bars('finding', sorted(numbers).map(([number, count]) => [number, count, `${number} ${inWords(number)[0]}`]), () => 'var(--warn)', (number) => plain(inWords(number)[1])) : make('p', { className: 'none' }, 'none'));
 }
 
 function drawTimes() {

@@ -188,6 +188,12 @@ const EMPTY_DIGEST = '3I42H3S6NNFQ2MSVX7XZKYAYSCX5QBYJ'; // the SHA-1 of no byte
 const OF_WGET = 'The digest of this revisit is bad since wget 1.21 states the digest of no bytes in each revisit, although it stores the HTTP head there. It says nothing of the body, which comes from another record with a digest of its own.';
 const isOfWget = ({ row, own }) => row.verdict === 'bad' && row.kind.toLowerCase() === 'revisit' && fieldOf(own.fields, 'WARC-Block-Digest').endsWith(EMPTY_DIGEST);
 
+// Why there is no body, and what to do.
+function noBody(reason) {
+  const [, meaning, advice] = inWords(reason);
+  return make('div', { className: 'note reason' }, make('p', {}, make('b', {}, `No body: ${reason}. `), ...prose(meaning)), make('p', {}, ...prose(advice)));
+}
+
 // What is said before a body: where a revisit leads, or why there is none.
 function wordsBefore(it) {
   const words = [];
@@ -196,8 +202,7 @@ function wordsBefore(it) {
   if (it.given !== it.row) words.push(make('p', { className: 'note plainly' }, 'This is a revisit: it has the payload of ', make('button', { className: 'link', type: 'button', on: { click: () => openRecord(it.given.position, { focus: WHOLE }) } }, `record ${it.given.position}`), `, captured ${it.given.date}.`));
   if (isOfWget(it)) words.push(make('p', { className: 'note plainly' }, OF_WGET));
   if (it.answer?.reason && !isCoded(it)) {
-    const [meaning, hint] = inWords(it.answer.reason);
-    words.push(make('div', { className: 'note reason' }, make('p', {}, make('b', {}, `No body: ${it.answer.reason}. `), meaning), hint ? make('p', {}, hint) : ''));
+    words.push(noBody(it.answer.reason));
   }
   const location = it.http?.get('location');
   const leads = it.answer?.status >= 300 && it.answer.status < 400 && location ? resolved(location, shown(it.row.target)) : null;
@@ -212,7 +217,7 @@ async function bodyOf(it) {
   if (it.answer?.body) return { bytes: it.answer.body, words: [] };
   const stored = await bytesAt(it.given.blockStart, it.given.blockLength);
   if (!isCoded(it)) return { bytes: null, stored, words: [] };
-  const said = `${it.answer.reason}: ${inWords(it.answer.reason).join(' ')}`;
+  const said = `${it.answer.reason}: ${plain(inWords(it.answer.reason)[1])}`;
   try {
     const { body: bytes, steps } = await decoded(stored);
     return { bytes, stored, isDecoded: true, words: [make('div', { className: 'note' }, make('p', {}, make('b', {}, 'Decoded by this browser'), ` (${steps.join(', then ')}), outside of what is proved. ${said}`),
@@ -356,12 +361,12 @@ async function factsTab(it) {
     ['Digest as stated', stated || '–']];
   const answer = it.answer;
   if (answer?.body) facts.push(['Chosen', `record ${answer.chosen}`], ['Given', `record ${answer.given}${answer.given === answer.chosen ? '' : ', where the revisit leads'}`], ['Status', answer.status === null ? '–' : String(answer.status)], ['Truncated', answer.truncated ? 'yes' : 'no'], ['Length of the body', `${answer.length.toLocaleString('en')} bytes`]);
-  if (answer?.reason) facts.push(['No body', `${answer.reason}. ${inWords(answer.reason)[0]}`]);
+  if (answer?.reason) facts.push(['No body', `${answer.reason}. ${plain(inWords(answer.reason)[1])}`]);
   const found = (room.findings ?? []).filter((finding) => finding.position === it.position);
   return [make('dl', { className: 'facts' }, ...facts.flatMap(([name, value]) => [make('dt', {}, name), make('dd', {}, value)])),
     make('p', { className: 'small' }, 'These facts are the library’s answers, whose contracts are proved. “Digest as stated” is read by this page.'),
     isOfWget(it) ? make('p', { className: 'note plainly' }, OF_WGET) : '',
-    found.length ? make('div', {}, make('h3', {}, 'Findings'), make('ul', { className: 'plain-list' }, ...found.map((finding) => make('li', {}, `${finding.number} ${finding.field} ${FINDINGS[finding.number] ?? ''}`)))) : make('p', { className: 'small' }, room.findings ? 'Nothing was found wrong with this record.' : '')];
+    found.length ? make('div', {}, make('h3', {}, 'Findings'), make('ul', { className: 'plain-list' }, ...found.map((finding) => make('li', {}, `${finding.number} ${finding.field} `, ...prose(inWords(finding.number)[1]))))) : make('p', { className: 'small' }, room.findings ? 'Nothing was found wrong with this record.' : '')];
 }
 
 // ---------------------------------------------------------------- a URI as of a date
@@ -377,11 +382,11 @@ async function openAsOf(uri, date, focus, isBack = false) {
   if (!isBack) remember({ uri: shown(uri), date });
   room.current = -1;
   drawRows();
-  const [meaning, hint] = inWords(answer.reason), panel = byId('record');
+  const panel = byId('record');
   byId('room').classList.add('has-record');
   panel.hidden = false;
   panel.replaceChildren(make('header', {}, closing(), make('h2', {}, make('bdi', {}, shown(uri))), make('div', { className: 'sub' }, `as of ${date}`)),
-    make('div', { className: 'panel' }, make('div', { className: 'note reason' }, make('p', {}, make('b', {}, `No body: ${answer.reason}. `), meaning), hint ? make('p', {}, hint) : '')));
+    make('div', { className: 'panel' }, noBody(answer.reason)));
   bringRecord();
   if (focus) panel.focus({ preventScroll: true });
 }

@@ -12,6 +12,7 @@ import base64
 import hashlib
 import json
 import os
+import re
 import subprocess
 import sys
 import tempfile
@@ -47,15 +48,21 @@ def build_module(tree):
     return f"{folder}/out/{MODULE}.wasm"
 
 
+def numbers():
+    """Name, meaning and advice of each number, from the tables of docs/NUMBERS.md."""
+    rows = re.findall(r"^\| ([A-Z]\d+) \| (\w+) \| (.*) \| (.*) \|$", read("docs/NUMBERS.md"), re.M)
+    return {number: [part.replace("\\|", "|") for part in parts] for number, *parts in rows}
+
+
 def quoted(text):
-    """A text as a string of JavaScript that no tag of HTML ends."""
+    """A value as JavaScript that no tag of HTML ends."""
     return json.dumps(text).replace("</", "<\\/").replace("<!--", "<\\!--")
 
 
 def page(module):
     """The whole page."""
     names = {"MODULE": quoted(base64.b64encode(module).decode()), "WORKER": quoted(read("page/worker.js")),
-             "VERSION": quoted(version())}
+             "VERSION": quoted(version()), "NUMBERS": quoted(numbers())}
     script = "".join(f"const {name} = {value};\n" for name, value in names.items())
     script += "\n".join(read(f"page/{name}").replace("'use strict';\n", "") for name in SCRIPTS)
     script = f"\n'use strict';\n{script}"

@@ -357,7 +357,7 @@ def views(tests, archive, site):
         tests.holds("The body is empty" in words, "view: an empty body", words[:300])
         browser.run("document.getElementById('uri').value = 'http://nowhere.example/'; document.getElementById('as-of').requestSubmit()")
         browser.until("document.getElementById('record').innerText.includes('P1 NoCapture')", 30)
-        tests.holds("No capture has this URI" in browser.run("document.getElementById('record').innerText"), "as of: a reason in words")
+        tests.holds("No capture has the URI" in browser.run("document.getElementById('record').innerText"), "as of: a reason in words")
         browser.run(f"document.getElementById('uri').value = '{site}page/12'; document.getElementById('moment').value = '9999'; document.getElementById('as-of').requestSubmit()")
         browser.until("document.getElementById('panel')?.dataset.ready === 'yes' && document.getElementById('panel').innerText.includes('chooses this capture')", 30)
         tests.passed += 1
@@ -453,7 +453,7 @@ def damaged(tests, folder):
     browser = tests.opened(archive)
     try:
         words = browser.run("document.getElementById('damage').innerText")
-        tests.holds("F11 Truncated" in words and "The file ends before the record does" in words, "damaged: why", words)
+        tests.holds("F11 Truncated" in words and "The file ends before its last record does" in words, "damaged: why", words)
         tests.holds("17 records" in words, "damaged: its good part", words)
         tests.picture(browser, "damaged")
     finally:
