@@ -8,7 +8,8 @@
 - docs/PROGRAM.md has a section, and README.md a row, for each command of the program and for no other.
 - A link or a path that a page names is there.
 - README.md has at most 9 KB.
-- CHANGELOG.md has a section for the version.
+- CHANGELOG.md has a section for the version, and the packages for Python and Rust have that version.
+- docs/PROMISES.md names the number of cases that the reports of the suites count.
 - docs/NUMBERS.md is what tools/make_numbers.py makes, and docs/FORMAT.md has the same numbers and names.
 - crates/warc/CALLING.md is what tools/make_calling.py makes.
 """
@@ -23,6 +24,11 @@ from shared import TOP, crates, read, version
 
 PAGES = ["README.md", "CONTRIBUTING.md", "CHANGELOG.md", "docs/*.md", "examples/README.md"]
 EXAMPLES = ["crates/example_*/src/*.rt", "c/*.c", "python/*.py", "rust/examples/*.rs"]
+VERSIONS = [
+    ("python/pyproject.toml", "version"),
+    ("python/src/zogwedu/__init__.py", "__version__"),
+    ("rust/Cargo.toml", "version"),
+]
 MOST = 9 * 1024
 
 
@@ -91,16 +97,38 @@ def missing_paths(page):
             yield f"{page}: no file {path}"
 
 
+def cases_elsewhere():
+    """Numbers of cases in docs/PROMISES.md that the reports of the suites, which the gate compares, don't count."""
+    count = 0
+    for path in glob.glob(f"{TOP}/crates/suites_*/stdout"):
+        report = read(os.path.relpath(path, TOP))
+        count += sum(map(int, re.findall(r"^(\d+) cases, \d+ steps, 0 failed$", report, re.MULTILINE)))
+    told = re.findall(r"\b(\d[\d,]*) cases\b", read("docs/PROMISES.md"))
+    for number in told:
+        if number != f"{count:,}":
+            yield f"docs/PROMISES.md: {number} cases, where the suites have {count:,}"
+    if not told:
+        yield "docs/PROMISES.md: no number of cases"
+
+
+def versions_elsewhere():
+    """Files of the packages whose version isn't the program's."""
+    for path, words in VERSIONS:
+        if f'\n{words} = "{version()}"\n' not in read(path):
+            yield f"{path}: another version than {version()}"
+    if f"\n## {version()} (" not in read("CHANGELOG.md"):
+        yield f"CHANGELOG.md: no section for {version()}"
+
+
 def main():
     found = [*code_elsewhere("README.md"), *code_elsewhere("docs/LIBRARY.md")]
     found += [*crates_elsewhere(), *calls_elsewhere(), *commands_elsewhere(), *make_numbers.wrong()]
+    found += [*cases_elsewhere(), *versions_elsewhere()]
     for pattern in PAGES:
         for path in sorted(glob.glob(f"{TOP}/{pattern}")):
             found += missing_paths(os.path.relpath(path, TOP))
     if len(read("README.md").encode()) > MOST:
         found.append(f"README.md: more than {MOST} bytes")
-    if f"\n## {version()} (" not in read("CHANGELOG.md"):
-        found.append(f"CHANGELOG.md: no section for {version()}")
     if read(make_calling.PAGE) != make_calling.page():
         found.append(f"{make_calling.PAGE}: run tools/make_calling.py")
     print("\n".join(found) or "the pages are as they must be")
