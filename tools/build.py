@@ -15,7 +15,7 @@ import subprocess
 import sys
 import time
 
-from shared import TOP, below, crates, rows
+from shared import TOP, below, crates, put_copy, rows
 
 PROGRAM = "warc_tool"
 PARTS = ("src", "specs", "proofs")
@@ -154,7 +154,7 @@ def main():
     begin = time.monotonic()
     folder = prove(PROGRAM, ["run", "--", "--version"], jobs, tree)
     os.makedirs(f"{TOP}/bin", exist_ok=True)
-    shutil.copy(f"{folder}/out/{PROGRAM}", f"{TOP}/bin/warc")
+    put_copy(f"{folder}/out/{PROGRAM}", f"{TOP}/bin/warc")
     print(f"bin/warc is built, {time.monotonic() - begin:.0f} s in all")
 
 

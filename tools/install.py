@@ -8,10 +8,9 @@ FOLDER is the prefix, as /usr/local. The manual pages and completions are those 
 """
 import glob
 import os
-import shutil
 import sys
 
-from shared import TOP
+from shared import TOP, put_copy
 
 DOCS = "share/doc/zogwedu"
 
@@ -42,8 +41,7 @@ def install(folder):
     for source, name in files():
         to = f"{folder}/{name}"
         os.makedirs(os.path.dirname(to), exist_ok=True)
-        shutil.copyfile(f"{TOP}/{source}", to)
-        os.chmod(to, 0o755 if name.startswith("bin/") or name.endswith(".so") else 0o644)
+        put_copy(f"{TOP}/{source}", to, 0o755 if name.startswith("bin/") or name.endswith(".so") else 0o644)
 
 
 def uninstall(folder):

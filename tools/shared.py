@@ -1,6 +1,7 @@
 """What the scripts of tools/ share: where the project is, its version, and the crates that the program is built from."""
 import os
 import re
+import shutil
 
 TOP = os.path.dirname(os.path.dirname(os.path.abspath(__file__)))
 WORDS = f"{TOP}/crates/warc_commands/src/words.rt"
@@ -10,6 +11,13 @@ def read(path):
     """The text of a file of the project."""
     with open(f"{TOP}/{path}", encoding="utf-8") as text:
         return text.read()
+
+
+def put_copy(source, to, mode=0o755):
+    """Puts a copy of a file in the place of another, which may be a program that runs: it goes on as it was."""
+    shutil.copyfile(source, f"{to}.new")
+    os.chmod(f"{to}.new", mode)
+    os.replace(f"{to}.new", to)
 
 
 def version():
