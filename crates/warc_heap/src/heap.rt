@@ -6,7 +6,7 @@ use crate::memory::{Memory, UNIT};
 use std::alloc::{AllocError, Allocator};
 use std::cell::Cell;
 
-/// How many units an allocator that lasts is given for itself.
+/// How many units an allocator that is never dropped has for itself.
 const OWN: usize = 8;
 
 /// What isn't handed out yet.
@@ -33,7 +33,8 @@ impl Heap {
         }
     }
 
-    /// An allocator that lasts for good. It lies in the first units of its memory. `None` where they don't suffice.
+    /// Makes an allocator that is never dropped. It is kept in the first units of its own memory. `None` if they don't
+    /// suffice.
     pub fn for_good(memory: Memory, units: usize) -> Option<&'static Heap>
         requires { memory.units ≡ units }
     {
@@ -48,8 +49,8 @@ impl Heap {
         }
     }
 
-    /// Takes the first units that have room for this many bytes. The cell is empty only while this runs, and what it
-    /// calls can't come back here.
+    /// Takes the first units that have room for this many bytes. The cell is empty only while this runs, and nothing
+    /// that it calls reaches the cell.
     fn take(&self, size: usize, align: usize) -> Option<Memory>
         ensures { IfSome result (λ m. (size ≤ m.units * 16) × (size < 2 ^ 63) × (align ≤ 16)) }
     {

@@ -7,8 +7,8 @@ use std::marker::Model;
 /// How many bytes a unit has, and how memory is aligned.
 pub const UNIT: usize = 16;
 
-/// Memory of a host, from an address that is a multiple of 16 on, of as many units of 16 bytes as `units` says. Whoever
-/// gives it doesn't touch it again. To drop it is to forget it.
+/// Memory of a host: `units` units of 16 bytes, from an address that is a multiple of 16. The host doesn't touch it
+/// again. Dropping it frees nothing.
 #[repr(C)]
 #[derive(Drop)]
 pub struct Memory {
@@ -21,7 +21,7 @@ impl Model for Memory {
 }
 
 impl Memory {
-    /// Cuts off the first units, which have this many bytes, and gives them and the rest.
+    /// Splits it into the first units, which have this many bytes, and the rest.
     pub(crate) fn cut(self, _units: usize, bytes: usize) -> (Memory, Memory)
         requires { (_units ≤ self.units) × (bytes ≡ _units * 16) }
         ensures { (result.0.units ≡ _units) × (_units + result.1.units ≡ self.units) }

@@ -17,7 +17,7 @@ use warc_heap::{Heap, Memory};
 use warc_lent::{AnswerNumbers, Problem, SpanNumbers, put_body, put_replay};
 use warc_value::read_date;
 
-/// How a call ends that answers a number of spans, or a problem.
+/// How a call ends: with a number of spans, or with a problem.
 fn end_with<A: Allocator>(alloc: A, answer: Result<usize, Problem>, text: &mut [u8]) -> PageOutcome
     ensures { EndsWith answer result text.new }
 {

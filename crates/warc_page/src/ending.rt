@@ -17,7 +17,7 @@ pub(crate) fn ended(state: u64, length: usize) -> PageOutcome
     }
 }
 
-/// Whether memory ran out.
+/// Returns whether memory ran out.
 fn wants_memory(problem: Problem) -> bool {
     match problem {
         Problem::Fault(fault) => matches!(fault.kind, FaultKind::Memory),
@@ -26,7 +26,7 @@ fn wants_memory(problem: Problem) -> bool {
     }
 }
 
-/// Puts the text of a problem into a buffer, as far as there is room, and says how the call ends. Where memory ran out,
+/// Puts the text of a problem into a buffer, as far as there is room, and says how the call ends. If memory ran out,
 /// there is no text.
 pub(crate) fn end_by<A: Allocator>(alloc: A, problem: Problem, out: &mut [u8]) -> PageOutcome
     ensures ends { EndsBy problem result.state result.length out.new }

@@ -7,7 +7,7 @@ use crate::shapes::{DONE, PageOutcome};
 use warc_heap::{Heap, Memory};
 use warc_lent::put_findings;
 
-/// Puts the lines that `warc check` writes of these bytes into a buffer, or the fault by which they are refused.
+/// Puts the lines that `warc check` writes of these bytes into a buffer, or the text of their fault.
 #[unsafe(no_mangle)]
 pub extern "C" fn page_findings(
     memory: Memory,

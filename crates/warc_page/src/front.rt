@@ -23,7 +23,7 @@ fn put_row(row: RowNumbers, index: usize, rows: &mut [RowNumbers])
     }
 }
 
-/// Puts the rows as numbers into the page's buffer, as far as there is room, and answers where the last record ends.
+/// Puts the rows as numbers into the page's buffer, as far as there is room, and returns where the last record ends.
 fn put_rows<S: Source, A: Allocator>(front: &Front<S, A>, rows: &mut [RowNumbers]) -> u64
     ensures rows { HoldsFront (map row_numbers front.now.listing.rows) rows.new }
 {
@@ -38,7 +38,7 @@ fn put_rows<S: Source, A: Allocator>(front: &Front<S, A>, rows: &mut [RowNumbers
     end
 }
 
-/// Puts the texts of the rows into the page's buffer, as far as there is room, and answers their length.
+/// Puts the texts of the rows into the page's buffer, as far as there is room, and returns their length.
 fn put_texts<S: Source, A: Allocator>(front: &Front<S, A>, texts: &mut [u8]) -> usize
     ensures texts { HoldsFront (flat_map row_texts front.now.listing.rows) texts.new }
     ensures whole { result ≡ capped (length (flat_map row_texts front.now.listing.rows)) }

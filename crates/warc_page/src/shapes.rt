@@ -6,10 +6,11 @@ pub(crate) const DONE: u64 = 0;
 /// There is no result. The buffer has the text that says why, as the program prints it.
 pub(crate) const REFUSED: u64 = 1;
 
-/// The memory that the call was given doesn't suffice.
+/// The memory that the call was given doesn't suffice, or the open archive has used up its own.
 pub(crate) const MEMORY: u64 = 2;
 
-/// How a call ended, and how many bytes its text has. The buffer has as many of them as there is room for.
+/// How a call ended, and how many bytes its text has, or how many spans the body has. The buffer has as many of them as
+/// there is room for.
 #[repr(C)]
 #[derive(Drop)]
 pub struct PageOutcome {
@@ -17,7 +18,7 @@ pub struct PageOutcome {
     pub length: u64,
 }
 
-/// The good front of an archive: how many records it has, how many bytes their texts have, and where it ends. Whether a
+/// The good front of an archive: how many records it has, how many bytes their texts have, and where it ends; whether a
 /// fault follows, and how many bytes its text has.
 #[repr(C)]
 #[derive(Drop)]
