@@ -14,7 +14,7 @@ const SEGMENT = PIECE - MEGABYTE; // what a helper lists at once, with the rest 
 const LEAST_RECORD = 81; // bytes: no record is shorter
 const DONE = 0, MEMORY = 2;
 const NOWHERE = 2n ** 64n - 1n; // a position that isn't known
-const SPENT = 1024 * MEGABYTE; // a module is started anew once its calls were given this much
+const SPENT = 1024 * MEGABYTE; // what the calls of a module are given before it is started anew
 const MOST_HEAP = 8192 * MEGABYTE;
 const HELPERS = typeof Worker === 'function' ? Math.min(4, navigator.hardwareConcurrency || 1) : 1;
 const LEAST_SHARED = 32 * MEGABYTE; // bytes: a shorter file is listed by this worker alone
@@ -44,6 +44,7 @@ class Instance {
     this.end = this.memory.buffer.byteLength;
     this.start = this.end;
     this.spent = 0; // bytes that were given for good
+    this.most = SPENT; // the module is started anew once this much is spent
     this.lent = new Map();
   }
 
@@ -309,7 +310,7 @@ async function filled() {
 
 // The module that has the good part of the file, or a new one if that has spent too much memory.
 async function full() {
-  if (!kept || kept.spent >= SPENT) {
+  if (!kept || kept.spent >= kept.most) {
     kept = null;
     kept = await filled();
   }
@@ -328,6 +329,7 @@ function openIn(instance) {
   const handle = instance.handle ?? instance.take(HANDLE); // all zeros: none is open
   const parts = [instance.file, end, handle, instance.text, TEXT, instance.outcome];
   if (instance.call('page_open', heapFor() + SPARE, parts, instance.outcome) !== DONE) throw new Error(textOfOutcome(instance));
+  if (!instance.handle) instance.most = instance.spent + SPENT / 2; // whatever opening took, questions have room
   instance.handle = handle;
   openings += 1;
 }
