@@ -1,9 +1,9 @@
 //! All that an archive answers, as one text.
 
 use crate::calls::{checked, extracted, listed, replayed};
-use crate::telling::{add_check, add_extract, add_line, add_number, add_replay};
+use crate::telling::{add_check, add_done, add_extract, add_line, add_number, add_replay};
 use std::alloc::{AllocError, Allocator, Global};
-use warc::Archive;
+use warc::{Archive, Listing};
 use warc_frame::{MemSink, Source};
 use warc_value::{Moment, read_date};
 
@@ -102,5 +102,19 @@ pub fn all_of<S: Source, A: Allocator + Copy>(
     if let Some(moment) = read_date(LAST) {
         add_bodies(alloc, archive, &moment, &mut text)?;
     }
+    Ok(text)
+}
+
+/// All that a listing answers: how many records it has, what it lists, and what a check of it says.
+pub(crate) fn all_of_listing<S: Source, A: Allocator + Copy>(
+    alloc: Global,
+    listing: &mut Listing<S, A>,
+) -> Result<Vec<u8>, AllocError> {
+    let mut text = Vec::new(alloc);
+    let mut out = MemSink::new(Vec::new(alloc));
+    add_number(alloc, &mut text, "records", listing.count() as u64)?;
+    add_done(alloc, &mut text, listing.list(&mut out))?;
+    add_check(alloc, &mut text, listing.check(&mut out))?;
+    add_line(&mut text, out.bytes())?;
     Ok(text)
 }

@@ -1,26 +1,12 @@
-//! One call of an archive or of a listing, by the words of a case: what it answers, and what goes out.
+//! One call of an archive or of a listing, by the words of a case: what it answers, as text.
 
-use crate::calls::{checked, extracted, replayed};
+use crate::calls::{captured, checked, extracted, replayed};
 use crate::replays::Asked;
-use crate::telling::{add_check, add_extract, add_line, add_replay, add_text};
+use crate::telling::{add_check, add_done, add_extract, add_line, add_replay, add_text};
 use std::alloc::{AllocError, Allocator, Global};
 use suites_script::Case;
-use warc::{Archive, Form, Listing, TakeFault};
-use warc_frame::{Framed, MemSink, OutFault, Sink, Source};
-
-/// What a call answers, as text, and the bytes that went out.
-#[derive(Drop)]
-pub(crate) struct Told {
-    pub(crate) text: Vec<u8>,
-    pub(crate) sent: Vec<u8>,
-}
-
-impl Told {
-    pub(crate) fn is_like(&self, other: &Told) -> bool {
-        self.text.as_slice() == other.text.as_slice()
-            && self.sent.as_slice() == other.sent.as_slice()
-    }
-}
+use warc::{Archive, BodyFault, Form, Listing, StoredAt, TakeFault};
+use warc_frame::{Framed, Sink, Source};
 
 /// Adds the version of a record, how many fields it has, and its block.
 fn add_taken<A: Allocator + Copy>(
@@ -38,14 +24,18 @@ fn add_taken<A: Allocator + Copy>(
     }
 }
 
-/// Adds that all went out, or why it didn't.
-fn add_done(
+/// Adds which record a capture leads to, and how many bytes are stored there.
+fn add_stored<A: Allocator>(
     alloc: Global,
     text: &mut Vec<u8>,
-    done: Result<(), OutFault>,
+    told: Result<StoredAt<A>, BodyFault>,
 ) -> Result<(), AllocError> {
-    match done {
-        Ok(()) => add_line(text, b"done"),
+    match told {
+        Ok(it) => {
+            let (chosen, given, length) = (it.path.chosen, it.path.given, it.stored.length);
+            let line = format!(in alloc; "chosen {chosen} given {given} length {length}\n")?;
+            text.extend_from_slice(line.as_bytes())
+        }
         Err(fault) => add_text(alloc, text, &fault),
     }
 }
@@ -68,55 +58,59 @@ fn add_replayed<S: Source, A: Allocator + Copy, W: Sink>(
 }
 
 /// What an archive answers to the call that the third word of a case names.
-pub(crate) fn ask_archive<S: Source, A: Allocator + Copy>(
+pub(crate) fn ask_archive<S: Source, A: Allocator + Copy, W: Sink>(
     alloc: Global,
     archive: &mut Archive<S, A>,
     case: &Case<'_>,
-) -> Result<Told, AllocError> {
-    let mut out = MemSink::new(Vec::new(alloc));
+    out: &mut W,
+) -> Result<Vec<u8>, AllocError> {
     let mut text = Vec::new(alloc);
     match case.text(2) {
+        "list" => add_done(alloc, &mut text, archive.list(out))?,
+        "check" => add_check(alloc, &mut text, checked(archive, out))?,
+        "captures" => add_done(alloc, &mut text, captured(archive, out))?,
+        "replay" => add_replayed(alloc, archive, case, out, &mut text)?,
         "extract" => {
-            let told = extracted(archive, case.word(3), &mut out);
+            let told = extracted(archive, case.word(3), out);
             add_extract(alloc, &mut text, told)?;
         }
-        "replay" => add_replayed(alloc, archive, case, &mut out, &mut text)?,
-        "check" => add_check(alloc, &mut text, checked(archive, &mut out))?,
+        "body" => {
+            let told = archive.replay_at(case.number(3) as usize, out);
+            add_replay(alloc, &mut text, told)?;
+        }
+        "stored" => {
+            let told = archive.stored_to(case.number(3) as usize, out);
+            add_stored(alloc, &mut text, told)?;
+        }
         "record" => {
             let taken = archive.record(case.number(3) as usize);
             add_taken(alloc, &mut text, taken)?;
         }
         _ => add_line(&mut text, b"no such call")?,
     }
-    Ok(Told {
-        text,
-        sent: out.into_inner(),
-    })
+    Ok(text)
 }
 
 /// What a listing answers to the call that the third word of a case names.
-pub(crate) fn ask_listing<S: Source, A: Allocator + Copy>(
+pub(crate) fn ask_listing<S: Source, A: Allocator + Copy, W: Sink>(
     alloc: Global,
     listing: &mut Listing<S, A>,
     case: &Case<'_>,
-) -> Result<Told, AllocError> {
-    let mut out = MemSink::new(Vec::new(alloc));
+    out: &mut W,
+) -> Result<Vec<u8>, AllocError> {
     let mut text = Vec::new(alloc);
     match case.text(2) {
-        "rewrite" => add_done(
-            alloc,
-            &mut text,
-            listing.write_as(Form::Canonical, &mut out),
-        )?,
-        "convert" => add_done(
-            alloc,
-            &mut text,
-            listing.write_as(Form::Converted, &mut out),
-        )?,
-        "split" => add_done(alloc, &mut text, listing.split(case.number(3), &mut out))?,
-        "check" => add_check(alloc, &mut text, listing.check(&mut out))?,
+        "list" => add_done(alloc, &mut text, listing.list(out))?,
+        "check" => add_check(alloc, &mut text, listing.check(out))?,
+        "rewrite" => add_done(alloc, &mut text, listing.write_as(Form::Canonical, out))?,
+        "convert" => add_done(alloc, &mut text, listing.write_as(Form::Converted, out))?,
+        "split" => add_done(alloc, &mut text, listing.split(case.number(3), out))?,
         "head" => {
-            let told = listing.head_to(case.number(3) as usize, &mut out);
+            let told = listing.head_to(case.number(3) as usize, out);
+            add_extract(alloc, &mut text, told)?;
+        }
+        "block" => {
+            let told = listing.block_to(case.number(3) as usize, out);
             add_extract(alloc, &mut text, told)?;
         }
         "record" => {
@@ -125,8 +119,5 @@ pub(crate) fn ask_listing<S: Source, A: Allocator + Copy>(
         }
         _ => add_line(&mut text, b"no such call")?,
     }
-    Ok(Told {
-        text,
-        sent: out.into_inner(),
-    })
+    Ok(text)
 }

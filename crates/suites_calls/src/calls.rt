@@ -1,7 +1,7 @@
 //! Calls of archives, each in a function of its own: plain values.
 
 use std::alloc::{AllocError, Allocator, Global};
-use warc::{Archive, ExtractFault};
+use warc::{Archive, ExtractFault, Outcome};
 use warc_answer::{Answer, ReplayFault};
 use warc_frame::{Fault, MemSink, OutFault, Sink, Source};
 use warc_value::Moment;
@@ -54,6 +54,25 @@ pub fn checked<S: Source, A: Allocator + Copy, W: Sink>(
     out: &mut W,
 ) -> Result<usize, OutFault> {
     archive.check(out)
+}
+
+/// What all captures of an archive give.
+fn outcomes_of<S: Source, A: Allocator + Copy>(
+    archive: &mut Archive<S, A>,
+) -> Result<Vec<Outcome<A>, A>, OutFault> {
+    let Ok(positions) = archive.captures() else {
+        return Err(OutFault::Memory(0));
+    };
+    archive.outcomes(&positions)
+}
+
+/// What an archive answers where all its captures are listed.
+pub(crate) fn captured<S: Source, A: Allocator + Copy, W: Sink>(
+    archive: &mut Archive<S, A>,
+    out: &mut W,
+) -> Result<(), OutFault> {
+    let outcomes = outcomes_of(archive)?;
+    archive.list_outcomes(&outcomes, out)
 }
 
 /// Why an archive doesn't grow by a source, if it doesn't.

@@ -6,6 +6,9 @@ use std::alloc::{AllocError, Global};
 use suites_script::Case;
 use warc_frame::{MemSink, OutFault};
 
+/// More words than a case has.
+const MOST_WORDS: usize = 1000;
+
 /// What a check of an archive answers where the read of a number fails; nothing where it doesn't open.
 fn check_broken(
     alloc: Global,
@@ -57,7 +60,7 @@ fn fronts_of(
         count: 0,
         longest: 0,
     };
-    for index in 2..1000usize {
+    for index in 2..MOST_WORDS {
         if case.word(index).is_empty() {
             break;
         }

@@ -7,6 +7,9 @@ use warc::Checked;
 use warc_frame::{Fault, MemSource};
 use warc_vectors::RefusingAllocator;
 
+/// More requests than any archive of a case makes.
+const MOST: u64 = 1000;
+
 /// Why an archive isn't opened and judged where the request for memory of a number is refused, if it isn't.
 fn refused_without(alloc: Global, bytes: &[u8], number: u64) -> Result<Option<Fault>, AllocError> {
     let heap = RefusingAllocator::new(alloc, number);
@@ -24,7 +27,7 @@ fn judged(heap: &RefusingAllocator<Global>, source: MemSource) -> Option<Fault> 
 
 /// How often memory is asked for until an archive is open and judged; nothing where that isn't met.
 fn requests(alloc: Global, bytes: &[u8]) -> Result<Option<u64>, AllocError> {
-    for number in 1..1000u64 {
+    for number in 1..MOST {
         if refused_without(alloc, bytes, number)?.is_none() {
             return Ok(Some(number - 1));
         }
@@ -59,7 +62,7 @@ pub(crate) fn add_refusals(
     let front = usize::try_from(case.number(1)).unwrap_or(usize::MAX);
     let first = requests(alloc, archive.get(..front).unwrap_or(archive))?;
     let mut last = None;
-    for number in 1..1000u64 {
+    for number in 1..MOST {
         let refused = refused_without(alloc, archive, number)?;
         match refused {
             Some(fault) if last != refused => {

@@ -3,7 +3,7 @@
 use std::alloc::{AllocError, Global};
 use std::fmt::Display;
 use warc::ExtractFault;
-use warc_answer::{Answer, ReplayFault};
+use warc_answer::Answer;
 use warc_field::Fields;
 use warc_frame::{Framed, OutFault};
 
@@ -54,11 +54,11 @@ fn add_facts(alloc: Global, answer: &mut Vec<u8>, facts: Answer) -> Result<(), A
     answer.extend_from_slice(body.as_bytes())
 }
 
-/// Adds what a replay answers.
-pub fn add_replay(
+/// Adds what is said of a body, or why there is none.
+pub fn add_replay<E: Display + Copy>(
     alloc: Global,
     answer: &mut Vec<u8>,
-    told: Result<Answer, ReplayFault>,
+    told: Result<Answer, E>,
 ) -> Result<(), AllocError> {
     match told {
         Ok(facts) => add_facts(alloc, answer, facts),
@@ -86,6 +86,18 @@ pub(crate) fn add_check(
 ) -> Result<(), AllocError> {
     match told {
         Ok(count) => add_number(alloc, answer, "findings", count as u64),
+        Err(fault) => add_text(alloc, answer, &fault),
+    }
+}
+
+/// Adds that all went out, or why it didn't.
+pub(crate) fn add_done(
+    alloc: Global,
+    answer: &mut Vec<u8>,
+    done: Result<(), OutFault>,
+) -> Result<(), AllocError> {
+    match done {
+        Ok(()) => add_line(answer, b"done"),
         Err(fault) => add_text(alloc, answer, &fault),
     }
 }

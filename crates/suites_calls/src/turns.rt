@@ -1,19 +1,34 @@
-//! Calls of which each read or each request for memory fails in turn, and the same calls after that.
+//! Calls of which each read, each write or each request for memory fails in turn, and the same calls after that.
 
-use crate::asking::{Told, ask_archive, ask_listing};
-use crate::calls::opened;
 use crate::sources::{broken, source_of};
+use crate::subjects::Subject;
 use crate::telling::{add_number, add_text};
 use std::alloc::{AllocError, Allocator, Global};
 use suites_script::Case;
-use warc::{Archive, Listing};
-use warc_frame::{Fault, FaultKind, Source};
-use warc_vectors::RefusingAllocator;
+use warc_frame::{Fault, FaultKind, MemSink, MemSource, Source};
+use warc_vectors::{Break, BrokenWriter, RefusingAllocator};
 
 /// More failures than any case has.
 const MOST: u64 = 5000;
 
-/// What comes of opening and a call, of which a read or a request for memory fails.
+/// How many bytes a write takes at most where writes break.
+const PIECE: usize = 7;
+
+/// What a call answers, as text, and the bytes that went out.
+#[derive(Drop)]
+struct Told {
+    text: Vec<u8>,
+    sent: Vec<u8>,
+}
+
+impl Told {
+    fn is_like(&self, other: &Told) -> bool {
+        self.text.as_slice() == other.text.as_slice()
+            && self.sent.as_slice() == other.sent.as_slice()
+    }
+}
+
+/// What comes of a call, or of opening what is called, of which a read, a write or a request for memory fails.
 #[derive(Clone, Copy)]
 enum Turn {
     Unopened(Fault),
@@ -22,17 +37,6 @@ enum Turn {
     /// Nothing failed.
     Done,
     Otherwise,
-}
-
-/// The listing of a source, or why it doesn't open.
-fn listed<S: Source + Drop, A: Allocator + Copy>(
-    heap: A,
-    source: S,
-) -> Result<Listing<S, A>, Fault> {
-    match Listing::open(heap, source) {
-        Ok(listing) => Ok(listing),
-        Err((fault, _source)) => Err(fault),
-    }
 }
 
 /// What comes of a call that failed, and of the same call after it, which has to go well. The bytes that went out are
@@ -55,38 +59,37 @@ fn turn_of(
     })
 }
 
-/// What comes of the call of a case to an archive, and of the same call after it where it fails. (Where it doesn't,
-/// that call would meet the failure.)
-fn turn_archive<S: Source, A: Allocator + Copy>(
+/// What the call of a case answers, and what goes out.
+fn told_by<S: Source + Drop, A: Allocator + Copy>(
     alloc: Global,
-    archive: &mut Archive<S, A>,
+    subject: &mut Subject<S, A>,
+    case: &Case<'_>,
+) -> Result<Told, AllocError> {
+    let mut out = MemSink::new(Vec::new(alloc));
+    let text = subject.ask(alloc, case, &mut out)?;
+    Ok(Told {
+        text,
+        sent: out.into_inner(),
+    })
+}
+
+/// What comes of the call of a case, and of the same call after it where it fails. (Where it doesn't, that call would
+/// meet the failure.)
+fn turn_once<S: Source + Drop, A: Allocator + Copy>(
+    alloc: Global,
+    subject: &mut Subject<S, A>,
     case: &Case<'_>,
     (whole, cause): (&Told, &str),
 ) -> Result<Turn, AllocError> {
-    let first = ask_archive(alloc, archive, case)?;
+    let first = told_by(alloc, subject, case)?;
     if first.is_like(whole) {
         return Ok(Turn::Done);
     }
-    let again = ask_archive(alloc, archive, case)?;
+    let again = told_by(alloc, subject, case)?;
     turn_of(alloc, &first, &again, whole, cause)
 }
 
-/// The same of a listing.
-fn turn_listing<S: Source, A: Allocator + Copy>(
-    alloc: Global,
-    listing: &mut Listing<S, A>,
-    case: &Case<'_>,
-    (whole, cause): (&Told, &str),
-) -> Result<Turn, AllocError> {
-    let first = ask_listing(alloc, listing, case)?;
-    if first.is_like(whole) {
-        return Ok(Turn::Done);
-    }
-    let again = ask_listing(alloc, listing, case)?;
-    turn_of(alloc, &first, &again, whole, cause)
-}
-
-/// The same of what is opened of a source: an archive, or a listing where the second word of the case says so.
+/// The same of what is opened of a source.
 fn turn_opened<S: Source + Drop, A: Allocator + Copy>(
     alloc: Global,
     heap: A,
@@ -94,83 +97,13 @@ fn turn_opened<S: Source + Drop, A: Allocator + Copy>(
     case: &Case<'_>,
     whole: (&Told, &str),
 ) -> Result<Turn, AllocError> {
-    if case.text(1) == "listing" {
-        turn_of_listing(alloc, heap, source, case, whole)
-    } else {
-        turn_of_archive(alloc, heap, source, case, whole)
-    }
-}
-
-fn turn_of_archive<S: Source + Drop, A: Allocator + Copy>(
-    alloc: Global,
-    heap: A,
-    source: S,
-    case: &Case<'_>,
-    whole: (&Told, &str),
-) -> Result<Turn, AllocError> {
-    match opened(heap, source) {
-        Ok(mut archive) => turn_archive(alloc, &mut archive, case, whole),
+    match Subject::open(case.text(1), heap, source) {
+        Ok(mut subject) => turn_once(alloc, &mut subject, case, whole),
         Err(fault) => Ok(Turn::Unopened(fault)),
     }
 }
 
-fn turn_of_listing<S: Source + Drop, A: Allocator + Copy>(
-    alloc: Global,
-    heap: A,
-    source: S,
-    case: &Case<'_>,
-    whole: (&Told, &str),
-) -> Result<Turn, AllocError> {
-    match listed(heap, source) {
-        Ok(mut listing) => turn_listing(alloc, &mut listing, case, whole),
-        Err(fault) => Ok(Turn::Unopened(fault)),
-    }
-}
-
-/// What the call of a case answers where nothing fails; nothing where the bytes don't open.
-fn whole_of(
-    alloc: Global,
-    case: &Case<'_>,
-    bytes: &[u8],
-) -> Result<Result<Told, Fault>, AllocError> {
-    if case.text(1) == "listing" {
-        match listed(alloc, source_of(alloc, bytes, usize::MAX)?) {
-            Ok(mut listing) => told_of_listing(alloc, &mut listing, case),
-            Err(fault) => Ok(Err(fault)),
-        }
-    } else {
-        whole_of_archive(alloc, case, bytes)
-    }
-}
-
-fn whole_of_archive(
-    alloc: Global,
-    case: &Case<'_>,
-    bytes: &[u8],
-) -> Result<Result<Told, Fault>, AllocError> {
-    match opened(alloc, source_of(alloc, bytes, usize::MAX)?) {
-        Ok(mut archive) => told_of_archive(alloc, &mut archive, case),
-        Err(fault) => Ok(Err(fault)),
-    }
-}
-
-fn told_of_listing<S: Source>(
-    alloc: Global,
-    listing: &mut Listing<S>,
-    case: &Case<'_>,
-) -> Result<Result<Told, Fault>, AllocError> {
-    Ok(Ok(ask_listing(alloc, listing, case)?))
-}
-
-fn told_of_archive<S: Source>(
-    alloc: Global,
-    archive: &mut Archive<S>,
-    case: &Case<'_>,
-) -> Result<Result<Told, Fault>, AllocError> {
-    Ok(Ok(ask_archive(alloc, archive, case)?))
-}
-
-/// How many failures came while the bytes were opened, and how many behind that.
+/// How many failures came while something was opened, and how many behind that.
 #[derive(Clone, Copy)]
 struct Turns {
     opening: u64,
@@ -274,20 +207,116 @@ fn turn_requests(
     Ok(turns)
 }
 
-/// Adds how many reads of one byte and how many requests for memory fail in turn, of opening and of the call of a case.
-/// Each is told, and the same call goes well after it.
+/// What comes of the call where the write of a number breaks, counted from 0. All bytes of the writes before it went
+/// out. The same call after it goes well.
+fn turn_cut(
+    alloc: Global,
+    subject: &mut Subject<MemSource, Global>,
+    case: &Case<'_>,
+    whole: &Told,
+    (number, how): (u64, Break),
+) -> Result<Turn, AllocError> {
+    let mut out = BrokenWriter::new(alloc, number.saturating_add(1), how).taking(PIECE);
+    let text = subject.ask(alloc, case, &mut out)?;
+    let first = Told {
+        text,
+        sent: out.bytes().to_vec(alloc)?,
+    };
+    let again = told_by(alloc, subject, case)?;
+    let turn = turn_of(alloc, &first, &again, whole, "write failed")?;
+    let is_exact = first.sent.len() as u64 == (PIECE as u64).saturating_mul(number);
+    Ok(if first.is_like(whole) && again.is_like(whole) {
+        Turn::Done
+    } else if is_exact {
+        turn
+    } else {
+        Turn::Otherwise
+    })
+}
+
+/// How many writes break in turn and cut the call; nothing where one ends otherwise.
+fn count_cut(
+    alloc: Global,
+    subject: &mut Subject<MemSource, Global>,
+    case: &Case<'_>,
+    whole: &Told,
+    how: Break,
+) -> Result<Option<u64>, AllocError> {
+    for number in 0..MOST {
+        match turn_cut(alloc, subject, case, whole, (number, how))? {
+            Turn::Failed => {}
+            Turn::Done => return Ok(Some(number)),
+            Turn::Unopened(_) | Turn::Otherwise => return Ok(None),
+        }
+    }
+    Ok(None)
+}
+
+/// How many writes up to a number take one byte in turn, as do those after each, where all goes out.
+fn count_short(
+    alloc: Global,
+    subject: &mut Subject<MemSource, Global>,
+    case: &Case<'_>,
+    whole: &Told,
+    writes: u64,
+) -> Result<u64, AllocError> {
+    let mut count = 0u64;
+    for number in 0..writes {
+        let turn = turn_cut(alloc, subject, case, whole, (number, Break::Takes(1)))?;
+        count = count.saturating_add(u64::from(matches!(turn, Turn::Done)));
+    }
+    Ok(count)
+}
+
+/// Adds how many writes fail in turn, take nothing and take one byte.
+fn tell_writes(
+    alloc: Global,
+    subject: &mut Subject<MemSource, Global>,
+    case: &Case<'_>,
+    whole: &Told,
+    answer: &mut Vec<u8>,
+) -> Result<(), AllocError> {
+    let failing = count_cut(alloc, subject, case, whole, Break::Fails)?;
+    let empty = count_cut(alloc, subject, case, whole, Break::Takes(0))?;
+    match (failing, empty) {
+        (Some(failing), Some(empty)) => {
+            let short = count_short(alloc, subject, case, whole, failing)?;
+            let line = format!(in alloc;
+                "{failing} writes fail, {empty} take nothing, {short} take one byte\n"
+            )?;
+            answer.extend_from_slice(line.as_bytes())
+        }
+        _ => answer.extend_from_slice(b"another outcome behind a write\n"),
+    }
+}
+
+/// Adds what the call of a case answers, how many bytes go out, and how many reads, requests for memory and writes fail
+/// in turn.
+fn add_all_turns(
+    alloc: Global,
+    subject: &mut Subject<MemSource, Global>,
+    case: &Case<'_>,
+    bytes: &[u8],
+    answer: &mut Vec<u8>,
+) -> Result<(), AllocError> {
+    let whole = told_by(alloc, subject, case)?;
+    answer.extend_from_slice(&whole.text)?;
+    add_number(alloc, answer, "sent", whole.sent.len() as u64)?;
+    turn_reads(alloc, case, bytes, &whole)?.tell(alloc, "reads", answer)?;
+    turn_requests(alloc, case, bytes, &whole)?.tell(alloc, "requests", answer)?;
+    tell_writes(alloc, subject, case, &whole, answer)
+}
+
+/// Adds the same of what is opened of these bytes. Each failure is told, and the same call goes well after it.
 pub(crate) fn add_turns(
     alloc: Global,
     case: &Case<'_>,
     archive: &[u8],
     answer: &mut Vec<u8>,
 ) -> Result<(), AllocError> {
-    let whole = match whole_of(alloc, case, archive)? {
-        Ok(whole) => whole,
-        Err(fault) => return add_text(alloc, answer, &fault),
-    };
-    answer.extend_from_slice(&whole.text)?;
-    add_number(alloc, answer, "sent", whole.sent.len() as u64)?;
-    turn_reads(alloc, case, archive, &whole)?.tell(alloc, "reads", answer)?;
-    turn_requests(alloc, case, archive, &whole)?.tell(alloc, "requests", answer)
+    let source = source_of(alloc, archive, usize::MAX)?;
+    match Subject::open(case.text(1), alloc, source) {
+        Ok(mut subject) => add_all_turns(alloc, &mut subject, case, archive, answer),
+        Err(fault) => add_text(alloc, answer, &fault),
+    }
 }

@@ -1,0 +1,89 @@
+//! What a case asks and lets grow: an archive or a listing.
+
+use crate::all::{all_of, all_of_listing};
+use crate::asking::{ask_archive, ask_listing};
+use crate::calls::{opened, refused};
+use std::alloc::{AllocError, Allocator, Global};
+use suites_script::Case;
+use warc::{Archive, Listing};
+use warc_frame::{Fault, Sink, Source};
+
+/// An archive or a listing.
+#[derive(Drop)]
+pub enum Subject<S: Source, A: Allocator> {
+    OfArchive(Archive<S, A>),
+    OfListing(Listing<S, A>),
+}
+
+/// The listing of a source, or why it doesn't open.
+fn listed<S: Source + Drop, A: Allocator + Copy>(
+    heap: A,
+    source: S,
+) -> Result<Subject<S, A>, Fault> {
+    match Listing::open(heap, source) {
+        Ok(listing) => Ok(Subject::OfListing(listing)),
+        Err((fault, _source)) => Err(fault),
+    }
+}
+
+/// The archive of a source, or why it doesn't open.
+fn indexed<S: Source + Drop, A: Allocator + Copy>(
+    heap: A,
+    source: S,
+) -> Result<Subject<S, A>, Fault> {
+    match opened(heap, source) {
+        Ok(archive) => Ok(Subject::OfArchive(archive)),
+        Err(fault) => Err(fault),
+    }
+}
+
+/// Why a listing doesn't grow by a source, if it doesn't.
+fn refused_by_listing<S: Source + Drop, A: Allocator + Copy>(
+    listing: &mut Listing<S, A>,
+    source: S,
+) -> Option<Fault> {
+    match listing.grow(source) {
+        Ok(()) => None,
+        Err((fault, _source)) => Some(fault),
+    }
+}
+
+impl<S: Source + Drop, A: Allocator + Copy> Subject<S, A> {
+    /// Opens what a word names, or says why it doesn't open: a listing by `listing`, and else an archive.
+    pub fn open(name: &str, heap: A, source: S) -> Result<Subject<S, A>, Fault> {
+        if name == "listing" {
+            listed(heap, source)
+        } else {
+            indexed(heap, source)
+        }
+    }
+
+    /// What it answers to the call that the third word of a case names.
+    pub(crate) fn ask<W: Sink>(
+        &mut self,
+        alloc: Global,
+        case: &Case<'_>,
+        out: &mut W,
+    ) -> Result<Vec<u8>, AllocError> {
+        match self {
+            Subject::OfArchive(archive) => ask_archive(alloc, archive, case, out),
+            Subject::OfListing(listing) => ask_listing(alloc, listing, case, out),
+        }
+    }
+
+    /// Why it doesn't grow by a source, if it doesn't.
+    pub fn refused(&mut self, source: S) -> Option<Fault> {
+        match self {
+            Subject::OfArchive(archive) => refused(archive, source),
+            Subject::OfListing(listing) => refused_by_listing(listing, source),
+        }
+    }
+
+    /// All that it answers.
+    pub fn all(&mut self, alloc: Global) -> Result<Vec<u8>, AllocError> {
+        match self {
+            Subject::OfArchive(archive) => all_of(alloc, archive),
+            Subject::OfListing(listing) => all_of_listing(alloc, listing),
+        }
+    }
+}
