@@ -307,7 +307,7 @@ fn add_all_turns(
     tell_writes(alloc, subject, case, &whole, answer)
 }
 
-/// Adds the same of what is opened of these bytes. Each failure is told, and the same call goes well after it.
+/// Adds the same of what is opened of these bytes. Each failure is reported, and the same call goes well after it.
 pub(crate) fn add_turns(
     alloc: Global,
     case: &Case<'_>,

@@ -11,7 +11,7 @@ use Rattle.warc.specs.Taking.{take_result}
 use Rattle.warc.specs.declared.fault.TakeFault.{TakeFault}
 use Rattle.warc.specs.declared.fault.TakeFault.TheVariants.{NoRecord, Read, Memory}
 
--- a head is that of the record at a place: its version, its fields in order, its length and its block's
+-- a head belongs to the record at a place: its version, its fields in order, its length and its block's
 pub record IsHeadAt {A : Type 0} (p : Placed) (h : Head A) : Type 0 where
   pub version : h.version ≡ p.content.version
   pub fields : h.fields ≡ p.content.fields

@@ -107,7 +107,7 @@ abbrev pub Reads : {X : Type 0} → (X → List Pair) → Result X AreaFault →
 Reads view (Ok x) read = read ≡ Ok (view x)
 Reads view (Err e) read = Fails e read
 
--- a fault other than lack of memory is that of the area's first bad line
+-- a fault other than lack of memory names the area's first bad line
 abbrev pub TellsBadLine : List ℕ → AreaFault → Type 0
 TellsBadLine area Memory = Unit {0}
 TellsBadLine area (Line at) = IsFirstBadLine area at
