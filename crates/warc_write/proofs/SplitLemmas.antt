@@ -22,7 +22,6 @@ use Rattle.warc_write.specs.declared.splitting.SplitFault.{SplitFault}
 use Rattle.warc_write.specs.declared.splitting.SplitFault.TheVariants.{NotUuid, AlreadySegmented}
 use Rattle.warc_write.specs.declared.splitting.SplitFault.TheVariants.{Kind as BadKind, Size}
 use Rattle.warc_write.specs.declared.splitting.SplitFault.TheVariants.{Memory, TooLong, BadDigest}
-use Rattle.warc_write.specs.Refusals.{needs}
 use Rattle.warc_write.specs.Refusing.{RefusesHead}
 use Rattle.warc_write.specs.Splitting.{Splits, is_kept, is_segmented, kept, may_be_split}
 use Rattle.warc_write.specs.Splitting.{next_fields, origin_fields, splittable}
@@ -124,12 +123,12 @@ segmented fields n size head kind target stands = rw (size, head, kind, target, 
 
 pub by_uuid : (fields : List Pair) (n : ℕ) → nat_lt 0 n ≡ true → is_none (head_fault fields) ≡ true → may_be_split (kind_of fields) ≡ true
     → is_some (target_of fields) ≡ true → is_segmented fields ≡ false
-    → splittable fields n ≡ needs (parsed_urn (bare_text (value_in (codes "WARC-Record-ID") fields))) NotUuid
+    → splittable fields n ≡ ok_or (parsed_urn (bare_text (value_in (codes "WARC-Record-ID") fields))) NotUuid
 unfolding splittable
 by_uuid fields n size head kind target stands = rw (size, head, kind, target, stands) refl
 
 pub splits_as : (answer : Result (List ℕ) SplitFault) (o : Option (List ℕ)) (split : Result (List ℕ) SplitFault)
-    → answer ≡ needs o NotUuid → split ≡ needs o NotUuid → Splits answer split
+    → answer ≡ ok_or o NotUuid → split ≡ ok_or o NotUuid → Splits answer split
 splits_as (Ok uuid) o split e is = is ∙ sym e
 splits_as (Err Memory) o split e is = tt
 splits_as (Err NotUuid) o split e is = is ∙ sym e
@@ -148,7 +147,3 @@ head_refused fields n AlreadySegmented size is = absurd is
 head_refused fields n Size size is = absurd is
 head_refused fields n TooLong size is = absurd is
 head_refused fields n BadDigest size is = absurd is
-
-pub needs_is : (o : Option (List ℕ)) (fault : SplitFault) → ok_or o fault ≡ needs o fault
-needs_is None fault = refl
-needs_is (Some x) fault = refl

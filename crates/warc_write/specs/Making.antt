@@ -1,7 +1,7 @@
 -- New records (ISO 28500:2017, 6.3, 6.6 and 6.8: resource, metadata and conversion records).
 -- Which fields they have, their order, and the refusals are this project's own.
 use Rattle.std.specs.Prelude.{◌≡◌, ⊤, ℕ, Bool, not, ◌&&◌, ◌==◌, nat_le, List, [], ◌∷◌, length, codes, decimal}
-use Rattle.std.specs.Prelude.{Option, Some, None, Result, Ok, Err, if◌then◌else◌}
+use Rattle.std.specs.Prelude.{Option, Some, None, ok_or, Result, Ok, Err, if◌then◌else◌}
 use Rattle.std.specs.Str.{bytes_eq}
 use Rattle.sha1.specs.Sha1.{sha1}
 use Rattle.uuid.specs.Text.{parsed}
@@ -17,7 +17,7 @@ use Rattle.warc_record.specs.Heads.{is_date}
 use Rattle.warc_record.specs.Ids.{bare_text}
 use Rattle.warc_write.specs.declared.making.MakeFault.{MakeFault}
 use Rattle.warc_write.specs.declared.making.MakeFault.TheVariants.{Date, Text, TooLong, Memory, Kind as BadKind}
-use Rattle.warc_write.specs.Refusals.{◌>>=◌, checks, needs}
+use Rattle.warc_write.specs.Refusals.{◌>>=◌, checks}
 use Rattle.warc_write.specs.Written.{digest_text, id_text}
 
 -- what a record is made of
@@ -75,10 +75,10 @@ fitted fields block = if nat_le (canonical_len V1_1 fields) max_head then Ok (re
 -- the record, or the first refusal, in the order M5, M1, M2, M3
 unfoldable pub made : Plan → Result Record MakeFault
 made plan = do
-  type ← needs (type_of plan.kind) BadKind
+  type ← ok_or (type_of plan.kind) BadKind
   _ ← checks (is_date plan.date) Date
   _ ← checks (is_target plan.uri) Text
-  uuid ← needs (parsed plan.uuid) Text
+  uuid ← ok_or (parsed plan.uuid) Text
   _ ← checks (is_one_text plan.content_type) Text
   _ ← checks (is_block plan.block) TooLong
   fitted (made_fields type uuid plan) plan.block

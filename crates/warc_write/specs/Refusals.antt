@@ -1,15 +1,10 @@
 -- Refusals in the order of a table: the first row that fits decides. This project's own notion.
-use Rattle.std.specs.Prelude.{Bool, Option, Some, None, Result, Ok, Err, if◌then◌else◌}
+use Rattle.std.specs.Prelude.{Bool, Result, Ok, Err, if◌then◌else◌}
 
 infixl 10 ◌>>=◌
 abbrev pub ◌>>=◌ : {A B E : Type 0} → Result A E → (A → Result B E) → Result B E
 (Ok x) >>= f = f x
 (Err e) >>= f = Err e
-
--- a row of the table: the refusal, if there is nothing
-abbrev pub needs : {A E : Type 0} → Option A → E → Result A E
-needs None fault = Err fault
-needs (Some x) fault = Ok x
 
 -- a row of the table: the refusal, unless its test passes
 abbrev pub checks : {E : Type 0} → Bool → E → Result (Unit {0}) E

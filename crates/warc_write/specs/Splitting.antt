@@ -2,7 +2,7 @@
 -- 9562, 5.5). Which fields a segment has, their order, and the refusals are this project's own.
 use Rattle.std.specs.Prelude.{◌≡◌, ⊤, ℕ, ◌+◌, ◌-◌, ◌*◌, ◌/◌, Bool, true, false, not, ◌||◌, ◌==◌, nat_le, nat_lt}
 use Rattle.std.specs.Prelude.{List, [], ◌∷◌, ◌++◌, length, take, drop, map, filter, codes, decimal}
-use Rattle.std.specs.Prelude.{Option, Some, None, is_some, is_none, unwrap_or, Result, Ok, Err, if◌then◌else◌}
+use Rattle.std.specs.Prelude.{Option, Some, None, is_some, is_none, unwrap_or, ok_or, Result, Ok, Err, if◌then◌else◌}
 use Rattle.std.specs.List.{AllByRecursion, list_all, range_with_len}
 use Rattle.sha1.specs.Sha1.{sha1}
 use Rattle.uuid.specs.declared.Variant.TheVariants.{RFC4122}
@@ -26,7 +26,7 @@ use Rattle.warc_write.specs.declared.splitting.SplitFault.{SplitFault}
 use Rattle.warc_write.specs.declared.splitting.SplitFault.TheVariants.{NotUuid, AlreadySegmented}
 use Rattle.warc_write.specs.declared.splitting.SplitFault.TheVariants.{Kind as BadKind, Size}
 use Rattle.warc_write.specs.declared.splitting.SplitFault.TheVariants.{Memory, TooLong, BadDigest}
-use Rattle.warc_write.specs.Refusals.{◌>>=◌, checks, needs}
+use Rattle.warc_write.specs.Refusals.{◌>>=◌, checks}
 use Rattle.warc_write.specs.Written.{digest_text, id_text}
 
 -- the kinds that are split
@@ -63,7 +63,7 @@ splittable fields n = do
   _ ← checks (may_be_split (kind_of fields)) BadKind
   _ ← checks (is_some (target_of fields)) BadKind
   _ ← checks (not (is_segmented fields)) AlreadySegmented
-  needs (parsed_urn (bare_text (value_in warc_record_id fields))) NotUuid
+  ok_or (parsed_urn (bare_text (value_in warc_record_id fields))) NotUuid
 
 -- the UUID of version 5 of a name in a UUID's namespace
 abbrev pub version_5 : List ℕ → List ℕ → List ℕ
@@ -168,9 +168,10 @@ Splits (Ok x) split = split ≡ Ok x
 Splits (Err Memory) split = ⊤
 Splits (Err fault) split = split ≡ Err fault
 
-abbrev pub OrMemory : SplitFault → Type 0 → Type 0
-OrMemory Memory P = ⊤
-OrMemory fault P = P
+-- a fact of each refusal but want of memory
+abbrev pub UnlessMemory : SplitFault → Type 0 → Type 0
+UnlessMemory Memory P = ⊤
+UnlessMemory fault P = P
 
 -- the texts of refusals
 abbrev pub split_fault_text : SplitFault → List ℕ

@@ -3,7 +3,7 @@ ghost use Rattle.std.specs.Prelude.{◌≡◌, ◌<◌, Bool, nat_le, IfOk, IfSo
 ghost use Rattle.std.specs.List.{list_all};
 ghost use Rattle.warc_frame.specs.Record.{Record, canonical_len, max_head};
 ghost use Rattle.warc_write.specs.Cutting.{HasParts, records_by};
-ghost use Rattle.warc_write.specs.Splitting.{OrMemory, has_room, segment_fields, segments_of, split_of};
+ghost use Rattle.warc_write.specs.Splitting.{UnlessMemory, has_room, segment_fields, segments_of, split_of};
 
 use crate::splitting::{Part, SplitFault, part_at, segment_count, segment_head, splittable};
 use std::alloc::{AllocError, Allocator};
@@ -71,7 +71,7 @@ pub fn cut<A: Allocator + Copy>(
 ) -> Result<Option<[u8; 16]>, SplitFault>
     ensures cut { (r : Record) → HasParts version fields.now len is_bad r → MatchResult result
         (λ uuid. split_of r size ≡ Ok (records_by r size uuid))
-        (λ fault. OrMemory fault (split_of r size ≡ Err fault)) }
+        (λ fault. UnlessMemory fault (split_of r size ≡ Err fault)) }
 
     // Only a block of more bytes than a segment is cut.
     ensures long { IfOk result (λ uuid. IfSome uuid (λ _. (0 < size) × (size < len))) }

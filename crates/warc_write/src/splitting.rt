@@ -9,7 +9,7 @@ ghost use Rattle.warc_record.specs.Readings.{kind_of, target_of};
 ghost use Rattle.warc_write.specs.Joining.{Join};
 ghost use Rattle.warc_write.specs.Rendering.{AllGood};
 ghost use Rattle.warc_write.specs.Refusing.{RefusesHead, RefusesSegment};
-ghost use Rattle.warc_write.specs.Splitting.{AllFramed, OrMemory, segment_count};
+ghost use Rattle.warc_write.specs.Splitting.{AllFramed, UnlessMemory, segment_count};
 ghost use Rattle.warc_record.specs.Blocks.{has_bad_digest};
 ghost use Rattle.warc_write.specs.Splitting.{has_room, split_of, piece_at, segment_of, segments_of};
 ghost use Rattle.warc_write.specs.Cutting.{part_with};
@@ -470,7 +470,7 @@ pub fn split<A: Allocator + Copy>(
     size: u64,
 ) -> Result<Vec<Framed<A>, A>, SplitFault>
     ensures split { IfOk result (λ all. split_of framed.now size ≡ Ok all.items) }
-    ensures fault { IfErr result (λ fault. OrMemory fault (split_of framed.now size ≡ Err fault)) }
+    ensures fault { IfErr result (λ fault. UnlessMemory fault (split_of framed.now size ≡ Err fault)) }
     ensures good { IfOk result (λ all. AllGood all.items) }
     ensures joins { IfOk result (λ all. Join framed.now.block all.items) }
 {

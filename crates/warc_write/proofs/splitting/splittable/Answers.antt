@@ -1,11 +1,10 @@
-use Rattle.std.proofs.Common.{rules, ◌≡◌, nat_lt, true, false, sym, ap, ◌∙◌, arith}
+use Rattle.std.proofs.Common.{rules, ◌≡◌, nat_lt, true, false, ok_or, sym, ap, ◌∙◌, arith}
 use Rattle.std.proofs.lemmas.Bool.Decides.{nat_tests}
 use Rattle.uuid.specs.Text.{parsed_urn}
 use Rattle.warc_record.specs.Ids.{bare_text}
-use Rattle.warc_write.specs.Refusals.{needs}
 use Rattle.warc_write.specs.declared.splitting.SplitFault.TheVariants.{NotUuid}
 use Rattle.warc_write.specs.Splitting.{may_be_split}
-use Rattle.warc_write.proofs.SplitLemmas.{by_uuid, head_refused, needs_is, no_kind, no_size, no_target}
+use Rattle.warc_write.proofs.SplitLemmas.{by_uuid, head_refused, no_kind, no_size, no_target}
 use Rattle.warc_write.proofs.SplitLemmas.{segmented, splits_as}
 use Rattle.warc_write.proofs.splitting.splittable.Goals as goal
 
@@ -51,7 +50,7 @@ returns g c =
     let some = c.if-size-eq0.false in
     let size : nat_lt 0 c.args.size ≡ true = grind (arith, nat_tests) in
     let uuid = c.urn_uuid.ensures ∙ ap parsed_urn (c.bare.ensures ∙ ap bare_text c.value_in.ensures.text) in
-    splits_as c.ok_or.result _ _ (c.ok_or.ensures.value ∙ needs_is c.urn_uuid.result _ ∙ ap (λ o. needs o NotUuid) uuid)
+    splits_as c.ok_or.result _ _ (c.ok_or.ensures.value ∙ ap (λ o. ok_or o NotUuid) uuid)
     (by_uuid c.args.fields.now c.args.size size c.in_ok-kind.ensures.good
     (sym (c.may_be_split.ensures ∙ ap may_be_split c.in_ok-kind.ensures.kind) ∙ c.if-not-may_be_split.false)
     (sym c.in_ok-kind.ensures.target ∙ c.if-not-has_target.false)
