@@ -6,6 +6,7 @@ use Rattle.warc_field.specs.Area.{Pair, first_value}
 use Rattle.warc_value.specs.declared.hash.Verdict.{Verdict}
 use Rattle.warc_value.specs.declared.hash.Verdict.TheVariants.{Good, Bad, Unchecked}
 use Rattle.warc_frame.specs.declared.fault.Fault.{Fault}
+use Rattle.warc_frame.specs.Names.{warc_block_digest}
 use Rattle.warc_record.specs.Ids.{bare_text}
 use Rattle.warc_reading.specs.Archive.{Contents, IsArchiveOf}
 use Rattle.warc_reading.specs.Row.{Placed, Row, row_of}
@@ -16,7 +17,7 @@ use Rattle.warc.specs.declared.fixity.Counts.{Counts}
 
 -- the value that states the digest of a block, empty where no field does
 abbrev pub digest_value : List Pair → List ℕ
-digest_value fields = unwrap_or (first_value (codes "WARC-Block-Digest") fields) []
+digest_value fields = unwrap_or (first_value warc_block_digest fields) []
 
 -- that value where the block isn't good by it, and nothing where it is
 abbrev pub unless_good : Verdict → List ℕ → List ℕ

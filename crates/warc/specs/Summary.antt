@@ -4,6 +4,7 @@ use Rattle.std.specs.List.{flat_map}
 use Rattle.warc_field.specs.Area.{Pair}
 use Rattle.warc_value.specs.Dates.{Instant, instant_of}
 use Rattle.warc_value.specs.declared.hash.Verdict.TheVariants.{Good, Bad, Unchecked}
+use Rattle.warc_frame.specs.Names.{warc_segment_number}
 use Rattle.warc_frame.specs.declared.fault.Fault.{Fault}
 use Rattle.warc_record.specs.Readings.{present_value}
 use Rattle.warc_record.specs.declared.types.Kind.TheVariants.{Warcinfo, Response, Resource, Request, Metadata, Revisit, Conversion, Continuation, Other}
@@ -18,7 +19,7 @@ use Rattle.warc.specs.declared.summary.Summary.{Summary}
 
 -- whether a record has a segment number, whatever its kind
 abbrev pub has_segment_number : List Pair → Bool
-has_segment_number fields = is_some (present_value (codes "WARC-Segment-Number") fields)
+has_segment_number fields = is_some (present_value warc_segment_number fields)
 
 abbrev pub is_numbered : Placed → Bool
 is_numbered p = has_segment_number p.content.fields

@@ -2,10 +2,7 @@
 ghost use Rattle.std.specs.Prelude.{IfErr};
 ghost use Rattle.warc_frame.specs.Effects.{IsOfDevice, IsRange, ReadsRange, Sends};
 
-use warc_frame::{OutBuffer, OutFault, Sink, Source, put_range};
-
-/// How many bytes a read asks for.
-const PIECE: usize = 8_192;
+use warc_frame::{OutBuffer, OutFault, PIECE, Sink, Source, put_range};
 
 /// Writes `len` bytes at an offset of the source.
 pub(crate) fn send_range<S: Source, W: Sink>(

@@ -11,7 +11,7 @@ use itoa::Buffer;
 use std::alloc::{AllocError, Allocator, Global};
 use std::marker::Model;
 use warc_field::Fields;
-use warc_frame::{Fault, OutBuffer, OutFault, SendFault, Sink, Source, put_columns};
+use warc_frame::{Fault, OutBuffer, OutFault, SendFault, Sink, Source, names, put_columns};
 use warc_reading::{Keep, Row, Rows, read_on};
 use warc_record::bare;
 use warc_segment::Place;
@@ -45,7 +45,7 @@ impl<A: Allocator> Model for Digests<A> {
 fn digest_value<A: Allocator>(fields: &Fields<A>) -> &[u8]
     ensures { result.now ≡ digest_value fields.now }
 {
-    match fields.first(b"WARC-Block-Digest") {
+    match fields.first(names::WARC_BLOCK_DIGEST.as_bytes()) {
         Some(value) => value.bytes(),
         None => b"",
     }

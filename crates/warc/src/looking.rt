@@ -18,7 +18,7 @@ use warc_answer::laws::places_are_as_long;
 use warc_answer::{Path, Reason, ReplayFault, Stored, judge_joined, send_blocks};
 use warc_field::Fields;
 use warc_frame::laws::head_of_spelled;
-use warc_frame::{OutFault, Sink, Source};
+use warc_frame::{OutFault, Sink, Source, names};
 use warc_reading::{Lookup, Reread, Row, Rows, head_buffer, read_again};
 use warc_segment::laws::places_are_of_records;
 use warc_segment::{JoinFault, Parts, Place};
@@ -34,7 +34,7 @@ pub(crate) struct Look<A: Allocator> {
 fn own_type<A: Allocator>(fields: &Fields<A>) -> &[u8]
     ensures { result.now ≡ own_type fields.now }
 {
-    match fields.first(b"Content-Type") {
+    match fields.first(names::CONTENT_TYPE.as_bytes()) {
         Some(value) => value.bytes(),
         None => b"",
     }

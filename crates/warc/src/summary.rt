@@ -12,14 +12,11 @@ use itoa::Buffer;
 use std::alloc::{AllocError, Allocator, Global};
 use std::marker::Model;
 use warc_field::Fields;
-use warc_frame::{Fault, OutBuffer, OutFault, SendFault, Sink, Source, put_columns};
+use warc_frame::{Fault, OutBuffer, OutFault, SendFault, Sink, Source, names, put_columns};
 use warc_reading::{Keep, Rows, read_on};
 use warc_record::Kind;
 use warc_segment::Place;
 use warc_value::{Moment, Verdict, read_date};
-
-/// The field that makes a record a segment (ISO 28500:2017, 5.20).
-const SEGMENT_NUMBER: &[u8] = b"WARC-Segment-Number";
 
 /// How many records and bytes an archive has, how many records of each kind, how many captures, how many blocks of each
 /// verdict, how many records that are marked as truncated and that are segments, and the dates of its first and its
@@ -87,7 +84,7 @@ impl<A: Allocator> Segmented<A> {
 fn has_segment_number<A: Allocator>(fields: &Fields<A>) -> bool
     ensures { result ≡ has_segment_number fields.now }
 {
-    match fields.first(SEGMENT_NUMBER) {
+    match fields.first(names::WARC_SEGMENT_NUMBER.as_bytes()) {
         Some(value) => !value.bytes().is_empty(),
         None => false,
     }

@@ -19,7 +19,7 @@ use Rattle.warc_frame.specs.Record.{Record, max_archive}
 use Rattle.warc_frame.specs.Send.{WentOut, sent_of}
 use Rattle.warc_record.specs.Readings.{number_in, present_value}
 use Rattle.warc_payload.specs.declared.HeadInfo.{HeadInfo}
-use Rattle.warc_payload.specs.Head.{HasNoHead, IsInfoOf, front_of}
+use Rattle.warc_payload.specs.Head.{HasNoHead, IsInfoOf, front_of, most_head_bytes}
 use Rattle.warc_payload.specs.Laws.{OneOfThree}
 use Rattle.warc_payload.specs.Payload.{GivesBody, GivesCodedBody}
 use Rattle.warc_segment.specs.declared.place.Place.{Place}
@@ -44,7 +44,7 @@ use Rattle.warc_answer.proofs.ReasonLemmas.{answer_of}
 -- ---- where a body begins
 
 -- the front of a text, as it was read
-pub front_is : (buf text : List ℕ) (n room : ℕ) → room ≡ 65536 → take n buf ≡ take room text → take n buf ≡ front_of text
+pub front_is : (buf text : List ℕ) (n room : ℕ) → room ≡ most_head_bytes → take n buf ≡ take room text → take n buf ≡ front_of text
 unfolding front_of
 front_is buf text n room size same = same ∙ ap (λ k. take k text) size
 

@@ -5,11 +5,8 @@ ghost use Rattle.warc_frame.specs.Seen.{IfHeld};
 ghost use Rattle.warc_answer.specs.Places.{IsPlacedText, LieIn, ReadsPlaces, len_of, text_at};
 
 use warc_frame::laws::went_out_of_longer;
-use warc_frame::{OutBuffer, OutFault, ReadFault, Sink, Source, put_range, read_range};
+use warc_frame::{OutBuffer, OutFault, PIECE, ReadFault, Sink, Source, put_range, read_range};
 use warc_segment::Place;
-
-/// The length of the pieces in which a body is copied.
-const PIECE: usize = 8_192;
 
 /// Fills the buffer with the bytes at an offset. It fails where a read does, where the source ends too early, and where
 /// the bytes don't end before offset 2^64.

@@ -4,6 +4,7 @@ ghost use Rattle.warc_frame.specs.Effects.{FailsBy};
 ghost use Rattle.warc_frame.specs.Failing.{failed_by};
 ghost use Rattle.warc_frame.specs.Seen.{IfHeld};
 ghost use Rattle.warc_record.specs.Seen.{said};
+ghost use Rattle.warc_payload.specs.Head.{most_head_bytes};
 ghost use Rattle.warc_answer.specs.Giving.{IsStart};
 ghost use Rattle.warc_answer.specs.Origins.{ReadsForHead};
 ghost use Rattle.warc_answer.specs.Payloads.{is_http, is_http_response};
@@ -56,7 +57,7 @@ fn start_through<S: Source>(
     places: &[Place],
     front: &mut [u8],
 ) -> Result<BodyStart, ReplayFault>
-    requires { length front.old ≡ 65536 }
+    requires { length front.old ≡ most_head_bytes }
     ensures begun { IfHeld (S.seen source.old).holds (λ bytes. LieIn places.now bytes →
         IsStart http (text_at places.now bytes) result) }
     ensures unwritten { (n : ℕ) → failed_by (out_result result) n ≡ n }

@@ -7,6 +7,7 @@ ghost use Rattle.warc_frame.specs.Seen.{IfHeld};
 ghost use Rattle.warc_record.specs.Readings.{reading_of};
 ghost use Rattle.warc_record.specs.Seen.{said};
 ghost use Rattle.warc_segment.specs.Joined.{ReadRecord};
+ghost use Rattle.warc_payload.specs.Head.{most_head_bytes};
 ghost use Rattle.warc_answer.specs.Judging.{IsHeadIn, IsSeenIn};
 ghost use Rattle.warc_answer.specs.Origins.{AreBlocksIn, IsContentOn};
 ghost use Rattle.warc_answer.specs.Places.{LieIn, ReadsPlaces, len_of, text_at};
@@ -58,7 +59,7 @@ fn head_through<S: Source, A: Allocator + Copy>(
     places: &[Place],
     front: &mut [u8],
 ) -> Result<StoredHead<A>, ReplayFault>
-    requires { length front.old ≡ 65536 }
+    requires { length front.old ≡ most_head_bytes }
     ensures begins { IfHeld (S.seen source.old).holds (λ bytes. LieIn places.now bytes →
         IsHeadIn (text_at places.now bytes) result) }
     ensures early { IfErr result IsEarly }

@@ -14,11 +14,15 @@ pub record ReadsTimes (times : ℕ) (old new : SeenSource) : Type 0 where
   pub near : AsksNear old new
   pub cost : IfHeld old.holds (λ bytes. new.reads ≤ old.reads + times * length bytes + 1)
 
--- a file is read of which a record is made: no byte above offset 2^40, none further out than twice the file's length
--- and 65,536, and at most two reads for each byte, and two
+-- how many bytes of the file of which a record is made one read asks for
+abbrev pub file_piece : ℕ
+file_piece = 65536
+
+-- that file is read: no byte above offset 2^40, none further out than twice its length and a piece, and at most two
+-- reads for each byte, and two
 pub record ReadsForRecord (old new : SeenSource) : Type 0 where
   pub near : AsksOnly (λ at. at ≤ max_block) old new
-  pub close : IfHeld old.holds (λ bytes. AsksOnly (λ at. at ≤ 2 * length bytes + 65536) old new)
+  pub close : IfHeld old.holds (λ bytes. AsksOnly (λ at. at ≤ 2 * length bytes + file_piece) old new)
   pub cost : IfHeld old.holds (λ bytes. new.reads ≤ old.reads + 2 * length bytes + 2)
 
 -- what a run of the command reads: an archive is opened in one read for each byte, and one; what is written of it is

@@ -7,7 +7,7 @@ ghost use Rattle.warc_write.specs.Making.{Makes, made, make_fault_text};
 ghost use Rattle.warc_commands.specs.Asking.{AsksFar, ReadsFront};
 ghost use Rattle.warc_commands.specs.Devices.{devices};
 ghost use Rattle.warc_commands.specs.Program.{IsUnsent, MakeEnds, Tells, plan_of, told_line};
-ghost use Rattle.warc_commands.specs.Reads.{ReadsForRecord};
+ghost use Rattle.warc_commands.specs.Reads.{ReadsForRecord, file_piece};
 ghost use Rattle.warc_frame.specs.Ranges.{IsReadAt};
 
 use crate::program::{DONE, FAILED, line_of, tell, tell_cut};
@@ -65,7 +65,7 @@ pub(crate) fn read_front<S: Source, A: Allocator + Copy>(
     ensures kept { (S.seen source.new).holds ≡ (S.seen source.old).holds }
     ensures failed { HasFailedBy result (S.seen source.old).faults (S.seen source.new).faults }
     ensures unsent { IfErr result IsUnsent }
-    ensures reads { ReadsFront most 65536 (S.seen source.old) (S.seen source.new) }
+    ensures reads { ReadsFront most file_piece (S.seen source.old) (S.seen source.new) }
 {
     let Ok(mut buf) = vec![in alloc; 0u8; PIECE] else {
         return Err(OutFault::Memory(0));

@@ -22,7 +22,7 @@ pub use count::raise;
 pub use fault::{Fault, FaultKind, Mandatory, OutFault};
 pub use framed::{Framed, FramedFault};
 pub use pieces::decode;
-pub use ranges::{put_range, read_range};
+pub use ranges::{PIECE, put_range, read_range};
 pub use reading::{Head, MAX_BLOCK, MAX_HEAD, read_head, read_one};
 pub use send::{SendFault, send_all};
 pub use sink::{MemSink, OutSink, Sink, WriteFault, is_failed};

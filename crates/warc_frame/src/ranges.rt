@@ -9,6 +9,9 @@ use crate::sink::Sink;
 use crate::source::{ReadFault, Source};
 use crate::staging::OutBuffer;
 
+/// The length of the pieces in which a part of a source is copied.
+pub const PIECE: usize = 8_192;
+
 /// Fills the buffer with the bytes at an offset. It fails if a read does, and if the source
 /// ends too early.
 pub fn read_range<S: Source>(source: &mut S, at: u64, buf: &mut [u8]) -> Result<(), ReadFault>

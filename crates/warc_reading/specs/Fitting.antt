@@ -1,6 +1,7 @@
 -- Which rows fit the entries of 32 bytes in which they are kept: the rows of any archive. This project's own notion.
 use Rattle.std.specs.Prelude.{◌≡◌, ℕ, ◌+◌, ◌^◌, ◌<◌, ◌≤◌, List, [], ◌∷◌, ◌++◌, length}
 use Rattle.std.specs.List.{sum_by}
+use Rattle.warc_frame.specs.Record.{max_archive}
 use Rattle.warc_reading.specs.Archive.{IsArchiveOf}
 use Rattle.warc_reading.specs.Keeping.{texts_len}
 use Rattle.warc_reading.specs.Row.{Row}
@@ -10,9 +11,9 @@ use Rattle.warc_reading.specs.Row.{Row}
 pub record Fits (start : ℕ) (row : Row) : Type 0 where
   pub order : row.offset ≤ row.block_start
   pub head : row.block_start < row.offset + 2 ^ 32
-  pub offset : row.offset < 2 ^ 48
-  pub block : row.block_len < 2 ^ 48
-  pub begin : start < 2 ^ 48
+  pub offset : row.offset < max_archive
+  pub block : row.block_len < max_archive
+  pub begin : start < max_archive
   pub kind : length row.kind < 2 ^ 16
   pub date : length row.date < 2 ^ 16
   pub id : length row.id < 2 ^ 16

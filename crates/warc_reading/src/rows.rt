@@ -84,7 +84,7 @@ impl Compact {
     #[tactic(auto, unfolding(crate::specs::Rows::whole))]
     fn of(number: u64) -> Option<Compact>
         ensures is { IfSome result (λ s. whole s ≡ number) }
-        ensures none { IfNone result (2 ^ 48 ≤ number) }
+        ensures none { IfNone result (max_archive ≤ number) }
     {
         let Ok(high) = u16::try_from(number / 4_294_967_296) else {
             return None;
