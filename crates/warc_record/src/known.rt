@@ -37,7 +37,7 @@ pub(crate) enum Known {
 }
 
 /// How many there are.
-const COUNT: usize = 20;
+const COUNT: usize = Known::ContentType as usize + 1;
 
 /// The only name of this length whose eighth letter is this one, in lower case.
 fn candidate(len: usize, letter: u8) -> Option<Known>
@@ -131,28 +131,7 @@ impl Known {
         ensures place { result ≡ known_place self }
         ensures within { result < COUNT }
     {
-        match self {
-            Known::Type => 0,
-            Known::RecordId => 1,
-            Known::Date => 2,
-            Known::TargetUri => 3,
-            Known::ConcurrentTo => 4,
-            Known::IpAddress => 5,
-            Known::RefersTo => 6,
-            Known::RefersToTargetUri => 7,
-            Known::RefersToDate => 8,
-            Known::Filename => 9,
-            Known::Profile => 10,
-            Known::WarcinfoId => 11,
-            Known::SegmentNumber => 12,
-            Known::SegmentOriginId => 13,
-            Known::SegmentTotalLength => 14,
-            Known::BlockDigest => 15,
-            Known::PayloadDigest => 16,
-            Known::Truncated => 17,
-            Known::IdentifiedPayloadType => 18,
-            Known::ContentType => 19,
-        }
+        self as usize
     }
 }
 
