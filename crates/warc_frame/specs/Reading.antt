@@ -83,6 +83,10 @@ pub record Head : Type 0 where
   pub len : ℕ
   pub block_len : ℕ
 
+-- a record's head of n bytes
+abbrev pub headed : Record → ℕ → Head
+headed r n = record { version = r.version; fields = r.fields; len = n; block_len = length r.block }
+
 -- the head at the front of a text. Its rows are the table's, in the table's order: Version; HeadTooLong or Truncated
 -- of a head without an end; Field; HeadTooLong of the canonical head; Missing, Repeated or Length of the only
 -- Content-Length; what the judgement finds of type, id and date

@@ -76,3 +76,8 @@ unfoldable pub framed_of : Record → Result Record FaultKind
 framed_of r =
     if nat_lt max_head (canonical_len r.version r.fields) then Err HeadTooLong
     else with_block r (block_len r.fields)
+
+-- what a call returned is that record, or why it is none
+abbrev pub Frames : Result Record FramedFault → Result Record FaultKind → Type 0
+Frames (Ok r) framed = framed ≡ Ok r
+Frames (Err fault) framed = framed ≡ Err (fault_kind_of fault)

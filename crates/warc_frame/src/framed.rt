@@ -1,5 +1,5 @@
-ghost use Rattle.std.specs.Prelude.{◌≡◌, ◌+◌, ◌≤◌, Ok, Err, IfOk, IsOk, MatchResult, length};
-ghost use Rattle.warc_frame.specs.Record.{Record, IsFramed, framed_of, fault_kind_of, max_block, max_head};
+ghost use Rattle.std.specs.Prelude.{◌≡◌, ◌+◌, ◌≤◌, Ok, Err, IfOk, IsOk, length};
+ghost use Rattle.warc_frame.specs.Record.{Record, Frames, IsFramed, framed_of, fault_kind_of, max_block, max_head};
 ghost use Rattle.warc_field.specs.Area.{canonical_fields};
 
 use crate::fault::{FaultKind, Mandatory};
@@ -75,11 +75,8 @@ impl<A: Allocator> Framed<A> {
         fields: Fields<A>,
         block: Vec<u8, A>,
     ) -> Result<Framed<A>, FramedFault>
-        // Which record, or which reason.
-        ensures exact { MatchResult result
-            (λ framed. framed_of (record { version = version; fields = fields; block = block.items }) ≡ Ok framed)
-            (λ fault. framed_of (record { version = version; fields = fields; block = block.items })
-            ≡ Err (fault_kind_of fault)) }
+        ensures exact { Frames result
+            (framed_of (record { version = version; fields = fields; block = block.items })) }
         ensures framed { IfOk result IsFramed }
         ensures only { IsFramed (record { version = version; fields = fields; block = block.items }) → IsOk result }
     {

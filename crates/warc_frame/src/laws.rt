@@ -5,8 +5,8 @@ ghost use Rattle.warc_frame.specs.declared.fault.FaultKind.{FaultKind};
 ghost use Rattle.warc_frame.specs.declared.fault.FaultKind.TheVariants.{Truncated, Memory};
 ghost use Rattle.warc_frame.specs.Record.{Record, IsFramed, max_archive};
 ghost use Rattle.warc_frame.specs.Spelling.{Spells, SpellsAll, canonical};
-ghost use Rattle.warc_frame.specs.Reading.{Judgement, Head, fault, head_of, record_of};
-ghost use Rattle.warc_frame.specs.Faults.{AllAccepted, ReadsAs, IsFirstFault, IsFrameFault};
+ghost use Rattle.warc_frame.specs.Reading.{Judgement, Head, head_of, headed, record_of};
+ghost use Rattle.warc_frame.specs.Faults.{AllAccepted, ReadsAs, IsFaultAfter, IsFirstFault, IsFrameFault};
 ghost use Rattle.warc_frame.specs.Told.{Unclosed, Told, Lies, IsExact, Refutes, Refuses, AcceptsTold};
 ghost use Rattle.std.specs.Io.KnownBytes.{append_known};
 ghost use Rattle.warc_frame.specs.Device.{Staged};
@@ -48,9 +48,7 @@ pub fn heads_are_stable()
 /// The first n bytes of a text that spells a record are read as its head, if the block and two CRLFs follow them.
 pub fn head_of_spelled()
     ensures { (judge : Judgement) (r : Record) (text : List ℕ) (n : ℕ) → Spells r text → judge r.fields ≡ None
-        → n + length r.block + 4 ≡ length text
-        → head_of judge (take n text)
-        ≡ Ok (record { version = r.version; fields = r.fields; len = n; block_len = length r.block }) }
+        → n + length r.block + 4 ≡ length text → head_of judge (take n text) ≡ Ok (headed r n) }
 {}
 
 /// A text that begins at offset q and ends by offset 2^48 has no first fault exactly if it spells a list of records,
@@ -103,9 +101,7 @@ pub fn first_fault_of_judged_heads()
         → IsFirstFault judge at text f }
     ensures head { (judge : Judgement) (at : ℕ) (text : List ℕ) (told : Told) (u : Unclosed) (kind : FaultKind)
         → IsExact text told → told.unclosed ≡ Some u → AllAccepted judge told.records → judge u.fields ≡ Some kind
-        → at + length text ≤ max_archive
-        → (front rest : List ℕ) × (text ≡ front ++ rest) × SpellsAll told.records front
-        × IsFirstFault judge at text (fault kind (at + length front)) }
+        → at + length text ≤ max_archive → IsFaultAfter judge at text told.records kind }
 {}
 
 /// What went out of an output went out of each longer one.

@@ -140,8 +140,7 @@ impl<A: Allocator + Copy> Decoder<A> {
             (λ fault. Refuses at (taken ++ piece.now) told fault) }
         ensures within { IfOk result (λ r. TakesWithin (length piece.now) r.0 r.1) }
         ensures empty { piece.now ≡ [] → MatchResult result (λ r. r ≡ (0, Event.More)) (IsFailed self.old) }
-        ensures err { IfErr result (IsFailed self.new) }
-        ensures still { OnErr result (self.new.position ≡ self.old.position) }
+        ensures err { IfErr result (λ fault. IsFailed self.new fault × (self.new.position ≡ self.old.position)) }
         ensures failed { (fault : Fault) → IsFailed self.old fault → (result ≡ Err fault) × (self.new ≡ self.old) }
     {
         let room = MAX_ARCHIVE - self.position;

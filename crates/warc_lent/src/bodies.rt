@@ -3,7 +3,7 @@ ghost use Rattle.std.specs.Prelude.{◌≡◌, length, map, set, unwrap_or, OnEr
 ghost use Rattle.warc_value.specs.Dates.{instant_of};
 ghost use Rattle.warc_frame.specs.Seen.{IfHeld};
 ghost use Rattle.warc_reading.specs.Archive.{contents};
-ghost use Rattle.warc_reading.specs.Indexed.{IsIndexed};
+ghost use Rattle.warc_reading.specs.Indexed.{IsIndexed, IsUnchanged};
 ghost use Rattle.warc_lent.specs.Buffers.{HoldsFront};
 ghost use Rattle.warc_lent.specs.Bodies.{IsBodyPut, PutsAt, PutsReplay, answer_numbers, path_numbers, path_numbers_at, span_numbers};
 
@@ -147,9 +147,7 @@ pub fn put_replay<S: Source, A: Allocator + Copy>(
         spans.new) }
     ensures same { OnErr result (spans.new ≡ spans.old) }
     ensures room { length spans.new ≡ length spans.old }
-    ensures rows { archive.new.listing.rows ≡ archive.old.listing.rows }
-    ensures index { archive.new.index ≡ archive.old.index }
-    ensures parts { archive.new.parts ≡ archive.old.parts }
+    ensures unchanged { IsUnchanged archive.old archive.new }
 {
     let Some(moment) = read_date(date) else {
         return Err(Problem::BadDate);
@@ -174,9 +172,7 @@ pub fn put_body<S: Source, A: Allocator + Copy>(
         PutsAt bytes (contents is.listed.are.records) position result answer.old answer.new spans.new) }
     ensures same { OnErr result (spans.new ≡ spans.old) }
     ensures room { length spans.new ≡ length spans.old }
-    ensures rows { archive.new.listing.rows ≡ archive.old.listing.rows }
-    ensures index { archive.new.index ≡ archive.old.index }
-    ensures parts { archive.new.parts ≡ archive.old.parts }
+    ensures unchanged { IsUnchanged archive.old archive.new }
 {
     match archive.locate_at(position) {
         Ok(located) => Ok(put_located(&located, answer, spans)),

@@ -3,6 +3,7 @@ ghost use Rattle.std.specs.Prelude.{◌≡◌, length, IfErr, IfOk, OnErr};
 ghost use Rattle.warc.specs.Listing.{listing};
 ghost use Rattle.warc_checking.specs.Checking.{check_text};
 ghost use Rattle.warc_reading.specs.Archive.{IsArchiveOf, contents};
+ghost use Rattle.warc_reading.specs.Indexed.{IsUnchanged};
 ghost use Rattle.warc_lent.specs.Problems.{problem_text};
 ghost use Rattle.warc_frame.specs.Seen.{IfHeld};
 ghost use Rattle.warc_lent.specs.Texts.{AreFindingsOf, IsFindingsOf, IsFixityOf, IsProblemPut, IsTextPut, IsRefusedFor, PutsFindings, PutsFixity};
@@ -41,9 +42,7 @@ pub fn check_text<A: Allocator + Copy, S: Source>(
 ) -> Result<Vec<u8, A>, Problem>
     ensures findings { IfOk result (λ text. IfHeld (S.seen archive.old.listing.source).holds (λ bytes. IsFindingsOf
         archive.old.listing.rows bytes text.items)) }
-    ensures rows { archive.new.listing.rows ≡ archive.old.listing.rows }
-    ensures index { archive.new.index ≡ archive.old.index }
-    ensures parts { archive.new.parts ≡ archive.old.parts }
+    ensures unchanged { IsUnchanged archive.old archive.new }
 {
     let mut lines = MemSink::new(Vec::new(alloc));
     match archive.check(&mut lines) {
@@ -126,9 +125,7 @@ pub fn put_check<A: Allocator + Copy, S: Source>(
         out.new)) }
     ensures same { OnErr result (out.new ≡ out.old) }
     ensures room { length out.new ≡ length out.old }
-    ensures rows { archive.new.listing.rows ≡ archive.old.listing.rows }
-    ensures index { archive.new.index ≡ archive.old.index }
-    ensures parts { archive.new.parts ≡ archive.old.parts }
+    ensures unchanged { IsUnchanged archive.old archive.new }
 {
     match check_text(alloc, archive) {
         Ok(text) => Ok(put_text(text.as_slice(), out)),

@@ -48,6 +48,11 @@ pub record IsIndexed {S : Type 0} (bytes : List ℕ) (archive : Archived S) : Ty
   pub listed : IsArchiveOf bytes archive.listing.rows
   pub kept : AreOf listed.are.records archive.index archive.parts
 
+-- nothing of it but its source may have changed
+abbrev pub IsUnchanged : {S : Type 0} → Archived S → Archived S → Type 0
+IsUnchanged old new =
+    (new.listing.rows ≡ old.listing.rows) × (new.index ≡ old.index) × (new.parts ≡ old.parts)
+
 -- what opening an archive gives, or why it gives none
 abbrev pub archive_of : {S : Type 0} → Result (Archived S) (Fault × S) → Result (Archived S) Fault
 archive_of (Ok archive) = Ok archive

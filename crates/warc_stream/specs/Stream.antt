@@ -14,6 +14,10 @@ pub record Streamed (R : Type 0) : Type 0 where
   pub asked : ℕ
   pub jumps : ℕ
 
+-- over a reader whose next byte is at offset 0, and which nobody has read
+abbrev pub unread : {R : Type 0} → R → Streamed R
+unread reader = record { reader = reader; position = 0; reads = 0; faults = 0; asked = 0; jumps = 0 }
+
 -- a read at an offset gave the next bytes of a reader, which is at a position before and after, and has these bytes
 -- left before and after, where they are known. Only a read at the position gives any; a read that fails takes none
 pub record GivesNext {E : Type 0} (at position position' : ℕ) (left left' : Option (List ℕ)) (answer : Result ℕ E)

@@ -1,7 +1,7 @@
 //! Bytes that come once, in order.
 ghost use Rattle.std.specs.Prelude.{◌≡◌, ◌==◌, ℕ, ◌≤◌, length, false, None, Some, IfOk, is_err, if◌then◌else◌};
 ghost use Rattle.warc_frame.specs.Count.{raised};
-ghost use Rattle.warc_stream.specs.Stream.{GivesNext};
+ghost use Rattle.warc_stream.specs.Stream.{GivesNext, unread};
 
 use std::io::Read;
 use std::marker::Model;
@@ -37,12 +37,7 @@ impl<R> Model for StreamSource<R> {
 impl<R: Read> StreamSource<R> {
     /// A source over this reader, whose next byte is at offset 0, and which nobody has read by it.
     pub fn new(reader: R) -> StreamSource<R>
-        ensures reader { result.reader ≡ reader }
-        ensures front { result.position ≡ 0 }
-        ensures unread { result.reads ≡ 0 }
-        ensures unasked { result.asked ≡ 0 }
-        ensures sound { result.faults ≡ 0 }
-        ensures straight { result.jumps ≡ 0 }
+        ensures { result ≡ unread reader }
     {
         StreamSource {
             reader,

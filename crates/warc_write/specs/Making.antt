@@ -29,6 +29,10 @@ pub record Plan : Type 0 where
   pub content_type : List ℕ
   pub block : List ℕ
 
+abbrev pub planned : Kind → List ℕ → List ℕ → List ℕ → List ℕ → List ℕ → Plan
+planned kind uri date uuid content_type block =
+    record { kind = kind; uri = uri; date = date; uuid = uuid; content_type = content_type; block = block }
+
 -- the type of the three kinds that are made
 abbrev pub type_of : Kind → Option (List ℕ)
 type_of Resource = Some (codes "resource")

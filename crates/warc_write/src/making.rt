@@ -7,7 +7,7 @@ ghost use Rattle.warc_frame.specs.Record.{IsFramed, block_len, max_block};
 ghost use Rattle.warc_record.specs.Good.{IsGood};
 ghost use Rattle.warc_record.specs.Heads.{is_date};
 ghost use Rattle.warc_write.specs.Making.{Makes, fitted, is_target, is_one_text, made, made_fields};
-ghost use Rattle.warc_write.specs.Making.{make_fault_text, type_of};
+ghost use Rattle.warc_write.specs.Making.{make_fault_text, planned, type_of};
 
 use crate::parts::{Label, add_field, add_number};
 use crate::written::{digest_text, id_text};
@@ -116,14 +116,7 @@ fn made_fields<A: Allocator + Copy>(
     requires uri { is_value uri.now ≡ true }
     requires content_type { is_value content_type.now ≡ true }
     ensures { IfOk result (λ fields. fields ≡ made_fields kind.now uuid.now
-        (record {
-          kind = Kind.Resource;
-          uri = uri.now;
-          date = date.now;
-          uuid = [];
-          content_type = content_type.now;
-          block = block.now;
-        })) }
+        (planned Kind.Resource uri.now date.now [] content_type.now block.now)) }
 {
     let mut fields = Fields::new(alloc);
     add_field(alloc, &mut fields, Label::Type, kind)?;
@@ -160,14 +153,7 @@ fn judge(uri: &[u8], date: &[u8], uuid: &[u8], content_type: &[u8]) -> Result<Uu
     ensures id { IfOk result (λ id. parsed uuid.now ≡ Some id) }
     ensures content_type { OnOk result (is_one_text content_type.now ≡ true) }
     ensures refused { (kind : Kind) (type block : List ℕ) → type_of kind ≡ Some type →
-        IfErr result (λ fault. made (record {
-          kind = kind;
-          uri = uri.now;
-          date = date.now;
-          uuid = uuid.now;
-          content_type = content_type.now;
-          block = block;
-        }) ≡ Err fault) }
+        IfErr result (λ fault. made (planned kind uri.now date.now uuid.now content_type.now block) ≡ Err fault) }
 {
     if read_date(date).is_none() {
         return Err(MakeFault::Date);
@@ -193,14 +179,8 @@ pub fn refusal_of_long(
     uuid: &[u8],
     content_type: &[u8],
 ) -> MakeFault
-    ensures { (block : List ℕ) → max_block < length block → made (record {
-      kind = kind;
-      uri = uri.now;
-      date = date.now;
-      uuid = uuid.now;
-      content_type = content_type.now;
-      block = block;
-    }) ≡ Err result }
+    ensures { (block : List ℕ) → max_block < length block → made (planned kind uri.now date.now uuid.now
+        content_type.now block) ≡ Err result }
 {
     let Some(_) = type_of(kind) else {
         return MakeFault::Kind;
@@ -224,14 +204,7 @@ pub fn make<A: Allocator + Copy>(
     content_type: &[u8],
     block: &[u8],
 ) -> Result<Framed<A>, MakeFault>
-    ensures made { Makes result (made (record {
-      kind = kind;
-      uri = uri.now;
-      date = date.now;
-      uuid = uuid.now;
-      content_type = content_type.now;
-      block = block.now;
-    })) }
+    ensures made { Makes result (made (planned kind uri.now date.now uuid.now content_type.now block.now)) }
     ensures good { IfOk result IsGood }
 {
     date_is_value();
