@@ -5,8 +5,7 @@ usage: lint.py [FOLDER]      the top of the repository; without it, the folder a
 
 It reports, a line each, and exits with 1 where there is any:
 
-- a word of specs/ that two specs files define (tools/lint-known.txt lists those that are known; the list may only
-  shrink: a word there that is defined once is reported too);
+- a word of specs/ that two specs files define;
 - a specs file that says "no public clause cites them" where the contract of a public function cites one of its words;
 - a line of over 120 characters in src/ or specs/, but for imports (`ghost use`, `use`) and tactics, which rt fmt
   keeps in one line;
@@ -19,7 +18,6 @@ import subprocess
 import sys
 
 WIDTH = 120
-KNOWN = "tools/lint-known.txt"
 WORD = re.compile(r"^(?:abbrev|unfoldable|opaque|record|data) pub ([^\s:({]+)|^pub (?:record|data) ([^\s:({]+)")
 IMPORT = re.compile(r"^use Rattle\.(\w+)\.specs\.(\w+)\.\{([^}]*)\}")
 GHOST_IMPORT = re.compile(r"^\s*ghost use Rattle\.(\w+)\.specs\.(\w+)\.\{([^}]*)\}")
@@ -58,15 +56,10 @@ def defined(top, paths):
 
 
 def defined_twice(top, paths):
-    known = set()
-    if KNOWN in paths:
-        known = {line for line in lines_of(top, KNOWN) if line and not line.startswith("#")}
     words = defined(top, paths)
     twice = {word for word, places in words.items() if len({place.split(":")[0] for place in places}) > 1}
-    for word in sorted(twice - known):
+    for word in sorted(twice):
         yield f"{words[word][0]}: {word} is defined here and at {', '.join(words[word][1:])}"
-    for word in sorted(known - twice):
-        yield f"{KNOWN}: {word} is no longer defined twice: drop it"
 
 
 def clauses_of_public_functions(lines):

@@ -67,15 +67,14 @@ value_of rest = let v = trimmed (unfolded rest) in if list_all is_value_byte v t
 abbrev pub is_colon : ℕ → Bool
 is_colon b = b == 58
 
-infixl 10 ◌>>=◌
-abbrev pub ◌>>=◌ : {A B : Type 0} → Option A → (A → Option B) → Option B
-o >>= f = option_and_then f o
+-- the field that a line is with its first colon at place k
+abbrev pub field_at : List ℕ → ℕ → Option Pair
+field_at line k =
+    if is_name (take k line) then option_map (λ value. (take k line, value)) (value_of (drop (k + 1) line)) else None
 
--- the field that a line is: k is the place of its first colon
+-- the field that a line is
 unfoldable pub field_of : List ℕ → Option Pair
-field_of line = do
-  k ← position is_colon line
-  if is_name (take k line) then option_map (λ value. (take k line, value)) (value_of (drop (k + 1) line)) else None
+field_of line = option_and_then (field_at line) (position is_colon line)
 
 abbrev pub with_front : List Pair → Result (List Pair) ℕ → Result (List Pair) ℕ
 with_front front (Ok fields) = Ok (front ++ fields)

@@ -49,7 +49,8 @@ unfoldable pub head_len : List ℕ → Option ℕ
 head_len t = option_map (λ place. place + 4) (empty_line (head_front t))
 
 infixl 10 ◌>>=◌
-abbrev pub ◌>>=◌ : {A B : Type 0} → Result A Fault → (A → Result B Fault) → Result B Fault
+-- what comes next in a table: the first row that refuses decides
+abbrev pub ◌>>=◌ : {A B E : Type 0} → Result A E → (A → Result B E) → Result B E
 (Ok x) >>= f = f x
 (Err e) >>= f = Err e
 

@@ -9,6 +9,7 @@ use Rattle.warc_field.specs.Text.{is_value}
 use Rattle.warc_field.specs.Area.{Pair}
 use Rattle.warc_frame.specs.Names.{content_length, content_type, warc_type, warc_record_id, warc_date, warc_target_uri, warc_block_digest}
 use Rattle.warc_frame.specs.declared.version.Version.TheVariants.{V1_1}
+use Rattle.warc_frame.specs.Reading.{◌>>=◌}
 use Rattle.warc_frame.specs.Record.{Record, canonical_len, max_block, max_head}
 use Rattle.warc_record.specs.declared.types.Kind.{Kind}
 use Rattle.warc_record.specs.declared.types.Kind.TheVariants.{Warcinfo, Response, Resource, Request, Metadata}
@@ -17,7 +18,7 @@ use Rattle.warc_record.specs.Heads.{is_date}
 use Rattle.warc_record.specs.Ids.{bare_text}
 use Rattle.warc_write.specs.declared.making.MakeFault.{MakeFault}
 use Rattle.warc_write.specs.declared.making.MakeFault.TheVariants.{Date, Text, TooLong, Memory, Kind as BadKind}
-use Rattle.warc_write.specs.Refusals.{◌>>=◌, checks}
+use Rattle.warc_write.specs.Refusals.{checks}
 use Rattle.warc_write.specs.Written.{digest_text, id_text}
 
 -- what a record is made of

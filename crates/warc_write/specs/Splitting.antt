@@ -12,6 +12,7 @@ use Rattle.uuid.specs.Text.{parsed_urn}
 use Rattle.warc_field.specs.Text.{same}
 use Rattle.warc_field.specs.Area.{Pair, first_value}
 use Rattle.warc_frame.specs.Names.{content_length, warc_type, warc_record_id, warc_date, warc_target_uri, warc_segment_number, warc_segment_origin_id, warc_segment_total_length, warc_block_digest}
+use Rattle.warc_frame.specs.Reading.{◌>>=◌}
 use Rattle.warc_frame.specs.Record.{Record, IsFramed, canonical_len, max_head}
 use Rattle.warc_record.specs.declared.types.Kind.{Kind}
 use Rattle.warc_record.specs.declared.types.Kind.TheVariants.{Warcinfo, Response, Resource, Request, Metadata}
@@ -26,7 +27,7 @@ use Rattle.warc_write.specs.declared.splitting.SplitFault.{SplitFault}
 use Rattle.warc_write.specs.declared.splitting.SplitFault.TheVariants.{NotUuid, AlreadySegmented}
 use Rattle.warc_write.specs.declared.splitting.SplitFault.TheVariants.{Kind as BadKind, Size}
 use Rattle.warc_write.specs.declared.splitting.SplitFault.TheVariants.{Memory, TooLong, BadDigest}
-use Rattle.warc_write.specs.Refusals.{◌>>=◌, checks}
+use Rattle.warc_write.specs.Refusals.{checks}
 use Rattle.warc_write.specs.Written.{digest_text, id_text}
 
 -- the kinds that are split
