@@ -1,7 +1,9 @@
 -- What the rows of a head's refusals test.
-use Rattle.std.proofs.Common.{◌≡◌, ℕ, zero, suc, ◌+◌, ◌<◌, ◌≤◌, true, false, cond, nat_le, List, [], ◌∷◌, ◌++◌, Option, Some, None, Result, Ok, Err, length, length-take, take, drop, get_or, min, refl, sym, ap, subst, ◌∙◌, arith, ⊎_elim}
+use Rattle.std.proofs.Common.{◌≡◌, ℕ, ◌+◌, ◌<◌, ◌≤◌, true, false, true≢false, not, ◌==◌, cond, nat_le, List, [], ◌∷◌, ◌++◌, Option, Some, None, Result, Ok, Err, length, length-take, take, drop, get_or, min, refl, sym, ap, subst, ◌∙◌, arith, ⊎_elim}
 use Rattle.std.specs.Prelude.{option_map, option_and_then}
+use Rattle.std.specs.List.{list_all}
 use Rattle.std.proofs.lemmas.List.{take_all, take-append-drop, get_or-take}
+use Rattle.std.proofs.lemmas.List.Folds.{list_all_at}
 use Rattle.std.proofs.lemmas.Slice.Eq.{bytes_eq-Decides}
 use Rattle.std.proofs.lemmas.Bool.{cases_lt, leb-true}
 use Rattle.warc_frame.specs.declared.version.Version.{Version}
@@ -52,25 +54,15 @@ begins-byte (b ∷ bs) (c ∷ cs) k h l m =
     let fits : k < length (take n (b ∷ bs)) = omega (arith, length-take n (b ∷ bs)) in
     sym (get_or-take n (b ∷ bs) k 0 m) ∙ ap (λ xs. get_or xs k 0) same ∙ get_or-take (length (take n (b ∷ bs))) (c ∷ cs) k 0 fits
 
+-- a text of bytes that are all no CR has none at any place
+no_cr_among : (xs : List ℕ) (k : ℕ) → list_all (λ b. not (b == 13)) xs ≡ true → k < length xs → get_or xs k 0 ≡ 13 → ⊥
+no_cr_among xs k all l is =
+    let none : list_all (λ b. not (b == 13)) xs ≡ false = list_all_at (λ b. not (b == 13)) xs k 0 l (ap (λ b. not (b == 13)) is) in
+    true≢false (sym all ∙ none)
+
 no_cr_in_line : (v : Version) (k : ℕ) → k < 8 → get_or (version_line v) k 0 ≡ 13 → ⊥
-no_cr_in_line V1_0 zero l = λ e. absurd cc
-no_cr_in_line V1_0 (suc zero) l = λ e. absurd cc
-no_cr_in_line V1_0 (suc (suc zero)) l = λ e. absurd cc
-no_cr_in_line V1_0 (suc (suc (suc zero))) l = λ e. absurd cc
-no_cr_in_line V1_0 (suc (suc (suc (suc zero)))) l = λ e. absurd cc
-no_cr_in_line V1_0 (suc (suc (suc (suc (suc zero))))) l = λ e. absurd cc
-no_cr_in_line V1_0 (suc (suc (suc (suc (suc (suc zero)))))) l = λ e. absurd cc
-no_cr_in_line V1_0 (suc (suc (suc (suc (suc (suc (suc zero))))))) l = λ e. absurd cc
-no_cr_in_line V1_0 (suc (suc (suc (suc (suc (suc (suc (suc k)))))))) l = absurd (omega arith)
-no_cr_in_line V1_1 zero l = λ e. absurd cc
-no_cr_in_line V1_1 (suc zero) l = λ e. absurd cc
-no_cr_in_line V1_1 (suc (suc zero)) l = λ e. absurd cc
-no_cr_in_line V1_1 (suc (suc (suc zero))) l = λ e. absurd cc
-no_cr_in_line V1_1 (suc (suc (suc (suc zero)))) l = λ e. absurd cc
-no_cr_in_line V1_1 (suc (suc (suc (suc (suc zero))))) l = λ e. absurd cc
-no_cr_in_line V1_1 (suc (suc (suc (suc (suc (suc zero)))))) l = λ e. absurd cc
-no_cr_in_line V1_1 (suc (suc (suc (suc (suc (suc (suc zero))))))) l = λ e. absurd cc
-no_cr_in_line V1_1 (suc (suc (suc (suc (suc (suc (suc (suc k)))))))) l = absurd (omega arith)
+no_cr_in_line V1_0 k l is = no_cr_among (take 8 (version_line V1_0)) k refl l (get_or-take 8 (version_line V1_0) k 0 l ∙ is)
+no_cr_in_line V1_1 k l is = no_cr_among (take 8 (version_line V1_1)) k refl l (get_or-take 8 (version_line V1_1) k 0 l ∙ is)
 
 some_four : (o : Option ℕ) (n : ℕ) → option_map (λ place. place + 4) o ≡ Some n → (p : ℕ) × (o ≡ Some p) × (p + 4 ≡ n)
 some_four None n h = absurd cc
