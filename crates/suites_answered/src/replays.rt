@@ -8,7 +8,7 @@ use warc_answer::{Answer, Path, ReplayFault, replay_joined};
 use warc_frame::MemSink;
 use warc_record::Typed;
 use warc_segment::Place;
-use warc_value::Verdict;
+use warc_value::{Wanted, digest};
 use warc_vectors::{Break, BrokenSource, BrokenWriter};
 
 /// The heads of origins by their names, that of the origin, and its blocks.
@@ -189,7 +189,7 @@ fn replay_place(
     let place = Place {
         start: case.number(1),
         len: case.number(2),
-        verdict: Verdict::Unchecked,
+        wanted: Wanted::Unchecked,
         truncated: false,
     };
     let mut source = BrokenSource::new(case.given().to_vec(alloc)?, usize::MAX, 0);
@@ -262,14 +262,14 @@ impl Replays {
 
     /// Adds a block to the origin.
     fn add(&mut self, alloc: Global, case: &Case<'_>) -> Result<(), AllocError> {
-        let verdict = match case.text(1) {
-            "good" => Verdict::Good,
-            "bad" => Verdict::Bad,
-            _ => Verdict::Unchecked,
+        let wanted = match case.text(1) {
+            "good" => Wanted::Sha1(digest(case.given())),
+            "bad" => Wanted::Sha1(digest(b"another block")),
+            _ => Wanted::Unchecked,
         };
         self.blocks.push(Block {
             bytes: case.given().to_vec(alloc)?,
-            verdict,
+            wanted,
             truncated: case.text(2) == "truncated",
         })?;
         Ok(())

@@ -4,7 +4,7 @@ use std::alloc::{AllocError, Global};
 use warc_frame::read_one;
 use warc_record::{Typed, type_head};
 use warc_segment::Place;
-use warc_value::Verdict;
+use warc_value::Wanted;
 
 /// A record's text by a name.
 #[derive(Drop)]
@@ -13,11 +13,11 @@ pub(crate) struct Named {
     pub(crate) text: Vec<u8>,
 }
 
-/// A block, and what was found of it when it was read.
+/// A block, and what its record's head says of it.
 #[derive(Drop)]
 pub(crate) struct Block {
     pub(crate) bytes: Vec<u8>,
-    pub(crate) verdict: Verdict,
+    pub(crate) wanted: Wanted,
     pub(crate) truncated: bool,
 }
 
@@ -38,7 +38,7 @@ pub(crate) fn stored(alloc: Global, blocks: &[Block]) -> Result<(Vec<u8>, Vec<Pl
         places.push(Place {
             start: bytes.len() as u64,
             len: block.bytes.len() as u64,
-            verdict: block.verdict,
+            wanted: block.wanted,
             truncated: block.truncated,
         })?;
         bytes.extend_from_slice(&block.bytes)?;

@@ -7,7 +7,7 @@ use suites_script::{Case, Trial};
 use warc_field::read_area;
 use warc_record::{Typed, type_head};
 use warc_segment::Place;
-use warc_value::Verdict;
+use warc_value::Wanted;
 
 /// A record: what it is called, the field lines of its head, the length of its block, and where that stands, if this
 /// isn't by its position.
@@ -32,7 +32,7 @@ impl Head {
             None => Place {
                 start: position.saturating_add(1).saturating_mul(1000),
                 len: self.len,
-                verdict: Verdict::Unchecked,
+                wanted: Wanted::Unchecked,
                 truncated: false,
             },
         }
@@ -66,15 +66,15 @@ pub struct Records {
 
 /// The place that the words of a case say, if any.
 fn place_of(case: &Case<'_>) -> Option<Place> {
-    let verdict = match case.text(4) {
-        "bad" => Verdict::Bad,
-        "good" => Verdict::Good,
+    let wanted = match case.text(4) {
+        "checked" => Wanted::Sha1([7; 20]),
+        "unchecked" => Wanted::Unchecked,
         _ => return None,
     };
     Some(Place {
         start: case.number(3),
         len: case.number(2),
-        verdict,
+        wanted,
         truncated: case.text(5) == "truncated",
     })
 }

@@ -5,7 +5,7 @@ use std::alloc::{AllocError, Global};
 use suites_script::Case;
 use warc_record::{SegmentNumber, Typed};
 use warc_segment::{Gap, JoinFault, Parts, Place};
-use warc_value::Verdict;
+use warc_value::Wanted;
 use warc_vectors::{Heap, RefusingAllocator};
 
 /// What is told where memory is refused.
@@ -58,16 +58,15 @@ fn make<'a>(parts: &mut Parts<Heap<'a>>, willing: Heap<'a>, records: &Records) -
     Some(is_refused)
 }
 
-/// Tells where a block begins, its length, and what was found of it where it was checked or is marked.
+/// Tells where a block begins, its length, and whether its digest can be checked and whether it is marked.
 fn tell_place(alloc: Global, place: &Place, told: &mut Vec<u8>) -> Result<(), AllocError> {
-    let verdict = match place.verdict {
-        Verdict::Unchecked => "",
-        Verdict::Good => " good",
-        Verdict::Bad => " bad",
+    let wanted = match place.wanted {
+        Wanted::Unchecked => "",
+        Wanted::Sha1(_) => " checked",
     };
     let mark = if place.truncated { " truncated" } else { "" };
     let (start, len) = (place.start, place.len);
-    let text = format!(in alloc; "{start}+{len}{verdict}{mark}\n")?;
+    let text = format!(in alloc; "{start}+{len}{wanted}{mark}\n")?;
     told.extend_from_slice(text.as_bytes())
 }
 
@@ -252,7 +251,7 @@ fn add_number<'a>(
     let place = Place {
         start: number.saturating_add(1).saturating_mul(1000),
         len: 1,
-        verdict: Verdict::Unchecked,
+        wanted: Wanted::Unchecked,
         truncated: false,
     };
     parts.add(typed, place)

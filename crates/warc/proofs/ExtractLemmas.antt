@@ -18,13 +18,13 @@ use Rattle.warc.specs.Extracting.{Extracts, IsExtract, extracted, position_with}
 use Rattle.warc.specs.Parts.{GivesPart, IsGivenCut, ReadsPart, part_len, part_start, part_text}
 use Rattle.warc_reading.specs.Indexed.{Archived, AreOf}
 use Rattle.warc_reading.specs.Row.{Placed, Row, row_of}
-use Rattle.warc.specs.Standing.{IsPlacedIn}
+use Rattle.warc_reading.specs.Placing.{IsPlacedIn}
 use Rattle.warc.specs.declared.fault.ExtractFault.{ExtractFault}
 use Rattle.warc.specs.declared.fault.ExtractFault.TheVariants.{NoRecord, Out}
 use Rattle.warc.specs.declared.part.Part.{Part}
 use Rattle.warc.specs.declared.part.Part.TheVariants.{Head, Block}
 use Rattle.warc_reading.proofs.PlacedLemmas.{placed}
-use Rattle.warc.proofs.StandLemmas.{written}
+use Rattle.warc_reading.proofs.StandLemmas.{written}
 use Rattle.warc.proofs.TakeLemmas.{absent}
 
 nothing_read : (part : Part) (found : Option Row) (s : SeenSource) → ReadsPart part found s s

@@ -4,8 +4,9 @@ use Rattle.std.proofs.lemmas.List.{take_all}
 use Rattle.std.specs.List.{concat, enumerate_from, flat_map, join_with_byte}
 use Rattle.warc_record.specs.Ids.{bare_text}
 use Rattle.warc_reading.specs.Row.{Row}
+use Rattle.warc_value.specs.declared.hash.Verdict.{Verdict}
 use Rattle.warc_value.specs.declared.hash.Verdict.TheVariants.{Good, Bad, Unchecked}
-use Rattle.warc.specs.Fixity.{Digested, counts_line, counts_of, fixity_line, fixity_lines, fixity_text, verdict_line, verdict_text}
+use Rattle.warc.specs.Fixity.{Digested, Judgements, counts_line, counts_of, fixity_line, fixity_lines, fixity_text, verdict_line, verdict_text}
 use Rattle.warc.specs.Listing.{shown}
 use Rattle.warc.proofs.LineLemmas.{lines_front}
 use Rattle.warc.specs.declared.fixity.Counts.{Counts}
@@ -14,10 +15,10 @@ four : (a b c d : List ℕ) → concat ((a ++ 9 ∷ []) ∷ (b ++ 9 ∷ []) ∷ 
 four a b c d = simp append_assoc
 
 -- the columns that a line is put together from
-pub verdict_from : (position : ℕ) (row : Row) (digest a b c d : List ℕ) → a ≡ decimal position → b ≡ verdict_text row.verdict → c ≡ bare_text row.id → d ≡ shown digest
-    → concat ((a ++ 9 ∷ []) ∷ (b ++ 9 ∷ []) ∷ (c ++ 9 ∷ []) ∷ (d ++ 10 ∷ []) ∷ []) ≡ verdict_line position row digest
+pub verdict_from : (position : ℕ) (verdict : Verdict) (row : Row) (digest a b c d : List ℕ) → a ≡ decimal position → b ≡ verdict_text verdict → c ≡ bare_text row.id → d ≡ shown digest
+    → concat ((a ++ 9 ∷ []) ∷ (b ++ 9 ∷ []) ∷ (c ++ 9 ∷ []) ∷ (d ++ 10 ∷ []) ∷ []) ≡ verdict_line position verdict row digest
 unfolding verdict_line
-verdict_from position row digest a b c d is_a is_b is_c is_d = four a b c d ∙ rw (is_a, is_b, is_c, is_d) refl
+verdict_from position verdict row digest a b c d is_a is_b is_c is_d = four a b c d ∙ rw (is_a, is_b, is_c, is_d) refl
 
 eight : (a b c d e f g h : List ℕ)
     → concat ((a ++ 32 ∷ []) ∷ (b ++ 32 ∷ []) ∷ (c ++ 32 ∷ []) ∷ (d ++ 32 ∷ []) ∷ (e ++ 32 ∷ []) ∷ (f ++ 32 ∷ []) ∷ (g ++ 32 ∷ []) ∷ (h ++ 10 ∷ []) ∷ [])
@@ -32,21 +33,21 @@ unfolding counts_line
 counts_from counts a b c d e f g h is_a is_b is_c is_d is_e is_f is_g is_h = eight a b c d e f g h ∙ rw (is_a, is_b, is_c, is_d, is_e, is_f, is_g, is_h) refl
 
 -- the lines of the first rows, and all that follows them
-pub all_lines : (digests : List (List ℕ)) (rows : List Row) (i : ℕ) (last : List ℕ)
-    → fixity_lines digests (take i rows) ++ (flat_map (λ p. fixity_line digests p.0 p.1) (enumerate_from (length (take i rows)) (drop i rows)) ++ last) ≡ fixity_lines digests rows ++ last
-all_lines digests rows i last =
-    let rest = flat_map (λ p. fixity_line digests p.0 p.1) (enumerate_from (length (take i rows)) (drop i rows)) in
-    sym (append_assoc (fixity_lines digests (take i rows)) rest last) ∙ ap (λ t. t ++ last) (sym (lines_front (fixity_line digests) rows i))
+pub all_lines : (judged : Judgements) (rows : List Row) (i : ℕ) (last : List ℕ)
+    → fixity_lines judged (take i rows) ++ (flat_map (λ p. fixity_line judged p.0 p.1) (enumerate_from (length (take i rows)) (drop i rows)) ++ last) ≡ fixity_lines judged rows ++ last
+all_lines judged rows i last =
+    let rest = flat_map (λ p. fixity_line judged p.0 p.1) (enumerate_from (length (take i rows)) (drop i rows)) in
+    sym (append_assoc (fixity_lines judged (take i rows)) rest last) ∙ ap (λ t. t ++ last) (sym (lines_front (fixity_line judged) rows i))
 
--- the same rows and values
+-- the same rows, and the same found of their blocks
 pub same_listed : {S : Type 0} {a b : Digested S} → a ≡ b → a.listing.rows ≡ b.listing.rows
 same_listed {S} same = ap (λ (d : Digested S). d.listing.rows) same
 
-pub same_digests : {S : Type 0} {a b : Digested S} → a ≡ b → a.digests ≡ b.digests
-same_digests {S} same = ap (λ (d : Digested S). d.digests) same
+pub same_judged : {S : Type 0} {a b : Digested S} → a ≡ b → a.judged ≡ b.judged
+same_judged {S} same = ap (λ (d : Digested S). d.judged) same
 
 -- all lines, and the last one
-pub whole_text : (digests : List (List ℕ)) (rows : List Row) (i len : ℕ) (counts : Counts) → len ≡ length rows → len ≤ i → counts ≡ counts_of rows
-    → fixity_lines digests (take i rows) ++ counts_line counts ≡ fixity_text rows digests
-whole_text digests rows i len counts size past is =
-    ap (λ t. fixity_lines digests t ++ counts_line counts) (take_all i rows (omega (arith, size, past))) ∙ ap (λ k. fixity_lines digests rows ++ counts_line k) is
+pub whole_text : (judged : Judgements) (rows : List Row) (i len : ℕ) (counts : Counts) → len ≡ length rows → len ≤ i → counts ≡ counts_of judged.verdicts
+    → fixity_lines judged (take i rows) ++ counts_line counts ≡ fixity_text rows judged
+whole_text judged rows i len counts size past is =
+    ap (λ t. fixity_lines judged t ++ counts_line counts) (take_all i rows (omega (arith, size, past))) ∙ ap (λ k. fixity_lines judged rows ++ counts_line k) is

@@ -11,7 +11,6 @@ pub mod BodyLemmas
 pub mod LocatingLemmas
 pub mod SplitLemmas
 pub mod SummaryLemmas
-pub mod StandLemmas
 pub mod WholeLemmas
 pub mod TakeLemmas
 pub mod MigrationLemmas
@@ -19,4 +18,5 @@ pub mod KeptLemmas
 pub mod LookLemmas
 pub mod CaptureLemmas
 pub mod HeadingLemmas
+pub mod JudgedLemmas
 pub mod JoinedLemmas

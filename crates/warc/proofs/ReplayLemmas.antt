@@ -4,11 +4,12 @@ use Rattle.std.specs.Prelude.{Result}
 use Rattle.std.specs.List.{slice_get}
 use Rattle.std.proofs.lemmas.List.Sums.{sum_by-cons}
 use Rattle.warc_value.specs.Dates.{Instant}
+use Rattle.warc_value.specs.declared.hash.Wanted.{Wanted}
 use Rattle.warc_frame.specs.Effects.{ReadsOnly}
 use Rattle.warc_frame.proofs.EffectLemmas.{reads_both, reads_none, reads_within}
 use Rattle.warc_frame.specs.Seen.{AsksOnly, Seen, SeenSource}
 use Rattle.warc_frame.specs.Send.{sent_of}
-use Rattle.warc_record.specs.Readings.{reading_of}
+use Rattle.warc_record.specs.Readings.{Reading, reading_of}
 use Rattle.std.proofs.lemmas.List.{length-append, length-map}
 use Rattle.std.proofs.lemmas.List.Elements.{All-cons, All-contains, All-head, All-nil, All-tail}
 use Rattle.std.specs.List.{All, cons_option, filter_map}
@@ -24,7 +25,6 @@ use Rattle.warc_segment.specs.declared.place.Place.{Place}
 use Rattle.warc_answer.specs.Answers.{index_of, path_at, path_for, path_from, path_of}
 use Rattle.warc_answer.specs.Laws.{EndsInside, IsFound, PlacesAreAsLong}
 use Rattle.warc_answer.specs.Payloads.{read_record}
-use Rattle.warc_answer.specs.Origins.{body_reads}
 use Rattle.warc_answer.specs.Places.{IsInOne, ReadsPlaces, len_of}
 use Rattle.warc_answer.specs.Replays.{WritesLate}
 use Rattle.warc_answer.specs.declared.answer.ReplayFault.TheVariants.{Out}
@@ -35,11 +35,13 @@ use Rattle.warc_reading.specs.Indexed.{indexed_record, place_of, placed_record}
 use Rattle.warc.specs.Looking.{ArePlacesFor}
 use Rattle.warc.specs.Replaying.{IsJoined, IsJoinedTo, IsOfOrigin, IsOnPath, joined_len, origin_joined, origin_reads, path_reads, reads_of}
 use Rattle.warc_reading.specs.Row.{Placed, Row, row_of}
-use Rattle.warc.specs.Standing.{IsOrigin, IsPlacedIn}
+use Rattle.warc.specs.Standing.{IsAtEnd, IsOrigin, IsReached, IsRowAtEnd}
+use Rattle.warc_segment.specs.Kept.{Kept as Parts}
+use Rattle.warc_reading.specs.Placing.{IsPlacedIn}
 use Rattle.warc_reading.specs.declared.rereading.RereadFault.{RereadFault}
 use Rattle.warc_reading.specs.declared.rereading.RereadFault.TheVariants.{Read, Memory}
 use Rattle.warc_reading.proofs.ReadLemmas.{one_row}
-use Rattle.warc.proofs.StandLemmas.{written}
+use Rattle.warc_reading.proofs.StandLemmas.{written}
 
 -- the records, read
 abbrev pub read_all : List Placed → List ReadRecord
@@ -47,7 +49,7 @@ read_all records = map read_record (contents records)
 
 -- the block of a record that stands in the bytes is at its place
 place_here : (bytes : List ℕ) (p : Placed) → IsPlacedIn bytes p → IsPlaceOf bytes (place_of p) (read_record p.content)
-place_here bytes p has = record { within = omega (arith, has.end, has.within); block = has.block; verdict = refl; truncated = refl }
+place_here bytes p has = record { within = omega (arith, has.end, has.within); block = has.block; wanted = refl; truncated = refl }
 
 -- all records, by place and by block
 stored_by : (bytes : List ℕ) (records : List Placed) → ((i : ℕ) (p : Placed) → slice_get records i ≡ Some p → IsPlacedIn bytes p)
@@ -132,9 +134,37 @@ module _ (bytes : List ℕ) (records : List Placed) (found : Result Path Unfound
       let size : len_of places ≡ joined_len (joined_records (read_all records) (read_record p.content)) = law bytes places joined are ∙ ap joined_len (sym whole) in
       reads_within (λ at in_. in_joined q items places at head place from same in_) (subst (λ (n : ℕ). most ≤ times * n) size within) has
 
--- the place that a row says is the place of its record's block
-pub place_by_row : (p : Placed) (row : Row) → row ≡ row_of p → ◌≡◌ {A = Place} (record { start = row.block_start; len = row.block_len; verdict = row.verdict; truncated = row.is_truncated }) (place_of p)
-place_by_row p row same = ap (λ (r : Row). let x : Place = record { start = r.block_start; len = r.block_len; verdict = r.verdict; truncated = r.is_truncated } in x) same
+-- the place that a row and the digest that a head asks for say
+abbrev pub place_in : Row → Wanted → Place
+place_in row wanted = record { start = row.block_start; len = row.block_len; wanted = wanted; truncated = row.is_truncated }
+
+-- it is the place of the row's record's block
+pub place_by_row : (p : Placed) (row : Row) (wanted : Wanted) → row ≡ row_of p → wanted ≡ (reading_of p.content.fields).wanted
+    → place_in row wanted ≡ place_of p
+place_by_row p row wanted same asks = ap (λ (r : Row). place_in r wanted) same ∙ ap (place_in (row_of p)) asks
+
+-- a record at the end of a path by its row, whatever its head is read as
+abbrev pub at_by_row : (bytes : List ℕ) (path : Path) (parts : Parts) (row here : Row) (wanted : Wanted)
+    → IsRowAtEnd bytes path parts row → here ≡ row → IsAtEnd bytes path parts (place_in here wanted)
+at_by_row bytes path parts row here wanted at same = record {
+  records = at.records;
+  found = at.found;
+  placed = at.placed;
+  origin = at.origin;
+  parts_are = at.parts_are;
+  start_is = ap (λ (r : Row). r.block_start) (same ∙ at.row_is);
+  len_is = ap (λ (r : Row). r.block_len) (same ∙ at.row_is);
+}
+
+-- and by its head
+abbrev pub reached_by_row : (bytes : List ℕ) (path : Path) (parts : Parts) (row here : Row) (head : Reading)
+    (at : IsRowAtEnd bytes path parts row) → here ≡ row → head ≡ reading_of at.placed.content.fields
+    → IsReached bytes path parts head (place_in here head.wanted)
+reached_by_row bytes path parts row here head at same says = record {
+  at = at_by_row bytes path parts row here head.wanted at same;
+  head_is = says;
+  place_is = place_by_row at.placed here head.wanted (same ∙ at.row_is) (ap (λ (h : Reading). h.wanted) says);
+}
 
 -- a head that isn't read again, as the end of an output
 pub ended_sent : (fault : RereadFault) → sent_of (ended_by fault 0) ≡ 0
@@ -145,10 +175,6 @@ ended_sent Memory = refl
 pub ended_late : {X : Type 0} (fault : RereadFault) (o : Seen) → WritesLate {X = X} (Err (Out (ended_by fault 0))) o o
 ended_late {X} Read o = record { silent = tt; cause = refl }
 ended_late {X} Memory o = record { silent = (refl, refl); cause = refl }
-
-pub body_within : (http : Bool) (places : List Place) → body_reads http places ≤ 2 * len_of places
-body_within true places = omega arith
-body_within false places = omega arith
 
 pub in_list : {X : Type 0} (xs : List X) (i : ℕ) (x : X) → slice_get xs i ≡ Some x → i < length xs
 in_list [] i x is = absurd (cc is)
@@ -273,16 +299,16 @@ in_all n q places all (p, here, from, to) = omega (arith, to, All-contains (Ends
 
 module _ (bytes : List ℕ) (records : List Placed) (found : Result Path Unfound) (path : Path) (p : Placed) (is : IsOrigin bytes records found path p) where
   -- what is joined to the origin lies among the bytes, whatever its head is read as
-  pub joined_end : (q : PlacedRecord) (items : List Place) → q.place ≡ place_of p → joined_places (map placed_record records) q ≡ Ok items → All (EndsBy (length bytes)) items
-  joined_end q items place joined =
+  pub joined_end : (q : PlacedRecord) (items : List Place) → q.place.start ≡ p.block_start → q.place.len ≡ length p.content.block → joined_places (map placed_record records) q ≡ Ok items → All (EndsBy (length bytes)) items
+  joined_end q items start len joined =
       let has = written bytes records is.spelled path.given p is.stands in
-      let own : EndsBy (length bytes) q.place = omega (arith, has.end, has.within, ap (λ (x : Place). x.start + x.len) place) in
+      let own : EndsBy (length bytes) q.place = omega (arith, has.end, has.within, start, len) in
       joined_all (EndsBy (length bytes)) _ q.place _ items (all_end 0 (length bytes) records bytes is.spelled (omega arith)) own joined
 
-  pub joined_inside : (q : PlacedRecord) (items places : List Place) (watches : ℕ → Bool) (old new : ℕ) → q.place ≡ place_of p → joined_places (map placed_record records) q ≡ Ok items → places ≡ items
+  pub joined_inside : (q : PlacedRecord) (items places : List Place) (watches : ℕ → Bool) (old new : ℕ) → q.place.start ≡ p.block_start → q.place.len ≡ length p.content.block → joined_places (map placed_record records) q ≡ Ok items → places ≡ items
       → Asks (IsInOne places) watches old new → Asks (λ at. at < length bytes) watches old new
-  joined_inside q items places watches old new place joined same near =
-      λ off. near (λ at in_. off at (in_all (length bytes) at items (joined_end q items place joined) (subst (λ (l : List Place). IsInOne l at) same in_)))
+  joined_inside q items places watches old new start len joined same near =
+      λ off. near (λ at in_. off at (in_all (length bytes) at items (joined_end q items start len joined) (subst (λ (l : List Place). IsInOne l at) same in_)))
 
   -- and so does its head
   pub head_inside : (row : Row) (old new : SeenSource) → row ≡ row_of p → ReadsHeads (row ∷ []) old new → AsksOnly (λ at. at < length bytes) old new

@@ -1,34 +1,39 @@
 -- Records that are split into segments, whose pieces are copied from a source.
-use Rattle.std.proofs.Common.{◌≡◌, ℕ, ◌+◌, ◌-◌, ◌*◌, ◌<◌, ◌≤◌, List, [], ◌∷◌, ◌++◌, length, map, take, drop, min, Option, None, Some, refl, sym, ap, ◌∙◌, arith}
+use Rattle.std.proofs.Common.{◌≡◌, ℕ, ◌+◌, ◌-◌, ◌*◌, ◌<◌, ◌≤◌, List, [], ◌∷◌, ◌++◌, length, map, take, drop, min, Bool, true, false, not, inl, inr, Option, None, Some, IfSome, Result, Ok, Err, refl, sym, ap, ◌∙◌, arith}
 use Rattle.std.proofs.lemmas.Grind.{flat_map-append}
 use Rattle.std.proofs.lemmas.List.{append-nil, drop-drop, drop-take, length-drop, length-take, length-take-le, take-append-drop, take-take, take_min}
 use Rattle.std.proofs.lemmas.List.FromFn.{map-range_with_len_more, take-map-range_with_len}
+use Rattle.std.proofs.lemmas.Bool.{cases_lt, le-leb}
 use Rattle.std.specs.List.{range_with_len}
 use Rattle.sha1.specs.Sha1.{sha1}
 use Rattle.warc_field.specs.Area.{Pair, canonical_fields}
 use Rattle.warc_field.specs.Lines.{crlf}
-use Rattle.warc_frame.specs.Effects.{ReadsRange}
 use Rattle.warc_frame.specs.Record.{Record, head_text}
-use Rattle.warc_frame.specs.Seen.{SeenSource}
 use Rattle.warc_frame.specs.Spelling.{canonical}
-use Rattle.warc_write.specs.Cutting.{HasParts, part_with, records_by, split_or_whole}
+use Rattle.warc_write.specs.Cutting.{HasParts, or_whole, part_with, records_by, split_or_whole}
 use Rattle.warc_write.specs.Rendering.{canonical_texts}
-use Rattle.warc_write.specs.Splitting.{part_of, piece_at, segment_count, segment_fields, segment_of}
+use Rattle.warc_frame.specs.Reading.{◌>>=◌}
+use Rattle.warc_write.specs.Refusals.{checks}
+use Rattle.warc_write.specs.Splitting.{cut_of, part_of, piece_at, segment_count, segment_fields, segment_of, split_of, splittable}
+use Rattle.warc_write.specs.declared.splitting.SplitFault.{SplitFault}
+use Rattle.warc_write.specs.declared.splitting.SplitFault.TheVariants.{BadDigest}
 use Rattle.warc_write.specs.declared.splitting.Part.{Part}
 use Rattle.warc_frame.specs.declared.reading.Head.{Head}
 use Rattle.warc_frame.specs.declared.version.Version.{Version}
-use Rattle.warc_value.specs.Digests.{is_bad}
+use Rattle.warc_value.specs.Digests.{is_bad, verdict_of}
+use Rattle.warc_record.specs.Blocks.{has_bad_digest}
+use Rattle.warc_record.specs.Readings.{digest_wanted}
 use Rattle.warc_reading.specs.Row.{Placed, Row, row_of}
-use Rattle.warc.specs.Copied.{IsCopy, IsTextWith}
+use Rattle.warc.specs.Copied.{HasWhole, IsCopy, IsTextWith}
 use Rattle.warc_frame.specs.Effects.{ReadsOnly}
-use Rattle.warc_frame.specs.Seen.{IsInRange}
+use Rattle.warc_frame.specs.Seen.{IsInRange, SeenSource}
 use Rattle.warc.specs.Forms.{split_text}
-use Rattle.warc.specs.Segments.{AreSegmentTexts, IsCutOf, IsSegmentText}
+use Rattle.warc.specs.Segments.{AreSegmentTexts, IsCutOf, IsCuttable, IsSegmentText}
 use Rattle.warc.specs.declared.copying.Copied.{Copied}
 use Rattle.warc.specs.declared.segments.Cut.{Cut}
 use Rattle.warc_reading.specs.Rereading.{IsHeadReadOf}
 use Rattle.warc.proofs.EmitLemmas.{Begins, InTurn}
-use Rattle.warc_frame.proofs.EffectLemmas.{reads_both, reads_within}
+use Rattle.warc_frame.proofs.EffectLemmas.{reads_within}
 use Rattle.warc.proofs.WholeLemmas.{copy_of}
 
 -- ---- a segment
@@ -122,29 +127,74 @@ segments_none {A} cut bytes text (r, is, text_is) = text_is
 
 -- ---- a row's record
 
-parts_of : {A : Type 0} (row : Row) (head : Head A) (p : Placed) → IsHeadReadOf p.content head → row ≡ row_of p
-    → HasParts head.version head.fields row.block_len (is_bad row.verdict) p.content
-parts_of {A} row head p is row_is = record {
+-- a short record stays whole, whatever its digest
+short_stays : (r : Record) (n : ℕ) → length r.block ≤ n → split_or_whole n r ≡ r ∷ []
+unfolding split_of
+short_stays r n short = by_uuid (splittable r.fields n)
+  where
+    by_test : (uuid : List ℕ) → cut_of r uuid n ≡ Ok (r ∷ [])
+    by_test uuid = rw (le-leb (length r.block) n short) refl
+
+    by_digest : (uuid : List ℕ) (fine : Bool)
+        → or_whole r (◌>>=◌ (checks fine BadDigest) (λ _. cut_of r uuid n)) ≡ r ∷ []
+    by_digest uuid true = ap (or_whole r) (by_test uuid)
+    by_digest uuid false = refl
+
+    by_uuid : (o : Result (List ℕ) SplitFault)
+        → or_whole r (◌>>=◌ o (λ uuid. ◌>>=◌ (checks (not (has_bad_digest r)) BadDigest) (λ _. cut_of r uuid n))) ≡ r ∷ []
+    by_uuid (Ok uuid) = by_digest uuid (not (has_bad_digest r))
+    by_uuid (Err fault) = refl
+
+-- it is cut as its head and the verdict on a long block say
+pub cut_by : (version : Version) (fields : List Pair) (len size : ℕ) (bad : Bool) (r : Record) (uuid : Option (List ℕ))
+    → IsCuttable version fields len size bad r → IfSome uuid (λ _. (0 < size) × (size < len))
+    → (HasParts version fields len bad r → split_or_whole size r ≡ records_by r size uuid)
+    → split_or_whole size r ≡ records_by r size uuid
+cut_by version fields len size bad r uuid is long by = elim (cases_lt size len) [
+  | inl lt ↦
+      by (record { version_is = is.version_is; fields_are = is.fields_are; len_is = is.len_is; digest_is = is.digest_is lt })
+  | inr le ↦ stays uuid long (omega (arith, le, is.len_is))
+]
+  where
+    stays : (o : Option (List ℕ)) → IfSome o (λ _. (0 < size) × (size < len)) → length r.block ≤ size
+        → split_or_whole size r ≡ records_by r size o
+    stays None low short = short_stays r size short
+    stays (Some u) low short = absurd (omega (arith, low.1, short, is.len_is))
+
+-- what is known of the verdict on a row's block
+abbrev pub IsJudgedFor : {A : Type 0} → ℕ → Row → Head A → List ℕ → Bool → Type 0
+IsJudgedFor size row head bytes bad = size < row.block_len
+    → bad ≡ is_bad (verdict_of (digest_wanted head.fields) (take row.block_len (drop row.block_start bytes)))
+
+cuttable : {A : Type 0} (size : ℕ) (row : Row) (head : Head A) (bad : Bool) (bytes : List ℕ) (p : Placed)
+    → IsHeadReadOf p.content head → row ≡ row_of p → HasWhole bytes p → IsJudgedFor size row head bytes bad
+    → IsCuttable head.version head.fields row.block_len size bad p.content
+cuttable {A} size row head bad bytes p is row_is whole judged = record {
   version_is = sym is.version;
   fields_are = sym is.fields;
   len_is = ap (λ (r : Row). r.block_len) (sym row_is);
-  digest_is = ap (λ (r : Row). is_bad r.verdict) (sym row_is);
+  digest_is = λ lt.
+      let block : take row.block_len (drop row.block_start bytes) ≡ p.content.block =
+      ap (λ (r : Row). take r.block_len (drop r.block_start bytes)) row_is ∙ whole.block in
+      sym (judged lt ∙ ap (λ b. is_bad (verdict_of (digest_wanted head.fields) b)) block
+      ∙ ap (λ f. is_bad (verdict_of (digest_wanted f) p.content.block)) is.fields);
 }
 
 -- how records of this head are cut
-abbrev pub IsCutBy : {A : Type 0} → ℕ → Row → Head A → Option (List ℕ) → Type 0
-IsCutBy size row head uuid =
-    (r : Record) → HasParts head.version head.fields row.block_len (is_bad row.verdict) r → split_or_whole size r ≡ records_by r size uuid
+abbrev pub IsCutBy : {A : Type 0} → ℕ → Row → Head A → Bool → Option (List ℕ) → Type 0
+IsCutBy size row head bad uuid =
+    (r : Record) → IsCuttable head.version head.fields row.block_len size bad r → split_or_whole size r ≡ records_by r size uuid
 
 -- the segments that are written of it
-pub segments_of_row : {A : Type 0} (cut : Cut A) (row : Row) (head : Head A) (bytes text : List ℕ) → cut.version ≡ head.version → cut.fields ≡ head.fields
-    → cut.block_start ≡ row.block_start → cut.block_len ≡ row.block_len → IsCutBy cut.size row head (Some cut.uuid)
+pub segments_of_row : {A : Type 0} (cut : Cut A) (row : Row) (head : Head A) (bad : Bool) (bytes text : List ℕ) → cut.version ≡ head.version → cut.fields ≡ head.fields
+    → cut.block_start ≡ row.block_start → cut.block_len ≡ row.block_len → IsCutBy cut.size row head bad (Some cut.uuid)
+    → IsJudgedFor cut.size row head bytes bad
     → IsTextWith (split_text cut.size) row head bytes text → AreSegmentTexts cut (segment_count cut.size cut.block_len) bytes text
-segments_of_row {A} cut row head bytes text version fields start len by (is, of_head) =
+segments_of_row {A} cut row head bad bytes text version fields start len by judged (is, of_head) =
     let p = is.placed in
     let start_is : cut.block_start ≡ p.block_start = start ∙ ap (λ (r : Row). r.block_start) is.row_is in
     let len_is : cut.block_len ≡ length p.content.block = len ∙ ap (λ (r : Row). r.block_len) is.row_is in
-    let records = by p.content (parts_of row head p of_head is.row_is) in (
+    let records = by p.content (cuttable cut.size row head bad bytes p of_head is.row_is is.whole judged) in (
       p.content,
       record {
         version = version ∙ of_head.version;
@@ -156,12 +206,12 @@ segments_of_row {A} cut row head bytes text version fields start len by (is, of_
     )
 
 -- the copy that is written of it where it stands whole
-pub whole_of_row : {A : Type 0} (copy : Copied A) (size : ℕ) (row : Row) (head : Head A) (bytes text : List ℕ) → copy.version ≡ head.version
-    → copy.fields ≡ head.fields → copy.block_start ≡ row.block_start → copy.block_len ≡ row.block_len → IsCutBy size row head None
-    → IsTextWith (split_text size) row head bytes text → IsCopy copy bytes text
-whole_of_row {A} copy size row head bytes text version fields start len by (is, of_head) =
+pub whole_of_row : {A : Type 0} (copy : Copied A) (size : ℕ) (row : Row) (head : Head A) (bad : Bool) (bytes text : List ℕ) → copy.version ≡ head.version
+    → copy.fields ≡ head.fields → copy.block_start ≡ row.block_start → copy.block_len ≡ row.block_len → IsCutBy size row head bad None
+    → IsJudgedFor size row head bytes bad → IsTextWith (split_text size) row head bytes text → IsCopy copy bytes text
+whole_of_row {A} copy size row head bad bytes text version fields start len by judged (is, of_head) =
     let p = is.placed in
-    let records = by p.content (parts_of row head p of_head is.row_is) in
+    let records = by p.content (cuttable size row head bad bytes p of_head is.row_is is.whole judged) in
     copy_of (split_text size) row copy bytes text is (record {
       start = start ∙ ap (λ (r : Row). r.block_start) is.row_is;
       len = len ∙ ap (λ (r : Row). r.block_len) is.row_is;
@@ -176,13 +226,3 @@ pub reads_piece : (start len gone n most : ℕ) {old new : SeenSource} → gone 
     → ReadsOnly (IsInRange start len) most old new
 reads_piece start len gone n most {old} {new} within le has =
     reads_within (λ at in_. (omega (arith, in_.0), omega (arith, in_.1, within))) le has
-
--- one more piece of a range
-pub reads_more : (at done n m : ℕ) {old mid new : SeenSource} → m ≡ n → ReadsRange at done old mid
-    → ReadsRange (at + done) m mid new → ReadsRange at (done + n) old new
-reads_more at done n m {old} {mid} {new} same first has =
-    let front : ReadsOnly (IsInRange at (done + n)) done old mid =
-    reads_within (λ q in_. (in_.0, omega (arith, in_.1))) (omega arith) first in
-    let last : ReadsOnly (IsInRange at (done + n)) n mid new =
-    reads_within (λ q in_. (omega (arith, in_.0), omega (arith, in_.1, same))) (omega (arith, same)) has in
-    reads_both front last

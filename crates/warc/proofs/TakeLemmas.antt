@@ -12,12 +12,13 @@ use Rattle.warc_frame.specs.declared.fault.Fault.{Fault}
 use Rattle.warc_frame.specs.declared.fault.FaultKind.{FaultKind}
 use Rattle.warc_frame.specs.declared.fault.FaultKind.TheVariants.{Memory as NoMemory}
 use Rattle.warc_reading.specs.Row.{Placed, Row, row_of}
-use Rattle.warc.specs.Standing.{HasRecordOf, IsUntaken, IsPlacedIn}
+use Rattle.warc.specs.Standing.{HasRecordOf, IsUntaken}
+use Rattle.warc_reading.specs.Placing.{IsPlacedIn}
 use Rattle.warc.specs.Taking.{IsSpelledIn, IsTaken, ReadsRecord, GivesRecord, record_len, take_result}
 use Rattle.warc.specs.declared.fault.TakeFault.{TakeFault}
 use Rattle.warc.specs.declared.fault.TakeFault.TheVariants.{NoRecord, Read, Memory}
 use Rattle.warc_reading.proofs.PlacedLemmas.{placed}
-use Rattle.warc.proofs.StandLemmas.{written}
+use Rattle.warc_reading.proofs.StandLemmas.{written}
 
 -- the text that is read where the row says spells the record
 pub spells_there : (bytes text : List ℕ) (p : Placed) (row : Row) (len : ℕ) → IsPlacedIn bytes p → row ≡ row_of p → row.offset + len ≡ row.block_start + row.block_len + 4

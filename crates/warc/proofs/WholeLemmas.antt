@@ -19,7 +19,8 @@ use Rattle.warc.specs.Copied.{AreTextsOf, HasWhole, IsCopiedOf, IsCopy, IsTextOf
 use Rattle.warc_frame.specs.Effects.{ReadsOnly, Sends}
 use Rattle.warc_frame.specs.Seen.{IsInRange, Seen}
 use Rattle.warc_frame.specs.declared.fault.OutFault.{OutFault}
-use Rattle.warc.specs.Forms.{IsInAnyRow, IsInRow, IsOutputOf, text_as}
+use Rattle.warc.specs.Forms.{IsOutputOf, text_as}
+use Rattle.warc_reading.specs.Placing.{IsInAnyRow, IsInRow}
 use Rattle.warc_reading.specs.Rereading.{ReadsHeads}
 use Rattle.warc_frame.specs.Seen.{SeenSource}
 use Rattle.warc_reading.specs.Row.{Placed, Row, row_of}
@@ -228,35 +229,3 @@ converted_copy {A} form p row c form_is row_is version fields start len = record
   len = len ∙ ap (λ (r : Row). r.block_len) row_is;
   text = converted_text p c.version c.fields version fields ∙ ap (λ f. text_as f p.content) (sym form_is);
 }
-
--- ---- what is read for it
-
--- a head of a row
-pub reads_head_of : (row : Row) {old new : SeenSource} → ReadsHeads (row ∷ []) old new
-    → ReadsOnly (IsInRow row) (row.block_start - row.offset) old new
-reads_head_of row {old} {new} has =
-    reads_within
-    (λ at in_.
-    let same = one_row row in_.row in_.place in_.is in
-    (omega (arith, in_.from, ap (λ (r : Row). r.offset) same), omega (arith, in_.to, ap (λ (r : Row). r.block_start) same)))
-    (omega (arith, sum_by-cons (λ (r : Row). r.block_start - r.offset) row [])) has
-
--- the block of a row's record
-pub reads_block_of : (row : Row) (most : ℕ) {old new : SeenSource} → row.offset ≤ row.block_start
-    → ReadsOnly (IsInRange row.block_start row.block_len) most old new → ReadsOnly (IsInRow row) most old new
-reads_block_of row most {old} {new} order reads = reads_within (λ at in_. (omega (arith, in_.0, order), in_.1)) (omega arith) reads
-
--- the records of the first rows, and of one more
-pub reads_row : (len_of : Row → ℕ) (rows : List Row) (i : ℕ) (row : Row) {old mid new : SeenSource} → slice_get rows i ≡ Some row
-    → ReadsOnly (IsInAnyRow rows) (sum_by len_of (take i rows)) old mid → ReadsOnly (IsInRow row) (len_of row) mid new
-    → ReadsOnly (IsInAnyRow rows) (sum_by len_of (take (i + 1) rows)) old new
-reads_row len_of rows i row {old} {mid} {new} is first one =
-    let whole : sum_by len_of (take (i + 1) rows) ≡ sum_by len_of (take i rows) + len_of row =
-    ap (sum_by len_of) (take_one rows i row is) ∙ sum_by_push len_of (take i rows) row in
-    let last : ReadsOnly (IsInAnyRow rows) (len_of row) mid new =
-    reads_within (λ at in_. record { place = i; row = row; is = is; inside = in_ }) (omega arith) one in
-    reads_within (λ at in_. in_) (omega (arith, whole)) (reads_both first last)
-
-pub reads_rows : (len_of : Row → ℕ) (rows : List Row) (n : ℕ) {old new : SeenSource} → ReadsOnly (IsInAnyRow rows) (sum_by len_of (take n rows)) old new
-    → ReadsOnly (IsInAnyRow rows) (sum_by len_of rows) old new
-reads_rows len_of rows n {old} {new} reads = reads_within (λ at in_. in_) (sum_by-take-le len_of rows n) reads

@@ -1,5 +1,5 @@
 -- How many records are of a kind, have a verdict, or are marked as truncated. This project's own notion.
-use Rattle.std.specs.Prelude.{ℕ, Bool, true, false, List, length, filter}
+use Rattle.std.specs.Prelude.{ℕ, Bool, true, false, List, length, filter, slice_get, unwrap_or}
 use Rattle.warc_value.specs.declared.hash.Verdict.{Verdict}
 use Rattle.warc_value.specs.declared.hash.Verdict.TheVariants.{Good, Bad, Unchecked}
 use Rattle.warc_record.specs.Kinds.{kind_named}
@@ -33,8 +33,14 @@ is_verdict _ _ = false
 abbrev pub is_counted : Counted → Row → Bool
 is_counted (counted.Kind kind) row = is_kind kind (kind_named row.kind)
 is_counted counted.Capture row = is_capture (kind_named row.kind)
-is_counted (counted.Verdict verdict) row = is_verdict verdict row.verdict
 is_counted counted.Truncated row = row.is_truncated
 
 abbrev pub tally_of : Counted → List Row → ℕ
 tally_of what rows = length (filter (is_counted what) rows)
+
+-- how many verdicts are this one, and which one is at a position; past the end it is as if nothing could be checked
+abbrev pub verdict_tally : Verdict → List Verdict → ℕ
+verdict_tally verdict verdicts = length (filter (is_verdict verdict) verdicts)
+
+abbrev pub verdict_at : List Verdict → ℕ → Verdict
+verdict_at verdicts position = unwrap_or (slice_get verdicts position) Unchecked

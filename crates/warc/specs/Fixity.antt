@@ -9,10 +9,10 @@ use Rattle.warc_frame.specs.declared.fault.Fault.{Fault}
 use Rattle.warc_frame.specs.Names.{warc_block_digest}
 use Rattle.warc_record.specs.Ids.{bare_text}
 use Rattle.warc_reading.specs.Archive.{Contents, IsArchiveOf}
-use Rattle.warc_reading.specs.Row.{Placed, Row, row_of}
-use Rattle.warc.specs.Counting.{tally_of}
+use Rattle.warc_reading.specs.Judging.{verdict_on}
+use Rattle.warc_reading.specs.Row.{Placed, Row}
+use Rattle.warc.specs.Counting.{verdict_at, verdict_tally}
 use Rattle.warc.specs.Listing.{shown}
-use Rattle.warc.specs.declared.counting.Counted.TheVariants as counted
 use Rattle.warc.specs.declared.fixity.Counts.{Counts}
 
 -- the value that states the digest of a block, empty where no field does
@@ -26,20 +26,26 @@ unless_good Bad text = text
 unless_good Unchecked text = text
 
 abbrev pub digest_kept : Placed → List ℕ
-digest_kept p = unless_good (row_of p).verdict (digest_value p.content.fields)
+digest_kept p = unless_good (verdict_on p) (digest_value p.content.fields)
 
--- a listing, and for each record that value
-pub record Digested (S : Type 0) : Type 0 where
-  pub listing : Contents S
+-- how blocks compare with the digests that their heads ask for, and those values
+pub record Judgements : Type 0 where
+  pub verdicts : List Verdict
   pub digests : List (List ℕ)
 
--- these are the rows of the good records that the bytes spell, and those values of theirs
-pub record AreDigested (bytes : List ℕ) (rows : List Row) (digests : List (List ℕ)) : Type 0 where
+-- a listing, and what was found of each record's block
+pub record Digested (S : Type 0) : Type 0 where
+  pub listing : Contents S
+  pub judged : Judgements
+
+-- these are the rows of the good records that the bytes spell, and what was found of their blocks
+pub record AreDigested (bytes : List ℕ) (rows : List Row) (judged : Judgements) : Type 0 where
   pub listed : IsArchiveOf bytes rows
-  pub digests_are : digests ≡ map digest_kept listed.are.records
+  pub verdicts_are : judged.verdicts ≡ map verdict_on listed.are.records
+  pub digests_are : judged.digests ≡ map digest_kept listed.are.records
 
 abbrev pub IsDigested : {S : Type 0} → List ℕ → Digested S → Type 0
-IsDigested bytes digested = AreDigested bytes digested.listing.rows digested.digests
+IsDigested bytes digested = AreDigested bytes digested.listing.rows digested.judged
 
 -- what opening gives, or why it gives none; and the source that it leaves
 abbrev pub digested_of : {S : Type 0} → Result (Digested S) (Fault × S) → Result (Digested S) Fault
@@ -51,12 +57,12 @@ source_digested (Ok digested) = digested.listing.source
 source_digested (Err refused) = refused.1
 
 -- how many records there are, and how many of each verdict
-abbrev pub counts_of : List Row → Counts
-counts_of rows = record {
-  records = length rows;
-  good = tally_of (counted.Verdict Good) rows;
-  bad = tally_of (counted.Verdict Bad) rows;
-  unchecked = tally_of (counted.Verdict Unchecked) rows;
+abbrev pub counts_of : List Verdict → Counts
+counts_of verdicts = record {
+  records = length verdicts;
+  good = verdict_tally Good verdicts;
+  bad = verdict_tally Bad verdicts;
+  unchecked = verdict_tally Unchecked verdicts;
 }
 
 abbrev pub verdict_text : Verdict → List ℕ
@@ -66,15 +72,19 @@ verdict_text Unchecked = codes "unchecked"
 
 -- the line of a block that isn't good: the position of its record, the verdict, the bare id and the digest's value,
 -- separated by tabs, ended by LF
-unfoldable pub verdict_line : ℕ → Row → List ℕ → List ℕ
-verdict_line position row digest =
-    join_with_byte 9 (decimal position ∷ verdict_text row.verdict ∷ bare_text row.id ∷ shown digest ∷ [])
+unfoldable pub verdict_line : ℕ → Verdict → Row → List ℕ → List ℕ
+verdict_line position verdict row digest =
+    join_with_byte 9 (decimal position ∷ verdict_text verdict ∷ bare_text row.id ∷ shown digest ∷ [])
     ++ codes "\n"
 
 -- the line of the row at a position, if its block isn't good
-abbrev pub fixity_line : List (List ℕ) → ℕ → Row → List ℕ
-fixity_line digests position row =
-    unless_good row.verdict (verdict_line position row (unwrap_or (slice_get digests position) []))
+abbrev pub digest_at : List (List ℕ) → ℕ → List ℕ
+digest_at digests position = unwrap_or (slice_get digests position) []
+
+abbrev pub fixity_line : Judgements → ℕ → Row → List ℕ
+fixity_line judged position row =
+    unless_good (verdict_at judged.verdicts position) (verdict_line position (verdict_at judged.verdicts position) row
+    (digest_at judged.digests position))
 
 -- the last line: how many records there are, and how many blocks of each verdict, with a space between two
 unfoldable pub counts_line : Counts → List ℕ
@@ -84,9 +94,9 @@ counts_line counts =
     ++ codes "\n"
 
 -- the lines of the blocks that aren't good
-abbrev pub fixity_lines : List (List ℕ) → List Row → List ℕ
-fixity_lines digests rows = flat_map (λ p. fixity_line digests p.0 p.1) (enumerate_from 0 rows)
+abbrev pub fixity_lines : Judgements → List Row → List ℕ
+fixity_lines judged rows = flat_map (λ p. fixity_line judged p.0 p.1) (enumerate_from 0 rows)
 
 -- all lines
-abbrev pub fixity_text : List Row → List (List ℕ) → List ℕ
-fixity_text rows digests = fixity_lines digests rows ++ counts_line (counts_of rows)
+abbrev pub fixity_text : List Row → Judgements → List ℕ
+fixity_text rows judged = fixity_lines judged rows ++ counts_line (counts_of judged.verdicts)

@@ -10,6 +10,7 @@ use Rattle.warc_write.specs.Conversion.{converted}
 use Rattle.warc_write.specs.Cutting.{split_or_whole}
 use Rattle.warc_write.specs.Rendering.{canonical_texts}
 use Rattle.warc_reading.specs.Archive.{IsArchiveOf, contents}
+use Rattle.warc_reading.specs.Placing.{IsInAnyRow}
 use Rattle.warc_reading.specs.Row.{Row}
 use Rattle.warc.specs.declared.copying.Form.{Form}
 use Rattle.warc.specs.declared.copying.Form.TheVariants.{Canonical, Converted}
@@ -35,24 +36,14 @@ split_text n r = canonical_texts (split_or_whole n r)
 abbrev pub split_texts : ℕ → List Record → List ℕ
 split_texts n records = flat_map (split_text n) records
 
--- the offset of a byte of a row's head or block
-abbrev pub IsInRow : Row → ℕ → Type 0
-IsInRow row at = (row.offset ≤ at) × (at < row.block_start + row.block_len)
-
--- the offset of a byte of the head or block of one of these rows
-pub record IsInAnyRow (rows : List Row) (at : ℕ) : Type 0 where
-  pub place : ℕ
-  pub row : Row
-  pub is : slice_get rows place ≡ Some row
-  pub inside : IsInRow row at
-
 -- how many bytes of a record are read
 abbrev pub read_len : Form → Row → ℕ
 read_len form row = (row.block_start - row.offset) + row.block_len
 
--- the same where records are split: a block is read twice, since the digest of a segment is before it
+-- the same where records are split: a block is read to judge its digest, and then twice, since the digest of a segment
+-- is before it
 abbrev pub split_len : Row → ℕ
-split_len row = (row.block_start - row.offset) + 2 * row.block_len
+split_len row = (row.block_start - row.offset) + 3 * row.block_len
 
 -- the text is that of each record of an archive of these rows, one after another
 pub record IsOutputOf (text_of : Record → List ℕ) (rows : List Row) (bytes text : List ℕ) : Type 0 where

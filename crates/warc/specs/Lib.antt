@@ -10,6 +10,7 @@ pub mod Extracting
 pub mod Finding
 pub mod Front
 pub mod Heading
+pub mod Judged
 pub mod Laws
 pub mod Listing
 pub mod Looking

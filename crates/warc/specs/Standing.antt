@@ -11,20 +11,11 @@ use Rattle.warc_segment.specs.Kept.{Kept as Parts, kept_in}
 use Rattle.warc_segment.specs.declared.place.Place.{Place}
 use Rattle.warc_reading.specs.Archive.{IsArchiveOf, SpellsFrom, contents}
 use Rattle.warc_reading.specs.Indexed.{AreOf, place_of, placed_record}
+use Rattle.warc_reading.specs.Placing.{IsPlacedIn}
 use Rattle.warc_reading.specs.Rereading.{HasHead}
 use Rattle.warc_reading.specs.Row.{Placed, Row, row_of}
 use Rattle.warc.specs.declared.fault.TakeFault.{TakeFault}
 use Rattle.warc.specs.declared.fault.TakeFault.TheVariants.{NoRecord, Read, Memory}
-
--- the bytes have at its offset a text of this length, which spells the record and in which its block begins where the
--- place says
-pub record IsPlacedIn (bytes : List ℕ) (p : Placed) : Type 0 where
-  pub len : ℕ
-  pub order : p.offset ≤ p.block_start
-  pub end : p.offset + len ≡ p.block_start + length p.content.block + 4
-  pub within : p.offset + len ≤ length bytes
-  pub spells : Spells p.content (take len (drop p.offset bytes))
-  pub block : take (length p.content.block) (drop p.block_start bytes) ≡ p.content.block
 
 -- the record of a row is among the bytes of an archive
 pub record HasRecordOf (row : Row) (bytes : List ℕ) : Type 0 where
@@ -53,20 +44,22 @@ pub record IsOrigin (bytes : List ℕ) (records : List Placed) (found : Result P
   pub path_is : found ≡ Ok path
   pub stands : slice_get records path.given ≡ Some p
 
--- a record is at the end of a path among the records of the archive that these bytes are, its block is at this place,
--- and these parts are kept of them
+-- a record is at the end of a path among the records of the archive that these bytes are, its block begins and ends
+-- where this place says, and these parts are kept of them
 pub record IsAtEnd (bytes : List ℕ) (path : Path) (parts : Parts) (place : Place) : Type 0 where
   pub records : List Placed
   pub found : Result Path Unfound
   pub placed : Placed
   pub origin : IsOrigin bytes records found path placed
   pub parts_are : parts ≡ kept_in (map placed_record records)
-  pub place_is : place ≡ place_of placed
+  pub start_is : place.start ≡ placed.block_start
+  pub len_is : place.len ≡ length placed.content.block
 
--- and its head says this
+-- and its head says this, as the place does
 pub record IsReached (bytes : List ℕ) (path : Path) (parts : Parts) (head : Reading) (place : Place) : Type 0 where
   pub at : IsAtEnd bytes path parts place
   pub head_is : head ≡ reading_of at.placed.content.fields
+  pub place_is : place ≡ place_of at.placed
 
 -- the same by its row
 pub record IsRowAtEnd (bytes : List ℕ) (path : Path) (parts : Parts) (row : Row) : Type 0 where

@@ -3,6 +3,7 @@ use Rattle.std.specs.Prelude.{◌≡◌, ◌≢◌, ℕ, ◌<◌, Bool, true, fa
 use Rattle.std.specs.List.{flat_map}
 use Rattle.warc_field.specs.Area.{Pair}
 use Rattle.warc_value.specs.Dates.{Instant, instant_of}
+use Rattle.warc_value.specs.declared.hash.Verdict.{Verdict}
 use Rattle.warc_value.specs.declared.hash.Verdict.TheVariants.{Good, Bad, Unchecked}
 use Rattle.warc_frame.specs.Names.{warc_segment_number}
 use Rattle.warc_frame.specs.declared.fault.Fault.{Fault}
@@ -10,8 +11,9 @@ use Rattle.warc_record.specs.Readings.{present_value}
 use Rattle.warc_record.specs.declared.types.Kind.TheVariants.{Warcinfo, Response, Resource, Request, Metadata, Revisit, Conversion, Continuation, Other}
 use Rattle.warc_index.specs.Captures.{is_earlier}
 use Rattle.warc_reading.specs.Archive.{Contents, IsArchiveOf}
+use Rattle.warc_reading.specs.Judging.{verdict_on}
 use Rattle.warc_reading.specs.Row.{Placed, Row}
-use Rattle.warc.specs.Counting.{tally_of}
+use Rattle.warc.specs.Counting.{tally_of, verdict_tally}
 use Rattle.warc.specs.declared.counting.Counted.TheVariants as counted
 use Rattle.warc.specs.declared.summary.End.{End}
 use Rattle.warc.specs.declared.summary.End.TheVariants.{First, Last}
@@ -27,18 +29,24 @@ is_numbered p = has_segment_number p.content.fields
 abbrev pub segmented_count : List Bool → ℕ
 segmented_count flags = length (filter (λ flag. flag) flags)
 
--- a listing, and for each record whether it has a segment number
+-- for each record whether it has a segment number, and how its block compares with its digest
+pub record Flags : Type 0 where
+  pub segmented : List Bool
+  pub verdicts : List Verdict
+
+-- a listing, and what was found of its records
 pub record Flagged (S : Type 0) : Type 0 where
   pub listing : Contents S
-  pub segmented : List Bool
+  pub flags : Flags
 
--- these are the rows of the good records that the bytes spell, and those flags of theirs
-pub record AreFlagged (bytes : List ℕ) (rows : List Row) (segmented : List Bool) : Type 0 where
+-- these are the rows of the good records that the bytes spell, and what was found of these
+pub record AreFlagged (bytes : List ℕ) (rows : List Row) (flags : Flags) : Type 0 where
   pub listed : IsArchiveOf bytes rows
-  pub segmented_are : segmented ≡ map is_numbered listed.are.records
+  pub segmented_are : flags.segmented ≡ map is_numbered listed.are.records
+  pub verdicts_are : flags.verdicts ≡ map verdict_on listed.are.records
 
 abbrev pub IsSummarized : {S : Type 0} → List ℕ → Flagged S → Type 0
-IsSummarized bytes flagged = AreFlagged bytes flagged.listing.rows flagged.segmented
+IsSummarized bytes flagged = AreFlagged bytes flagged.listing.rows flagged.flags
 
 -- what opening gives, or why it gives none; and the source that it leaves
 abbrev pub summarized_of : {S : Type 0} → Result (Flagged S) (Fault × S) → Result (Flagged S) Fault
@@ -82,7 +90,7 @@ IsDateOf end rows date =
 
 -- what is said of these rows and flags: their number, the number of bytes, and of each kind, verdict and mark; and the
 -- dates of the first and of the last row
-pub record IsSummaryOf (rows : List Row) (segmented : List Bool) (s : Summary) : Type 0 where
+pub record IsSummaryOf (rows : List Row) (flags : Flags) (s : Summary) : Type 0 where
   pub records : s.records ≡ length rows
   pub bytes : (bytes : List ℕ) → IsArchiveOf bytes rows → s.bytes ≡ length bytes
   pub warcinfo : s.warcinfo ≡ tally_of (counted.Kind Warcinfo) rows
@@ -95,11 +103,11 @@ pub record IsSummaryOf (rows : List Row) (segmented : List Bool) (s : Summary) :
   pub continuation : s.continuation ≡ tally_of (counted.Kind Continuation) rows
   pub other : s.other ≡ tally_of (counted.Kind Other) rows
   pub captures : s.captures ≡ tally_of counted.Capture rows
-  pub good : s.good ≡ tally_of (counted.Verdict Good) rows
-  pub bad : s.bad ≡ tally_of (counted.Verdict Bad) rows
-  pub unchecked : s.unchecked ≡ tally_of (counted.Verdict Unchecked) rows
+  pub good : s.good ≡ verdict_tally Good flags.verdicts
+  pub bad : s.bad ≡ verdict_tally Bad flags.verdicts
+  pub unchecked : s.unchecked ≡ verdict_tally Unchecked flags.verdicts
   pub truncated : s.truncated ≡ tally_of counted.Truncated rows
-  pub segmented_is : s.segmented ≡ segmented_count segmented
+  pub segmented_is : s.segmented ≡ segmented_count flags.segmented
   pub first : IsDateOf First rows (option_map (λ d. d.now) s.first_date)
   pub last : IsDateOf Last rows (option_map (λ d. d.now) s.last_date)
 

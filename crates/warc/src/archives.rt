@@ -18,6 +18,7 @@ ghost use Rattle.warc_reading.specs.Growing.{Grows, grown, source_grown, without
 ghost use Rattle.warc_reading.specs.Opening.{Opens};
 ghost use Rattle.warc.specs.Replaying.{Replays};
 ghost use Rattle.warc_reading.specs.Row.{Placed};
+ghost use Rattle.warc.specs.Judged.{GivesVerdict};
 ghost use Rattle.warc.specs.Taking.{GivesRecord};
 
 use crate::capture_line::list_outcomes;
@@ -35,7 +36,7 @@ use warc_frame::{Fault, Framed, OutFault, Sink, Source};
 use warc_index::Unfound;
 use warc_reading::{Lookup, Row, Rows, UnorderedLookup, read_on};
 use warc_record::id_key;
-use warc_value::Moment;
+use warc_value::{Moment, Verdict};
 
 /// An archive, whose records are listed, found by target, moment and id, and joined. Contracts see its listing, and
 /// what its index and its parts keep.
@@ -148,6 +149,17 @@ impl<S: Source, A: Allocator + Copy> Archive<S, A> {
         ensures parts { self.new.parts ≡ self.old.parts }
     {
         self.listing.record(position)
+    }
+
+    /// How the block of the record at a position compares with its digest, as a listing gives it.
+    pub fn verdict(&mut self, position: usize) -> Result<Verdict, TakeFault>
+        ensures takes { GivesVerdict self.old.listing.rows position (S.seen self.old.listing.source)
+            (S.seen self.new.listing.source) result }
+        ensures rows { self.new.listing.rows ≡ self.old.listing.rows }
+        ensures index { self.new.index ≡ self.old.index }
+        ensures parts { self.new.parts ≡ self.old.parts }
+    {
+        self.listing.verdict(position)
     }
 
     /// The position of the first record of any kind with the id that a text holds.

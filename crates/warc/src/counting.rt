@@ -1,9 +1,10 @@
 //! How many records of an archive are of a kind, have a verdict, or are marked as truncated.
-ghost use Rattle.std.specs.Prelude.{◌≡◌, ◌≤◌, if◌then◌else◌, length};
-ghost use Rattle.warc.specs.Counting.{tally_of, is_counted, is_kind, is_verdict};
+ghost use Rattle.std.specs.Prelude.{◌≡◌, ◌≤◌, [], ◌∷◌, ◌++◌, if◌then◌else◌, length, take, OnErr, OnOk};
+ghost use Rattle.warc.specs.Counting.{tally_of, is_counted, is_kind, is_verdict, verdict_at, verdict_tally};
 
 use crate::bodies::is_capture;
-use std::alloc::Allocator;
+use std::alloc::{AllocError, Allocator};
+use std::marker::Model;
 use warc_reading::{Row, Rows};
 use warc_record::Kind;
 use warc_value::Verdict;
@@ -15,8 +16,6 @@ pub(crate) enum Counted {
     Kind(Kind),
     /// Records that are captures.
     Capture,
-    /// Records whose block has a verdict.
-    Verdict(Verdict),
     /// Records that are marked as truncated.
     Truncated,
 }
@@ -56,7 +55,6 @@ fn is_counted(what: Counted, row: &Row<'_>) -> bool
     match what {
         Counted::Kind(kind) => is_kind(kind, Kind::named(row.kind)),
         Counted::Capture => is_capture(row.kind),
-        Counted::Verdict(verdict) => is_verdict(verdict, row.verdict),
         Counted::Truncated => row.is_truncated,
     }
 }
@@ -82,4 +80,74 @@ pub(crate) fn count<A: Allocator>(what: Counted, rows: &Rows<A>) -> usize
         count += one_if(is_counted(what, &row));
     }
     count
+}
+
+/// How the blocks of records compare with the digests that their heads ask for, in the order of the records.
+#[derive(Drop)]
+pub(crate) struct Verdicts<A: Allocator> {
+    list: Vec<Verdict, A>,
+}
+
+impl<A: Allocator> Model for Verdicts<A> {
+    ghost use Rattle.std.specs.Prelude.{List};
+    ghost use Rattle.warc_value.specs.declared.hash.Verdict.{Verdict as Found};
+
+    ghost Value = { List Found };
+
+    ghost view = { λ v. v.list.items };
+}
+
+impl<A: Allocator> Verdicts<A> {
+    /// Of no records.
+    pub(crate) fn new(alloc: A) -> Verdicts<A>
+        ensures { result ≡ [] }
+    {
+        Verdicts {
+            list: Vec::new(alloc),
+        }
+    }
+
+    /// Adds the next verdict. If memory is refused, none is added.
+    pub(crate) fn push(&mut self, verdict: Verdict) -> Result<(), AllocError>
+        ensures ok { OnOk result (self.new ≡ self.old ++ verdict ∷ []) }
+        ensures err { OnErr result (self.new ≡ self.old) }
+    {
+        self.list.push(verdict)?;
+        Ok(())
+    }
+
+    /// Keeps the first `count` verdicts.
+    pub(crate) fn truncate(&mut self, count: usize)
+        ensures { self.new ≡ take count self.old }
+    {
+        self.list.truncate(count);
+    }
+
+    /// How many there are.
+    pub(crate) fn len(&self) -> usize
+        ensures { result ≡ length self.now }
+    {
+        self.list.len()
+    }
+
+    /// The verdict at a position.
+    pub(crate) fn at(&self, position: usize) -> Verdict
+        ensures { result ≡ verdict_at self.now position }
+    {
+        match self.list.get(position) {
+            Some(verdict) => *verdict,
+            None => Verdict::Unchecked,
+        }
+    }
+
+    /// How many verdicts are this one.
+    pub(crate) fn count(&self, verdict: Verdict) -> usize
+        ensures { result ≡ verdict_tally verdict self.now }
+    {
+        let mut count = 0usize;
+        'counting: for position in 0..self.list.len() {
+            count += one_if(is_verdict(verdict, self.list[position]));
+        }
+        count
+    }
 }

@@ -1,11 +1,13 @@
 //! How the blocks of an archive compare with the digests that their heads state.
-ghost use Rattle.std.specs.Prelude.{◌≡◌, [], codes, OnErr, map, slice_get, unwrap_or};
+ghost use Rattle.std.specs.Prelude.{◌≡◌, true, [], codes, OnErr, map};
 ghost use Rattle.warc_frame.specs.Effects.{Puts, SendsText};
+ghost use Rattle.warc_reading.specs.Judging.{verdict_on};
 ghost use Rattle.warc_reading.specs.Opening.{Opens};
-ghost use Rattle.warc.specs.Fixity.{IsDigested, counts_line, counts_of, digest_kept, digest_value, fixity_text, digested_of, source_digested};
+ghost use Rattle.warc.specs.Counting.{verdict_at};
+ghost use Rattle.warc.specs.Fixity.{IsDigested, counts_line, counts_of, digest_at, digest_kept, digest_value, fixity_text, digested_of, source_digested};
 ghost use Rattle.warc.specs.Fixity.{unless_good, verdict_line, verdict_text};
 
-use crate::counting::{Counted, count};
+use crate::counting::Verdicts;
 use crate::row::shown_as;
 use itoa::Buffer;
 use std::alloc::{AllocError, Allocator, Global};
@@ -14,7 +16,6 @@ use warc_field::Fields;
 use warc_frame::{Fault, OutBuffer, OutFault, SendFault, Sink, Source, names, put_columns};
 use warc_reading::{Keep, Row, Rows, read_on};
 use warc_record::bare;
-use warc_segment::Place;
 use warc_value::Verdict;
 
 /// How many records an archive has, and how many of them have a block that its digest fits, one that it doesn't fit,
@@ -27,18 +28,20 @@ pub struct Counts {
     pub unchecked: usize,
 }
 
-/// The value of each digest by which a block isn't good.
+/// How each block compares with its digest, and the value of each digest by which a block isn't good.
 #[derive(Drop)]
 struct Digests<A: Allocator> {
+    verdicts: Verdicts<A>,
     values: Vec<Vec<u8, A>, A>,
 }
 
 impl<A: Allocator> Model for Digests<A> {
-    ghost use Rattle.std.specs.Prelude.{List, ℕ, map};
+    ghost use Rattle.std.specs.Prelude.{map};
+    ghost use Rattle.warc.specs.Fixity.{Judgements};
 
-    ghost Value = { List (List ℕ) };
+    ghost Value = { Judgements };
 
-    ghost view = { λ d. map (λ v. v.items) d.values.items };
+    ghost view = { λ d. record { verdicts = d.verdicts; digests = map (λ v. v.items) d.values.items } };
 }
 
 /// The value that states the digest of a block.
@@ -64,18 +67,39 @@ fn unless_good(verdict: Verdict, text: &[u8]) -> &[u8]
 impl<A: Allocator + Copy> Digests<A> {
     /// Of no records.
     fn new(alloc: A) -> Digests<A>
-        ensures { result ≡ [] }
+        ensures verdicts { result.verdicts ≡ [] }
+        ensures digests { result.digests ≡ [] }
     {
         Digests {
+            verdicts: Verdicts::new(alloc),
             values: Vec::new(alloc),
         }
     }
 }
 
 impl<A: Allocator> Digests<A> {
+    /// How the block of the record at a position compares with its digest.
+    fn verdict(&self, position: usize) -> Verdict
+        ensures { result ≡ verdict_at self.now.verdicts position }
+    {
+        self.verdicts.at(position)
+    }
+
+    /// How many blocks are good, bad and unchecked.
+    fn counts(&self) -> Counts
+        ensures { result ≡ counts_of self.now.verdicts }
+    {
+        Counts {
+            records: self.verdicts.len(),
+            good: self.verdicts.count(Verdict::Good),
+            bad: self.verdicts.count(Verdict::Bad),
+            unchecked: self.verdicts.count(Verdict::Unchecked),
+        }
+    }
+
     /// The value that is kept of the record at a position, empty where none is.
     fn at(&self, position: usize) -> &[u8]
-        ensures { result.now ≡ unwrap_or (slice_get self.now position) [] }
+        ensures { result.now ≡ digest_at self.now.digests position }
     {
         match self.values.get(position) {
             Some(value) => value.as_slice(),
@@ -85,22 +109,32 @@ impl<A: Allocator> Digests<A> {
 }
 
 impl<A: Allocator + Copy> Keep<A> for Digests<A> {
-    ghost keeps = { λ d records. d ≡ map digest_kept records };
+    ghost keeps = { λ d records. (d.verdicts ≡ map verdict_on records) × (d.digests ≡ map digest_kept records) };
+
+    ghost judges = { true };
+
+    fn judges() -> bool {
+        true
+    }
 
     fn keep(
         &mut self,
         alloc: A,
         _position: usize,
         fields: &Fields<A>,
-        place: Place,
+        _block_start: u64,
+        _block_len: u64,
+        verdict: Verdict,
     ) -> Result<(), AllocError> {
         self.values.reserve(1)?;
-        let value = unless_good(place.verdict, digest_value(fields)).to_vec(alloc)?;
+        let value = unless_good(verdict, digest_value(fields)).to_vec(alloc)?;
+        self.verdicts.push(verdict)?;
         self.values.push_reserved(value);
         Ok(())
     }
 
     fn truncate(&mut self, count: usize) {
+        self.verdicts.truncate(count);
         self.values.truncate(count);
     }
 }
@@ -126,18 +160,19 @@ fn records_text() -> &'static [u8]
 /// Adds the line of a block that isn't good to the output, by the position of its record.
 fn put_verdict<W: Sink>(
     position: u64,
+    verdict: Verdict,
     row: &Row<'_>,
     digest: &[u8],
     buffer: &mut OutBuffer,
     out: &mut W,
 ) -> Result<(), SendFault>
     ensures { Puts (W.seen out.old) (W.seen out.new) buffer.old buffer.new result
-        (verdict_line position row.now digest.now) }
+        (verdict_line position verdict row.now digest.now) }
 {
     let mut digits = Buffer::new();
     let columns = [
         (digits.format(position).as_bytes(), b'\t'),
-        (verdict_text(row.verdict), b'\t'),
+        (verdict_text(verdict), b'\t'),
         (bare(row.id), b'\t'),
         (shown_as(digest), b'\n'),
     ];
@@ -147,17 +182,20 @@ fn put_verdict<W: Sink>(
 /// Adds the line of a block to the output, unless the block is good.
 fn put_if<W: Sink>(
     position: u64,
+    verdict: Verdict,
     row: &Row<'_>,
     digest: &[u8],
     buffer: &mut OutBuffer,
     out: &mut W,
 ) -> Result<(), SendFault>
     ensures { Puts (W.seen out.old) (W.seen out.new) buffer.old buffer.new result
-        (unless_good row.now.verdict (verdict_line position row.now digest.now)) }
+        (unless_good verdict (verdict_line position verdict row.now digest.now)) }
 {
-    match row.verdict {
+    match verdict {
         Verdict::Good => put_columns(&[], buffer, out),
-        Verdict::Bad | Verdict::Unchecked => put_verdict(position, row, digest, buffer, out),
+        Verdict::Bad | Verdict::Unchecked => {
+            put_verdict(position, verdict, row, digest, buffer, out)
+        }
     }
 }
 
@@ -194,20 +232,15 @@ impl<S: Source, A: Allocator> Model for Fixity<S, A> {
 
     ghost Value = { Digested S };
 
-    ghost view = { λ a. record { listing = record { source = a.source; rows = a.rows }; digests = a.digests } };
+    ghost view = { λ a. record { listing = record { source = a.source; rows = a.rows }; judged = a.digests } };
 }
 
 impl<S: Source, A: Allocator> Fixity<S, A> {
     /// How many blocks are good, bad and unchecked.
     pub fn counts(&self) -> Counts
-        ensures { result ≡ counts_of self.now.listing.rows }
+        ensures { result ≡ counts_of self.now.judged.verdicts }
     {
-        Counts {
-            records: self.rows.len(),
-            good: count(Counted::Verdict(Verdict::Good), &self.rows),
-            bad: count(Counted::Verdict(Verdict::Bad), &self.rows),
-            unchecked: count(Counted::Verdict(Verdict::Unchecked), &self.rows),
-        }
+        self.digests.counts()
     }
 
     /// Returns the source.
@@ -221,15 +254,16 @@ impl<S: Source, A: Allocator> Fixity<S, A> {
     /// the digest's value, `-` for none, with a tab between two; and a last line with the counts. It takes no memory.
     pub fn list<W: Sink>(&self, out: &mut W) -> Result<(), OutFault>
         ensures { SendsText (W.seen out.old) (W.seen out.new) result
-            (fixity_text self.now.listing.rows self.now.digests) }
+            (fixity_text self.now.listing.rows self.now.judged) }
     {
         let mut buffer = OutBuffer::new();
         'listing: for position in 0..self.rows.len() {
             let Some(row) = self.rows.get(position) else {
                 unreachable!()
             };
+            let verdict = self.digests.verdict(position);
             let digest = self.digests.at(position);
-            put_if(position as u64, &row, digest, &mut buffer, out)?;
+            put_if(position as u64, verdict, &row, digest, &mut buffer, out)?;
         }
         put_counts(self.counts(), &mut buffer, out)?;
         buffer.flush(out)?;

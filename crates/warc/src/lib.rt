@@ -13,6 +13,7 @@ mod fixity;
 mod front;
 mod heading;
 mod iterating;
+mod judging;
 pub mod laws;
 mod locating;
 mod looking;

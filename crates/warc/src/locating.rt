@@ -85,7 +85,7 @@ fn locate_row<S: Source, A: Allocator + Copy>(
     let place = Place {
         start: row.block_start,
         len: row.block_len,
-        verdict: row.verdict,
+        wanted: origin.typed.wanted,
         truncated: row.is_truncated,
     };
     locate_origin(alloc, source, parts, path, &origin.typed, place)

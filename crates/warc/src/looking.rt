@@ -107,7 +107,7 @@ fn look_row<S: Source, A: Allocator + Copy>(
     let place = Place {
         start: row.block_start,
         len: row.block_len,
-        verdict: row.verdict,
+        wanted: origin.typed.wanted,
         truncated: row.is_truncated,
     };
     look_origin(alloc, source, parts, &origin, place)

@@ -16,6 +16,7 @@ ghost use Rattle.warc_reading.specs.Opening.{Opens};
 ghost use Rattle.warc_reading.specs.Stream.{IsKeptOf};
 ghost use Rattle.warc.specs.Replaying.{Replays};
 ghost use Rattle.warc.specs.Heading.{GivesHead};
+ghost use Rattle.warc.specs.Judged.{GivesVerdict};
 ghost use Rattle.warc.specs.Taking.{GivesRecord};
 
 use crate::blocks::send_range;
@@ -25,6 +26,7 @@ use crate::copying::Form;
 use crate::fault::{BodyFault, ExtractFault, TakeFault};
 use crate::heading::take_head;
 use crate::iterating::RowIter;
+use crate::judging::take_verdict;
 use crate::locating::{locate_at, locate_for};
 use crate::outcome::{Outcome, StoredAt, judge_at, send_at};
 use crate::part::Part;
@@ -40,7 +42,7 @@ use warc_checking::check_rows;
 use warc_frame::laws::head_of_spelled;
 use warc_frame::{Fault, Framed, Head, OutBuffer, OutFault, Sink, Source};
 use warc_reading::{Keep, Lookup, Row, Rows, RowsAlone, read_on};
-use warc_value::Moment;
+use warc_value::{Moment, Verdict};
 
 /// What is listed of an archive, and the source of its bytes. Contracts see the source, and a row for each record.
 #[derive(Drop)]
@@ -198,6 +200,23 @@ impl<S: Source, A: Allocator + Copy> Listing<S, A> {
             return Err(TakeFault::NoRecord);
         };
         take_head(alloc, &mut self.source, &row)
+    }
+
+    /// How the block of the record at a position compares with the digest that its head asks for. The head is read
+    /// again, and the block too if a digest of it can be checked; no other byte is. A read that fails, or a source that
+    /// no longer gives what it gave at opening, is `Read`.
+    pub fn verdict(&mut self, position: usize) -> Result<Verdict, TakeFault>
+        ensures takes { GivesVerdict self.old.rows position (S.seen self.old.source) (S.seen self.new.source) result }
+
+        // The rows stay.
+        ensures rows { self.new.rows ≡ self.old.rows }
+    {
+        head_of_spelled();
+        let alloc = self.rows.allocator();
+        let Some(row) = self.rows.get(position) else {
+            return Err(TakeFault::NoRecord);
+        };
+        take_verdict(alloc, &mut self.source, &row)
     }
 
     /// Writes a part of the record at a position, as the source has it, and answers its length. If there is no record,

@@ -122,7 +122,7 @@ fn replay_row<S: Source, W: Sink, A: Allocator + Copy>(
     let place = Place {
         start: row.block_start,
         len: row.block_len,
-        verdict: row.verdict,
+        wanted: origin.typed.wanted,
         truncated: row.is_truncated,
     };
     replay_origin(source, parts, path, &origin.typed, place, out)

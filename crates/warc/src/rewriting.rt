@@ -4,7 +4,7 @@ ghost use Rattle.std.specs.List.{sum_by};
 ghost use Rattle.warc_frame.specs.Effects.{Emits, ReadsOnly, Sends};
 ghost use Rattle.warc_frame.specs.Record.{max_head};
 ghost use Rattle.warc.specs.Copied.{AreTextsOf, IsTextOf, len_by, text_by};
-ghost use Rattle.warc.specs.Forms.{IsInAnyRow, IsInRow};
+ghost use Rattle.warc_reading.specs.Placing.{IsInAnyRow, IsInRow};
 
 use crate::copying::{Form, put_as};
 use crate::segments::put_split;

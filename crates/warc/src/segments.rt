@@ -1,22 +1,23 @@
 //! Records of an archive that are split into segments, whose blocks are copied from the source.
 ghost use Rattle.std.specs.Prelude.{◌≡◌, ◌+◌, ◌-◌, ◌*◌, ◌^◌, ◌<◌, length, take, drop, min, IfOk, IfSome};
-ghost use Rattle.sha1.specs.Sha1.{sha1};
 ghost use Rattle.warc_frame.specs.Effects.{Emits, FailsBy, HasRange, ReadsOnly, ReadsRange, read_result};
 ghost use Rattle.warc_frame.specs.Record.{Record};
-ghost use Rattle.warc_value.specs.Digests.{is_bad};
-ghost use Rattle.warc_write.specs.Cutting.{HasParts, records_by, split_or_whole};
+ghost use Rattle.warc_value.specs.Digests.{is_bad, verdict_of};
+ghost use Rattle.warc_record.specs.Readings.{digest_wanted};
+ghost use Rattle.warc_write.specs.Cutting.{records_by, split_or_whole};
 ghost use Rattle.warc_write.specs.Splitting.{segment_count};
 ghost use Rattle.warc.specs.Copied.{IsTextWith};
 ghost use Rattle.warc_frame.specs.Seen.{IfHeld, IsInRange};
 ghost use Rattle.warc.specs.Forms.{split_text};
-ghost use Rattle.warc.specs.Segments.{AreSegmentTexts, IsSegmentText};
+ghost use Rattle.warc.specs.Segments.{AreSegmentTexts, IsCuttable, IsSegmentText};
 
 use crate::copying::{Copied, put_copied};
 use std::alloc::{AllocError, Allocator};
+use warc_digest::{digest_range, judge_range};
 use warc_field::Fields;
-use warc_frame::{Head, OutBuffer, OutFault, ReadFault, Sink, Source, Version, read_range};
+use warc_frame::{Head, OutBuffer, OutFault, ReadFault, Sink, Source, Version};
 use warc_reading::Row;
-use warc_value::Running;
+use warc_record::wanted;
 use warc_write::{SplitFault, cut, part_at, segment_count, segment_head};
 
 /// A record that is cut into segments, whose block is in the source.
@@ -32,38 +33,6 @@ struct Cut<A: Allocator> {
     size: u64,
     block_start: u64,
     block_len: u64,
-}
-
-/// The SHA-1 of `len` bytes at an offset of the source, which are read in pieces as long as `scratch` at most. It fails
-/// where a read does, where the source ends too early, and where the range doesn't end before offset 2^64.
-fn digest_range<S: Source>(
-    source: &mut S,
-    at: u64,
-    len: u64,
-    scratch: &mut [u8],
-) -> Result<[u8; 20], ReadFault>
-    requires { 0 < length scratch.old }
-    ensures digest { IfHeld (S.seen source.old).holds (λ bytes.
-        IfOk result (λ digest. digest ≡ sha1 (take len (drop at bytes)))) }
-    ensures reads { ReadsRange at len (S.seen source.old) (S.seen source.new) }
-    ensures fails { FailsBy (HasRange at len) (read_result result) (S.seen source.old) (S.seen source.new) }
-{
-    if len > u64::MAX - at {
-        return Err(ReadFault);
-    }
-    let mut running = Running::new();
-    let mut done = 0u64;
-    'digesting: while done < len {
-        let want = (len - done).min(scratch.len() as u64) as usize;
-        let piece = &mut scratch[..want];
-        match read_range(source, at + done, piece) {
-            Ok(()) => {}
-            Err(fault) => return Err(fault),
-        }
-        running.update(piece);
-        done += want as u64;
-    }
-    Ok(running.digest())
 }
 
 /// Adds the segment at a place, counted from 0, to the output. Its piece of the block is read twice: for its digest,
@@ -134,27 +103,47 @@ fn put_segments<S: Source, A: Allocator + Copy, W: Sink>(
     Ok(())
 }
 
-/// How a row's record is cut, by its head: the bytes of its UUID, or `None` where it stays whole, since it is short or
-/// isn't split.
+/// Whether the block of a row's record isn't what its digest says. A block that has no more bytes than a segment isn't
+/// read: its record stays whole in any case.
+fn has_bad_digest<S: Source, A: Allocator>(
+    size: u64,
+    row: &Row<'_>,
+    head: &Head<A>,
+    source: &mut S,
+    scratch: &mut [u8],
+) -> Result<bool, ReadFault>
+    requires { 0 < length scratch.old }
+    ensures bad { IfHeld (S.seen source.old).holds (λ bytes. IfOk result (λ bad. size < row.now.block_len →
+        bad ≡ is_bad (verdict_of (digest_wanted head.now.fields) (take row.now.block_len
+        (drop row.now.block_start bytes))))) }
+    ensures reads { ReadsRange row.now.block_start row.now.block_len (S.seen source.old) (S.seen source.new) }
+    ensures fails { FailsBy (HasRange row.now.block_start row.now.block_len) (read_result result) (S.seen source.old)
+        (S.seen source.new) }
+{
+    if row.block_len <= size {
+        return Ok(false);
+    }
+    let wanted = wanted(&head.fields);
+    match judge_range(source, row.block_start, row.block_len, &wanted, scratch) {
+        Ok(verdict) => Ok(verdict.is_bad()),
+        Err(fault) => Err(fault),
+    }
+}
+
+/// How a row's record is cut, by its head and by whether its digest is bad: the bytes of its UUID, or `None` where it
+/// stays whole, since it is short or isn't split. Of a short record it doesn't matter whether the digest is bad.
 fn cut_or_whole<A: Allocator + Copy>(
     alloc: A,
     size: u64,
     row: &Row<'_>,
     head: &Head<A>,
+    bad: bool,
 ) -> Result<Option<[u8; 16]>, AllocError>
-    ensures cut { (r : Record) →
-        HasParts head.now.version head.now.fields row.now.block_len (is_bad row.now.verdict) r →
+    ensures cut { (r : Record) → IsCuttable head.now.version head.now.fields row.now.block_len size bad r →
         IfOk result (λ uuid. split_or_whole size r ≡ records_by r size uuid) }
     ensures long { IfOk result (λ uuid. IfSome uuid (λ _. (0 < size) × (size < row.now.block_len))) }
 {
-    match cut(
-        alloc,
-        head.version,
-        &head.fields,
-        size,
-        row.block_len,
-        row.verdict.is_bad(),
-    ) {
+    match cut(alloc, head.version, &head.fields, size, row.block_len, bad) {
         Ok(uuid) => Ok(uuid),
         Err(SplitFault::Memory) => Err(AllocError),
         Err(_) => Ok(None),
@@ -162,7 +151,8 @@ fn cut_or_whole<A: Allocator + Copy>(
 }
 
 /// Adds a row's record to the output, by its head, split into segments of `size` bytes, or whole where it is short or
-/// isn't split.
+/// isn't split. The block of one that may be split is read three times: to judge its digest, for the digests of the
+/// segments, and to be copied.
 pub(crate) fn put_split<S: Source, A: Allocator + Copy, W: Sink>(
     alloc: A,
     size: u64,
@@ -176,10 +166,13 @@ pub(crate) fn put_split<S: Source, A: Allocator + Copy, W: Sink>(
     requires { 0 < length scratch.old }
     ensures emits { Emits (IsTextWith (split_text size) row.now head) (S.seen source.old) (S.seen source.new)
         (W.seen out.old) (W.seen out.new) buffer.old buffer.new result }
-    ensures reads { ReadsOnly (IsInRange row.now.block_start row.now.block_len) (2 * row.now.block_len)
+    ensures reads { ReadsOnly (IsInRange row.now.block_start row.now.block_len) (3 * row.now.block_len)
         (S.seen source.old) (S.seen source.new) }
 {
-    let Ok(uuid) = cut_or_whole(alloc, size, row, &head) else {
+    let Ok(bad) = has_bad_digest(size, row, &head, source, scratch) else {
+        return Err(OutFault::Read(buffer.sent()));
+    };
+    let Ok(uuid) = cut_or_whole(alloc, size, row, &head, bad) else {
         return Err(OutFault::Memory(buffer.sent()));
     };
     let (version, fields) = (head.version, head.fields);

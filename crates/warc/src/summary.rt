@@ -1,13 +1,14 @@
 //! What an archive holds: how many records of which kind, how many bytes, and from when to when.
-ghost use Rattle.std.specs.Prelude.{◌≡◌, [], OnErr, map, option_map, if◌then◌else◌};
+ghost use Rattle.std.specs.Prelude.{◌≡◌, true, [], OnErr, map, option_map, if◌then◌else◌};
 ghost use Rattle.std.specs.List.{concat};
 ghost use Rattle.warc_frame.specs.Effects.{Puts, SendsText};
 ghost use Rattle.warc_index.specs.Captures.{is_earlier};
+ghost use Rattle.warc_reading.specs.Judging.{verdict_on};
 ghost use Rattle.warc_reading.specs.Opening.{Opens};
 ghost use Rattle.warc.specs.Summary.{IsDateOf, IsEndOf, IsSummarized, IsSummaryOf, has_segment_number, is_nearer, is_numbered, number_line, summary_numbers};
 ghost use Rattle.warc.specs.Summary.{segmented_count, shown_date, source_summarized, summarized_of, summary_text, text_line};
 
-use crate::counting::{Counted, count, one_if};
+use crate::counting::{Counted, Verdicts, count, one_if};
 use itoa::Buffer;
 use std::alloc::{AllocError, Allocator, Global};
 use std::marker::Model;
@@ -15,7 +16,6 @@ use warc_field::Fields;
 use warc_frame::{Fault, OutBuffer, OutFault, SendFault, Sink, Source, names, put_columns};
 use warc_reading::{Keep, Rows, read_on};
 use warc_record::Kind;
-use warc_segment::Place;
 use warc_value::{Moment, Verdict, read_date};
 
 /// How many records and bytes an archive has, how many records of each kind, how many captures, how many blocks of each
@@ -44,37 +44,42 @@ pub struct Summary<'a> {
     pub last_date: Option<&'a [u8]>,
 }
 
-/// Whether each record is a segment.
+/// Whether each record is a segment, and how its block compares with its digest.
 #[derive(Drop)]
-struct Segmented<A: Allocator> {
-    flags: Vec<bool, A>,
+struct RecordFlags<A: Allocator> {
+    segmented: Vec<bool, A>,
+    verdicts: Verdicts<A>,
 }
 
-impl<A: Allocator> Model for Segmented<A> {
-    ghost use Rattle.std.specs.Prelude.{Bool, List};
+impl<A: Allocator> Model for RecordFlags<A> {
+    ghost use Rattle.warc.specs.Summary.{Flags};
 
-    ghost Value = { List Bool };
+    ghost Value = { Flags };
 
-    ghost view = { λ s. s.flags.items };
+    ghost view = { λ s. record { segmented = s.segmented.items; verdicts = s.verdicts } };
 }
 
-impl<A: Allocator> Segmented<A> {
+impl<A: Allocator + Copy> RecordFlags<A> {
     /// Of no records.
-    fn new(alloc: A) -> Segmented<A>
-        ensures { result ≡ [] }
+    fn new(alloc: A) -> RecordFlags<A>
+        ensures segmented { result.segmented ≡ [] }
+        ensures verdicts { result.verdicts ≡ [] }
     {
-        Segmented {
-            flags: Vec::new(alloc),
+        RecordFlags {
+            segmented: Vec::new(alloc),
+            verdicts: Verdicts::new(alloc),
         }
     }
+}
 
+impl<A: Allocator> RecordFlags<A> {
     /// How many records are segments.
-    fn count(&self) -> usize
-        ensures { result ≡ segmented_count self.now }
+    fn segmented_count(&self) -> usize
+        ensures { result ≡ segmented_count self.now.segmented }
     {
         let mut count = 0usize;
-        'counting: for position in 0..self.flags.len() {
-            count += one_if(self.flags[position]);
+        'counting: for position in 0..self.segmented.len() {
+            count += one_if(self.segmented[position]);
         }
         count
     }
@@ -90,22 +95,33 @@ fn has_segment_number<A: Allocator>(fields: &Fields<A>) -> bool
     }
 }
 
-impl<A: Allocator + Copy> Keep<A> for Segmented<A> {
-    ghost keeps = { λ s records. s ≡ map is_numbered records };
+impl<A: Allocator + Copy> Keep<A> for RecordFlags<A> {
+    ghost keeps = { λ s records. (s.segmented ≡ map is_numbered records) × (s.verdicts ≡ map verdict_on records) };
+
+    ghost judges = { true };
+
+    fn judges() -> bool {
+        true
+    }
 
     fn keep(
         &mut self,
         _alloc: A,
         _position: usize,
         fields: &Fields<A>,
-        _place: Place,
+        _block_start: u64,
+        _block_len: u64,
+        verdict: Verdict,
     ) -> Result<(), AllocError> {
-        self.flags.push(has_segment_number(fields))?;
+        self.segmented.reserve(1)?;
+        self.verdicts.push(verdict)?;
+        self.segmented.push_reserved(has_segment_number(fields));
         Ok(())
     }
 
     fn truncate(&mut self, count: usize) {
-        self.flags.truncate(count);
+        self.segmented.truncate(count);
+        self.verdicts.truncate(count);
     }
 }
 
@@ -285,7 +301,7 @@ fn shown_date(date: Option<&[u8]>) -> &[u8]
 pub struct Summarized<S: Source, A: Allocator = Global> {
     source: S,
     rows: Rows<A>,
-    segmented: Segmented<A>,
+    flags: RecordFlags<A>,
 }
 
 impl<S: Source, A: Allocator> Model for Summarized<S, A> {
@@ -293,13 +309,13 @@ impl<S: Source, A: Allocator> Model for Summarized<S, A> {
 
     ghost Value = { Flagged S };
 
-    ghost view = { λ a. record { listing = record { source = a.source; rows = a.rows }; segmented = a.segmented } };
+    ghost view = { λ a. record { listing = record { source = a.source; rows = a.rows }; flags = a.flags } };
 }
 
 impl<S: Source, A: Allocator> Summarized<S, A> {
     /// What the archive holds. It takes no memory.
     pub fn summary(&self) -> Summary<'_>
-        ensures { IsSummaryOf self.now.listing.rows self.now.segmented result }
+        ensures { IsSummaryOf self.now.listing.rows self.now.flags result }
     {
         let rows = &self.rows;
         Summary {
@@ -315,11 +331,11 @@ impl<S: Source, A: Allocator> Summarized<S, A> {
             continuation: count(Counted::Kind(Kind::Continuation), rows),
             other: count(Counted::Kind(Kind::Other), rows),
             captures: count(Counted::Capture, rows),
-            good: count(Counted::Verdict(Verdict::Good), rows),
-            bad: count(Counted::Verdict(Verdict::Bad), rows),
-            unchecked: count(Counted::Verdict(Verdict::Unchecked), rows),
+            good: self.flags.verdicts.count(Verdict::Good),
+            bad: self.flags.verdicts.count(Verdict::Bad),
+            unchecked: self.flags.verdicts.count(Verdict::Unchecked),
             truncated: count(Counted::Truncated, rows),
-            segmented: self.segmented.count(),
+            segmented: self.flags.segmented_count(),
             first_date: date_at(End::First, rows),
             last_date: date_at(End::Last, rows),
         }
@@ -339,13 +355,13 @@ impl<S: Source, A: Allocator + Copy> Summarized<S, A> {
         ensures { Opens IsSummarized (S.seen source) (S.seen (source_summarized result)) (summarized_of result) }
     {
         let mut source = source;
-        let kept = Segmented::new(alloc);
-        let (answer, rows, segmented) = read_on(alloc, &mut source, Rows::new(alloc), kept);
+        let kept = RecordFlags::new(alloc);
+        let (answer, rows, flags) = read_on(alloc, &mut source, Rows::new(alloc), kept);
         match answer {
             Ok(()) => Ok(Summarized {
                 source,
                 rows,
-                segmented,
+                flags,
             }),
             Err(fault) => Err((fault, source)),
         }

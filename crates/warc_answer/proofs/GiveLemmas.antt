@@ -1,20 +1,20 @@
 -- Where a body begins, what is given of it, and what a replay is by that.
-use Rattle.std.proofs.Common.{◌≡◌, inl, inr, ℕ, zero, suc, All, ◌+◌, ◌^◌, ◌≤◌, Bool, true, false, ◌||◌, nat_lt, nat_le, ◌&&◌, List, [], ◌∷◌, ◌++◌, length, length-append, length-take, length-drop, take, drop, map, append-nil, Option, Some, None, option_and_then, Result, Ok, Err, slice_get, MatchBool, if◌then◌else◌, refl, sym, ap, subst, ◌∙◌, arith}
+use Rattle.std.proofs.Common.{◌≡◌, inl, inr, ◌⊎◌, ℕ, zero, suc, All, ◌+◌, ◌^◌, ◌<◌, ◌≤◌, Bool, true, false, ◌||◌, nat_lt, nat_le, ◌&&◌, List, [], ◌∷◌, ◌++◌, length, length-append, length-take, length-drop, take, drop, map, append-nil, Option, Some, None, option_and_then, Result, Ok, Err, slice_get, MatchBool, if◌then◌else◌, refl, sym, ap, subst, ◌∙◌, arith}
 use Rattle.std.specs.Io.KnownBytes.{append_known}
 use Rattle.std.specs.List.{list_any}
 use Rattle.std.specs.Prelude.{codes}
 use Rattle.std.specs.Str.{all_ascii_digits}
-use Rattle.std.proofs.lemmas.Bool.{leb-true}
-use Rattle.std.proofs.lemmas.List.Elements.{All-cons, All-nil}
+use Rattle.std.proofs.lemmas.Bool.{cases_lt, leb-true}
+use Rattle.std.proofs.lemmas.List.Elements.{All-cons, All-head, All-nil, All-tail}
 use Rattle.std.proofs.lemmas.List.Sums.{sum_by-cons}
 use Rattle.httparse.specs.Grammar.{ResponseHead, print_response}
 use Rattle.warc_index.specs.declared.unfound.Unfound.{Unfound}
-use Rattle.warc_value.specs.Digests.{is_bad}
+use Rattle.warc_value.specs.Digests.{is_bad, verdict_of}
 use Rattle.warc_field.specs.Area.{Pair}
 use Rattle.warc_field.specs.Decimal.{decimal_of, number_of}
 use Rattle.warc_frame.specs.Effects.{FailsBy}
 use Rattle.warc_frame.specs.Seen.{SeenSource}
-use Rattle.warc_frame.proofs.EffectLemmas.{fails_more, reads_both, reads_none, reads_within}
+use Rattle.warc_frame.proofs.EffectLemmas.{fails_more}
 use Rattle.warc_frame.specs.Record.{Record, max_archive}
 use Rattle.warc_frame.specs.Send.{WentOut, sent_of}
 use Rattle.warc_record.specs.Readings.{number_in, present_value}
@@ -25,11 +25,11 @@ use Rattle.warc_payload.specs.Payload.{GivesBody, GivesCodedBody}
 use Rattle.warc_segment.specs.declared.place.Place.{Place}
 use Rattle.warc_segment.specs.Joined.{ReadRecord, ArePlacesOf, JoinedHasTotal}
 use Rattle.warc_answer.specs.Answers.{Given, IsAnswerOn, is_truncated, given_by}
-use Rattle.warc_answer.specs.Giving.{BeginsAt, BeginsNowhere, IsStart}
+use Rattle.warc_answer.specs.Giving.{BeginsAt, BeginsNowhere, HasRoom, IsFront, IsStart, any_bad_at}
 use Rattle.warc_answer.specs.Laws.{FailsBeforeAll, IsFound, PlacesAreAsLong}
 use Rattle.warc_answer.specs.Payloads.{Payload, IsBehindHead, IsPayload, has_bad_block, is_http_response, read_record, whole_block}
-use Rattle.warc_answer.specs.Origins.{AreBlocksIn, ReadsForHead, body_reads}
-use Rattle.warc_answer.specs.Places.{LieIn, ReadsPlaces, len_of, text_at}
+use Rattle.warc_answer.specs.Origins.{AreBlocksIn}
+use Rattle.warc_answer.specs.Places.{LieIn, bytes_at, len_of, text_at}
 use Rattle.warc_answer.specs.Replays.{IsReplayOn, body_of, given, out_result}
 use Rattle.warc_answer.specs.declared.answer.Path.{Path}
 use Rattle.warc_answer.specs.declared.answer.Reason.{Reason as Why}
@@ -39,14 +39,43 @@ use Rattle.warc_answer.specs.declared.answer.ReplayFault.TheVariants.{Reason, Ou
 use Rattle.warc_answer.specs.declared.body.BodyStart.{BodyStart}
 use Rattle.warc_answer.proofs.PayloadLemmas.{payload_some}
 use Rattle.warc_answer.proofs.AnswerLemmas.{answer_some}
+use Rattle.warc_answer.proofs.PlaceLemmas.{take_past}
 use Rattle.warc_answer.proofs.ReasonLemmas.{answer_of}
 
 -- ---- where a body begins
 
--- the front of a text, as it was read
-pub front_is : (buf text : List ℕ) (n room : ℕ) → room ≡ most_head_bytes → take n buf ≡ take room text → take n buf ≡ front_of text
+abbrev Lies : List ℕ → Place → Type 0
+Lies bytes p = p.start + p.len ≤ length bytes
+
+-- places are as long as the text at them
+text_whole : (bytes : List ℕ) (ps : List Place) → All (Lies bytes) ps → length (text_at ps bytes) ≡ len_of ps
+text_whole bytes [] lie = refl
+text_whole bytes (p ∷ ps) lie =
+    let one : len_of (p ∷ ps) ≡ p.len + len_of ps = sum_by-cons (λ (q : Place). q.len) p ps in
+    let rest : length (text_at ps bytes) ≡ len_of ps = text_whole bytes ps (All-tail (Lies bytes) p ps lie) in
+    let within : p.start + p.len ≤ length bytes = All-head (Lies bytes) p ps lie in
+    let whole : length (text_at (p ∷ ps) bytes) ≡ length (bytes_at bytes p) + length (text_at ps bytes) =
+    length-append (bytes_at bytes p) (text_at ps bytes) in
+    omega (arith, length-take p.len (drop p.start bytes), length-drop p.start bytes)
+
+-- the front of the joined blocks, as it was read
+pub front_is : (bytes : List ℕ) (ps : List Place) (buf : List ℕ) (n room : ℕ) → LieIn ps bytes → HasRoom room ps
+    → take n buf ≡ take room (text_at ps bytes) → take n buf ≡ front_of (text_at ps bytes)
 unfolding front_of
-front_is buf text n room size same = same ∙ ap (λ k. take k text) size
+front_is bytes ps buf n room lie fits same = same ∙ by_room (cases_lt room 65536) (text_whole bytes ps lie.within)
+  where
+    by_room : (room < 65536) ⊎ (65536 ≤ room) → length (text_at ps bytes) ≡ len_of ps
+        → take room (text_at ps bytes) ≡ take 65536 (text_at ps bytes)
+    by_room (inl less) size =
+        let short : length (text_at ps bytes) ≤ room = omega (arith, fits.1) in
+        take_past room (text_at ps bytes) short ∙ sym (take_past 65536 (text_at ps bytes) (omega arith))
+    by_room (inr more) size =
+        let e : room ≡ 65536 = omega (arith, fits.0) in ap (λ k. take k (text_at ps bytes)) e
+
+-- no block is bad, where there is a front
+pub some_front : (bad : Bool) (text buf : List ℕ) (n : ℕ) (filled : Option ℕ) → filled ≡ Some n
+    → IsFront bad text buf filled → (bad ≡ false) × (take n buf ≡ text)
+some_front bad text buf n filled some is = subst (λ (o : Option ℕ). IsFront bad text buf o) some is
 
 pub on_true : (P Q : Type 0) (b : Bool) → b ≡ true → P → MatchBool b P Q
 on_true P Q b is p = subst (λ (x : Bool). MatchBool x P Q) (sym is) p
@@ -76,9 +105,6 @@ head_within block info head is =
 
 -- ---- places and records
 
-abbrev Lies : List ℕ → Place → Type 0
-Lies bytes p = p.start + p.len ≤ length bytes
-
 places_within : (bytes : List ℕ) (ps : List Place) (rs : List ReadRecord) → ArePlacesOf bytes ps rs
     → All (Lies bytes) ps
 places_within bytes [] [] are = All-nil (Lies bytes)
@@ -99,10 +125,10 @@ places_text bytes [] (r ∷ rs) are = absurd are
 places_text bytes (p ∷ ps) [] are = absurd are
 
 pub places_bad : (bytes : List ℕ) (ps : List Place) (rs : List ReadRecord) → ArePlacesOf bytes ps rs
-    → list_any (λ (p : Place). is_bad p.verdict) ps ≡ list_any has_bad_block rs
+    → any_bad_at bytes ps ≡ list_any has_bad_block rs
 places_bad bytes [] [] are = refl
 places_bad bytes (p ∷ ps) (r ∷ rs) are =
-    ap (λ v. is_bad v || list_any (λ (q : Place). is_bad q.verdict) ps) are.0.verdict
+    (λ i. is_bad (verdict_of (are.0.wanted i) (are.0.block i)) || any_bad_at bytes ps)
     ∙ ap (λ b. has_bad_block r || b) (places_bad bytes ps rs are.1)
 places_bad bytes [] (r ∷ rs) are = absurd are
 places_bad bytes (p ∷ ps) [] are = absurd are
@@ -182,10 +208,6 @@ joined_short total bytes records way path origin joined ps short found are =
 
 -- ---- the payload
 
-pub bad_payload : (origin : ReadRecord) (joined : List ReadRecord) → list_any has_bad_block joined ≡ true
-    → IsPayload origin (Ok joined) (Err BadDigest)
-bad_payload origin joined bad = on_true _ _ (list_any has_bad_block joined) bad refl
-
 abbrev payload_at : BodyStart → List ℕ → Result Payload Why
 payload_at start block = Ok (record { status = start.status; bytes = drop start.skip block })
 
@@ -206,23 +228,20 @@ good_payload origin joined start fine begins =
     by_http true x = x
     by_http false x = λ i. Ok (record { status = x.0 i; bytes = drop (x.1 i) block })
 
-no_payload : (origin : ReadRecord) (joined : List ReadRecord) (why : Why) → list_any has_bad_block joined ≡ false
-    → BeginsNowhere (is_http_response origin.head) (whole_block joined) why → IsPayload origin (Ok joined) (Err why)
-no_payload origin joined why fine nowhere =
-    on_false _ _ (list_any has_bad_block joined) fine (by_http (is_http_response origin.head) why nowhere)
-  where
-    whole : Result Payload Why
-    whole = Ok (record { status = None; bytes = whole_block joined })
+only_true : (b : Bool) (P Q : Type 0) → MatchBool b P ⊥ → MatchBool b P Q
+only_true true P Q x = x
+only_true false P Q x = absurd x
 
-    by_http : (b : Bool) (w : Why) → BeginsNowhere b (whole_block joined) w
-        → MatchBool b (IsBehindHead (whole_block joined) (Err w)) (Err w ≡ whole)
-    by_http true BadHead x = x
-    by_http false BadHead x = absurd x
-    by_http true Coded x = x
-    by_http false Coded x = absurd x
-    by_http b BadDigest x = absurd x
-    by_http b (NotFound why) x = absurd x
-    by_http b (Segments gap) x = absurd x
+no_payload : (origin : ReadRecord) (joined : List ReadRecord) (why : Why)
+    → BeginsNowhere (list_any has_bad_block joined) (is_http_response origin.head) (whole_block joined) why
+    → IsPayload origin (Ok joined) (Err why)
+no_payload origin joined BadDigest is = on_true _ _ (list_any has_bad_block joined) is refl
+no_payload origin joined BadHead is =
+    on_false _ _ (list_any has_bad_block joined) is.0 (only_true (is_http_response origin.head) _ _ is.1)
+no_payload origin joined Coded is =
+    on_false _ _ (list_any has_bad_block joined) is.0 (only_true (is_http_response origin.head) _ _ is.1)
+no_payload origin joined (NotFound unfound) is = absurd is
+no_payload origin joined (Segments gap) is = absurd is
 
 -- ---- what went out
 
@@ -237,36 +256,28 @@ none_out start output =
 -- ---- what a replay is
 
 -- where the body begins, by the records
-begun_by : (http : Bool) (text : List ℕ) (origin : ReadRecord) (joined : List ReadRecord)
-    (r : Result BodyStart ReplayFault) → http ≡ is_http_response origin.head → text ≡ whole_block joined
-    → IsStart http text r → IsStart (is_http_response origin.head) (whole_block joined) r
-begun_by http text origin joined r same whole is =
-    subst (λ (b : Bool). IsStart b (whole_block joined) r) same (subst (λ (t : List ℕ). IsStart http t r) whole is)
+begun_by : (bytes : List ℕ) (ps : List Place) (http : Bool) (origin : ReadRecord) (joined : List ReadRecord)
+    (r : Result BodyStart ReplayFault) → ArePlacesOf bytes ps joined → http ≡ is_http_response origin.head
+    → IsStart (any_bad_at bytes ps) http (text_at ps bytes) r
+    → IsStart (list_any has_bad_block joined) (is_http_response origin.head) (whole_block joined) r
+begun_by bytes ps http origin joined r are same is =
+    subst (λ (b : Bool). IsStart b (is_http_response origin.head) (whole_block joined) r) (places_bad bytes ps joined are)
+    (subst (λ (b : Bool). IsStart (any_bad_at bytes ps) b (whole_block joined) r) same
+    (subst (λ (t : List ℕ). IsStart (any_bad_at bytes ps) http t r) (places_text bytes ps joined are) is))
 
 abbrev Found : List Record → Result Path Unfound → Path → ReadRecord → List ReadRecord → Type 0
 Found records way path origin joined = IsFound (map read_record records) way path origin (Ok joined)
 
--- a bad digest is the answer
-pub replay_of_bad : (bytes : List ℕ) (records : List Record) (way : Result Path Unfound) (path : Path)
-    (origin : ReadRecord) (joined : List ReadRecord) (ps : List Place) (old : Option (List ℕ))
-    → Found records way path origin joined → ArePlacesOf bytes ps joined
-    → list_any (λ (p : Place). is_bad p.verdict) ps ≡ true
-    → IsReplayOn records way (Err (Reason BadDigest)) old old
-replay_of_bad bytes records way path origin joined ps old found are bad =
-    let payload = bad_payload origin joined (sym (places_bad bytes ps joined are) ∙ bad) in
-    (answer_of records way path origin (Ok joined) (Err BadDigest) found (Err BadDigest, payload, refl), refl)
-
--- no body begins, or a read failed before it is known where
+-- a digest is bad, no body begins, or a read failed before it is known where
 pub replay_of_none : OneOfThree → (bytes : List ℕ) (records : List Record) (way : Result Path Unfound)
     (path : Path) (origin : ReadRecord) (joined : List ReadRecord) (ps : List Place) (old : Option (List ℕ))
     (http : Bool) (fault : ReplayFault) → Found records way path origin joined → ArePlacesOf bytes ps joined
-    → list_any (λ (p : Place). is_bad p.verdict) ps ≡ false → http ≡ is_http_response origin.head
-    → IsStart http (text_at ps bytes) (Err fault) → IsReplayOn records way (Err fault) old old
-replay_of_none three bytes records way path origin joined ps old http (Reason why) found are fine same start =
-    let begun = begun_by http (text_at ps bytes) origin joined (Err (Reason why)) same (places_text bytes ps joined are) start in
-    let payload = no_payload origin joined why (sym (places_bad bytes ps joined are) ∙ fine) begun in
+    → http ≡ is_http_response origin.head → IsStart (any_bad_at bytes ps) http (text_at ps bytes) (Err fault)
+    → IsReplayOn records way (Err fault) old old
+replay_of_none three bytes records way path origin joined ps old http (Reason why) found are same start =
+    let payload = no_payload origin joined why (begun_by bytes ps http origin joined (Err (Reason why)) are same start) in
     (answer_of records way path origin (Ok joined) (Err why) found (Err why, payload, refl), refl)
-replay_of_none three bytes records way path origin joined ps old http (Out e) found are fine same start =
+replay_of_none three bytes records way path origin joined ps old http (Out e) found are same start =
     let payload = payload_some three origin (Ok joined) in
     let outcome : Result Given Why = given_by path (is_truncated (Ok joined)) payload.0 in
     let sent : sent_of e ≡ 0 = ap sent_of start in (
@@ -279,14 +290,13 @@ replay_of_none three bytes records way path origin joined ps old http (Out e) fo
 pub answer_of_body : (bytes : List ℕ) (records : List Record) (way : Result Path Unfound) (path : Path)
     (origin : ReadRecord) (joined : List ReadRecord) (ps : List Place) (http : Bool) (start : BodyStart)
     (truncated : Bool) (len : ℕ) → Found records way path origin joined → ArePlacesOf bytes ps joined
-    → list_any (λ (p : Place). is_bad p.verdict) ps ≡ false → http ≡ is_http_response origin.head
-    → IsStart http (text_at ps bytes) (Ok start) → truncated ≡ list_any (λ (p : Place). p.truncated) ps
+    → http ≡ is_http_response origin.head → IsStart (any_bad_at bytes ps) http (text_at ps bytes) (Ok start) → truncated ≡ list_any (λ (p : Place). p.truncated) ps
     → len ≡ length (drop start.skip (text_at ps bytes))
     → IsAnswerOn records way (given (record { chosen = path.chosen; given = path.given; status = start.status; truncated = truncated; length = len }) (drop start.skip (text_at ps bytes)))
-answer_of_body bytes records way path origin joined ps http start truncated len found are fine same is mark size =
+answer_of_body bytes records way path origin joined ps http start truncated len found are same is mark size =
     let whole : text_at ps bytes ≡ whole_block joined = places_text bytes ps joined are in
-    let begun = begun_by http (text_at ps bytes) origin joined (Ok start) same whole is in
-    let payload = good_payload origin joined start (sym (places_bad bytes ps joined are) ∙ fine) begun in
+    let begun = begun_by bytes ps http origin joined (Ok start) are same is in
+    let payload = good_payload origin joined start begun.0 begun.1 in
     let marked : truncated ≡ is_truncated (Ok joined) = mark ∙ places_marked bytes ps joined are in
     let long : len ≡ length (drop start.skip (whole_block joined)) = size ∙ ap (λ l. length (drop start.skip l)) whole in
     answer_of records way path origin (Ok joined) _ found (
@@ -316,34 +326,6 @@ pub fails_of_fault : (X Y : Type 0) (fault : ReplayFault) {Expected : List ℕ �
     → FailsBy Expected (out_result {X = X} (Err fault)) old new
     → FailsBy Expected (out_result {X = Y} (Err fault)) old new
 fails_of_fault X Y fault has = fault_as X Y fault has
-
--- ---- how often places are read
-
-pub reads_no_head : (http : Bool) (places : List Place) (s : SeenSource) → ReadsForHead http places s s
-reads_no_head true places s = reads_within (λ q in_. in_) (omega arith) reads_none
-reads_no_head false places s = refl
-
-pub reads_head : (http : Bool) (places : List Place) {old new : SeenSource} → http ≡ true
-    → ReadsPlaces places (len_of places) old new → ReadsForHead http places old new
-reads_head true places is has = has
-reads_head false places is has = absurd (cc)
-
-pub reads_once : (http : Bool) (places : List Place) {old new : SeenSource} → ReadsForHead http places old new
-    → ReadsPlaces places (len_of places) old new
-reads_once true places has = has
-reads_once false places {old} {new} same =
-    subst (λ (s : SeenSource). ReadsPlaces places (len_of places) old s) (sym same) (reads_no_head true places old)
-
-pub reads_front : (http : Bool) (places : List Place) {old new : SeenSource} → ReadsForHead http places old new
-    → ReadsPlaces places (body_reads http places) old new
-reads_front true places has = reads_within (λ q in_. in_) (omega arith) has
-reads_front false places same = reads_once false places same
-
-pub reads_body : (http : Bool) (places : List Place) {old mid new : SeenSource} → ReadsForHead http places old mid
-    → ReadsPlaces places (len_of places) mid new → ReadsPlaces places (body_reads http places) old new
-reads_body true places has rest = reads_within (λ q in_. in_) (omega arith) (reads_both has rest)
-reads_body false places {old} {mid} {new} same rest =
-    subst (λ (s : SeenSource). ReadsPlaces places (len_of places) s new) same rest
 
 -- ---- laws
 

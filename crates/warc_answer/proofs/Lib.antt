@@ -4,6 +4,7 @@ pub mod MigrationLemmas
 pub mod ReasonLemmas
 pub mod LoopLemmas
 pub mod PlaceLemmas
+pub mod JudgeLemmas
 pub mod GiveLemmas
 pub mod LocatedLemmas
 mod WorkedValues

@@ -1,6 +1,6 @@
 -- What is stored of an origin, from what is seen at its places, and what a replay answers of it.
 use Rattle.std.proofs.Common.{◌≡◌, ℕ, ◌≤◌, Bool, true, false, List, [], length, length-drop, drop, map, Some, None, Result, Ok, Err, slice_get, MatchBool, refl, sym, ap, subst, ◌∙◌, arith}
-use Rattle.std.specs.Prelude.{IfErr, option_map}
+use Rattle.std.specs.Prelude.{IfErr, IfOk, option_map}
 use Rattle.std.specs.List.{list_any}
 use Rattle.std.specs.Option.{option_map_or}
 use Rattle.std.proofs.lemmas.Option.{slice_get-map}
@@ -14,15 +14,15 @@ use Rattle.warc_record.specs.Readings.{reading_of}
 use Rattle.warc_segment.specs.Joined.{ArePlacesOf, JoinedHasTotal, ReadRecord}
 use Rattle.warc_segment.specs.declared.gap.Gap.{Gap}
 use Rattle.warc_segment.specs.declared.place.Place.{Place}
-use Rattle.warc_value.specs.Digests.{is_bad}
 use Rattle.warc_answer.specs.Answers.{IsAnswerOn, given_by, is_truncated}
-use Rattle.warc_answer.specs.Judging.{IsHeadIn, IsSeenIn}
+use Rattle.warc_answer.specs.Giving.{any_bad_at}
+use Rattle.warc_answer.specs.Judging.{IsHeadIn, IsSaidOf, IsSeenIn}
 use Rattle.warc_answer.specs.Laws.{IsFound}
 use Rattle.warc_answer.specs.Payloads.{IsBehindHead, IsPayload, Payload, has_bad_block, is_http_response, read_record, whole_block}
 use Rattle.warc_answer.specs.Places.{len_of, text_at}
 use Rattle.warc_answer.specs.Replays.{given, out_result}
 use Rattle.warc_answer.specs.Seen.{IsEarly, IsJudged, stored_seen}
-use Rattle.warc_answer.specs.Stored.{IsStoredBehind, IsStoredBy, IsStoredIn, StoredBody, StoredIsAnswered, answer_with, joined_text, joined_text_at, joined_to}
+use Rattle.warc_answer.specs.Stored.{AreMeasures, IsStoredBehind, IsStoredBy, IsStoredIn, StoredBody, StoredIsAnswered, answer_with, joined_text, joined_text_at, joined_to}
 use Rattle.warc_answer.specs.declared.answer.Path.{Path}
 use Rattle.warc_answer.specs.declared.answer.Reason.{Reason as Why}
 use Rattle.warc_answer.specs.declared.answer.Reason.TheVariants.{NotFound, Segments, BadDigest, BadHead, Coded}
@@ -32,15 +32,16 @@ use Rattle.warc_answer.specs.declared.stored.Stored.{Stored}
 use Rattle.warc_answer.proofs.GiveLemmas.{joined_short, on_false, on_true, places_bad, places_len, places_marked, places_text}
 use Rattle.warc_answer.proofs.ReasonLemmas.{answer_of}
 
--- no head: nothing is seen
-pub headless_seen : (A B : Type 0) (text : List ℕ) (fields : List Pair) (places : List Place) (fault : ReplayFault)
-    → IsHeadIn {A = A} text (Err fault) → IsSeenIn {A = B} true fields text places (Err fault)
-headless_seen A B text fields places (Reason BadHead) is = is
-headless_seen A B text fields places (Reason BadDigest) is = absurd is
-headless_seen A B text fields places (Reason Coded) is = absurd is
-headless_seen A B text fields places (Reason (NotFound unfound)) is = absurd is
-headless_seen A B text fields places (Reason (Segments gap)) is = absurd is
-headless_seen A B text fields places (Out e) is = is
+-- a bad digest, or no head: nothing is seen
+pub headless_seen : (A B : Type 0) (bytes : List ℕ) (fields : List Pair) (places : List Place) (fault : ReplayFault)
+    → IsHeadIn {A = A} (any_bad_at bytes places) (text_at places bytes) (Err fault)
+    → IsSeenIn {A = B} true fields bytes places (Err fault)
+headless_seen A B bytes fields places (Reason BadHead) is = on_false _ _ (any_bad_at bytes places) is.0 is.1
+headless_seen A B bytes fields places (Reason BadDigest) is = on_true _ _ (any_bad_at bytes places) is refl
+headless_seen A B bytes fields places (Reason Coded) is = absurd is
+headless_seen A B bytes fields places (Reason (NotFound unfound)) is = absurd is
+headless_seen A B bytes fields places (Reason (Segments gap)) is = absurd is
+headless_seen A B bytes fields places (Out e) is = is
 
 -- want of memory is no failure of the source
 pub memory_failed : {A : Type 0} (r : Result (Stored A) ReplayFault) (n : ℕ) → IfErr r (λ fault. fault ≡ Out (Memory 0)) → HasFailedBy (out_result r) n n
@@ -55,12 +56,13 @@ pub memory_early : {A : Type 0} (r : Result (Stored A) ReplayFault) → IfErr r 
 memory_early (Ok s) is = tt
 memory_early (Err fault) is = subst IsEarly (sym is) refl
 
--- a bad digest
-pub judged_bad : (A : Type 0) (bytes : List ℕ) (content : Record) (joined : List ReadRecord) (ps : List Place)
-    → ArePlacesOf bytes ps joined → list_any (λ (p : Place). is_bad p.verdict) ps ≡ true
-    → IsJudged {A = A} content joined (Err (Reason BadDigest))
-judged_bad A bytes content joined ps are bad =
-    on_true _ _ (list_any has_bad_block joined) (sym (places_bad bytes ps joined are) ∙ bad) refl
+-- where no digest is bad, what is said is seen
+pub said_seen : {A : Type 0} (bytes : List ℕ) (fields : List Pair) (places : List Place) (r : Result (Stored A) ReplayFault)
+    → any_bad_at bytes places ≡ false → IfOk r (λ s. IsSaidOf false fields (text_at places bytes) places (stored_seen s))
+    → IfErr r (λ fault. fault ≡ Out (Memory 0)) → IsSeenIn false fields bytes places r
+said_seen {A} bytes fields places (Ok s) fine said memory = (fine, said)
+said_seen {A} bytes fields places (Err fault) fine said memory =
+    subst (λ (f : ReplayFault). IsSeenIn {A = A} false fields bytes places (Err f)) (sym memory) tt
 
 -- the same text, by whether it is that of an HTTP response
 stored_in : (http other : Bool) (fields : List Pair) (text block : List ℕ) (stored : Result StoredBody Why)
@@ -68,26 +70,36 @@ stored_in : (http other : Bool) (fields : List Pair) (text block : List ℕ) (st
 stored_in http other fields text block stored same whole is =
     subst (λ (b : Bool). IsStoredIn b fields block stored) same (subst (λ (t : List ℕ). IsStoredIn http fields t stored) whole is)
 
+abbrev Refused : Why → Result StoredBody Why
+Refused why = Err why
+
 -- what is seen at the places is what is stored
 pub judged_of : {A : Type 0} → JoinedHasTotal → (bytes : List ℕ) (records : List Record) (way : Result Path Unfound)
     (path : Path) (content : Record) (joined : List ReadRecord) (ps : List Place) (http : Bool)
     (result : Result (Stored A) ReplayFault) → length bytes ≤ max_archive
     → IsFound (map read_record records) way path (read_record content) (Ok joined) → ArePlacesOf bytes ps joined
-    → list_any (λ (p : Place). is_bad p.verdict) ps ≡ false → http ≡ is_http_response (reading_of content.fields)
-    → IsSeenIn http content.fields (text_at ps bytes) ps result → IsJudged content joined result
-judged_of total bytes records way path content joined ps http (Ok s) short found are fine same seen =
+    → http ≡ is_http_response (reading_of content.fields) → IsSeenIn http content.fields bytes ps result
+    → IsJudged content joined result
+judged_of total bytes records way path content joined ps http (Ok s) short found are same seen =
     let whole : text_at ps bytes ≡ whole_block joined = places_text bytes ps joined are in
     let fits : len_of ps ≤ max_archive = joined_short total bytes records way path (read_record content) joined ps short found are in
     let size : s.length ≡ length (drop s.head_len (whole_block joined)) =
-    omega (arith, seen.2, fits, places_len bytes ps joined are, length-drop s.head_len (whole_block joined)) in
-    on_false _ _ (list_any has_bad_block joined) (sym (places_bad bytes ps joined are) ∙ fine) (
-      stored_in http _ content.fields _ _ (Ok (stored_seen s)) same whole seen.0,
-      (seen.1 ∙ places_marked bytes ps joined are, size),
+    omega (arith, seen.1.2, fits, places_len bytes ps joined are, length-drop s.head_len (whole_block joined)) in
+    on_false _ _ (list_any has_bad_block joined) (sym (places_bad bytes ps joined are) ∙ seen.0) (
+      stored_in http _ content.fields _ _ (Ok (stored_seen s)) same whole seen.1.0,
+      (seen.1.1 ∙ places_marked bytes ps joined are, size),
     )
-judged_of total bytes records way path content joined ps http (Err (Reason why)) short found are fine same seen =
-    on_false _ _ (list_any has_bad_block joined) (sym (places_bad bytes ps joined are) ∙ fine)
-    (stored_in http _ content.fields _ _ (Err why) same (places_text bytes ps joined are) seen, tt)
-judged_of total bytes records way path content joined ps http (Err (Out e)) short found are fine same seen = seen
+judged_of total bytes records way path content joined ps http (Err (Reason why)) short found are same seen =
+    by_bad (any_bad_at bytes ps) (list_any has_bad_block joined) (places_bad bytes ps joined are) seen
+  where
+    by_bad : (a b : Bool) → a ≡ b → MatchBool a (why ≡ BadDigest) (IsStoredIn http content.fields (text_at ps bytes) (Err why))
+        → MatchBool b (Refused why ≡ Err BadDigest)
+        (IsStoredIn (is_http_response (reading_of content.fields)) content.fields (whole_block joined) (Err why) × AreMeasures joined (Err why))
+    by_bad true true e x = ap Err x
+    by_bad false false e x = (stored_in http _ content.fields _ _ (Err why) same (places_text bytes ps joined are) x, tt)
+    by_bad true false e x = absurd (cc)
+    by_bad false true e x = absurd (cc)
+judged_of total bytes records way path content joined ps http (Err (Out e)) short found are same seen = seen
 
 -- ---- what a replay answers
 

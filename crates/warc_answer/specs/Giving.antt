@@ -1,14 +1,35 @@
--- Where the body begins in joined blocks. States of the code: no public clause cites them.
-use Rattle.std.specs.Prelude.{◌≡◌, ℕ, ◌≤◌, Bool, List, length, drop, Some, None, Result, Ok, Err}
+-- Whether joined blocks are what their digests say, and where the body begins in them. States of the code: no public
+-- clause cites them.
+use Rattle.std.specs.Prelude.{◌≡◌, ℕ, ◌≤◌, Bool, true, false, List, length, min, take, drop, Option, Some, None, Result, Ok, Err}
 use Rattle.std.specs.Bool.{MatchBool}
+use Rattle.std.specs.List.{list_any}
+use Rattle.warc_value.specs.Digests.{is_bad, verdict_of}
 use Rattle.warc_frame.specs.declared.fault.OutFault.TheVariants as outs
-use Rattle.warc_payload.specs.Head.{HasNoHead}
+use Rattle.warc_payload.specs.Head.{HasNoHead, most_head_bytes}
 use Rattle.warc_payload.specs.Payload.{GivesBody, GivesCodedBody}
+use Rattle.warc_segment.specs.declared.place.Place.{Place}
+use Rattle.warc_answer.specs.Places.{bytes_at, len_of}
 use Rattle.warc_answer.specs.declared.answer.Reason.{Reason as Why}
 use Rattle.warc_answer.specs.declared.answer.Reason.TheVariants.{NotFound, Segments, BadDigest, BadHead, Coded}
 use Rattle.warc_answer.specs.declared.answer.ReplayFault.{ReplayFault}
 use Rattle.warc_answer.specs.declared.answer.ReplayFault.TheVariants.{Reason, Out}
 use Rattle.warc_answer.specs.declared.body.BodyStart.{BodyStart}
+
+-- the block at a place isn't what its record's digest says
+abbrev pub is_bad_at : List ℕ → Place → Bool
+is_bad_at bytes p = is_bad (verdict_of p.wanted (bytes_at bytes p))
+
+abbrev pub any_bad_at : List ℕ → List Place → Bool
+any_bad_at bytes places = list_any (is_bad_at bytes) places
+
+-- a buffer begins with so many bytes, which are this text, and no block is bad; or none, and some block is
+abbrev pub IsFront : Bool → List ℕ → List ℕ → Option ℕ → Type 0
+IsFront bad text buf (Some n) = (bad ≡ false) × (take n buf ≡ text)
+IsFront bad text buf None = bad ≡ true
+
+-- a buffer of this length has room for an HTTP head in joined blocks: for 65,536 bytes, or for all of them
+abbrev pub HasRoom : ℕ → List Place → Type 0
+HasRoom room places = (room ≤ most_head_bytes) × (min most_head_bytes (len_of places) ≤ room)
 
 -- the body begins here in the joined blocks, which are this text
 abbrev pub BeginsAt : Bool → List ℕ → BodyStart → Type 0
@@ -17,15 +38,15 @@ BeginsAt http text start =
     × MatchBool http ((status : ℕ) × (start.status ≡ Some status) × GivesBody text status (drop start.skip text))
     ((start.status ≡ None) × (start.skip ≡ 0))
 
--- it begins nowhere, for this reason
-abbrev pub BeginsNowhere : Bool → List ℕ → Why → Type 0
-BeginsNowhere http text BadHead = MatchBool http (HasNoHead text) ⊥
-BeginsNowhere http text Coded = MatchBool http (GivesCodedBody text) ⊥
-BeginsNowhere http text BadDigest = ⊥
-BeginsNowhere http text (NotFound why) = ⊥
-BeginsNowhere http text (Segments gap) = ⊥
+-- it begins nowhere, for this reason: some block is bad, or none is
+abbrev pub BeginsNowhere : Bool → Bool → List ℕ → Why → Type 0
+BeginsNowhere bad http text BadDigest = bad ≡ true
+BeginsNowhere bad http text BadHead = (bad ≡ false) × MatchBool http (HasNoHead text) ⊥
+BeginsNowhere bad http text Coded = (bad ≡ false) × MatchBool http (GivesCodedBody text) ⊥
+BeginsNowhere bad http text (NotFound why) = ⊥
+BeginsNowhere bad http text (Segments gap) = ⊥
 
-abbrev pub IsStart : Bool → List ℕ → Result BodyStart ReplayFault → Type 0
-IsStart http text (Ok start) = BeginsAt http text start
-IsStart http text (Err (Reason why)) = BeginsNowhere http text why
-IsStart http text (Err (Out e)) = e ≡ outs.Read 0
+abbrev pub IsStart : Bool → Bool → List ℕ → Result BodyStart ReplayFault → Type 0
+IsStart bad http text (Ok start) = (bad ≡ false) × BeginsAt http text start
+IsStart bad http text (Err (Reason why)) = BeginsNowhere bad http text why
+IsStart bad http text (Err (Out e)) = e ≡ outs.Read 0

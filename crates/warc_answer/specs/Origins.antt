@@ -1,5 +1,5 @@
 -- An origin, the places of the blocks that are joined to it, and how often they are read. This project's own notion.
-use Rattle.std.specs.Prelude.{◌≡◌, ℕ, ◌*◌, ◌≤◌, Bool, true, false, List, length, map, Result, Ok, if◌then◌else◌}
+use Rattle.std.specs.Prelude.{◌≡◌, ℕ, ◌+◌, ◌≤◌, Bool, List, length, map, Result, Ok, if◌then◌else◌}
 use Rattle.warc_frame.specs.Record.{Record, max_archive}
 use Rattle.warc_frame.specs.Seen.{SeenSource}
 use Rattle.warc_index.specs.declared.unfound.Unfound.{Unfound}
@@ -8,7 +8,7 @@ use Rattle.warc_segment.specs.Joined.{ReadRecord, ArePlacesOf}
 use Rattle.warc_segment.specs.declared.place.Place.{Place}
 use Rattle.warc_answer.specs.Laws.{IsFound}
 use Rattle.warc_answer.specs.Payloads.{read_record}
-use Rattle.warc_answer.specs.Places.{ReadsPlaces, len_of}
+use Rattle.warc_answer.specs.Places.{ReadsPlaces, checked_places, len_of}
 use Rattle.warc_answer.specs.declared.answer.Path.{Path}
 
 -- at the end of a path among records there is an origin whose head says this, and of the blocks that are joined to it
@@ -38,12 +38,15 @@ pub record AreBlocksIn (places : List Place) (bytes : List ℕ) : Type 0 where
   pub short : length bytes ≤ max_archive
   pub places_are : ArePlacesOf bytes places joined
 
--- to find where the body begins, the places of an HTTP response are read once, since it has a head before the body; of
--- another origin nothing is read
-abbrev pub ReadsForHead : Bool → List Place → SeenSource → SeenSource → Type 0
-ReadsForHead true places old new = ReadsPlaces places (len_of places) old new
-ReadsForHead false places old new = new ≡ old
+-- the places that are read to judge the blocks and to find where the body begins: those of blocks whose digest can be
+-- checked, and of an HTTP response any, since it has a head before the body
+abbrev pub judged_places : Bool → List Place → List Place
+judged_places http places = if http then places else checked_places places
+
+-- they are read once, and no other place is
+abbrev pub ReadsToJudge : Bool → List Place → SeenSource → SeenSource → Type 0
+ReadsToJudge http places old new = ReadsPlaces (judged_places http places) (len_of (judged_places http places)) old new
 
 -- how often the places are read to write the body too
 abbrev pub body_reads : Bool → List Place → ℕ
-body_reads http places = if http then 2 * len_of places else len_of places
+body_reads http places = len_of (judged_places http places) + len_of places

@@ -1,12 +1,18 @@
-//! Joined blocks, read from their places in a source.
-ghost use Rattle.std.specs.Prelude.{◌≡◌, ◌<◌, ◌≤◌, length, take, drop, IfErr, IfOk, OnOk};
+//! Joined blocks, judged and written, read from their places in a source.
+ghost use Rattle.std.specs.Prelude.{◌≡◌, ◌+◌, ◌-◌, ◌<◌, ◌≤◌, false, length, take, drop, IfErr, IfOk, IfSome, OnOk};
+ghost use Rattle.warc_value.specs.Digests.{verdict_of};
 ghost use Rattle.warc_frame.specs.Effects.{Emits, FailsBy, HasRange, IsOfDevice, ReadsRange, Sends, read_result};
 ghost use Rattle.warc_frame.specs.Seen.{IfHeld};
-ghost use Rattle.warc_answer.specs.Places.{IsPlacedText, LieIn, ReadsPlaces, len_of, text_at};
+ghost use Rattle.warc_digest.specs.Judging.{judged_len};
+ghost use Rattle.warc_answer.specs.Giving.{IsFront, any_bad_at};
+ghost use Rattle.warc_answer.specs.Origins.{ReadsToJudge};
+ghost use Rattle.warc_answer.specs.Places.{IsPlacedText, LieIn, ReadsPlaces, bytes_at, len_of, text_at};
 
+use warc_digest::update_range;
 use warc_frame::laws::went_out_of_longer;
 use warc_frame::{OutBuffer, OutFault, PIECE, ReadFault, Sink, Source, put_range, read_range};
 use warc_segment::Place;
+use warc_value::{Running, Verdict, Wanted};
 
 /// Fills the buffer with the bytes at an offset. It fails where a read does, where the source ends too early, and where
 /// the bytes don't end before offset 2^64.
@@ -23,25 +29,100 @@ fn read_bytes<S: Source>(source: &mut S, at: u64, buf: &mut [u8]) -> Result<(), 
     read_range(source, at, buf)
 }
 
-/// Fills the buffer with the front of the joined blocks, as far as either goes, and answers how far.
-pub(crate) fn read_front<S: Source>(
+/// Judges the block at a place, and fills the buffer with its front. After the front it reads only a block whose digest
+/// can be checked.
+fn judge_block<S: Source>(
+    source: &mut S,
+    place: &Place,
+    front: &mut [u8],
+    scratch: &mut [u8],
+) -> Result<Verdict, ReadFault>
+    requires { (0 < length scratch.old) × (length front.old ≤ place.now.len) }
+    ensures bytes { IfHeld (S.seen source.old).holds (λ bytes.
+        OnOk result (front.new ≡ take (length front.old) (drop place.now.start bytes))) }
+    ensures verdict { IfHeld (S.seen source.old).holds (λ bytes. HasRange place.now.start place.now.len bytes →
+        IfOk result (λ verdict. verdict ≡ verdict_of place.now.wanted (bytes_at bytes place.now))) }
+    ensures reads { ReadsRange place.now.start (length front.old + judged_len place.now.wanted (place.now.len - length
+        front.old)) (S.seen source.old) (S.seen source.new) }
+    ensures fails { FailsBy (HasRange place.now.start place.now.len) (read_result result) (S.seen source.old)
+        (S.seen source.new) }
+{
+    match read_bytes(source, place.start, front) {
+        Ok(()) => {}
+        Err(fault) => return Err(fault),
+    }
+    if let Wanted::Unchecked = place.wanted {
+        return Ok(Verdict::Unchecked);
+    }
+    let mut running = Running::new();
+    running.update(front);
+    let done = front.len() as u64;
+    let at = place.start.saturating_add(done);
+    match update_range(source, at, place.len - done, scratch, &mut running) {
+        Ok(()) => Ok(running.verdict(&place.wanted)),
+        Err(fault) => Err(fault),
+    }
+}
+
+/// Judges the joined blocks one after another, through `scratch`, and fills the buffer with their front, as far as
+/// either goes. It answers how far, or that a block isn't what its digest says; then nothing after that block is read.
+fn judge_each<S: Source>(
     source: &mut S,
     places: &[Place],
     front: &mut [u8],
-) -> Result<usize, ReadFault>
-    ensures within { IfOk result (λ n. n ≤ length front.new) }
-    ensures bytes { IfHeld (S.seen source.old).holds (λ bytes. LieIn places.now bytes →
-        IfOk result (λ n. take n front.new ≡ take (length front.old) (text_at places.now bytes))) }
+    scratch: &mut [u8],
+) -> Result<Option<usize>, ReadFault>
+    requires { 0 < length scratch.old }
+    ensures within { IfOk result (λ filled. IfSome filled (λ n. n ≤ length front.new)) }
+    ensures judged { IfHeld (S.seen source.old).holds (λ bytes. LieIn places.now bytes → IfOk result
+        (IsFront (any_bad_at bytes places.now) (take (length front.old) (text_at places.now bytes)) front.new)) }
     ensures reads { ReadsPlaces places.now (len_of places.now) (S.seen source.old) (S.seen source.new) }
+    ensures checked { length front.old ≡ 0 → ReadsToJudge false places.now (S.seen source.old) (S.seen source.new) }
     ensures fails { FailsBy (LieIn places.now) (read_result result) (S.seen source.old) (S.seen source.new) }
 {
     let mut filled = 0;
-    'reading: for place in places {
+    'judging: for place in places {
         let want = (front.len() - filled).min(place.len as usize);
-        read_bytes(source, place.start, &mut front[filled..filled + want])?;
+        let verdict = match judge_block(source, place, &mut front[filled..filled + want], scratch) {
+            Ok(verdict) => verdict,
+            Err(fault) => return Err(fault),
+        };
+        if verdict.is_bad() {
+            return Ok(None);
+        }
         filled += want;
     }
-    Ok(filled)
+    Ok(Some(filled))
+}
+
+/// The same, through a buffer of its own.
+pub(crate) fn judge_blocks<S: Source>(
+    source: &mut S,
+    places: &[Place],
+    front: &mut [u8],
+) -> Result<Option<usize>, ReadFault>
+    ensures within { IfOk result (λ filled. IfSome filled (λ n. n ≤ length front.new)) }
+    ensures judged { IfHeld (S.seen source.old).holds (λ bytes. LieIn places.now bytes → IfOk result
+        (IsFront (any_bad_at bytes places.now) (take (length front.old) (text_at places.now bytes)) front.new)) }
+    ensures reads { ReadsPlaces places.now (len_of places.now) (S.seen source.old) (S.seen source.new) }
+    ensures checked { length front.old ≡ 0 → ReadsToJudge false places.now (S.seen source.old) (S.seen source.new) }
+    ensures fails { FailsBy (LieIn places.now) (read_result result) (S.seen source.old) (S.seen source.new) }
+{
+    let mut scratch = [0; PIECE];
+    judge_each(source, places, front, &mut scratch)
+}
+
+/// Whether some joined block isn't what its digest says. Only those are read whose digest can be checked.
+pub(crate) fn any_bad<S: Source>(source: &mut S, places: &[Place]) -> Result<bool, ReadFault>
+    ensures judged { IfHeld (S.seen source.old).holds (λ bytes. LieIn places.now bytes →
+        IfOk result (λ bad. bad ≡ any_bad_at bytes places.now)) }
+    ensures reads { ReadsToJudge false places.now (S.seen source.old) (S.seen source.new) }
+    ensures fails { FailsBy (LieIn places.now) (read_result result) (S.seen source.old) (S.seen source.new) }
+{
+    match judge_blocks(source, places, &mut []) {
+        Ok(filled) => Ok(filled.is_none()),
+        Err(fault) => Err(fault),
+    }
 }
 
 /// Adds the joined blocks to the output, without their first `skip` bytes.

@@ -1,20 +1,20 @@
 //! Where the body begins in the joined blocks of an origin.
-ghost use Rattle.std.specs.Prelude.{◌≡◌, ℕ, length, IfErr};
+ghost use Rattle.std.specs.Prelude.{◌≡◌, ℕ, false, length, true, IfErr};
 ghost use Rattle.warc_frame.specs.Effects.{FailsBy};
 ghost use Rattle.warc_frame.specs.Failing.{failed_by};
 ghost use Rattle.warc_frame.specs.Seen.{IfHeld};
 ghost use Rattle.warc_record.specs.Seen.{said};
-ghost use Rattle.warc_payload.specs.Head.{most_head_bytes};
-ghost use Rattle.warc_answer.specs.Giving.{IsStart};
-ghost use Rattle.warc_answer.specs.Origins.{ReadsForHead};
+ghost use Rattle.warc_answer.specs.Giving.{HasRoom, IsStart, any_bad_at};
+ghost use Rattle.warc_answer.specs.Origins.{ReadsToJudge};
 ghost use Rattle.warc_answer.specs.Payloads.{is_http, is_http_response};
 ghost use Rattle.warc_answer.specs.Places.{LieIn, text_at};
 ghost use Rattle.warc_answer.specs.Replays.{WantsNoMemory, out_result};
 
 use crate::answer::{Reason, ReplayFault};
-use crate::blocks::read_front;
+use crate::blocks::{any_bad, judge_blocks};
+use crate::replay::total;
 use std::alloc::Allocator;
-use warc_frame::{OutFault, Source};
+use warc_frame::{OutFault, PIECE, Source};
 use warc_payload::laws::{front_tells_head, front_tells_no_head};
 use warc_payload::{MOST_HEAD_BYTES, body_start};
 use warc_record::{Kind, Typed};
@@ -49,32 +49,27 @@ pub(crate) fn is_http_response<A: Allocator>(origin: &Typed<A>) -> bool
     }
 }
 
-/// Where the body begins in the joined blocks, whose front is read through the buffer: after the HTTP head of an HTTP
-/// response, and else at once.
+/// Where the body begins in the joined blocks of an HTTP response: after the HTTP head. The blocks are judged, and
+/// their front is read through the buffer.
 fn start_through<S: Source>(
     source: &mut S,
-    http: bool,
     places: &[Place],
     front: &mut [u8],
 ) -> Result<BodyStart, ReplayFault>
-    requires { length front.old ≡ most_head_bytes }
+    requires { HasRoom (length front.old) places.now }
     ensures begun { IfHeld (S.seen source.old).holds (λ bytes. LieIn places.now bytes →
-        IsStart http (text_at places.now bytes) result) }
+        IsStart (any_bad_at bytes places.now) true (text_at places.now bytes) result) }
     ensures unwritten { (n : ℕ) → failed_by (out_result result) n ≡ n }
     ensures device { IfErr result WantsNoMemory }
-    ensures reads { ReadsForHead http places.now (S.seen source.old) (S.seen source.new) }
+    ensures reads { ReadsToJudge true places.now (S.seen source.old) (S.seen source.new) }
     ensures fails { FailsBy (LieIn places.now) (out_result result) (S.seen source.old) (S.seen source.new) }
 {
     front_tells_head();
     front_tells_no_head();
-    if !http {
-        return Ok(BodyStart {
-            status: None,
-            skip: 0,
-        });
-    }
-    let Ok(n) = read_front(source, places, front) else {
-        return Err(ReplayFault::Out(OutFault::Read(0)));
+    let n = match judge_blocks(source, places, front) {
+        Ok(Some(n)) => n,
+        Ok(None) => return Err(ReplayFault::Reason(Reason::BadDigest)),
+        Err(_) => return Err(ReplayFault::Out(OutFault::Read(0))),
     };
     match body_start(&front[..n]) {
         Err(_) => Err(ReplayFault::Reason(Reason::BadHead)),
@@ -86,19 +81,74 @@ fn start_through<S: Source>(
     }
 }
 
-/// The same, through a buffer of its own.
+/// The same, through a buffer of its own that has room for any HTTP head.
+fn find_behind_long_head<S: Source>(
+    source: &mut S,
+    places: &[Place],
+) -> Result<BodyStart, ReplayFault>
+    ensures begun { IfHeld (S.seen source.old).holds (λ bytes. LieIn places.now bytes →
+        IsStart (any_bad_at bytes places.now) true (text_at places.now bytes) result) }
+    ensures unwritten { (n : ℕ) → failed_by (out_result result) n ≡ n }
+    ensures device { IfErr result WantsNoMemory }
+    ensures reads { ReadsToJudge true places.now (S.seen source.old) (S.seen source.new) }
+    ensures fails { FailsBy (LieIn places.now) (out_result result) (S.seen source.old) (S.seen source.new) }
+{
+    let mut front = [0; MOST_HEAD_BYTES];
+    start_through(source, places, &mut front)
+}
+
+/// The same, through a short buffer where the joined blocks are short.
+fn find_behind_head<S: Source>(source: &mut S, places: &[Place]) -> Result<BodyStart, ReplayFault>
+    ensures begun { IfHeld (S.seen source.old).holds (λ bytes. LieIn places.now bytes →
+        IsStart (any_bad_at bytes places.now) true (text_at places.now bytes) result) }
+    ensures unwritten { (n : ℕ) → failed_by (out_result result) n ≡ n }
+    ensures device { IfErr result WantsNoMemory }
+    ensures reads { ReadsToJudge true places.now (S.seen source.old) (S.seen source.new) }
+    ensures fails { FailsBy (LieIn places.now) (out_result result) (S.seen source.old) (S.seen source.new) }
+{
+    if total(places) > PIECE as u64 {
+        return find_behind_long_head(source, places);
+    }
+    let mut front = [0; PIECE];
+    start_through(source, places, &mut front)
+}
+
+/// Where the body begins in the joined blocks of another origin: at once. The blocks are judged.
+fn find_whole<S: Source>(source: &mut S, places: &[Place]) -> Result<BodyStart, ReplayFault>
+    ensures begun { IfHeld (S.seen source.old).holds (λ bytes. LieIn places.now bytes →
+        IsStart (any_bad_at bytes places.now) false (text_at places.now bytes) result) }
+    ensures unwritten { (n : ℕ) → failed_by (out_result result) n ≡ n }
+    ensures device { IfErr result WantsNoMemory }
+    ensures reads { ReadsToJudge false places.now (S.seen source.old) (S.seen source.new) }
+    ensures fails { FailsBy (LieIn places.now) (out_result result) (S.seen source.old) (S.seen source.new) }
+{
+    match any_bad(source, places) {
+        Ok(false) => Ok(BodyStart {
+            status: None,
+            skip: 0,
+        }),
+        Ok(true) => Err(ReplayFault::Reason(Reason::BadDigest)),
+        Err(_) => Err(ReplayFault::Out(OutFault::Read(0))),
+    }
+}
+
+/// Where the body begins in the joined blocks: after the HTTP head of an HTTP response, and else at once. The blocks
+/// are judged.
 pub(crate) fn find_body<S: Source>(
     source: &mut S,
     http: bool,
     places: &[Place],
 ) -> Result<BodyStart, ReplayFault>
     ensures begun { IfHeld (S.seen source.old).holds (λ bytes. LieIn places.now bytes →
-        IsStart http (text_at places.now bytes) result) }
+        IsStart (any_bad_at bytes places.now) http (text_at places.now bytes) result) }
     ensures unwritten { (n : ℕ) → failed_by (out_result result) n ≡ n }
     ensures device { IfErr result WantsNoMemory }
-    ensures reads { ReadsForHead http places.now (S.seen source.old) (S.seen source.new) }
+    ensures reads { ReadsToJudge http places.now (S.seen source.old) (S.seen source.new) }
     ensures fails { FailsBy (LieIn places.now) (out_result result) (S.seen source.old) (S.seen source.new) }
 {
-    let mut front = [0; MOST_HEAD_BYTES];
-    start_through(source, http, places, &mut front)
+    if http {
+        find_behind_head(source, places)
+    } else {
+        find_whole(source, places)
+    }
 }

@@ -90,8 +90,8 @@ fn cut_front<A: Allocator>(
 }
 
 /// Where the payload of an origin lies, and what it is. `places` are the places of the joined blocks, as
-/// `Parts::join` gives them; `origin` is what the origin's head says. No byte is read but the first 65,536 of the
-/// joined blocks, and those only where an HTTP head is looked for.
+/// `Parts::join` gives them; `origin` is what the origin's head says. Each byte of the joined blocks is read at most
+/// once, to judge their digests and to find the HTTP head. If the source changes later, the spans don't follow.
 ///
 /// It is refused as `replay_joined` is before anything is written: a reason, `Read(0)` or `Memory(0)`.
 pub fn locate_joined<S: Source, A: Allocator + Copy>(

@@ -1,7 +1,6 @@
 //! The end of a replay, after the look-up of the capture and of its origin, and the joining of its segments.
 ghost use Rattle.std.specs.Prelude.{◌≡◌, ℕ, List, drop, Option, Result, Err, IfErr, IfOk};
 ghost use Rattle.std.specs.List.{list_any};
-ghost use Rattle.warc_value.specs.Digests.{is_bad};
 ghost use Rattle.warc_frame.specs.Count.{capped};
 ghost use Rattle.warc_frame.specs.Effects.{FailsBy};
 ghost use Rattle.warc_frame.specs.Failing.{failed_by};
@@ -10,7 +9,7 @@ ghost use Rattle.warc_frame.specs.Seen.{IfHeld};
 ghost use Rattle.warc_record.specs.Seen.{said};
 ghost use Rattle.warc_index.specs.declared.unfound.Unfound.{Unfound};
 ghost use Rattle.warc_answer.specs.Answers.{IsAnswerOn};
-ghost use Rattle.warc_answer.specs.Origins.{AreBlocksIn, IsJoinedOn, ReadsForHead, body_reads};
+ghost use Rattle.warc_answer.specs.Origins.{AreBlocksIn, IsJoinedOn, ReadsToJudge, body_reads};
 ghost use Rattle.warc_answer.specs.Payloads.{is_http_response};
 ghost use Rattle.warc_answer.specs.Places.{ReadsPlaces, len_of, text_at};
 ghost use Rattle.warc_answer.specs.Replays.{IsReplayOn, WantsNoMemory, WritesLate, given, out_result};
@@ -24,13 +23,6 @@ use warc_payload::laws::one_of_three;
 use warc_record::Typed;
 use warc_segment::Place;
 use warc_segment::laws::joined_has_total;
-
-/// Whether some block isn't what its digest says.
-pub(crate) fn any_bad(places: &[Place]) -> bool
-    ensures { result ≡ list_any (λ p. is_bad p.verdict) places.now }
-{
-    places.iter().any(|place| place.verdict.is_bad())
-}
 
 /// Whether some record is marked as truncated.
 pub(crate) fn any_truncated(places: &[Place]) -> bool
@@ -57,7 +49,7 @@ pub(crate) struct Begun {
     pub(crate) skip: u64,
 }
 
-/// What is said of the payload of an origin, and where in the joined blocks it begins.
+/// What is said of the payload of an origin, and where in the joined blocks it begins. The joined blocks are judged.
 pub(crate) fn begin_body<S: Source, A: Allocator>(
     source: &mut S,
     path: Path,
@@ -72,15 +64,12 @@ pub(crate) fn begin_body<S: Source, A: Allocator>(
         IfErr result (λ fault. (told : Option (List ℕ)) → IsReplayOn records found (Err fault) told told)) }
     ensures unwritten { (n : ℕ) → failed_by (out_result result) n ≡ n }
     ensures device { IfErr result WantsNoMemory }
-    ensures reads { ReadsForHead (is_http_response (said origin.now)) places.now (S.seen source.old)
+    ensures reads { ReadsToJudge (is_http_response (said origin.now)) places.now (S.seen source.old)
         (S.seen source.new) }
     ensures fails { FailsBy (AreBlocksIn places.now) (out_result result) (S.seen source.old) (S.seen source.new) }
 {
     one_of_three();
     joined_has_total();
-    if any_bad(places) {
-        return Err(ReplayFault::Reason(Reason::BadDigest));
-    }
     let start = match find_body(source, is_http_response(origin), places) {
         Ok(start) => start,
         Err(fault) => return Err(fault),
@@ -99,8 +88,8 @@ pub(crate) fn begin_body<S: Source, A: Allocator>(
 
 /// Writes the payload of an origin, and answers what it is. `places` are the places of the joined blocks, as
 /// `Parts::join` gives them; `origin` is what the origin's head says. For a reason, nothing is written. No block is
-/// kept: the joined blocks are read through a buffer of 8,192 bytes, and the first 65,536 bytes of them twice where an
-/// HTTP head is looked for.
+/// kept: the joined blocks are read once to judge their digests and to find the HTTP head, and once more to write the
+/// body, through a buffer of 8,192 bytes. If the source changes in between, the body isn't what was judged.
 pub fn replay_joined<S: Source, W: Sink, A: Allocator>(
     source: &mut S,
     path: Path,
@@ -114,7 +103,8 @@ pub fn replay_joined<S: Source, W: Sink, A: Allocator>(
     ensures late { WritesLate result (W.seen out.old) (W.seen out.new) }
     ensures device { IfErr result WantsNoMemory }
 
-    // The joined blocks alone are read, at most once for each byte, and of an HTTP response twice: first its head.
+    // The joined blocks alone are read, at most twice for each byte. If the origin is no HTTP response, those whose
+    // digest can't be checked are read at most once.
     ensures reads { ReadsPlaces places.now (body_reads (is_http_response (said origin.now)) places.now)
         (S.seen source.old) (S.seen source.new) }
     ensures fails { FailsBy (AreBlocksIn places.now) (out_result result) (S.seen source.old) (S.seen source.new) }

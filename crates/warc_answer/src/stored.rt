@@ -1,5 +1,5 @@
 //! What is stored of an origin, coded or not.
-ghost use Rattle.std.specs.Prelude.{◌≡◌, ℕ, List, length, IfErr, false, true};
+ghost use Rattle.std.specs.Prelude.{◌≡◌, ℕ, List, length, IfErr, IfOk, false, true};
 ghost use Rattle.warc_field.specs.Area.{Pair};
 ghost use Rattle.warc_frame.specs.Effects.{FailsBy};
 ghost use Rattle.warc_frame.specs.Record.{Record};
@@ -7,20 +7,20 @@ ghost use Rattle.warc_frame.specs.Seen.{IfHeld};
 ghost use Rattle.warc_record.specs.Readings.{reading_of};
 ghost use Rattle.warc_record.specs.Seen.{said};
 ghost use Rattle.warc_segment.specs.Joined.{ReadRecord};
-ghost use Rattle.warc_payload.specs.Head.{most_head_bytes};
-ghost use Rattle.warc_answer.specs.Judging.{IsHeadIn, IsSeenIn};
+ghost use Rattle.warc_answer.specs.Giving.{HasRoom, any_bad_at};
+ghost use Rattle.warc_answer.specs.Judging.{IsHeadIn, IsSaidOf, IsSeenIn};
 ghost use Rattle.warc_answer.specs.Origins.{AreBlocksIn, IsContentOn};
 ghost use Rattle.warc_answer.specs.Places.{LieIn, ReadsPlaces, len_of, text_at};
 ghost use Rattle.warc_answer.specs.Replays.{out_result};
-ghost use Rattle.warc_answer.specs.Seen.{IsEarly, IsJudged};
+ghost use Rattle.warc_answer.specs.Seen.{IsEarly, IsJudged, stored_seen};
 ghost use Rattle.warc_answer.specs.Stored.{own_type};
 
 use crate::answer::{Path, Reason, ReplayFault};
-use crate::blocks::read_front;
+use crate::blocks::{any_bad, judge_blocks};
 use crate::body::is_http_response;
-use crate::replay::{any_bad, any_truncated, total};
+use crate::replay::{any_truncated, total};
 use std::alloc::{Allocator, Global};
-use warc_frame::{OutFault, Source};
+use warc_frame::{OutFault, PIECE, Source};
 use warc_payload::laws::{front_tells_head, front_tells_no_head};
 use warc_payload::{HeadFault, MOST_HEAD_BYTES, StoredHead, media_type, read_head};
 use warc_record::Typed;
@@ -52,24 +52,26 @@ pub struct Stored<A: Allocator = Global> {
     pub length: u64,
 }
 
-/// The HTTP head at the front of the joined blocks, which is read through the buffer.
+/// The HTTP head at the front of the joined blocks, which is read through the buffer. The blocks are judged.
 fn head_through<S: Source, A: Allocator + Copy>(
     alloc: A,
     source: &mut S,
     places: &[Place],
     front: &mut [u8],
 ) -> Result<StoredHead<A>, ReplayFault>
-    requires { length front.old ≡ most_head_bytes }
+    requires { HasRoom (length front.old) places.now }
     ensures begins { IfHeld (S.seen source.old).holds (λ bytes. LieIn places.now bytes →
-        IsHeadIn (text_at places.now bytes) result) }
+        IsHeadIn (any_bad_at bytes places.now) (text_at places.now bytes) result) }
     ensures early { IfErr result IsEarly }
     ensures reads { ReadsPlaces places.now (len_of places.now) (S.seen source.old) (S.seen source.new) }
     ensures fails { FailsBy (LieIn places.now) (out_result result) (S.seen source.old) (S.seen source.new) }
 {
     front_tells_head();
     front_tells_no_head();
-    let Ok(n) = read_front(source, places, front) else {
-        return Err(ReplayFault::Out(OutFault::Read(0)));
+    let n = match judge_blocks(source, places, front) {
+        Ok(Some(n)) => n,
+        Ok(None) => return Err(ReplayFault::Reason(Reason::BadDigest)),
+        Err(_) => return Err(ReplayFault::Out(OutFault::Read(0))),
     };
     match read_head(alloc, &front[..n]) {
         Ok(head) => Ok(head),
@@ -78,19 +80,38 @@ fn head_through<S: Source, A: Allocator + Copy>(
     }
 }
 
-/// The same, through a buffer of its own.
+/// The same, through a buffer of its own that has room for any HTTP head.
+fn find_long_head<S: Source, A: Allocator + Copy>(
+    alloc: A,
+    source: &mut S,
+    places: &[Place],
+) -> Result<StoredHead<A>, ReplayFault>
+    ensures begins { IfHeld (S.seen source.old).holds (λ bytes. LieIn places.now bytes →
+        IsHeadIn (any_bad_at bytes places.now) (text_at places.now bytes) result) }
+    ensures early { IfErr result IsEarly }
+    ensures reads { ReadsPlaces places.now (len_of places.now) (S.seen source.old) (S.seen source.new) }
+    ensures fails { FailsBy (LieIn places.now) (out_result result) (S.seen source.old) (S.seen source.new) }
+{
+    let mut front = [0; MOST_HEAD_BYTES];
+    head_through(alloc, source, places, &mut front)
+}
+
+/// The same, through a short buffer where the joined blocks are short.
 fn find_head<S: Source, A: Allocator + Copy>(
     alloc: A,
     source: &mut S,
     places: &[Place],
 ) -> Result<StoredHead<A>, ReplayFault>
     ensures begins { IfHeld (S.seen source.old).holds (λ bytes. LieIn places.now bytes →
-        IsHeadIn (text_at places.now bytes) result) }
+        IsHeadIn (any_bad_at bytes places.now) (text_at places.now bytes) result) }
     ensures early { IfErr result IsEarly }
     ensures reads { ReadsPlaces places.now (len_of places.now) (S.seen source.old) (S.seen source.new) }
     ensures fails { FailsBy (LieIn places.now) (out_result result) (S.seen source.old) (S.seen source.new) }
 {
-    let mut front = [0; MOST_HEAD_BYTES];
+    if total(places) > PIECE as u64 {
+        return find_long_head(alloc, source, places);
+    }
+    let mut front = [0; PIECE];
     head_through(alloc, source, places, &mut front)
 }
 
@@ -101,7 +122,7 @@ fn judge_http<S: Source, A: Allocator + Copy>(
     places: &[Place],
 ) -> Result<Stored<A>, ReplayFault>
     ensures seen { IfHeld (S.seen source.old).holds (λ bytes. (fields : List Pair) → LieIn places.now bytes →
-        IsSeenIn true fields (text_at places.now bytes) places.now result) }
+        IsSeenIn true fields bytes places.now result) }
     ensures early { IfErr result IsEarly }
     ensures reads { ReadsPlaces places.now (len_of places.now) (S.seen source.old) (S.seen source.new) }
     ensures fails { FailsBy (LieIn places.now) (out_result result) (S.seen source.old) (S.seen source.new) }
@@ -122,14 +143,14 @@ fn judge_http<S: Source, A: Allocator + Copy>(
     })
 }
 
-/// What is stored in the joined blocks of another origin, whose own `Content-Type` has this value.
-fn judge_other<A: Allocator + Copy>(
+/// What is said of the joined blocks of another origin, whose own `Content-Type` has this value.
+fn all_of<A: Allocator + Copy>(
     alloc: A,
     own: &[u8],
     places: &[Place],
 ) -> Result<Stored<A>, ReplayFault>
     ensures seen { (bytes : List ℕ) (fields : List Pair) → own.now ≡ own_type fields →
-        IsSeenIn false fields (text_at places.now bytes) places.now result }
+        IfOk result (λ s. IsSaidOf false fields (text_at places.now bytes) places.now (stored_seen s)) }
     ensures memory { IfErr result (λ fault. fault ≡ ReplayFault.Out (OutFault.Memory 0)) }
 {
     match Vec::from_slice(alloc, media_type(own)) {
@@ -146,10 +167,30 @@ fn judge_other<A: Allocator + Copy>(
     }
 }
 
+/// What is stored in the joined blocks of another origin, whose own `Content-Type` has this value.
+fn judge_other<S: Source, A: Allocator + Copy>(
+    alloc: A,
+    source: &mut S,
+    own: &[u8],
+    places: &[Place],
+) -> Result<Stored<A>, ReplayFault>
+    ensures seen { IfHeld (S.seen source.old).holds (λ bytes. (fields : List Pair) → LieIn places.now bytes →
+        own.now ≡ own_type fields → IsSeenIn false fields bytes places.now result) }
+    ensures early { IfErr result IsEarly }
+    ensures reads { ReadsPlaces places.now (len_of places.now) (S.seen source.old) (S.seen source.new) }
+    ensures fails { FailsBy (LieIn places.now) (out_result result) (S.seen source.old) (S.seen source.new) }
+{
+    match any_bad(source, places) {
+        Ok(false) => all_of(alloc, own, places),
+        Ok(true) => Err(ReplayFault::Reason(Reason::BadDigest)),
+        Err(_) => Err(ReplayFault::Out(OutFault::Read(0))),
+    }
+}
+
 /// What is stored of an origin, coded or not, or the reason why nothing is: a bad digest, or a response whose block
 /// doesn't begin with an HTTP head. `places` are the places of the joined blocks, as `Parts::join` gives them;
-/// `origin` is what the origin's head says, and `own` the value of its own `Content-Type`, empty where it has none. Of
-/// the joined blocks at most the first 65,536 bytes are read, once.
+/// `origin` is what the origin's head says, and `own` the value of its own `Content-Type`, empty where it has none.
+/// Each byte of the joined blocks is read at most once, to judge their digests and to find the HTTP head.
 pub fn judge_joined<S: Source, A: Allocator + Copy>(
     alloc: A,
     source: &mut S,
@@ -165,12 +206,9 @@ pub fn judge_joined<S: Source, A: Allocator + Copy>(
     ensures fails { FailsBy (AreBlocksIn places.now) (out_result result) (S.seen source.old) (S.seen source.new) }
 {
     joined_has_total();
-    if any_bad(places) {
-        return Err(ReplayFault::Reason(Reason::BadDigest));
-    }
     if is_http_response(origin) {
         judge_http(alloc, source, places)
     } else {
-        judge_other(alloc, own, places)
+        judge_other(alloc, source, own, places)
     }
 }

@@ -8,7 +8,7 @@ use std::alloc::Global;
 use warc_lent::{Numbers, Problem, put_problem};
 
 /// The version of what C sees: its calls, structs and numbers.
-const ABI: u32 = 1;
+const ABI: u32 = 2;
 
 /// Reports a problem.
 pub(crate) fn report(problem: Problem, out: &mut Numbers)
@@ -33,7 +33,7 @@ pub(crate) fn number_or_report(answer: Result<usize, Problem>, out: &mut Numbers
 /// The version of what C sees.
 #[unsafe(no_mangle)]
 pub extern "C" fn warc_rt_abi_version() -> u32
-    ensures { result ≡ 1 }
+    ensures { result ≡ 2 }
 {
     ABI
 }

@@ -2,7 +2,7 @@
 use crate::problems::{number_or_report, report};
 use std::alloc::Global;
 use warc_handle::WarcArchive;
-use warc_lent::{Numbers, Problem, RowNumbers, put_captures, put_row};
+use warc_lent::{Numbers, Problem, RowNumbers, put_captures, put_row, verdict_at};
 
 /// How many records there are; 0 where no archive is open.
 #[unsafe(no_mangle)]
@@ -33,6 +33,29 @@ pub extern "C" fn warc_rt_row(
     let answer = put_row(&archive, position, row, texts);
     handle.put(archive, alloc);
     number_or_report(answer, problem)
+}
+
+/// How the block of the record at a position compares with its digest: 0 good, 1 bad, 2 unchecked, or a problem.
+#[unsafe(no_mangle)]
+pub extern "C" fn warc_rt_verdict(
+    alloc: Global,
+    handle: &mut WarcArchive,
+    position: usize,
+    problem: &mut Numbers,
+) -> u32 {
+    let Some(mut archive) = handle.take(alloc) else {
+        report(Problem::NotOpen, problem);
+        return 0;
+    };
+    let answer = verdict_at(&mut archive, position);
+    handle.put(archive, alloc);
+    match answer {
+        Ok(verdict) => verdict,
+        Err(why) => {
+            report(why, problem);
+            0
+        }
+    }
 }
 
 /// Puts the positions of the captures of a URI, by instant and then by position, as many as there is room for. The

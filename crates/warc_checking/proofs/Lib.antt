@@ -9,3 +9,4 @@ pub mod RecordsLemmas
 pub mod SizeLemmas
 pub mod TallyLemmas
 mod WorkedValues
+pub mod ExamineLemmas

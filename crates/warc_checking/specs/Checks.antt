@@ -8,7 +8,7 @@ use Rattle.warc_reading.specs.Archive.{IsArchiveOf, contents}
 use Rattle.warc_checking.specs.Checking.{check_text, findings_of_archive}
 use Rattle.warc_frame.specs.Effects.{FailsBy}
 use Rattle.warc_frame.specs.Failing.{failed_by}
-use Rattle.warc_reading.specs.Rereading.{ReadsHeads}
+use Rattle.warc_reading.specs.Rereading.{ReadsRows}
 use Rattle.warc_reading.specs.Row.{Row}
 use Rattle.warc_frame.specs.Seen.{IfHeld, Seen, SeenSource}
 
@@ -24,8 +24,8 @@ AreCutOff records answer before after =
     IfErr answer (λ e. WentOut before.tells (check_text records) after.tells (sent_of e))
 
 -- Checking an archive of these rows. If its source holds the archive's bytes, a line is written for each finding of
--- the records that they spell, and counted, or a front of the lines is. Of any source only the heads are read, at most
--- once for each byte of theirs
+-- the records that they spell, and counted, or a front of the lines is. Of any source only heads and blocks are read,
+-- at most once for each byte of theirs
 pub record Checks (rows : List Row) (old new : SeenSource) (before after : Seen) (answer : Result ℕ OutFault)
     : Type 0 where
   pub told : IfHeld old.holds (λ bytes. (is : IsArchiveOf bytes rows)
@@ -34,7 +34,7 @@ pub record Checks (rows : List Row) (old new : SeenSource) (before after : Seen)
       → AreCounted (contents is.are.records) answer)
   pub cut : IfHeld old.holds (λ bytes. (is : IsArchiveOf bytes rows)
       → AreCutOff (contents is.are.records) answer before after)
-  pub reads : ReadsHeads rows old new
+  pub reads : ReadsRows rows old new
   pub fails : FailsBy (λ bytes. IsArchiveOf bytes rows) answer old new
   pub cause : after.faults ≡ failed_by answer before.faults
 

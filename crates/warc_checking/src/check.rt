@@ -8,24 +8,64 @@ ghost use Rattle.warc_reading.specs.Archive.{contents};
 ghost use Rattle.warc_reading.specs.Row.{Placed};
 ghost use Rattle.warc_checking.specs.Checks.{AreCutOff, AreTold, Checks};
 ghost use Rattle.warc_checking.specs.Checking.{about_record, findings_of_archive, line_text, numbered_line};
-ghost use Rattle.warc_reading.specs.Rereading.{AreCheckable, HasHeadOf, HasHeadsOf, ReadsHeads, reread_result};
+ghost use Rattle.warc_reading.specs.Judging.{verdict_on};
+ghost use Rattle.warc_reading.specs.Placing.{IsInRow};
+ghost use Rattle.warc_reading.specs.Rereading.{AreCheckable, HasRecordsOf, HasTextOf, ReadsRows, reread_result, row_len};
 ghost use Rattle.warc_checking.specs.Examining.{IsExamined, PutsCheck, PutsFindingsOf, PutsLines};
 ghost use Rattle.warc_checking.specs.Examining.{findings_by_facts, record_lines};
 ghost use Rattle.warc_checking.specs.UsedIds.{HoldsIdsOf, IsAlone, IsTally};
 ghost use Rattle.warc_record.specs.Ids.{id_key};
-ghost use Rattle.warc_frame.specs.Effects.{FailsBy, Puts};
+ghost use Rattle.warc_frame.specs.Effects.{FailsBy, Puts, ReadsOnly};
 ghost use Rattle.warc_frame.specs.Seen.{IfHeld};
 ghost use Rattle.warc_frame.specs.Failing.{failed_by, is_read};
 
 use crate::used_ids::UsedIds;
 use itoa::Buffer;
 use std::alloc::Allocator;
+use warc_digest::judge_range;
 use warc_field::Fields;
 use warc_frame::laws::{head_of_spelled, staged_went_out, went_out_of_longer};
 use warc_frame::{OutBuffer, OutFault, SendFault, Sink, Source, put_all};
 use warc_reading::{RereadFault, Row, Rows, head_buffer, read_again};
 use warc_record::laws::good_heads_read;
-use warc_record::{ArchiveFacts, Finding, all_findings};
+use warc_record::{ArchiveFacts, Finding, all_findings, wanted};
+use warc_value::Verdict;
+
+/// A record's fields, read again, and how its block compares with the digest that they ask for.
+#[derive(Drop)]
+pub struct Rejudged<A: Allocator> {
+    pub fields: Fields<A>,
+    pub verdict: Verdict,
+}
+
+/// Reads the head of a record again, through a buffer that any head fits, and its block too if a digest of it can be
+/// checked. Each byte is read at most once, and no other. If the source doesn't give what it gave before, the head is
+/// taken as by `read_again`.
+pub fn judge_again<S: Source, A: Allocator + Copy>(
+    alloc: A,
+    source: &mut S,
+    row: &Row<'_>,
+    buf: &mut [u8],
+) -> Result<Rejudged<A>, RereadFault>
+    requires { max_head ≤ length buf.old }
+    ensures judged { IfHeld (S.seen source.old).holds (λ bytes. (is : HasTextOf row.now bytes) → IfOk result (λ x.
+        (x.fields ≡ is.placed.content.fields) × (x.verdict ≡ verdict_on is.placed))) }
+    ensures reads { ReadsOnly (IsInRow row.now) (row_len row.now) (S.seen source.old) (S.seen source.new) }
+    ensures fails { FailsBy (HasTextOf row.now) (reread_result result) (S.seen source.old) (S.seen source.new) }
+{
+    let reread = match read_again(alloc, source, row, buf) {
+        Ok(reread) => reread,
+        Err(fault) => return Err(fault),
+    };
+    let wanted = wanted(&reread.fields);
+    match judge_range(source, row.block_start, row.block_len, &wanted, buf) {
+        Ok(verdict) => Ok(Rejudged {
+            fields: reread.fields,
+            verdict,
+        }),
+        Err(_) => Err(RereadFault::Read),
+    }
+}
 
 /// A record's fields, read again, and what the archive says of it.
 #[derive(Drop)]
@@ -34,7 +74,7 @@ struct Examined<A: Allocator> {
     facts: ArchiveFacts,
 }
 
-/// Reads a record again, and adds its id to those of the records before it.
+/// Reads and judges a record again, and adds its id to those of the records before it.
 fn examine<S: Source, A: Allocator + Copy>(
     alloc: A,
     source: &mut S,
@@ -43,28 +83,27 @@ fn examine<S: Source, A: Allocator + Copy>(
     buf: &mut [u8],
 ) -> Result<Examined<A>, RereadFault>
     requires { max_head ≤ length buf.old }
-    ensures read { IfHeld (S.seen source.old).holds (λ bytes. (is : HasHeadOf row.now bytes) (before : List Record) →
+    ensures read { IfHeld (S.seen source.old).holds (λ bytes. (is : HasTextOf row.now bytes) (before : List Record) →
         HoldsIdsOf before ids.old → IsAlone before ids.old (id_key row.now.id) →
         IfOk result (λ x. IsExamined before is.placed.content x.fields x.facts)) }
-    ensures ids { IfHeld (S.seen source.old).holds (λ bytes. (is : HasHeadOf row.now bytes) (before : List Record) →
+    ensures ids { IfHeld (S.seen source.old).holds (λ bytes. (is : HasTextOf row.now bytes) (before : List Record) →
         HoldsIdsOf before ids.old → OnOk result (HoldsIdsOf (before ++ is.placed.content ∷ []) ids.new)) }
     ensures counts { ids.new.counts ≡ ids.old.counts }
-    ensures reads { ReadsHeads (row.now ∷ []) (S.seen source.old) (S.seen source.new) }
-    ensures fails { FailsBy (HasHeadOf row.now) (reread_result result) (S.seen source.old) (S.seen source.new) }
+    ensures reads { ReadsOnly (IsInRow row.now) (row_len row.now) (S.seen source.old) (S.seen source.new) }
+    ensures fails { FailsBy (HasTextOf row.now) (reread_result result) (S.seen source.old) (S.seen source.new) }
 {
     good_heads_read();
-    let reread = match read_again(alloc, source, row, buf) {
-        Ok(reread) => reread,
+    let judged = match judge_again(alloc, source, row, buf) {
+        Ok(judged) => judged,
         Err(fault) => return Err(fault),
     };
     let Ok(used_id) = ids.add(alloc, row.id) else {
         return Err(RereadFault::Memory);
     };
-    let bad_digest = row.verdict.is_bad();
     Ok(Examined {
-        fields: reread.fields,
+        fields: judged.fields,
         facts: ArchiveFacts {
-            bad_digest,
+            bad_digest: judged.verdict.is_bad(),
             used_id,
         },
     })
@@ -160,7 +199,8 @@ fn put_examined<A: Allocator + Copy, W: Sink>(
 }
 
 /// Adds the lines of all records' findings to the output, and returns their number, up to 2^64 - 1.
-/// Each record's head is read again through a buffer that any head fits.
+/// Each record's head is read again through a buffer that any head fits, and so is its block if a digest of it can be
+/// checked.
 fn put_records<S: Source, A: Allocator + Copy, W: Sink>(
     alloc: A,
     source: &mut S,
@@ -177,8 +217,8 @@ fn put_records<S: Source, A: Allocator + Copy, W: Sink>(
         → AreCheckable bytes records rows.now
         → PutsFindingsOf (contents records) (W.seen out.old) (W.seen out.new) buffer.old buffer.new result) }
     ensures cause { (W.seen out.new).faults ≡ failed_by result (W.seen out.old).faults }
-    ensures reads { ReadsHeads rows.now (S.seen source.old) (S.seen source.new) }
-    ensures fails { FailsBy (HasHeadsOf rows.now) result (S.seen source.old) (S.seen source.new) }
+    ensures reads { ReadsRows rows.now (S.seen source.old) (S.seen source.new) }
+    ensures fails { FailsBy (HasRecordsOf rows.now) result (S.seen source.old) (S.seen source.new) }
 {
     staged_went_out();
     went_out_of_longer();
@@ -222,8 +262,8 @@ fn put_archive<S: Source, A: Allocator + Copy, W: Sink>(
         → AreCheckable bytes records rows.now
         → PutsCheck (contents records) (W.seen out.old) (W.seen out.new) buffer.old buffer.new result) }
     ensures cause { (W.seen out.new).faults ≡ failed_by result (W.seen out.old).faults }
-    ensures reads { ReadsHeads rows.now (S.seen source.old) (S.seen source.new) }
-    ensures fails { FailsBy (HasHeadsOf rows.now) result (S.seen source.old) (S.seen source.new) }
+    ensures reads { ReadsRows rows.now (S.seen source.old) (S.seen source.new) }
+    ensures fails { FailsBy (HasRecordsOf rows.now) result (S.seen source.old) (S.seen source.new) }
 {
     staged_went_out();
     went_out_of_longer();
@@ -240,7 +280,7 @@ fn put_archive<S: Source, A: Allocator + Copy, W: Sink>(
 }
 
 /// Writes a line for each finding of the records, in their order, or that there is no record. The
-/// result is the number of lines, up to 2^64 - 1. Each record's head is read again.
+/// result is the number of lines, up to 2^64 - 1. Heads are read again, and blocks whose digest can be checked.
 fn tell_reread<S: Source, A: Allocator + Copy, W: Sink>(
     alloc: A,
     source: &mut S,
@@ -254,8 +294,8 @@ fn tell_reread<S: Source, A: Allocator + Copy, W: Sink>(
     ensures cut { (bytes : List ℕ) (records : List Placed) → (S.seen source.old).holds ≡ Some bytes → AreCheckable
         bytes records rows.now → AreCutOff (contents records) result (W.seen out.old) (W.seen out.new) }
     ensures cause { (W.seen out.new).faults ≡ failed_by result (W.seen out.old).faults }
-    ensures reads { ReadsHeads rows.now (S.seen source.old) (S.seen source.new) }
-    ensures fails { FailsBy (HasHeadsOf rows.now) result (S.seen source.old) (S.seen source.new) }
+    ensures reads { ReadsRows rows.now (S.seen source.old) (S.seen source.new) }
+    ensures fails { FailsBy (HasRecordsOf rows.now) result (S.seen source.old) (S.seen source.new) }
 {
     let mut buffer = OutBuffer::new();
     let number = put_archive(alloc, source, rows, &mut buffer, out)?;
@@ -266,7 +306,8 @@ fn tell_reread<S: Source, A: Allocator + Copy, W: Sink>(
 }
 
 /// Writes a line for each finding of the records of an archive with these rows, in their order, or that there is no
-/// record, and returns how many lines there are. Each record's head is read again.
+/// record, and returns how many lines there are. Each record's head is read again, and its block too if a digest of it
+/// can be checked.
 ///
 /// A read that fails, or a source that doesn't give what the rows say, is `Read`; a write that fails is `Write`,
 /// and a refused growth of the memory `Memory`. Each has the number of bytes that went out, the first of the output.

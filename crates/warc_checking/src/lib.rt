@@ -7,5 +7,5 @@ pub mod laws;
 mod own_findings;
 mod used_ids;
 
-pub use check::check_rows;
+pub use check::{Rejudged, check_rows, judge_again};
 pub use checking::Checked;

@@ -1,5 +1,5 @@
 //! The findings that records alone show, kept in flat lists as the records are read.
-ghost use Rattle.std.specs.Prelude.{◌≡◌, ℕ, ◌+◌, false, List, [], ◌∷◌, ◌++◌, length, map, OnErr, OnOk, IfOk, if◌then◌else◌};
+ghost use Rattle.std.specs.Prelude.{◌≡◌, ℕ, ◌+◌, false, true, List, [], ◌∷◌, ◌++◌, length, map, OnErr, OnOk, IfOk, if◌then◌else◌};
 ghost use Rattle.std.specs.List.{filter};
 ghost use Rattle.warc_frame.specs.Count.{capped};
 ghost use Rattle.warc_frame.specs.Effects.{Puts};
@@ -18,7 +18,7 @@ use warc_frame::laws::went_out_of_longer;
 use warc_frame::{OutBuffer, SendFault, Sink};
 use warc_reading::Keep;
 use warc_record::{ArchiveFacts, Finding, all_findings};
-use warc_segment::Place;
+use warc_value::Verdict;
 
 /// A finding in 24 bytes: its number, and where the name of its field is in a list of bytes, an empty part if it is
 /// about none.
@@ -307,23 +307,24 @@ fn add_all<A: Allocator>(
     Ok(())
 }
 
-/// Adds the findings that a record alone shows, by the fields of its head and the place of its block. If memory
-/// is refused some of them are added.
+/// Adds the findings that a record alone shows, by the fields of its head, the length of its block and the verdict on
+/// its digest. If memory is refused some of them are added.
 fn add_own<A: Allocator + Copy>(
     alloc: A,
     fields: &Fields<A>,
-    place: Place,
+    block_len: u64,
+    verdict: Verdict,
     findings: &mut FindingList<A>,
 ) -> Result<(), AllocError>
     ensures ok { OnOk result (findings.new ≡ findings.old
-        ++ findings_of fields.now place.len (is_bad place.verdict) false) }
+        ++ findings_of fields.now block_len (is_bad verdict) false) }
     ensures more { (more : List SeenFinding) × (findings.new ≡ findings.old ++ more) }
 {
     let facts = ArchiveFacts {
-        bad_digest: place.verdict.is_bad(),
+        bad_digest: verdict.is_bad(),
         used_id: false,
     };
-    let found = all_findings(alloc, fields, place.len, facts)?;
+    let found = all_findings(alloc, fields, block_len, facts)?;
     add_all(&found, findings)
 }
 
@@ -353,19 +354,20 @@ fn add_part<A: Allocator + Copy>(
     findings: &mut FindingList<A>,
     parts: &mut Vec<Part, A>,
     fields: &Fields<A>,
-    place: Place,
+    block_len: u64,
+    verdict: Verdict,
 ) -> Result<(), AllocError>
     requires { AreParts (length findings.old) parts.old.items }
     ensures within { AreParts (length findings.new) parts.new.items }
     ensures ok { OnOk result (found_by_part findings.new parts.new.items
         ≡ found_by_part findings.old parts.old.items
-        ++ findings_of fields.now place.len (is_bad place.verdict) false ∷ []) }
+        ++ findings_of fields.now block_len (is_bad verdict) false ∷ []) }
     ensures err { OnErr result (found_by_part findings.new parts.new.items
         ≡ found_by_part findings.old parts.old.items) }
 {
     let start = findings.len();
     parts.reserve(1)?;
-    add_own(alloc, fields, place, findings)?;
+    add_own(alloc, fields, block_len, verdict, findings)?;
     parts.push_reserved(Part {
         start,
         end: findings.len(),
@@ -426,14 +428,29 @@ impl<A: Allocator + Copy> OwnFindings<A> {
 impl<A: Allocator + Copy> Keep<A> for OwnFindings<A> {
     ghost keeps = { λ l records. l ≡ map own_findings (contents records) };
 
+    ghost judges = { true };
+
+    fn judges() -> bool {
+        true
+    }
+
     fn keep(
         &mut self,
         alloc: A,
         _position: usize,
         fields: &Fields<A>,
-        place: Place,
+        _block_start: u64,
+        block_len: u64,
+        verdict: Verdict,
     ) -> Result<(), AllocError> {
-        add_part(alloc, &mut self.findings, &mut self.parts, fields, place)
+        add_part(
+            alloc,
+            &mut self.findings,
+            &mut self.parts,
+            fields,
+            block_len,
+            verdict,
+        )
     }
 
     fn truncate(&mut self, count: usize) {

@@ -18,7 +18,8 @@ use Rattle.warc_reading.proofs.FitLemmas.{front_size}
 use Rattle.warc_reading.proofs.SourceLemmas.{raised_by_one}
 use Rattle.warc_reading.proofs.PlacedLemmas.{placed}
 use Rattle.warc_frame.specs.Effects.{ReadsOnly}
-use Rattle.warc.specs.Forms.{IsInAnyRow, read_len, split_len}
+use Rattle.warc.specs.Forms.{read_len, split_len}
+use Rattle.warc_reading.specs.Placing.{IsInAnyRow}
 use Rattle.warc.specs.Front.{CopiesFront, Fronted, OpensFront}
 use Rattle.warc.specs.Parts.{IsInPart, ReadsPart, found_len}
 use Rattle.warc.specs.Replaying.{AsksInside, ReadsPath}
@@ -27,7 +28,7 @@ use Rattle.warc.specs.declared.part.Part.{Part}
 use Rattle.warc.specs.declared.part.Part.TheVariants.{Head, Block}
 use Rattle.warc.proofs.FrontLemmas.{front_begins}
 use Rattle.warc.proofs.JoinedLemmas.{path_short}
-use Rattle.warc.proofs.StandLemmas.{written}
+use Rattle.warc_reading.proofs.StandLemmas.{written}
 use Rattle.warc_commands.specs.Asking.{AsksFar, HasAsked, HasReadFront, ReadsFront}
 use Rattle.warc_commands.specs.Reads.{AsksNear, ReadsForRecord, ReadsTimes}
 
@@ -141,6 +142,9 @@ twice_at_most is = record { near = is.near; cost = λ bytes held. omega (arith, 
 pub thrice_at_most : {old new : SeenSource} → ReadsTimes 1 old new → ReadsTimes 3 old new
 thrice_at_most is = record { near = is.near; cost = λ bytes held. omega (arith, is.cost bytes held) }
 
+pub four_times_at_most : {old new : SeenSource} → ReadsTimes 1 old new → ReadsTimes 4 old new
+four_times_at_most is = record { near = is.near; cost = λ bytes held. omega (arith, is.cost bytes held) }
+
 -- then of other bytes, which lie in it
 near_then : (These : ℕ → Type 0) (old mid new : SeenSource) → mid.watches ≡ old.watches → AsksNear old mid → ((q : ℕ) → These q → q ≤ max_archive) → AsksOnly These mid new → AsksNear old new
 near_then These old mid new watched first inside then = λ off. then (λ q in_. ap (λ (w : ℕ → Bool). w q) watched ∙ off q (inside q in_)) ∙ first off
@@ -175,10 +179,10 @@ rows_short form q [] text is = omega arith
 rows_short form q (p ∷ ps) text (front, rest, one, at, behind, whole, more) =
     omega (arith, rows_short form (q + length front) ps rest more, sum_by-cons (read_len form) (row_of p) (map row_of ps), front_size q q p front one at behind, at, behind, ap length whole, length-append front rest)
 
-rows_short_twice : (q : ℕ) (ps : List Placed) (text : List ℕ) → SpellsFrom q ps text → sum_by split_len (map row_of ps) ≤ 2 * length text
-rows_short_twice q [] text is = omega arith
-rows_short_twice q (p ∷ ps) text (front, rest, one, at, behind, whole, more) =
-    omega (arith, rows_short_twice (q + length front) ps rest more, sum_by-cons split_len (row_of p) (map row_of ps), front_size q q p front one at behind, at, behind, ap length whole, length-append front rest)
+split_short : (q : ℕ) (ps : List Placed) (text : List ℕ) → SpellsFrom q ps text → sum_by split_len (map row_of ps) ≤ 3 * length text
+split_short q [] text is = omega arith
+split_short q (p ∷ ps) text (front, rest, one, at, behind, whole, more) =
+    omega (arith, split_short (q + length front) ps rest more, sum_by-cons split_len (row_of p) (map row_of ps), front_size q q p front one at behind, at, behind, ap length whole, length-append front rest)
 
 module _ {X : Type 0} {Is : List ℕ → X → Type 0} {old mid last new : SeenSource} {x : X} (rows : List Row) (of : (bytes : List ℕ) → Is bytes x → IsArchiveOf bytes rows) (opens : Opens Is old mid (Ok x)) (same : new ≡ last) where
   left : (times : ℕ) → ReadsTimes times old last → ReadsTimes times old new
@@ -205,10 +209,10 @@ module _ {X : Type 0} {Is : List ℕ → X → Type 0} {old mid last new : SeenS
     cost = λ bytes held. let is = of bytes (opens.accepted bytes held) in omega (arith, opens.cost bytes held, reads.bound, ap (sum_by (read_len form)) is.are.rows_are, rows_short form 0 is.are.records bytes is.are.spelled);
   })
 
-  pub each_read_twice : ReadsOnly (IsInAnyRow rows) (sum_by split_len rows) mid last → ReadsTimes 3 old new
-  each_read_twice reads = left 3 (record {
+  pub each_split : ReadsOnly (IsInAnyRow rows) (sum_by split_len rows) mid last → ReadsTimes 4 old new
+  each_split reads = left 4 (record {
     near = each_near _ reads;
-    cost = λ bytes held. let is = of bytes (opens.accepted bytes held) in omega (arith, opens.cost bytes held, reads.bound, ap (sum_by split_len) is.are.rows_are, rows_short_twice 0 is.are.records bytes is.are.spelled);
+    cost = λ bytes held. let is = of bytes (opens.accepted bytes held) in omega (arith, opens.cost bytes held, reads.bound, ap (sum_by split_len) is.are.rows_are, split_short 0 is.are.records bytes is.are.spelled);
   })
 
 -- what a replay asks for lies in the archive

@@ -7,7 +7,7 @@ use Rattle.warc_frame.specs.Seen.{IfHeld}
 use Rattle.warc_frame.specs.Send.{WentOut}
 use Rattle.warc_frame.specs.declared.fault.OutFault.TheVariants.{Write}
 use Rattle.warc_reading.specs.Row.{Row}
-use Rattle.warc.specs.Fixity.{AreDigested, counts_of, fixity_text}
+use Rattle.warc.specs.Fixity.{AreDigested, Judgements, counts_of, fixity_text}
 use Rattle.warc.specs.declared.fixity.Counts.{Counts}
 use Rattle.warc_commands.specs.Devices.{Devices}
 use Rattle.warc_commands.specs.Program.{IsNotOpened, Tells, told_line}
@@ -19,22 +19,22 @@ fixity_status counts = if nat_lt 0 counts.bad then 1 else if nat_lt 0 counts.unc
 -- all lines of `fixity` went out
 pub record IsFixityTold (old new : Devices) (status : ℕ) : Type 0 where
   pub rows : List Row
-  pub digests : List (List ℕ)
-  pub are : IfHeld old.source.holds (λ bytes. AreDigested bytes rows digests)
-  pub told : new.out.tells ≡ append_known old.out.tells (fixity_text rows digests)
+  pub judged : Judgements
+  pub are : IfHeld old.source.holds (λ bytes. AreDigested bytes rows judged)
+  pub told : new.out.tells ≡ append_known old.out.tells (fixity_text rows judged)
   pub unfailed : new.out.faults ≡ old.out.faults
   pub sound : new.source.faults ≡ old.source.faults
   pub silent : new.err ≡ old.err
-  pub status_is : status ≡ fixity_status (counts_of rows)
+  pub status_is : status ≡ fixity_status (counts_of judged.verdicts)
   pub status_in : (status ≡ 0) ⊎ ((status ≡ 1) ⊎ (status ≡ 4))
 
 -- a write failed: a front of the lines went out
 pub record IsFixityCutOff (old new : Devices) (status : ℕ) : Type 0 where
   pub rows : List Row
-  pub digests : List (List ℕ)
-  pub are : IfHeld old.source.holds (λ bytes. AreDigested bytes rows digests)
+  pub judged : Judgements
+  pub are : IfHeld old.source.holds (λ bytes. AreDigested bytes rows judged)
   pub sent : ℕ
-  pub front : WentOut old.out.tells (fixity_text rows digests) new.out.tells sent
+  pub front : WentOut old.out.tells (fixity_text rows judged) new.out.tells sent
   pub failed : new.out.faults ≡ raised old.out.faults
   pub sound : new.source.faults ≡ old.source.faults
   pub told : Tells (told_line (out_fault_text (Write sent))) old.err new.err

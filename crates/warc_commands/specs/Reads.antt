@@ -26,7 +26,8 @@ pub record ReadsForRecord (old new : SeenSource) : Type 0 where
   pub cost : IfHeld old.holds (λ bytes. new.reads ≤ old.reads + 2 * length bytes + 2)
 
 -- what a run of the command reads: an archive is opened in one read for each byte, and one; what is written of it is
--- read again, once, and twice the blocks that are split and the joined blocks of a body
+-- read again, once, and twice the joined blocks of a body, of which the first time to judge them. A block that is split
+-- is read three times: to judge it, for the digests of its segments, and to be copied
 abbrev pub CommandReads : Command → SeenSource → SeenSource → Type 0
 CommandReads (command.List archive) old new = ReadsTimes 1 old new
 CommandReads (command.Check archive) old new = ReadsTimes 1 old new
@@ -37,7 +38,7 @@ CommandReads (command.Head archive position) old new = ReadsTimes 2 old new
 CommandReads (command.Block archive position) old new = ReadsTimes 2 old new
 CommandReads (command.Rewrite archive) old new = ReadsTimes 2 old new
 CommandReads (command.Convert archive) old new = ReadsTimes 2 old new
-CommandReads (command.Split archive size) old new = ReadsTimes 3 old new
+CommandReads (command.Split archive size) old new = ReadsTimes 4 old new
 CommandReads (command.Replay archive uri date hex) old new = ReadsTimes 3 old new
 CommandReads (command.Body archive position stored) old new = ReadsTimes 3 old new
 CommandReads (command.Write draft file) old new = ReadsForRecord old new

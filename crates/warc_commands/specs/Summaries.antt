@@ -1,5 +1,5 @@
 -- How `summary` ends.
-use Rattle.std.specs.Prelude.{◌≡◌, ℕ, ◌⊎◌, Bool, List}
+use Rattle.std.specs.Prelude.{◌≡◌, ℕ, ◌⊎◌, List}
 use Rattle.std.specs.Io.KnownBytes.{append_known}
 use Rattle.warc_frame.specs.Count.{raised}
 use Rattle.warc_frame.specs.FaultText.{out_fault_text}
@@ -7,7 +7,7 @@ use Rattle.warc_frame.specs.Seen.{IfHeld}
 use Rattle.warc_frame.specs.Send.{WentOut}
 use Rattle.warc_frame.specs.declared.fault.OutFault.TheVariants.{Write}
 use Rattle.warc_reading.specs.Row.{Row}
-use Rattle.warc.specs.Summary.{AreFlagged, IsSummaryOf, summary_text}
+use Rattle.warc.specs.Summary.{AreFlagged, Flags, IsSummaryOf, summary_text}
 use Rattle.warc.specs.declared.summary.Summary.{Summary}
 use Rattle.warc_commands.specs.Devices.{Devices}
 use Rattle.warc_commands.specs.Program.{IsNotOpened, Tells, told_line}
@@ -15,10 +15,10 @@ use Rattle.warc_commands.specs.Program.{IsNotOpened, Tells, told_line}
 -- all lines of `summary` went out, and no write failed
 pub record IsSummaryTold (old new : Devices) (status : ℕ) : Type 0 where
   pub rows : List Row
-  pub segmented : List Bool
-  pub are : IfHeld old.source.holds (λ bytes. AreFlagged bytes rows segmented)
+  pub flags : Flags
+  pub are : IfHeld old.source.holds (λ bytes. AreFlagged bytes rows flags)
   pub summary : Summary
-  pub is : IsSummaryOf rows segmented summary
+  pub is : IsSummaryOf rows flags summary
   pub told : new.out.tells ≡ append_known old.out.tells (summary_text summary)
   pub unfailed : new.out.faults ≡ old.out.faults
   pub sound : new.source.faults ≡ old.source.faults
@@ -28,10 +28,10 @@ pub record IsSummaryTold (old new : Devices) (status : ℕ) : Type 0 where
 -- a write failed: a front of the lines went out
 pub record IsSummaryCutOff (old new : Devices) (status : ℕ) : Type 0 where
   pub rows : List Row
-  pub segmented : List Bool
-  pub are : IfHeld old.source.holds (λ bytes. AreFlagged bytes rows segmented)
+  pub flags : Flags
+  pub are : IfHeld old.source.holds (λ bytes. AreFlagged bytes rows flags)
   pub summary : Summary
-  pub is : IsSummaryOf rows segmented summary
+  pub is : IsSummaryOf rows flags summary
   pub sent : ℕ
   pub front : WentOut old.out.tells (summary_text summary) new.out.tells sent
   pub failed : new.out.faults ≡ raised old.out.faults

@@ -38,7 +38,7 @@ where
 
     // The source still holds what it held.
     ensures kept { (S.seen result.1).holds ≡ (S.seen source).holds }
-    ensures reads { ReadsTimes 3 (S.seen source) (S.seen result.1) }
+    ensures reads { ReadsTimes 4 (S.seen source) (S.seen result.1) }
 {
     let Some(size) = size_of(size.as_bytes()) else {
         tell("warc: bad size\n", err);

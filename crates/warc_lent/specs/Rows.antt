@@ -1,16 +1,27 @@
 -- What is kept of a record, as numbers and texts for callers in other languages. This project's own notion.
-use Rattle.std.specs.Prelude.{◌≡◌, ℕ, ◌-◌, ◌^◌, Bool, true, false, min, List, length, ◌++◌}
+use Rattle.std.specs.Prelude.{◌≡◌, ℕ, Bool, true, false, min, List, length, ◌++◌, Result, Ok, Err}
 use Rattle.warc_value.specs.declared.hash.Verdict.{Verdict}
 use Rattle.warc_value.specs.declared.hash.Verdict.TheVariants.{Good, Bad, Unchecked}
 use Rattle.warc_frame.specs.Count.{capped}
 use Rattle.warc_reading.specs.Row.{Row}
+use Rattle.warc.specs.declared.fault.TakeFault.{TakeFault}
+use Rattle.warc.specs.declared.fault.TakeFault.TheVariants.{NoRecord, Read, Memory}
 use Rattle.warc_lent.specs.Buffers.{HoldsFront}
+use Rattle.warc_lent.specs.declared.problem.Problem.{Problem}
+use Rattle.warc_lent.specs.declared.problem.Problem.TheVariants as problems
 use Rattle.warc_lent.specs.declared.rows.RowNumbers.{RowNumbers}
 
 abbrev pub verdict_number : Verdict → ℕ
 verdict_number Good = 0
 verdict_number Bad = 1
 verdict_number Unchecked = 2
+
+-- the number of the verdict that is given, or the problem
+abbrev pub verdict_answer : Result Verdict TakeFault → Result ℕ Problem
+verdict_answer (Ok verdict) = Ok (verdict_number verdict)
+verdict_answer (Err NoRecord) = Err problems.NoRecord
+verdict_answer (Err Read) = Err problems.Changed
+verdict_answer (Err Memory) = Err problems.Memory
 
 -- 1 for what is so
 abbrev pub flag_of : Bool → ℕ
@@ -30,7 +41,6 @@ row_numbers row = record {
   date_length = short_length row.date;
   id_length = short_length row.id;
   target_length = short_length row.target;
-  verdict = verdict_number row.verdict;
   is_truncated = flag_of row.is_truncated;
 }
 

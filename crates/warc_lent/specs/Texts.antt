@@ -5,7 +5,7 @@ use Rattle.warc_frame.specs.declared.fault.FaultKind.TheVariants.{Memory as NoMe
 use Rattle.warc_reading.specs.Archive.{IsArchiveOf, IsFaultOf, contents}
 use Rattle.warc_reading.specs.Row.{Row}
 use Rattle.warc_checking.specs.Checking.{check_text}
-use Rattle.warc.specs.Fixity.{AreDigested, fixity_text}
+use Rattle.warc.specs.Fixity.{AreDigested, Judgements, fixity_text}
 use Rattle.warc_lent.specs.Buffers.{HoldsFront}
 use Rattle.warc_lent.specs.Problems.{problem_numbers, problem_text}
 use Rattle.warc_lent.specs.declared.problem.Numbers.{Numbers}
@@ -19,9 +19,9 @@ IsFindingsOf rows bytes text = (is : IsArchiveOf bytes rows) → text ≡ check_
 -- how the blocks of an archive of these bytes compare with their digests
 pub record IsFixityOf (bytes text : List ℕ) : Type 0 where
   pub rows : List Row
-  pub digests : List (List ℕ)
-  pub are : AreDigested bytes rows digests
-  pub lines : text ≡ fixity_text rows digests
+  pub judged : Judgements
+  pub are : AreDigested bytes rows judged
+  pub lines : text ≡ fixity_text rows judged
 
 -- a growth of the memory was refused, or this is the first fault of the bytes
 abbrev pub IsRefusedFor : List ℕ → Problem → Type 0

@@ -13,7 +13,9 @@ pub use bodies::{AnswerNumbers, SpanNumbers, put_body, put_replay, status_number
 pub use buffers::{put_positions, put_text, put_text_at};
 pub use captures::put_captures;
 pub use problem::{Numbers, Problem};
-pub use rows::{RowNumbers, flag_of, put_row, put_row_texts, row_numbers};
+pub use rows::{
+    RowNumbers, flag_of, put_row, put_row_texts, row_numbers, verdict_at, verdict_number,
+};
 pub use texts::{
     check_text, findings_text, fixity_text, list_text, problem_text, put_check, put_findings,
     put_fixity, put_list, put_problem,

@@ -1,20 +1,23 @@
 //! What is kept of a record, as numbers and texts.
-ghost use Rattle.std.specs.Prelude.{◌≡◌, ◌++◌, ℕ, List, [], length, slice_get, IfErr, IfOk, OnErr, Some, None};
+ghost use Rattle.std.specs.Prelude.{◌≡◌, ◌++◌, ℕ, List, [], Result, length, slice_get, IfErr, IfOk, OnErr, Some, None};
 ghost use Rattle.warc_frame.specs.Count.{capped};
 ghost use Rattle.warc_reading.specs.Row.{Row as Seen};
 ghost use Rattle.warc_lent.specs.Buffers.{HoldsFront};
-ghost use Rattle.warc_lent.specs.Rows.{IsRowPut, flag_of, row_numbers, row_texts, short_length, verdict_number};
+ghost use Rattle.warc.specs.Judged.{GivesVerdict};
+ghost use Rattle.warc.specs.declared.fault.TakeFault.{TakeFault as GhostFault};
+ghost use Rattle.warc_value.specs.declared.hash.Verdict.{Verdict as Found};
+ghost use Rattle.warc_lent.specs.Rows.{IsRowPut, flag_of, row_numbers, row_texts, short_length, verdict_answer, verdict_number};
 
 use crate::buffers::put_text_at;
 use crate::problem::Problem;
 use std::alloc::Allocator;
-use warc::Archive;
+use warc::{Archive, TakeFault};
 use warc_frame::Source;
 use warc_reading::Row;
 use warc_value::Verdict;
 
-/// What is kept of a record, but for its texts: how long its type, date, id and target are, how its block compares with
-/// its digest (0 good, 1 bad, 2 unchecked), and 1 if it is marked as truncated.
+/// What is kept of a record, but for its texts: how long its type, date, id and target are, and 1 if it is marked as
+/// truncated.
 #[repr(C)]
 #[derive(Clone, Copy, Debug, PartialEq, Eq)]
 pub struct RowNumbers {
@@ -32,14 +35,12 @@ pub struct RowNumbers {
     pub id_length: u32,
     /// How many bytes its target has.
     pub target_length: u32,
-    /// How its block compares with its digest.
-    pub verdict: u32,
     /// Whether it is marked as truncated.
     pub is_truncated: u32,
 }
 
-/// The number of a verdict.
-fn verdict_number(verdict: Verdict) -> u32
+/// The number of a verdict: 0 for good, 1 for bad, 2 for unchecked.
+pub fn verdict_number(verdict: Verdict) -> u32
     ensures { result ≡ verdict_number verdict }
 {
     match verdict {
@@ -78,7 +79,6 @@ pub fn row_numbers(row: &Row<'_>) -> RowNumbers
         date_length: short_length(row.date),
         id_length: short_length(row.id),
         target_length: short_length(row.target),
-        verdict: verdict_number(row.verdict),
         is_truncated: flag_of(row.is_truncated),
     }
 }
@@ -124,5 +124,26 @@ pub fn put_row<S: Source, A: Allocator>(
     match archive.row(position) {
         Some(row) => Ok(put_kept(&row, numbers, texts)),
         None => Err(Problem::NoRecord),
+    }
+}
+
+/// How the block of the record at a position compares with its digest, as a number. The head is read again, and the
+/// block too if a digest of it can be checked. `Changed`: the bytes are no longer what they were.
+pub fn verdict_at<S: Source, A: Allocator + Copy>(
+    archive: &mut Archive<S, A>,
+    position: usize,
+) -> Result<u32, Problem>
+    ensures judged { (answer : Result Found GhostFault) × GivesVerdict archive.old.listing.rows position
+        (S.seen archive.old.listing.source) (S.seen archive.new.listing.source) answer ×
+        (result ≡ verdict_answer answer) }
+    ensures rows { archive.new.listing.rows ≡ archive.old.listing.rows }
+    ensures index { archive.new.index ≡ archive.old.index }
+    ensures parts { archive.new.parts ≡ archive.old.parts }
+{
+    match archive.verdict(position) {
+        Ok(verdict) => Ok(verdict_number(verdict)),
+        Err(TakeFault::NoRecord) => Err(Problem::NoRecord),
+        Err(TakeFault::Read) => Err(Problem::Changed),
+        Err(TakeFault::Memory) => Err(Problem::Memory),
     }
 }

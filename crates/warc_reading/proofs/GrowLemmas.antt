@@ -75,7 +75,7 @@ shorter q (p ∷ ps) more a b (front, rest, one, at, start, is, tail) (front2, r
     omega (arith, shorter (q + length front) ps more rest rest2 tail (subst P same tail2), same, ap length is ∙ length-append front rest, ap length is2 ∙ length-append front2 rest2)
 
 -- the record that is being read begins behind those that were kept
-begins_after : {A L : Type 0} (K : L → List Placed → Type 0) (bytes text : List ℕ) (was : List Row × L) (is : IsKeptOf K bytes was) (told : Told) (r : Reading A L) → HasRead (Since K is.listed.are.records) text told r
+begins_after : {A L : Type 0} {judges : Bool} (K : L → List Placed → Type 0) (bytes text : List ℕ) (was : List Row × L) (is : IsKeptOf K bytes was) (told : Told) (r : Reading A L) → HasRead judges (Since K is.listed.are.records) text told r
     → length bytes ≤ r.begin
 begins_after K bytes text was is told r has =
     let on = has.beside.1 in
@@ -83,8 +83,8 @@ begins_after K bytes text was is told r has =
     omega (arith, has.begin_is, shorter 0 is.listed.are.records on.0 bytes has.front is.listed.are.spelled (subst P on.1 has.spelled))
 
 -- so memory is wanted behind them
-wants_after : {A L : Type 0} (K : L → List Placed → Type 0) (bytes taken : List ℕ) (was : List Row × L) (is : IsKeptOf K bytes was) (told : Told) (r : Reading A L) (offset : ℕ)
-    → HasRead (Since K is.listed.are.records) (bytes ++ taken) told r → BeginsSince (bytes ++ taken) r.begin offset → length bytes ≤ offset
+wants_after : {A L : Type 0} {judges : Bool} (K : L → List Placed → Type 0) (bytes taken : List ℕ) (was : List Row × L) (is : IsKeptOf K bytes was) (told : Told) (r : Reading A L) (offset : ℕ)
+    → HasRead judges (Since K is.listed.are.records) (bytes ++ taken) told r → BeginsSince (bytes ++ taken) r.begin offset → length bytes ≤ offset
 wants_after K bytes taken was is told r offset has (inl same) = omega (arith, same, begins_after K bytes (bytes ++ taken) was is told r has)
 wants_after K bytes taken was is told r offset has (inr after) = omega (arith, after, length-append bytes taken)
 
@@ -102,14 +102,14 @@ begins_behind bytes records d spelled is =
       phase_is = subst P none is.phase_is;
     }
 
-pub begun : {A L : Type 0} (K : L → List Placed → Type 0) (bytes : List ℕ) (d : State) (r : Reading A L) (is : IsKeptOf K bytes (r.rows, r.beside)) → r.begin ≡ length bytes → r.current ≡ None
-    → IsAt r.begin [] nothing d → Stands (Since K is.listed.are.records) (bytes ++ []) d r
-begun {A} {L} K bytes d r is at none start =
+pub begun : {A L : Type 0} {judges : Bool} (K : L → List Placed → Type 0) (bytes : List ℕ) (d : State) (r : Reading A L) (is : IsKeptOf K bytes (r.rows, r.beside)) → r.begin ≡ length bytes → r.current ≡ None
+    → IsAt r.begin [] nothing d → Stands judges (Since K is.listed.are.records) (bytes ++ []) d r
+begun {A} {L} {judges} K bytes d r is at none start =
     let was = is.listed.are.records in
-    let M : Option (Current A) → Type 0 = λ c. Matches (length bytes) [] None c in
+    let M : Option (Current A) → Type 0 = λ c. Matches judges (length bytes) [] None c in
     let Q : ℕ → Type 0 = λ n. IsAt n [] nothing d in
     let told : Told = record { records = contents was; unclosed = None } in
-    let has : HasRead (Since K was) bytes told r = record {
+    let has : HasRead judges (Since K was) bytes told r = record {
       records = was;
       front = bytes;
       rest = [];
@@ -122,8 +122,8 @@ begun {A} {L} K bytes d r is at none start =
       begin_is = at;
       current = subst M (sym none) tt;
     } in
-    let stands : Stands (Since K was) bytes d r = record { told = told; is_at = begins_behind bytes was d is.listed.are.spelled (subst Q at start); has = has } in
-    let P : List ℕ → Type 0 = λ t. Stands (Since K was) t d r in
+    let stands : Stands judges (Since K was) bytes d r = record { told = told; is_at = begins_behind bytes was d is.listed.are.spelled (subst Q at start); has = has } in
+    let P : List ℕ → Type 0 = λ t. Stands judges (Since K was) t d r in
     subst P (sym (append-nil bytes)) stands
 
 -- ---- what a source gives from an offset on
@@ -190,8 +190,8 @@ follows_on E start at n old mid new taken buf here size low follows goes = λ is
     (on.0 ∙ was.0, on.1 ∙ ap Some e)
 
 -- a piece was taken
-pub part_grows : {A L : Type 0} (K : L → List Placed → Type 0) (was : List Placed) (bytes taken part : List ℕ) (d : State) (r : Reading A L) → Stands (Since K was) ((bytes ++ taken) ++ part) d r → Stands (Since K was) (bytes ++ (taken ++ part)) d r
-part_grows K was bytes taken part d r stands = let P : List ℕ → Type 0 = λ t. Stands (Since K was) t d r in subst P (append_assoc bytes taken part) stands
+pub part_grows : {A L : Type 0} {judges : Bool} (K : L → List Placed → Type 0) (was : List Placed) (bytes taken part : List ℕ) (d : State) (r : Reading A L) → Stands judges (Since K was) ((bytes ++ taken) ++ part) d r → Stands judges (Since K was) (bytes ++ (taken ++ part)) d r
+part_grows {A} {L} {judges} K was bytes taken part d r stands = let P : List ℕ → Type 0 = λ t. Stands judges (Since K was) t d r in subst P (append_assoc bytes taken part) stands
 
 pub on_err : {X E P : Type 0} (r : Result X E) → P → OnErr r P
 on_err (Ok x) p = tt
@@ -218,7 +218,7 @@ whole_given start old new taken bytes more has at held = record {
 -- ---- how it ends
 
 -- the stream ends where the source does
-finished : {A L : Type 0} (K : L → List Placed → Type 0) (was : List Placed) (text : List ℕ) (told : Told) (r : Reading A L) (result : Result (Unit {0}) Fault) → HasRead (Since K was) text told r → Lies text told
+finished : {A L : Type 0} {judges : Bool} (K : L → List Placed → Type 0) (was : List Placed) (text : List ℕ) (told : Told) (r : Reading A L) (result : Result (Unit {0}) Fault) → HasRead judges (Since K was) text told r → Lies text told
     → length text ≤ max_archive → Finishes 0 text told result → MatchResult (grown result (r.rows, r.beside)) (IsKeptOf K text) (λ f. (f.kind ≡ Truncated) × IsFaultOf text f)
 finished K was text told r (Ok u) has lies short (none, spelled) =
     let kept = kept_whole text told r has spelled short in
@@ -277,8 +277,8 @@ module _ (start : ℕ) (old mid new : SeenSource) (taken : List ℕ) (has : HasG
     };
   }
 
-  module _ {A L : Type 0} (K : L → List Placed → Type 0) (was : List Row × L) (at : (bytes : List ℕ) → IsKeptOf K bytes was → start ≡ length bytes) (d : State) (r : Reading A L)
-      (stands : (bytes : List ℕ) (is : IsKeptOf K bytes was) → Stands (Since K is.listed.are.records) (bytes ++ taken) d r) (lies : (text : List ℕ) (told : Told) → IsAt 0 text told d → Lies text told) where
+  module _ {A L : Type 0} {judges : Bool} (K : L → List Placed → Type 0) (was : List Row × L) (at : (bytes : List ℕ) → IsKeptOf K bytes was → start ≡ length bytes) (d : State) (r : Reading A L)
+      (stands : (bytes : List ℕ) (is : IsKeptOf K bytes was) → Stands judges (Since K is.listed.are.records) (bytes ++ taken) d r) (lies : (text : List ℕ) (told : Told) → IsAt 0 text told d → Lies text told) where
     short_of : (bytes : List ℕ) → start ≡ length bytes → length (bytes ++ taken) ≤ max_archive
     short_of bytes here = omega (arith, size bytes here, short)
 
@@ -381,9 +381,9 @@ module _ (start : ℕ) (old mid new : SeenSource) (taken : List ℕ) (has : HasG
 
 -- ---- the front that was read
 
-module _ (start : ℕ) (old mid : SeenSource) (taken : List ℕ) (has : HasGivenFrom start old mid taken) (short : start + length taken ≤ max_archive) {A L : Type 0} (K : L → List Placed → Type 0) (was : List Row × L)
+module _ (start : ℕ) (old mid : SeenSource) (taken : List ℕ) (has : HasGivenFrom start old mid taken) (short : start + length taken ≤ max_archive) {A L : Type 0} {judges : Bool} (K : L → List Placed → Type 0) (was : List Row × L)
     (at : (bytes : List ℕ) → IsKeptOf K bytes was → start ≡ length bytes) (d : State) (r : Reading A L)
-    (stands : (bytes : List ℕ) (is : IsKeptOf K bytes was) → Stands (Since K is.listed.are.records) (bytes ++ taken) d r) (lies : (text : List ℕ) (told : Told) → IsAt 0 text told d → Lies text told) where
+    (stands : (bytes : List ℕ) (is : IsKeptOf K bytes was) → Stands judges (Since K is.listed.are.records) (bytes ++ taken) d r) (lies : (text : List ℕ) (told : Told) → IsAt 0 text told d → Lies text told) where
   -- what was read is a front of less than one more record
   cut_there : (bytes : List ℕ) → IsKeptOf K bytes was → IsLongestFront (bytes ++ taken) r.rows
   cut_there bytes is = let s = stands bytes is in longest_cut (bytes ++ taken) s.told r s.has r.rows refl (omega (arith, at bytes is, short, length-append bytes taken)) (lies (bytes ++ taken) s.told s.is_at)

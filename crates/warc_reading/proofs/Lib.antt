@@ -9,6 +9,7 @@ pub mod RowLemmas
 pub mod SourceLemmas
 pub mod StepLemmas
 pub mod StreamLemmas
+pub mod StandLemmas
 pub mod LengthLemmas
 pub mod FitLemmas
 pub mod HeadLemmas

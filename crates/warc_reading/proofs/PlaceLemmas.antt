@@ -6,13 +6,14 @@ use Rattle.std.specs.List.{slice_get}
 use Rattle.warc_field.specs.Lines.{crlf}
 use Rattle.warc_frame.specs.Faults.{AllAccepted}
 use Rattle.warc_frame.specs.Reading.{Judgement, any_fields, head_of}
-use Rattle.warc_frame.specs.Record.{Record, head_text}
+use Rattle.warc_frame.specs.Record.{Record, head_text, max_archive}
 use Rattle.warc_frame.specs.Spelling.{Spells}
 use Rattle.warc_record.specs.Heads.{head_fault}
 use Rattle.warc_reading.specs.Archive.{AreRowsOf, Contents, IsArchiveOf, SpellsFrom, contents}
 use Rattle.warc_reading.specs.Rereading.{AreCheckable, HasHead}
 use Rattle.warc_reading.specs.Row.{Placed, Row}
 use Rattle.warc_reading.proofs.GoodLemmas.{accepted}
+use Rattle.warc_reading.proofs.StandLemmas.{written}
 
 -- what is known of the head of a record that a text spells
 abbrev pub HeadsAreRead : Type 0
@@ -58,8 +59,10 @@ heads_from law q before (r ∷ rs) text q_is (front, rest, one, at, start, text_
     subst P whole (heads_from law (q + length front) (before ++ front) rs rest size more good.1 i p is)
 
 -- the records of an archive can be checked
-checkable : HeadsAreRead → (bytes : List ℕ) (rows : List Row) (are : AreRowsOf bytes rows) → AreCheckable bytes are.records rows
-checkable law bytes rows are = record {
+checkable : HeadsAreRead → (bytes : List ℕ) (rows : List Row) (are : AreRowsOf bytes rows) → length bytes ≤ max_archive
+    → AreCheckable bytes are.records rows
+checkable law bytes rows are short = record {
+  placed = record { short = short; each = written bytes are.records are.spelled };
   heads = heads_from law 0 [] are.records bytes refl are.spelled (accepted (contents are.records) are.good);
   rows_are = are.rows_are;
 }
@@ -68,7 +71,7 @@ pub checkable_archive : HeadsAreRead → (bytes : List ℕ) (seen : List Row) (i
     → AreCheckable bytes is.are.records rows
 checkable_archive law bytes seen is rows same =
     let P : List Row → Type 0 = λ l. AreCheckable bytes is.are.records l in
-    subst P (sym same) (checkable law bytes seen is.are)
+    subst P (sym same) (checkable law bytes seen is.are is.short)
 
 -- what two equal archives have
 pub same_rows : {S : Type 0} {a b : Contents S} → a ≡ b → a.rows ≡ b.rows

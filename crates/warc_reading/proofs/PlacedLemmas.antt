@@ -2,7 +2,7 @@
 use Rattle.std.proofs.Common.{◌≡◌, ℕ, zero, suc, ◌+◌, ◌<◌, List, [], ◌∷◌, ◌++◌, length, map, take, Some, refl, sym, ap, ◌∙◌, arith}
 use Rattle.std.specs.List.{slice_get}
 use Rattle.warc_reading.specs.Archive.{contents}
-use Rattle.warc_reading.specs.Rereading.{AreCheckable, HasHead, HasHeadOf, HasHeadsOf}
+use Rattle.warc_reading.specs.Rereading.{AreCheckable, HasHead, HasRecordsOf, HasTextOf}
 use Rattle.warc_reading.specs.Row.{Placed, Row, row_of}
 
 -- the record of a row
@@ -17,12 +17,12 @@ record_at bytes records rows i row can is =
     let found = placed records i row (sym (ap (λ l. slice_get l i) can.rows_are) ∙ is) in
     (found.0, found.1, found.2, can.heads i found.0 found.1)
 
--- the head of a row's record is among the bytes where those of all are
-pub row_has : (bytes : List ℕ) {rows : List Row} → (are : HasHeadsOf rows bytes) → (i : ℕ) (row : Row)
-    → slice_get rows i ≡ Some row → HasHeadOf row bytes
+-- the record of a row is in the bytes where those of all rows are
+pub row_has : (bytes : List ℕ) {rows : List Row} → (are : HasRecordsOf rows bytes) → (i : ℕ) (row : Row)
+    → slice_get rows i ≡ Some row → HasTextOf row bytes
 row_has bytes {rows} are i row is =
     let at = record_at bytes are.records rows i row are.can is in
-    record { placed = at.0; has = at.3; row_is = at.2 }
+    record { placed = at.0; short = are.can.placed.short; has = at.3; written = are.can.placed.each i at.0 at.1; row_is = at.2 }
 
 pub content_at : (records : List Placed) (i : ℕ) (p : Placed) → slice_get records i ≡ Some p → slice_get (contents records) i ≡ Some p.content
 content_at [] i p is = absurd (cc is)

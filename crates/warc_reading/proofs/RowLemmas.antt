@@ -102,7 +102,6 @@ module _ (t k d i g t1 t2 t3 t4 : List ℕ) (e : Entry) (h1 : t1 ≡ t ++ k) (h2
     offset = e.offset;
     block_start = e.block_start;
     block_len = e.block_len;
-    verdict = e.verdict;
     is_truncated = e.is_truncated;
     kind = k;
     date = d;
@@ -272,7 +271,7 @@ push_kept t t1 t2 t3 t4 row p ps qs h1 h2 h3 h4 short is pushed kept =
     let flat = flat_more (length t) (length t4) (map unpacked ps) e kept.flat a j last within in
     let P : List Entry → Type 0 = λ es. AreFlat (length t4) es in
     let rows = rows_added t row.kind row.date row.id row.target t1 t2 t3 t4 e h1 h2 h3 h4 a b c f j (map unpacked ps) kept.flat.within in
-    let same : added t row.kind row.date row.id row.target t1 t2 t3 t4 e h1 h2 h3 h4 a b c f j ≡ row = rw (is.head, is.offset, is.block, is.verdict, is.truncated) refl in (
+    let same : added t row.kind row.date row.id row.target t1 t2 t3 t4 e h1 h2 h3 h4 a b c f j ≡ row = rw (is.head, is.offset, is.block, is.truncated) refl in (
       kept_flat (length t4) qs (subst P (sym entries) flat),
       sym (rows_unpacked t4 qs) ∙ ap (map (row_at t4)) entries ∙ rows ∙ ap (λ (r : Row). map (row_at t) (map unpacked ps) ++ r ∷ []) same
           ∙ ap (λ rows. rows ++ row ∷ []) (rows_unpacked t ps),

@@ -1,6 +1,7 @@
 -- What is kept of a stream stands for the bytes that were taken.
-use Rattle.std.proofs.Common.{◌≡◌, ℕ, ◌+◌, ◌≤◌, List, [], ◌∷◌, ◌++◌, length, map, Option, Some, None, Result, Ok, Err, IsSome, refl, sym, ap, subst, ◌∙◌, arith, length-append}
+use Rattle.std.proofs.Common.{◌≡◌, Bool, ℕ, ◌+◌, ◌≤◌, List, [], ◌∷◌, ◌++◌, length, map, Option, Some, None, Result, Ok, Err, IsSome, refl, sym, ap, subst, ◌∙◌, arith, length-append}
 use Rattle.std.proofs.lemmas.List.{append_assoc, append-nil, append_cancel_left, length-map, map-append}
+use Rattle.warc_value.specs.Digests.{verdict_of}
 use Rattle.warc_frame.specs.Faults.{AllAccepted}
 use Rattle.warc_frame.specs.Reading.{◌>>=◌, Head, any_fields, block_at, head_of, record_of}
 use Rattle.warc_frame.specs.Record.{Record, max_archive}
@@ -10,9 +11,9 @@ use Rattle.warc_frame.specs.declared.fault.Fault.{Fault}
 use Rattle.warc_frame.proofs.LawLemmas.{fronts_are_same, heads_are_stable, reading_is_spelling-read}
 use Rattle.warc_record.specs.Heads.{head_fault}
 use Rattle.warc_reading.specs.Archive.{SpellsFrom, contents}
-use Rattle.warc_reading.specs.Indexed.{place_of}
+use Rattle.warc_reading.specs.Judging.{IsNextOf}
 use Rattle.warc_reading.specs.Row.{Placed, row_of}
-use Rattle.warc_reading.specs.Stream.{HasRead, HasSeen, IsCurrent, IsHead, IsKeptOf, Matches, place_by, row_by}
+use Rattle.warc_reading.specs.Stream.{HasRead, HasSeen, IsCurrent, IsHead, IsKeptOf, Matches, row_by}
 use Rattle.warc_reading.proofs.GoodLemmas.{are_good}
 use Rattle.warc_reading.specs.declared.reading.Current.{Current}
 use Rattle.warc_reading.specs.declared.reading.Reading.{Reading}
@@ -78,20 +79,20 @@ record_len r t head s is =
     by_head (head_of any_fields t) head t r (length t) is read
 
 -- what is kept accepts every head that was told
-pub accepts : {A : Type 0} (begin : ℕ) (rest : List ℕ) (o : Option Unclosed) (c : Option (Current A)) → Matches begin rest o c → AcceptsOpen head_fault o
-accepts begin rest None c m = tt
-accepts begin rest (Some u) None m = absurd m
-accepts begin rest (Some u) (Some c) m = m.of.good
+pub accepts : {A : Type 0} (judges : Bool) (begin : ℕ) (rest : List ℕ) (o : Option Unclosed) (c : Option (Current A)) → Matches judges begin rest o c → AcceptsOpen head_fault o
+accepts judges begin rest None c m = tt
+accepts judges begin rest (Some u) None m = absurd m
+accepts judges begin rest (Some u) (Some c) m = m.of.good
 
-pub accepts_told : {A L : Type 0} {K : L → List Placed → Type 0} (text : List ℕ) (told : Told) (r : Reading A L) → HasRead K text told r → AcceptsTold head_fault told
-accepts_told text told r has = (has.good, accepts (length has.front) has.rest told.unclosed r.current has.current)
+pub accepts_told : {A L : Type 0} {judges : Bool} {K : L → List Placed → Type 0} (text : List ℕ) (told : Told) (r : Reading A L) → HasRead judges K text told r → AcceptsTold head_fault told
+accepts_told {A} {L} {judges} text told r has = (has.good, accepts judges (length has.front) has.rest told.unclosed r.current has.current)
 
 -- bytes were taken, and nothing was told
-matches_more : {A : Type 0} (begin : ℕ) (rest more : List ℕ) (o : Option Unclosed) (c : Option (Current A)) → Matches begin rest o c → Matches begin (rest ++ more) o c
-matches_more begin rest more None None m = tt
-matches_more begin rest more None (Some c) m = absurd m
-matches_more begin rest more (Some u) None m = absurd m
-matches_more begin rest more (Some u) (Some c) m = record {
+matches_more : {A : Type 0} (judges : Bool) (begin : ℕ) (rest more : List ℕ) (o : Option Unclosed) (c : Option (Current A)) → Matches judges begin rest o c → Matches judges begin (rest ++ more) o c
+matches_more judges begin rest more None None m = tt
+matches_more judges begin rest more None (Some c) m = absurd m
+matches_more judges begin rest more (Some u) None m = absurd m
+matches_more judges begin rest more (Some u) (Some c) m = record {
   head = m.head;
   tail = m.tail ++ more;
   rest_is = ap (λ t. t ++ more) m.rest_is ∙ append_assoc m.head m.tail more;
@@ -102,8 +103,8 @@ matches_more begin rest more (Some u) (Some c) m = record {
   seen = m.seen;
 }
 
-pub more_kept : {A L : Type 0} {K : L → List Placed → Type 0} (text more : List ℕ) (told : Told) (r : Reading A L) → HasRead K text told r → HasRead K (text ++ more) told r
-more_kept text more told r has = record {
+pub more_kept : {A L : Type 0} {judges : Bool} {K : L → List Placed → Type 0} (text more : List ℕ) (told : Told) (r : Reading A L) → HasRead judges K text told r → HasRead judges K (text ++ more) told r
+more_kept {A} {L} {judges} text more told r has = record {
   records = has.records;
   front = has.front;
   rest = has.rest ++ more;
@@ -114,11 +115,11 @@ more_kept text more told r has = record {
   rows_are = has.rows_are;
   beside = has.beside;
   begin_is = has.begin_is;
-  current = matches_more (length has.front) has.rest more told.unclosed r.current has.current;
+  current = matches_more judges (length has.front) has.rest more told.unclosed r.current has.current;
 }
 
 -- the front of the records that were told is the same in each view of the bytes
-pub same_front : {A L : Type 0} {K : L → List Placed → Type 0} (text more front rest : List ℕ) (told : Told) (r : Reading A L) (has : HasRead K text told r) → text ++ more ≡ front ++ rest
+pub same_front : {A L : Type 0} {judges : Bool} {K : L → List Placed → Type 0} (text more front rest : List ℕ) (told : Told) (r : Reading A L) (has : HasRead judges K text told r) → text ++ more ≡ front ++ rest
     → SpellsAll told.records front → (has.front ≡ front) × (has.rest ++ more ≡ rest)
 same_front text more front rest told r has is spelled =
     let P : List Record → Type 0 = λ rs. SpellsAll rs has.front in
@@ -128,17 +129,17 @@ same_front text more front rest told r has is spelled =
     (same, append_cancel_left front (has.rest ++ more) rest (ap (λ f. f ++ (has.rest ++ more)) (sym same) ∙ whole))
 
 -- a head was told, and it is good
-pub head_kept : {A L : Type 0} {K : L → List Placed → Type 0} (text more : List ℕ) (rs : List Record) (u : Unclosed) (old new : Reading A L) (c : Current A) → HasRead K text (record { records = rs; unclosed = None }) old
+pub head_kept : {A L : Type 0} {judges : Bool} {K : L → List Placed → Type 0} (text more : List ℕ) (rs : List Record) (u : Unclosed) (old new : Reading A L) (c : Current A) → HasRead judges K text (record { records = rs; unclosed = None }) old
     → IsExact (text ++ more) (record { records = rs; unclosed = Some u }) → u.bytes ≡ [] → new.rows ≡ old.rows → new.beside ≡ old.beside → new.begin ≡ old.begin → new.current ≡ Some c
-    → IsHead u.fields c → HasSeen c.digest [] → c.block_start ≡ length (text ++ more) → c.block_len ≡ u.block_len
-    → HasRead K (text ++ more) (record { records = rs; unclosed = Some u }) new
-head_kept {A} {L} {K} text more rs u old new c has exact none rows beside begin current of seen start len =
+    → IsHead judges u.fields c → HasSeen c.digest [] → c.block_start ≡ length (text ++ more) → c.block_len ≡ u.block_len
+    → HasRead judges K (text ++ more) (record { records = rs; unclosed = Some u }) new
+head_kept {A} {L} {judges} {K} text more rs u old new c has exact none rows beside begin current of seen start len =
     let (head, head_is, rest_is) = exact.ends in
     let (front, rest) = same_front text more exact.front exact.rest (record { records = rs; unclosed = None }) old has exact.text_is exact.spelled in
     let S : List ℕ → Type 0 = λ bytes. HasSeen c.digest bytes in
     let whole : exact.rest ≡ head = rest_is ∙ ap (λ b. head ++ b) none ∙ append-nil head in
     let size : length (text ++ more) ≡ length has.front + length head = ap length (exact.text_is ∙ ap (λ f. f ++ exact.rest) (sym front)) ∙ length-append has.front exact.rest ∙ ap (λ t. length has.front + length t) whole in
-    let is : IsCurrent (length has.front) exact.rest u c = record {
+    let is : IsCurrent judges (length has.front) exact.rest u c = record {
       head = head;
       tail = [];
       rest_is = whole ∙ sym (append-nil head);
@@ -148,7 +149,7 @@ head_kept {A} {L} {K} text more rs u old new c has exact none rows beside begin 
       len = len;
       seen = subst S (sym none) seen;
     } in
-    let M : Option (Current A) → Type 0 = λ k. Matches (length has.front) exact.rest (Some u) k in
+    let M : Option (Current A) → Type 0 = λ k. Matches judges (length has.front) exact.rest (Some u) k in
     let B : L → Type 0 = λ l. K l has.records in
     record {
       records = has.records;
@@ -170,13 +171,13 @@ TakesPart {A} part old new = (c : Current A) → old ≡ Some c → (d : Current
     × (d.head ≡ c.head) × (d.block_start ≡ c.block_start) × (d.block_len ≡ c.block_len) × (d.digest.wanted ≡ c.digest.wanted)
     × ((bytes : List ℕ) → HasSeen c.digest bytes → HasSeen d.digest (bytes ++ part))
 
-matches_part : {A : Type 0} (begin : ℕ) (rest more part : List ℕ) (o : Option Unclosed) (old new : Option (Current A)) → IsSome o → Matches begin rest o old → TakesPart part old new
-    → Matches begin (rest ++ more) (with_bytes o part) new
-matches_part begin rest more part None old new some m takes = cc some
-matches_part begin rest more part (Some u) None new some m takes = absurd m
-matches_part {A} begin rest more part (Some u) (Some c) new some m takes =
+matches_part : {A : Type 0} (judges : Bool) (begin : ℕ) (rest more part : List ℕ) (o : Option Unclosed) (old new : Option (Current A)) → IsSome o → Matches judges begin rest o old → TakesPart part old new
+    → Matches judges begin (rest ++ more) (with_bytes o part) new
+matches_part judges begin rest more part None old new some m takes = cc some
+matches_part judges begin rest more part (Some u) None new some m takes = absurd m
+matches_part {A} judges begin rest more part (Some u) (Some c) new some m takes =
     let (d, new_is, fields, start, len, wanted, seen) = takes c refl in
-    let is : IsCurrent begin (rest ++ more) (record { version = u.version; fields = u.fields; block_len = u.block_len; bytes = u.bytes ++ part }) d = record {
+    let is : IsCurrent judges begin (rest ++ more) (record { version = u.version; fields = u.fields; block_len = u.block_len; bytes = u.bytes ++ part }) d = record {
       head = m.head;
       tail = m.tail ++ more;
       rest_is = ap (λ t. t ++ more) m.rest_is ∙ append_assoc m.head m.tail more;
@@ -190,13 +191,13 @@ matches_part {A} begin rest more part (Some u) (Some c) new some m takes =
       len = len ∙ m.len;
       seen = seen u.bytes m.seen;
     } in
-    let M : Option (Current A) → Type 0 = λ k. Matches begin (rest ++ more) (with_bytes (Some u) part) k in
+    let M : Option (Current A) → Type 0 = λ k. Matches judges begin (rest ++ more) (with_bytes (Some u) part) k in
     subst M (sym new_is) is
 
-pub part_kept : {A L : Type 0} {K : L → List Placed → Type 0} (text more part : List ℕ) (told : Told) (old new : Reading A L) → HasRead K text told old → IsSome told.unclosed → new.rows ≡ old.rows
+pub part_kept : {A L : Type 0} {judges : Bool} {K : L → List Placed → Type 0} (text more part : List ℕ) (told : Told) (old new : Reading A L) → HasRead judges K text told old → IsSome told.unclosed → new.rows ≡ old.rows
     → new.beside ≡ old.beside → new.begin ≡ old.begin → TakesPart part old.current new.current
-    → HasRead K (text ++ more) (record { records = told.records; unclosed = with_bytes told.unclosed part }) new
-part_kept {A} {L} {K} text more part told old new has some rows beside begin takes = record {
+    → HasRead judges K (text ++ more) (record { records = told.records; unclosed = with_bytes told.unclosed part }) new
+part_kept {A} {L} {judges} {K} text more part told old new has some rows beside begin takes = record {
   records = has.records;
   front = has.front;
   rest = has.rest ++ more;
@@ -207,28 +208,22 @@ part_kept {A} {L} {K} text more part told old new has some rows beside begin tak
   rows_are = rows ∙ has.rows_are;
   beside = (let B : L → Type 0 = λ l. K l has.records in subst B (sym beside) has.beside);
   begin_is = begin ∙ has.begin_is;
-  current = matches_part (length has.front) has.rest more part told.unclosed old.current new.current some has.current takes;
+  current = matches_part judges (length has.front) has.rest more part told.unclosed old.current new.current some has.current takes;
 }
 
 -- the row that is kept of a record is its row
-row_is : {A : Type 0} (p : Placed) (begin : ℕ) (c : Current A) → begin ≡ p.offset → c.block_start ≡ p.block_start → c.block_len ≡ length p.content.block
-    → IsHead p.content.fields c → row_by begin c p.content.block ≡ row_of p
+row_is : {A : Type 0} {judges : Bool} (p : Placed) (begin : ℕ) (c : Current A) → begin ≡ p.offset → c.block_start ≡ p.block_start → c.block_len ≡ length p.content.block
+    → IsHead judges p.content.fields c → row_by begin c ≡ row_of p
 row_is p begin c offset start len of =
-    rw (offset, start, len, of.wanted, of.fields_are) refl
-
--- and so is the place of its block
-place_is : {A : Type 0} (p : Placed) (c : Current A) → c.block_start ≡ p.block_start → c.block_len ≡ length p.content.block → IsHead p.content.fields c
-    → place_by c p.content.block ≡ place_of p
-place_is p c start len of =
-    rw (start, len, of.wanted, of.fields_are) refl
+    rw (offset, start, len, of.fields_are) refl
 
 -- the end of a record was told
-pub end_kept_by : {A L : Type 0} {K : L → List Placed → Type 0} (text more : List ℕ) (rs : List Record) (u : Unclosed) (old new : Reading A L) (c : Current A) (has : HasRead K text (record { records = rs; unclosed = Some u }) old)
-    → IsCurrent (length has.front) has.rest u c → length u.bytes ≡ u.block_len → IsExact (text ++ more) (record { records = rs ++ record { version = u.version; fields = u.fields; block = u.bytes } ∷ []; unclosed = None })
-    → new.begin ≡ length (text ++ more) → new.current ≡ None → new.rows ≡ old.rows ++ row_by old.begin c u.bytes ∷ []
-    → ((records : List Placed) (p : Placed) → K old.beside records → length old.rows ≡ length records → c.head ≡ p.content.fields → head_fault p.content.fields ≡ None → place_by c u.bytes ≡ place_of p → K new.beside (records ++ p ∷ []))
-    → HasRead K (text ++ more) (record { records = rs ++ record { version = u.version; fields = u.fields; block = u.bytes } ∷ []; unclosed = None }) new
-end_kept_by {A} {L} {K} text more rs u old new c has is whole exact begin current rows keeps =
+pub end_kept_by : {A L : Type 0} {judges : Bool} {K : L → List Placed → Type 0} (text more : List ℕ) (rs : List Record) (u : Unclosed) (old new : Reading A L) (c : Current A) (has : HasRead judges K text (record { records = rs; unclosed = Some u }) old)
+    → IsCurrent judges (length has.front) has.rest u c → length u.bytes ≡ u.block_len → IsExact (text ++ more) (record { records = rs ++ record { version = u.version; fields = u.fields; block = u.bytes } ∷ []; unclosed = None })
+    → new.begin ≡ length (text ++ more) → new.current ≡ None → new.rows ≡ old.rows ++ row_by old.begin c ∷ []
+    → ((records : List Placed) (p : Placed) → K old.beside records → length old.rows ≡ length records → IsNextOf judges p c.head c.block_start c.block_len (verdict_of c.digest.wanted u.bytes) → K new.beside (records ++ p ∷ []))
+    → HasRead judges K (text ++ more) (record { records = rs ++ record { version = u.version; fields = u.fields; block = u.bytes } ∷ []; unclosed = None }) new
+end_kept_by {A} {L} {judges} {K} text more rs u old new c has is whole exact begin current rows keeps =
     let r : Record = record { version = u.version; fields = u.fields; block = u.bytes } in
     let told : Told = record { records = rs; unclosed = Some u } in
     let (front, last, all, one, exact_is) = split_last rs r exact.front exact.spelled in
@@ -241,8 +236,15 @@ end_kept_by {A} {L} {K} text more rs u old new c has is whole exact begin curren
     let p : Placed = record { offset = length has.front; block_start = c.block_start; content = r } in
     let whole_is : text ++ more ≡ has.front ++ last = text_is ∙ ap (λ f. f ++ last) (sym same) in
     let count : length (text ++ more) ≡ length has.front + length last = ap length whole_is ∙ length-append has.front last in
-    let row : row_by old.begin c u.bytes ≡ row_of p = row_is p old.begin c has.begin_is refl (is.len ∙ sym whole) is.of in
-    let M : Option (Current A) → Type 0 = λ k. Matches (length (has.front ++ last)) [] None k in
+    let row : row_by old.begin c ≡ row_of p = row_is p old.begin c has.begin_is refl (is.len ∙ sym whole) is.of in
+    let next : IsNextOf judges p c.head c.block_start c.block_len (verdict_of c.digest.wanted u.bytes) = record {
+      fields_are = is.of.fields_are;
+      good = is.of.good;
+      start_is = refl;
+      len_is = is.len ∙ sym whole;
+      verdict_is = ap (λ w. verdict_of w u.bytes) is.of.wanted;
+    } in
+    let M : Option (Current A) → Type 0 = λ k. Matches judges (length (has.front ++ last)) [] None k in
     record {
       records = has.records ++ p ∷ [];
       front = has.front ++ last;
@@ -251,14 +253,14 @@ end_kept_by {A} {L} {K} text more rs u old new c has is whole exact begin curren
       spelled = spells_more 0 has.records p has.front last has.spelled one (omega arith) (omega (arith, is.start, size, whole));
       told_is = ap (λ l. l ++ r ∷ []) has.told_is ∙ sym (map-append (λ (x : Placed). x.content) has.records (p ∷ []));
       good = accepted_more rs r has.good is.of.good;
-      rows_are = rows ∙ ap (λ l. l ++ row_by old.begin c u.bytes ∷ []) has.rows_are ∙ ap (λ x. map row_of has.records ++ x ∷ []) row ∙ sym (map-append row_of has.records (p ∷ []));
-      beside = keeps has.records p has.beside (ap length has.rows_are ∙ length-map has.records row_of) is.of.fields_are is.of.good (place_is p c refl (is.len ∙ sym whole) is.of);
+      rows_are = rows ∙ ap (λ l. l ++ row_by old.begin c ∷ []) has.rows_are ∙ ap (λ x. map row_of has.records ++ x ∷ []) row ∙ sym (map-append row_of has.records (p ∷ []));
+      beside = keeps has.records p has.beside (ap length has.rows_are ∙ length-map has.records row_of) next;
       begin_is = begin ∙ count ∙ sym (length-append has.front last);
       current = subst M (sym current) tt;
     }
 
 -- the text ends behind its last record
-pub kept_whole : {A L : Type 0} {K : L → List Placed → Type 0} (text : List ℕ) (told : Told) (r : Reading A L) → HasRead K text told r → SpellsAll told.records text
+pub kept_whole : {A L : Type 0} {judges : Bool} {K : L → List Placed → Type 0} (text : List ℕ) (told : Told) (r : Reading A L) → HasRead judges K text told r → SpellsAll told.records text
     → length text ≤ max_archive → IsKeptOf K text (r.rows, r.beside)
 kept_whole text told r has spelled short =
     let (same, none) = same_front text [] text [] told r has refl spelled in

@@ -1,7 +1,6 @@
 -- What an archive keeps of its records besides their rows: what finds them by target, instant and id, and what joins
 -- segmented ones.
 use Rattle.std.specs.Prelude.{◌≡◌, ℕ, List, length, map, Result, Ok, Err}
-use Rattle.warc_value.specs.Digests.{verdict_of}
 use Rattle.warc_frame.specs.declared.fault.Fault.{Fault}
 use Rattle.warc_record.specs.Readings.{Reading, reading_of}
 use Rattle.warc_index.specs.Captures.{Indexed, indexed_of}
@@ -12,12 +11,12 @@ use Rattle.warc_segment.specs.declared.place.Place.{Place}
 use Rattle.warc_reading.specs.Archive.{Contents, IsArchiveOf}
 use Rattle.warc_reading.specs.Row.{Placed}
 
--- where the block of a record is whose head says this
+-- where the block of a record is whose head says this, and the digest that the head asks for
 abbrev pub place_with : Placed → Reading → Place
 place_with p head = record {
   start = p.block_start;
   len = length p.content.block;
-  verdict = verdict_of head.wanted p.content.block;
+  wanted = head.wanted;
   truncated = head.truncated;
 }
 

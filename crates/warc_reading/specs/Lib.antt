@@ -7,5 +7,7 @@ pub mod Keeping
 pub mod Opening
 pub mod Rereading
 pub mod Row
+pub mod Judging
+pub mod Placing
 pub mod Rows
 pub mod Stream

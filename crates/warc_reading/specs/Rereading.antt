@@ -5,7 +5,7 @@ use Rattle.std.specs.List.{sum_by}
 use Rattle.warc_field.specs.Area.{Pair}
 use Rattle.warc_frame.specs.Effects.{ReadsOnly}
 use Rattle.warc_frame.specs.Reading.{any_fields, head_of}
-use Rattle.warc_frame.specs.Record.{Record, max_head}
+use Rattle.warc_frame.specs.Record.{Record, max_archive, max_head}
 use Rattle.warc_frame.specs.Seen.{SeenSource}
 use Rattle.warc_frame.specs.declared.fault.FaultKind.{FaultKind}
 use Rattle.warc_frame.specs.declared.fault.FaultKind.TheVariants.{Memory as NoMemory}
@@ -14,6 +14,7 @@ use Rattle.warc_frame.specs.declared.fault.OutFault.TheVariants.{Read as ReadFai
 use Rattle.warc_frame.specs.declared.reading.Head.{Head}
 use Rattle.warc_frame.specs.declared.version.Version.{Version}
 use Rattle.warc_record.specs.Heads.{head_fault}
+use Rattle.warc_reading.specs.Placing.{ArePlacedIn, IsInAnyRow, IsPlacedIn}
 use Rattle.warc_reading.specs.Row.{Placed, Row, row_of}
 use Rattle.warc_reading.specs.declared.rereading.RereadFault.{RereadFault}
 use Rattle.warc_reading.specs.declared.rereading.RereadFault.TheVariants.{Read, Memory}
@@ -37,13 +38,14 @@ pub record HasHead (bytes : List ℕ) (p : Placed) : Type 0 where
 abbrev pub HaveHeads : List ℕ → List Placed → Type 0
 HaveHeads bytes records = (i : ℕ) (p : Placed) → slice_get records i ≡ Some p → HasHead bytes p
 
--- these are the rows of records whose heads are in the bytes
+-- these are the rows of records that are in the bytes, each with a good head
 pub record AreCheckable (bytes : List ℕ) (records : List Placed) (rows : List Row) : Type 0 where
+  pub placed : ArePlacedIn bytes records
   pub heads : HaveHeads bytes records
   pub rows_are : rows ≡ map row_of records
 
--- the heads of the rows' records are in the bytes
-pub record HasHeadsOf (rows : List Row) (bytes : List ℕ) : Type 0 where
+-- the rows' records are in the bytes
+pub record HasRecordsOf (rows : List Row) (bytes : List ℕ) : Type 0 where
   pub records : List Placed
   pub can : AreCheckable bytes records rows
 
@@ -73,6 +75,14 @@ pub record HasHeadOf (row : Row) (bytes : List ℕ) : Type 0 where
   pub has : HasHead bytes placed
   pub row_is : row ≡ row_of placed
 
+-- the head and the block of a row's record are in the bytes of an archive
+pub record HasTextOf (row : Row) (bytes : List ℕ) : Type 0 where
+  pub placed : Placed
+  pub short : length bytes ≤ max_archive
+  pub has : HasHead bytes placed
+  pub written : IsPlacedIn bytes placed
+  pub row_is : row ≡ row_of placed
+
 -- the offset of a byte of the head of one of these rows' records
 pub record IsInHead (rows : List Row) (at : ℕ) : Type 0 where
   pub place : ℕ
@@ -88,6 +98,14 @@ heads_len rows = sum_by (λ r. r.block_start - r.offset) rows
 -- at most one read for each byte of these heads, and no other byte
 abbrev pub ReadsHeads : List Row → SeenSource → SeenSource → Type 0
 ReadsHeads rows old new = ReadsOnly (IsInHead rows) (heads_len rows) old new
+
+-- how many bytes the head and the block of a row's record have
+abbrev pub row_len : Row → ℕ
+row_len row = (row.block_start - row.offset) + row.block_len
+
+-- at most one read for each byte of the heads and the blocks of these rows' records, and no other byte
+abbrev pub ReadsRows : List Row → SeenSource → SeenSource → Type 0
+ReadsRows rows old new = ReadsOnly (IsInAnyRow rows) (sum_by row_len rows) old new
 
 -- a whole head with these fields, as long as a row says, of a block as long as it says
 pub record IsHeadBy (row : Row) (fields : List Pair) : Type 0 where

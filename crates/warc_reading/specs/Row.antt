@@ -1,7 +1,5 @@
 -- What an archive keeps of a record (WARC 1.1, section 5: the named fields).
 use Rattle.std.specs.Prelude.{ℕ, Bool, List, [], length, unwrap_or}
-use Rattle.warc_value.specs.Digests.{verdict_of}
-use Rattle.warc_value.specs.declared.hash.Verdict.{Verdict}
 use Rattle.warc_frame.specs.Record.{Record}
 use Rattle.warc_record.specs.Readings.{Reading, reading_of}
 
@@ -11,14 +9,12 @@ pub record Placed : Type 0 where
   pub block_start : ℕ
   pub content : Record
 
--- the offsets of a record and of its block, the block's length, how the block compares with the digest that its
--- head asks for, whether it is marked as truncated, and the texts of its type, date, id and target, each empty
--- if it is absent
+-- the offsets of a record and of its block, the block's length, whether it is marked as truncated, and the texts of
+-- its type, date, id and target, each empty if it is absent
 pub record Row : Type 0 where
   pub offset : ℕ
   pub block_start : ℕ
   pub block_len : ℕ
-  pub verdict : Verdict
   pub is_truncated : Bool
   pub kind : List ℕ
   pub date : List ℕ
@@ -31,7 +27,6 @@ row_with p head = record {
   offset = p.offset;
   block_start = p.block_start;
   block_len = length p.content.block;
-  verdict = verdict_of head.wanted p.content.block;
   is_truncated = head.truncated;
   kind = unwrap_or head.type_text [];
   date = unwrap_or head.date_text [];

@@ -12,7 +12,6 @@ row_at texts e = record {
   offset = e.offset;
   block_start = e.block_start;
   block_len = e.block_len;
-  verdict = e.verdict;
   is_truncated = e.is_truncated;
   kind = slice_range texts e.kind_start e.kind_end;
   date = slice_range texts e.kind_end e.date_end;
@@ -55,7 +54,6 @@ unpacked p = record {
   offset = whole p.offset;
   block_start = reach (whole p.offset) p.head_len;
   block_len = whole p.block_len;
-  verdict = p.verdict;
   is_truncated = p.is_truncated;
   kind_start = whole p.start;
   kind_end = reach (whole p.start) p.kind_len;
@@ -69,7 +67,6 @@ pub record IsPackedOf (start : ℕ) (row : Row) (p : Packed) : Type 0 where
   pub offset : whole p.offset ≡ row.offset
   pub head : reach (whole p.offset) p.head_len ≡ row.block_start
   pub block : whole p.block_len ≡ row.block_len
-  pub verdict : p.verdict ≡ row.verdict
   pub truncated : p.is_truncated ≡ row.is_truncated
   pub begin : whole p.start ≡ start
   pub kind : p.kind_len ≡ length row.kind

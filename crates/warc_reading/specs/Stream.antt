@@ -1,8 +1,7 @@
 -- What is kept of an archive while it is read as a stream. States of the code, but for `IsKeptOf`, which public
 -- contracts cite.
-use Rattle.std.specs.Prelude.{◌≡◌, ℕ, ◌+◌, ◌<◌, ◌≤◌, ◌⊎◌, List, [], ◌++◌, length, map, take, drop, Option, Some, None, unwrap_or}
+use Rattle.std.specs.Prelude.{◌≡◌, ℕ, Bool, ◌+◌, ◌<◌, ◌≤◌, ◌⊎◌, List, [], ◌++◌, length, map, take, drop, Option, Some, None, unwrap_or}
 use Rattle.warc_field.specs.Area.{Pair}
-use Rattle.warc_value.specs.Digests.{verdict_of}
 use Rattle.warc_value.specs.Running.{HasTaken}
 use Rattle.warc_value.specs.declared.hash.Wanted.{Wanted}
 use Rattle.warc_value.specs.declared.hash.Wanted.TheVariants.{Sha1, Unchecked}
@@ -15,9 +14,9 @@ use Rattle.warc_frame.specs.declared.fault.FaultKind.{FaultKind}
 use Rattle.warc_frame.specs.declared.fault.FaultKind.TheVariants.{Memory, Read, Truncated}
 use Rattle.warc_record.specs.Heads.{head_fault}
 use Rattle.warc_record.specs.Readings.{digest_wanted, reading_of}
-use Rattle.warc_segment.specs.declared.place.Place.{Place}
 use Rattle.warc_reading.specs.Archive.{IsArchiveOf, SpellsFrom, contents, IsFaultOf, IsRecordEnd}
 use Rattle.warc_reading.specs.Fronts.{IsLongestFront, reach_of}
+use Rattle.warc_reading.specs.Judging.{judged_by}
 use Rattle.warc_reading.specs.Row.{Placed, Row, row_of}
 use Rattle.warc_frame.specs.Seen.{AsksOnly, IfHeld, SeenSource}
 use Rattle.warc_reading.specs.declared.reading.BlockDigest.{BlockDigest}
@@ -32,33 +31,34 @@ IfChecked (Sha1 digest) P = P
 abbrev pub HasSeen : BlockDigest → List ℕ → Type 0
 HasSeen digest bytes = IfChecked digest.wanted (HasTaken digest.running bytes)
 
--- what is kept of a good head
-pub record IsHead {A : Type 0} (fields : List Pair) (c : Current A) : Type 0 where
+-- what is kept of a good head, whose block is judged or isn't
+pub record IsHead {A : Type 0} (judges : Bool) (fields : List Pair) (c : Current A) : Type 0 where
   pub good : head_fault fields ≡ None
   pub fields_are : c.head ≡ fields
-  pub wanted : c.digest.wanted ≡ digest_wanted fields
+  pub wanted : c.digest.wanted ≡ judged_by judges (digest_wanted fields)
 
 -- the record that is being read begins at this offset, and of it these bytes were taken and this was reported
-pub record IsCurrent {A : Type 0} (begin : ℕ) (rest : List ℕ) (u : Unclosed) (c : Current A) : Type 0 where
+pub record IsCurrent {A : Type 0} (judges : Bool) (begin : ℕ) (rest : List ℕ) (u : Unclosed) (c : Current A)
+    : Type 0 where
   pub head : List ℕ
   pub tail : List ℕ
   pub rest_is : rest ≡ head ++ tail
   pub head_is : IsHeadOf u head
-  pub of : IsHead u.fields c
+  pub of : IsHead judges u.fields c
   pub start : c.block_start ≡ begin + length head
   pub len : c.block_len ≡ u.block_len
   pub seen : HasSeen c.digest u.bytes
 
-abbrev pub Matches : {A : Type 0} → ℕ → List ℕ → Option Unclosed → Option (Current A) → Type 0
-Matches begin rest None None = Unit {0}
-Matches begin rest None (Some c) = ⊥
-Matches begin rest (Some u) None = ⊥
-Matches begin rest (Some u) (Some c) = IsCurrent begin rest u c
+abbrev pub Matches : {A : Type 0} → Bool → ℕ → List ℕ → Option Unclosed → Option (Current A) → Type 0
+Matches judges begin rest None None = Unit {0}
+Matches judges begin rest None (Some c) = ⊥
+Matches judges begin rest (Some u) None = ⊥
+Matches judges begin rest (Some u) (Some c) = IsCurrent judges begin rest u c
 
 -- of a text of which this was reported: a row of each record that ended and what else is kept, where the next
 -- record begins, and what is kept of it
-pub record HasRead {A L : Type 0} (Keeps : L → List Placed → Type 0) (text : List ℕ) (told : Told) (r : Reading A L)
-    : Type 0 where
+pub record HasRead {A L : Type 0} (judges : Bool) (Keeps : L → List Placed → Type 0) (text : List ℕ) (told : Told)
+    (r : Reading A L) : Type 0 where
   pub records : List Placed
   pub front : List ℕ
   pub rest : List ℕ
@@ -69,7 +69,7 @@ pub record HasRead {A L : Type 0} (Keeps : L → List Placed → Type 0) (text :
   pub rows_are : r.rows ≡ map row_of records
   pub beside : Keeps r.beside records
   pub begin_is : r.begin ≡ length front
-  pub current : Matches (length front) rest told.unclosed r.current
+  pub current : Matches judges (length front) rest told.unclosed r.current
 
 -- a list goes on with more
 abbrev pub Extends : {X : Type 0} → List X → List X → Type 0
@@ -84,33 +84,23 @@ abbrev pub IsLeft : {L : Type 0} → (L → List Placed → Type 0) → List Pla
 IsLeft Keeps was l = (more : List Placed) × Keeps l (was ++ more)
 
 -- the decoder took this text, and what it reported was kept
-pub record Stands {A L : Type 0} (Keeps : L → List Placed → Type 0) (text : List ℕ) (d : State) (r : Reading A L)
-    : Type 0 where
+pub record Stands {A L : Type 0} (judges : Bool) (Keeps : L → List Placed → Type 0) (text : List ℕ) (d : State)
+    (r : Reading A L) : Type 0 where
   pub told : Told
   pub is_at : IsAt 0 text told d
-  pub has : HasRead Keeps text told r
+  pub has : HasRead judges Keeps text told r
 
--- the row of the record that is being read, once these are all bytes of its block
-abbrev pub row_by : {A : Type 0} → ℕ → Current A → List ℕ → Row
-row_by begin c bytes = record {
+-- the row of the record that is being read
+abbrev pub row_by : {A : Type 0} → ℕ → Current A → Row
+row_by begin c = record {
   offset = begin;
   block_start = c.block_start;
   block_len = c.block_len;
-  verdict = verdict_of c.digest.wanted bytes;
   is_truncated = (reading_of c.head).truncated;
   kind = unwrap_or (reading_of c.head).type_text [];
   date = unwrap_or (reading_of c.head).date_text [];
   id = unwrap_or (reading_of c.head).id_text [];
   target = unwrap_or (reading_of c.head).target [];
-}
-
--- where its block is, and what was found of it
-abbrev pub place_by : {A : Type 0} → Current A → List ℕ → Place
-place_by c bytes = record {
-  start = c.block_start;
-  len = c.block_len;
-  verdict = verdict_of c.digest.wanted bytes;
-  truncated = (reading_of c.head).truncated;
 }
 
 -- these are the rows of the records that bytes spell, and what else is needed of them is kept

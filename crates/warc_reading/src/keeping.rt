@@ -1,9 +1,10 @@
 //! What is kept of records besides their rows: nothing in a listing; in an archive, what finds them and joins them.
-ghost use Rattle.std.specs.Prelude.{◌≡◌, None, List, [], ◌∷◌, ◌++◌, length, take, OnErr, OnOk};
+ghost use Rattle.std.specs.Prelude.{◌≡◌, Bool, true, false, None, List, [], ◌∷◌, ◌++◌, length, take, OnErr, OnOk};
 ghost use Rattle.warc_record.specs.Heads.{head_fault};
 ghost use Rattle.warc_record.specs.Readings.{reading_of};
 ghost use Rattle.warc_record.specs.Seen.{said};
 ghost use Rattle.warc_reading.specs.Indexed.{AreOf, place_of};
+ghost use Rattle.warc_reading.specs.Judging.{IsNextOf};
 ghost use Rattle.warc_reading.specs.Row.{Placed};
 
 use std::alloc::{AllocError, Allocator};
@@ -12,23 +13,34 @@ use warc_index::{Index, RecordIndex, UnorderedIndex};
 use warc_order::{EntryList, HasEntries, Order, Unordered};
 use warc_record::{Typed, type_head};
 use warc_segment::{Parts, Place};
+use warc_value::Verdict;
 
 /// What is kept of records besides their rows, as they are read.
 pub trait Keep<A: Allocator> {
     /// It is what is kept of these records.
     ghost keeps: { Self → List Placed → Type 0 };
 
-    /// Keeps what is needed of the next record, by its position, the fields of its good head and the place of its
-    /// block. If memory is refused, it keeps what it kept of the records before.
+    /// Blocks are judged by their digests as they are read.
+    ghost judges: { Bool };
+
+    /// Whether blocks are judged as they are read.
+    fn judges() -> bool
+        ensures { result ≡ judges };
+
+    /// Keeps what is needed of the next record, by its position, the fields of its good head, where its block begins,
+    /// how long it is, and what was found of it: `Unchecked` where blocks aren't judged. If memory is refused, it keeps
+    /// what it kept of the records before.
     fn keep(
         &mut self,
         alloc: A,
         position: usize,
         fields: &Fields<A>,
-        place: Place,
+        block_start: u64,
+        block_len: u64,
+        verdict: Verdict,
     ) -> Result<(), AllocError>
         ensures ok { (records : List Placed) (p : Placed) → keeps self.old records → position ≡ length records →
-            fields.now ≡ p.content.fields → head_fault p.content.fields ≡ None → place ≡ place_of p →
+            IsNextOf judges p fields.now block_start block_len verdict →
             OnOk result (keeps self.new (records ++ p ∷ [])) }
         ensures err { (records : List Placed) → keeps self.old records → position ≡ length records →
             OnErr result (keeps self.new records) };
@@ -45,12 +57,20 @@ pub struct RowsAlone;
 impl<A: Allocator> Keep<A> for RowsAlone {
     ghost keeps = { λ _ _. Unit {0} };
 
+    ghost judges = { false };
+
+    fn judges() -> bool {
+        false
+    }
+
     fn keep(
         &mut self,
         _alloc: A,
         _position: usize,
         _fields: &Fields<A>,
-        _place: Place,
+        _block_start: u64,
+        _block_len: u64,
+        _verdict: Verdict,
     ) -> Result<(), AllocError> {
         Ok(())
     }
@@ -83,24 +103,31 @@ fn add<O: EntryList, A: Allocator + Copy>(
     }
 }
 
-/// Keeps the next record, by its position, the fields of its good head and the place of its block.
+/// Keeps the next record, by its position, the fields of its good head and where its block lies.
 fn add_head<O: EntryList, A: Allocator + Copy>(
     alloc: A,
     index: &mut RecordIndex<O, A>,
     parts: &mut Parts<A>,
     position: usize,
     fields: &Fields<A>,
-    place: Place,
+    block_start: u64,
+    block_len: u64,
 ) -> Result<(), AllocError>
     ensures ok { (records : List Placed) (p : Placed) → AreOf records index.old parts.old →
-        position ≡ length records → fields.now ≡ p.content.fields → head_fault p.content.fields ≡ None →
-        place ≡ place_of p → OnOk result (AreOf (records ++ p ∷ []) index.new parts.new) }
+        fields.now ≡ p.content.fields → head_fault p.content.fields ≡ None → block_start ≡ p.block_start →
+        block_len ≡ length p.content.block → OnOk result (AreOf (records ++ p ∷ []) index.new parts.new) }
     ensures err { (records : List Placed) → AreOf records index.old parts.old →
         position ≡ length records → OnErr result (AreOf records index.new parts.new) }
 {
     // The head is good, so only memory can fail.
     let Ok(typed) = type_head(alloc, fields) else {
         return Err(AllocError);
+    };
+    let place = Place {
+        start: block_start,
+        len: block_len,
+        wanted: typed.wanted,
+        truncated: typed.truncated,
     };
     add(index, parts, position, &typed, place)
 }
@@ -169,12 +196,20 @@ impl<A: Allocator + Copy> RecordLookup<Unordered<A>, A> {
 impl<O: EntryList, A: Allocator + Copy> Keep<A> for RecordLookup<O, A> {
     ghost keeps = { λ l records. AreOf records l.index l.parts };
 
+    ghost judges = { false };
+
+    fn judges() -> bool {
+        false
+    }
+
     fn keep(
         &mut self,
         alloc: A,
         position: usize,
         fields: &Fields<A>,
-        place: Place,
+        block_start: u64,
+        block_len: u64,
+        _verdict: Verdict,
     ) -> Result<(), AllocError> {
         add_head(
             alloc,
@@ -182,7 +217,8 @@ impl<O: EntryList, A: Allocator + Copy> Keep<A> for RecordLookup<O, A> {
             &mut self.parts,
             position,
             fields,
-            place,
+            block_start,
+            block_len,
         )
     }
 

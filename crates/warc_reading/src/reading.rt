@@ -2,9 +2,10 @@
 ghost use Rattle.std.specs.Prelude.{◌≡◌, ◌≢◌, ℕ, ◌+◌, ◌-◌, ◌<◌, ◌≤◌, ◌^◌, List, [], ◌∷◌, ◌++◌, length, min, take, Some, None, IfOk, IfErr, OnErr, OnOk, MatchResult, is_err};
 ghost use Rattle.warc_value.specs.Digests.{verdict_of};
 ghost use Rattle.warc_record.specs.Heads.{head_fault};
+ghost use Rattle.warc_record.specs.Readings.{digest_wanted};
 ghost use Rattle.warc_reading.specs.Archive.{IsArchiveOf};
 ghost use Rattle.warc_reading.specs.Fronts.{AreFrontRows, IsLongestFront, reach_of};
-ghost use Rattle.warc_reading.specs.Indexed.{place_of};
+ghost use Rattle.warc_reading.specs.Judging.{IsNextOf, judged_by};
 ghost use Rattle.warc_reading.specs.Growing.{Grows, grown};
 ghost use Rattle.warc_reading.specs.Opening.{Opens};
 ghost use Rattle.warc_reading.specs.Row.{Placed};
@@ -14,7 +15,7 @@ ghost use Rattle.warc_frame.specs.Ranges.{IsReadAt};
 ghost use Rattle.warc_frame.specs.Record.{max_archive};
 ghost use Rattle.warc_frame.specs.Seen.{GoesOn, IfHeld, InOrder};
 ghost use Rattle.warc_frame.specs.Told.{Told};
-ghost use Rattle.warc_reading.specs.Stream.{BeginsSince, Extends, HasSeen, WantsSince, IsHead, IsKeptOf, IsLeft, Since, Stands, StaysRefused, Stops, place_by, row_by};
+ghost use Rattle.warc_reading.specs.Stream.{BeginsSince, Extends, HasSeen, WantsSince, IsHead, IsKeptOf, IsLeft, Since, Stands, StaysRefused, Stops, row_by};
 ghost use Rattle.warc_reading.specs.declared.reading.Current.{Current as Kept};
 
 use crate::keeping::{Keep, RowsAlone};
@@ -24,13 +25,12 @@ use std::alloc::{AllocError, Allocator};
 use warc_field::Fields;
 use warc_frame::{Decoder, Event, Fault, FaultKind, MAX_ARCHIVE, ReadFault, Source};
 use warc_record::{GoodHead, judge_head};
-use warc_segment::Place;
 use warc_value::{Running, Verdict, Wanted};
 
 /// How many bytes a read asks for.
 const PIECE: usize = 65_536;
 
-/// The digest that a head asks for of its block, and the digest of the block's bytes so far.
+/// The digest that a block is judged by, and the digest of the block's bytes so far.
 #[derive(Drop)]
 struct BlockDigest {
     wanted: Wanted,
@@ -65,6 +65,17 @@ impl BlockDigest {
     {
         let BlockDigest { wanted, running } = self;
         running.verdict(&wanted)
+    }
+}
+
+/// The digest by which the block after a head is judged, where blocks are judged; else none.
+fn wanted_of<A: Allocator>(head: &GoodHead<A>, judges: bool) -> Wanted
+    ensures { result ≡ judged_by judges (digest_wanted head.now) }
+{
+    if judges {
+        head.wanted()
+    } else {
+        Wanted::Unchecked
     }
 }
 
@@ -127,13 +138,13 @@ impl<A: Allocator + Copy, L: Keep<A> + Drop> Reading<A, L> {
         ensures rows { self.new.rows ≡ self.old.rows }
         ensures beside { self.new.beside ≡ self.old.beside }
         ensures begin { self.new.begin ≡ self.old.begin }
-        ensures current { OnOk result ((c : Kept A) × (self.new.current ≡ Some c) × IsHead fields c
+        ensures current { OnOk result ((c : Kept A) × (self.new.current ≡ Some c) × IsHead L.judges fields c
             × HasSeen c.digest []
             × (c.block_start ≡ block_start) × (c.block_len ≡ block_len)) }
         ensures fault { IfErr result (λ kind. head_fault fields ≡ Some kind) }
     {
         let head = judge_head(fields)?;
-        let digest = BlockDigest::new(head.wanted());
+        let digest = BlockDigest::new(wanted_of(&head, L::judges()));
         self.current = Some(Current {
             head,
             block_start,
@@ -162,14 +173,14 @@ impl<A: Allocator + Copy, L: Keep<A> + Drop> Reading<A, L> {
     fn end_record(&mut self, alloc: A, end: u64) -> Result<(), AllocError>
         ensures begin { OnOk result (self.new.begin ≡ end) }
         ensures current { self.new.current ≡ None }
-        ensures row { (c : Kept A) (bytes : List ℕ) → self.old.current ≡ Some c → HasSeen c.digest bytes →
-            OnOk result (self.new.rows ≡ self.old.rows ++ row_by self.old.begin c bytes ∷ []) }
+        ensures row { (c : Kept A) → self.old.current ≡ Some c →
+            OnOk result (self.new.rows ≡ self.old.rows ++ row_by self.old.begin c ∷ []) }
         ensures extends { Extends self.old.rows self.new.rows }
         ensures untouched { OnErr result (self.new.rows ≡ self.old.rows) }
         ensures beside { (c : Kept A) (bytes : List ℕ) (records : List Placed) (p : Placed) →
             self.old.current ≡ Some c → HasSeen c.digest bytes → L.keeps self.old.beside records →
-            length self.old.rows ≡ length records → c.head ≡ p.content.fields →
-            head_fault p.content.fields ≡ None → place_by c bytes ≡ place_of p →
+            length self.old.rows ≡ length records →
+            IsNextOf L.judges p c.head c.block_start c.block_len (verdict_of c.digest.wanted bytes) →
             OnOk result (L.keeps self.new.beside (records ++ p ∷ [])) }
         ensures left { (records : List Placed) → L.keeps self.old.beside records →
             length self.old.rows ≡ length records → OnErr result (L.keeps self.new.beside records) }
@@ -188,20 +199,20 @@ impl<A: Allocator + Copy, L: Keep<A> + Drop> Reading<A, L> {
                 offset: self.begin,
                 block_start,
                 block_len,
-                verdict,
                 is_truncated: texts.is_truncated,
                 kind: texts.kind,
                 date: texts.date,
                 id: texts.id,
                 target: texts.target,
             })?;
-            let place = Place {
-                start: block_start,
-                len: block_len,
+            match self.beside.keep(
+                alloc,
+                position,
+                head.fields(),
+                block_start,
+                block_len,
                 verdict,
-                truncated: texts.is_truncated,
-            };
-            match self.beside.keep(alloc, position, head.fields(), place) {
+            ) {
                 Ok(()) => {}
                 Err(refused) => {
                     // The row is taken back, which takes no memory.
@@ -224,15 +235,20 @@ fn take_front<A: Allocator + Copy, L: Keep<A> + Drop>(
     piece: &[u8],
 ) -> Result<usize, Fault>
     requires { 0 < length piece.now }
-    ensures history { (was : List Placed) (text : List ℕ) → Stands (Since L.keeps was) text decoder.old reading.old
-        → MatchResult result (λ took. Stands (Since L.keeps was) (text ++ take took piece.now) decoder.new reading.new)
+    ensures history { (was : List Placed) (text : List ℕ)
+        → Stands L.judges (Since L.keeps was) text decoder.old reading.old
+        → MatchResult result (λ took.
+        Stands L.judges (Since L.keeps was) (text ++ take took piece.now) decoder.new reading.new)
         (StaysRefused (text ++ piece.now)) }
-    ensures begins { (was : List Placed) (text : List ℕ) → Stands (Since L.keeps was) text decoder.old reading.old
+    ensures begins { (was : List Placed) (text : List ℕ)
+        → Stands L.judges (Since L.keeps was) text decoder.old reading.old
         → MatchResult result (λ _. BeginsSince text reading.old.begin reading.new.begin)
         (WantsSince text piece.now reading.old.begin) }
-    ensures left { (was : List Placed) (text : List ℕ) → Stands (Since L.keeps was) text decoder.old reading.old
+    ensures left { (was : List Placed) (text : List ℕ)
+        → Stands L.judges (Since L.keeps was) text decoder.old reading.old
         → OnErr result (IsLeft L.keeps was reading.new.beside) }
-    ensures stops { (was : List Placed) (text : List ℕ) → Stands (Since L.keeps was) text decoder.old reading.old
+    ensures stops { (was : List Placed) (text : List ℕ)
+        → Stands L.judges (Since L.keeps was) text decoder.old reading.old
         → IfErr result (Stops (text ++ piece.now) reading.new.rows) }
     ensures rows { Extends reading.old.rows reading.new.rows }
     ensures taken { (at : ℕ) (taken : List ℕ) (told : Told) → IsAt at taken told decoder.old → MatchResult result
@@ -268,14 +284,18 @@ fn take_piece<A: Allocator + Copy, L: Keep<A> + Drop>(
     reading: &mut Reading<A, L>,
     piece: &[u8],
 ) -> Result<(), Fault>
-    ensures history { (was : List Placed) (text : List ℕ) → Stands (Since L.keeps was) text decoder.old reading.old
-        → MatchResult result (λ _. Stands (Since L.keeps was) (text ++ piece.now) decoder.new reading.new)
+    ensures history { (was : List Placed) (text : List ℕ)
+        → Stands L.judges (Since L.keeps was) text decoder.old reading.old
+        → MatchResult result (λ _. Stands L.judges (Since L.keeps was) (text ++ piece.now) decoder.new reading.new)
         (StaysRefused (text ++ piece.now)) }
-    ensures memory { (was : List Placed) (text : List ℕ) → Stands (Since L.keeps was) text decoder.old reading.old
+    ensures memory { (was : List Placed) (text : List ℕ)
+        → Stands L.judges (Since L.keeps was) text decoder.old reading.old
         → IfErr result (WantsSince text piece.now reading.old.begin) }
-    ensures left { (was : List Placed) (text : List ℕ) → Stands (Since L.keeps was) text decoder.old reading.old
+    ensures left { (was : List Placed) (text : List ℕ)
+        → Stands L.judges (Since L.keeps was) text decoder.old reading.old
         → OnErr result (IsLeft L.keeps was reading.new.beside) }
-    ensures stops { (was : List Placed) (text : List ℕ) → Stands (Since L.keeps was) text decoder.old reading.old
+    ensures stops { (was : List Placed) (text : List ℕ)
+        → Stands L.judges (Since L.keeps was) text decoder.old reading.old
         → IfErr result (Stops (text ++ piece.now) reading.new.rows) }
     ensures rows { Extends reading.old.rows reading.new.rows }
     ensures taken { (at : ℕ) (taken : List ℕ) (told : Told) → IsAt at taken told decoder.old → MatchResult result

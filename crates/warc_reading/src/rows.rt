@@ -10,7 +10,6 @@ ghost use Rattle.warc_reading.specs.Rows.{IsPackedOf, unpacked, whole};
 use std::alloc::{AllocError, Allocator};
 use std::marker::Model;
 use warc_frame::MAX_ARCHIVE;
-use warc_value::Verdict;
 
 /// How many bytes close a record: CRLF CRLF.
 const CLOSING: u64 = 4;
@@ -24,8 +23,6 @@ pub struct Row<'a> {
     pub block_start: u64,
     /// How many bytes its block has.
     pub block_len: u64,
-    /// How its block compares with the digest that its head asks for.
-    pub verdict: Verdict,
     /// Whether it is marked as truncated.
     pub is_truncated: bool,
     /// The value of its `WARC-Type`.
@@ -47,7 +44,6 @@ impl<'a> Model for Row<'a> {
       offset = r.offset;
       block_start = r.block_start;
       block_len = r.block_len;
-      verdict = r.verdict;
       is_truncated = r.is_truncated;
       kind = r.kind.now;
       date = r.date.now;
@@ -62,7 +58,6 @@ struct Entry {
     offset: u64,
     block_start: u64,
     block_len: u64,
-    verdict: Verdict,
     is_truncated: bool,
     kind_start: usize,
     kind_end: usize,
@@ -116,7 +111,6 @@ struct Packed {
     date_len: u16,
     id_len: u16,
     target_len: u16,
-    verdict: Verdict,
     is_truncated: bool,
 }
 
@@ -158,7 +152,6 @@ impl Packed {
             date_len: short(row.date.len())?,
             id_len: short(row.id.len())?,
             target_len: short(row.target.len())?,
-            verdict: row.verdict,
             is_truncated: row.is_truncated,
         })
     }
@@ -176,7 +169,6 @@ impl Packed {
             offset,
             block_start: offset.saturating_add(self.head_len as u64),
             block_len: self.block_len.value(),
-            verdict: self.verdict,
             is_truncated: self.is_truncated,
             kind_start,
             kind_end,
@@ -337,7 +329,6 @@ impl<A: Allocator> Rows<A> {
             offset: entry.offset,
             block_start: entry.block_start,
             block_len: entry.block_len,
-            verdict: entry.verdict,
             is_truncated: entry.is_truncated,
             kind: part(texts, entry.kind_start, entry.kind_end),
             date: part(texts, entry.kind_end, entry.date_end),

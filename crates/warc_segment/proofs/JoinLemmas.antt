@@ -7,7 +7,7 @@ use Rattle.std.proofs.lemmas.Bool.{cases_Bool, cases_lt}
 use Rattle.std.proofs.lemmas.List.Elements.{All-contains, All-head, All-tail}
 use Rattle.std.proofs.lemmas.Option.{slice_get-get_or, slice_get_within, get_or_from_slice_get}
 use Rattle.std.proofs.lemmas.Slice.Eq.{bytes_eq-Decides}
-use Rattle.warc_value.specs.declared.hash.Verdict.TheVariants.{Unchecked}
+use Rattle.warc_value.specs.declared.hash.Wanted.TheVariants.{Unchecked}
 use Rattle.warc_record.specs.declared.readings.SegmentNumber.{SegmentNumber}
 use Rattle.warc_record.specs.declared.readings.SegmentNumber.TheVariants.{Number}
 use Rattle.warc_order.specs.Entries.{Entry, entry_at, no_entry}
@@ -37,13 +37,13 @@ blank = record {
   position = 0;
   number = 0;
   total = None;
-  place = record { start = 0; len = 0; verdict = Unchecked; truncated = false };
+  place = record { start = 0; len = 0; wanted = Unchecked; truncated = false };
 }
 
 -- ---- the numbers of a series
 
 no_facts : TotalAndPlace
-no_facts = record { total = None; place = record { start = 0; len = 0; verdict = Unchecked; truncated = false } }
+no_facts = record { total = None; place = record { start = 0; len = 0; wanted = Unchecked; truncated = false } }
 
 from_two : (p : ℕ) (es : List Entry) (fs : List TotalAndPlace) → AreHeld p es fs → (m : KeptMember)
     → Contains (side_by_side es fs) m → 2 ≤ m.number

@@ -5,7 +5,7 @@ use Rattle.uuid.specs.Text.{by_index}
 use Rattle.warc_field.specs.Text.{is_blank, trimmed}
 use Rattle.warc_field.specs.Decimal.{decimal_of}
 use Rattle.warc_field.specs.Area.{Pair}
-use Rattle.warc_value.specs.declared.hash.Verdict.TheVariants.{Unchecked}
+use Rattle.warc_value.specs.declared.hash.Wanted.TheVariants.{Unchecked}
 use Rattle.warc_record.specs.Ids.{bare_text, is_bare_id}
 use Rattle.warc_record.specs.Readings.{reading_of}
 use Rattle.warc_segment.specs.declared.gap.Gap.TheVariants.{Repeated, Unfinished, AfterEnd, Absent, Total, Number}
@@ -140,7 +140,7 @@ text_in_other_case = refl
 
 -- as places
 abbrev at : ℕ → ℕ → Place
-at start len = record { start = start; len = len; verdict = Unchecked; truncated = false }
+at start len = record { start = start; len = len; wanted = Unchecked; truncated = false }
 
 abbrev placed : ReadRecord → ℕ → ℕ → PlacedRecord
 placed r start len = record { head = r.head; place = at start len }

@@ -2,7 +2,6 @@
 -- order of their numbers (ISO 28500:2017, 7), or the first gap.
 use Rattle.std.specs.Prelude.{◌≡◌, ◌⊎◌, ℕ, ◌+◌, ◌≤◌, List, [], ◌∷◌, length, take, drop, map, slice_get, Some, Result, Ok, Err}
 use Rattle.std.specs.List.{filter_map, flat_map}
-use Rattle.warc_value.specs.Digests.{verdict_of}
 use Rattle.warc_record.specs.Readings.{Reading}
 use Rattle.warc_segment.specs.declared.gap.Gap.{Gap}
 use Rattle.warc_segment.specs.declared.place.Place.{Place}
@@ -49,11 +48,11 @@ joined_places all r =
     with_members (map (λ q. q.place) all) r.place
     (joined r.head.segment.number r.place.len (series_of r.head.id (map piece_placed all)))
 
--- the place of a record's block among the bytes of a source, and what was found of it
+-- the place of a record's block among the bytes of a source, and what its head says of it
 pub record IsPlaceOf (bytes : List ℕ) (p : Place) (r : ReadRecord) : Type 0 where
   pub within : p.start + p.len ≤ length bytes
   pub block : take p.len (drop p.start bytes) ≡ r.block
-  pub verdict : p.verdict ≡ verdict_of r.head.wanted r.block
+  pub wanted : p.wanted ≡ r.head.wanted
   pub truncated : p.truncated ≡ r.head.truncated
 
 -- the places of the blocks of records, in their order

@@ -1,7 +1,7 @@
 //! Where a block is.
-use warc_value::Verdict;
+use warc_value::Wanted;
 
-/// A record's block in its source, and what was found of it when it was read.
+/// A record's block in its source, and what its head says of it.
 #[derive(Clone, Copy, Debug, PartialEq, Eq)]
 pub struct Place {
     /// The offset of its first byte in the source.
@@ -10,8 +10,8 @@ pub struct Place {
     /// Its length in bytes.
     pub len: u64,
 
-    /// How it compares with the digest that its head asks for.
-    pub verdict: Verdict,
+    /// The digest that its head asks for.
+    pub wanted: Wanted,
 
     /// Whether its record is marked as truncated.
     pub truncated: bool,

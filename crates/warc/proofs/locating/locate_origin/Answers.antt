@@ -13,7 +13,7 @@ pub returns-in-Err-Gap-clause-located : goal.returns-in-Err-Gap-clause-located
 returns-in-Err-Gap-clause-located g c = λ bytes held is tells.
     let at = is.at in
     let q : PlacedRecord = record { head = said c.args.origin.now; place = c.args.place } in
-    let gap = gap_is bytes at.records at.found c.args.path at.placed at.origin q c.in-Err-Gap.gap is.head_is at.place_is c.places_are_of_records.ensures (join_gap c.join.result c.in-Err-Gap.gap (joined_places (map placed_record at.records) q) (c.in-Err-Gap.is ∙ ap Err c.in-Err-Gap.field-0-is) (c.join.ensures (map placed_record at.records) at.parts_are)) in
+    let gap = gap_is bytes at.records at.found c.args.path at.placed at.origin q c.in-Err-Gap.gap is.head_is is.place_is c.places_are_of_records.ensures (join_gap c.join.result c.in-Err-Gap.gap (joined_places (map placed_record at.records) q) (c.in-Err-Gap.is ∙ ap Err c.in-Err-Gap.field-0-is) (c.join.ensures (map placed_record at.records) at.parts_are)) in
     (rw c.in-Err-Gap.gap-is ((c.reasons_are_answers.ensures (contents at.records) at.found).1 c.args.path (read_record at.placed.content) c.in-Err-Gap.gap (found_as bytes at.records at.found c.args.path at.placed at.origin (Err c.in-Err-Gap.gap) gap)), refl)
 
 pub returns-in-Err-Gap-clause-reads : goal.returns-in-Err-Gap-clause-reads
@@ -42,7 +42,7 @@ pub returns-clause-located : goal.returns-clause-located
 returns-clause-located g c = λ bytes held is.
     let at = is.at in
     let q : PlacedRecord = record { head = said c.args.origin.now; place = c.args.place } in
-    let (joined, same, are) = places_are bytes at.records at.found c.args.path at.placed at.origin q c.in-Ok.places.items is.head_is at.place_is c.places_are_of_records.ensures (c.in-Ok.ensures (map placed_record at.records) at.parts_are) in
+    let (joined, same, are) = places_are bytes at.records at.found c.args.path at.placed at.origin q c.in-Ok.places.items is.head_is is.place_is c.places_are_of_records.ensures (c.in-Ok.ensures (map placed_record at.records) at.parts_are) in
     c.locate_joined.ensures.located bytes held (contents at.records) at.found (record {
       origin = read_record at.placed.content;
       joined = joined;
@@ -57,8 +57,8 @@ returns-clause-reads g c = λ bytes held is.
     let at = is.at in
     let q : PlacedRecord = record { head = said c.args.origin.now; place = c.args.place } in
     let from = c.in-Ok.ensures (map placed_record at.records) at.parts_are in
-    let (joined, same, are) = places_are bytes at.records at.found c.args.path at.placed at.origin q c.in-Ok.places.items is.head_is at.place_is c.places_are_of_records.ensures from in
-    reads_joined bytes at.records at.found c.args.path at.placed at.origin 2 q c.in-Ok.places.items c.deref.result.now joined _ is.head_is at.place_is from c.deref.ensures.value c.places_are_as_long.ensures same
+    let (joined, same, are) = places_are bytes at.records at.found c.args.path at.placed at.origin q c.in-Ok.places.items is.head_is is.place_is c.places_are_of_records.ensures from in
+    reads_joined bytes at.records at.found c.args.path at.placed at.origin 2 q c.in-Ok.places.items c.deref.result.now joined _ is.head_is is.place_is from c.deref.ensures.value c.places_are_as_long.ensures same
     (subst (λ l. ArePlacesOf bytes l joined) (sym c.deref.ensures.value) are) (omega arith) c.locate_joined.ensures.reads
 
 pub returns-clause-keeps : goal.returns-clause-keeps
@@ -69,6 +69,6 @@ returns-clause-fails g c =
     fails_more (λ bytes held is.
     let at = is.at in
     let q : PlacedRecord = record { head = said c.args.origin.now; place = c.args.place } in
-    let (joined, same, are) = places_are bytes at.records at.found c.args.path at.placed at.origin q c.in-Ok.places.items is.head_is at.place_is c.places_are_of_records.ensures (c.in-Ok.ensures (map placed_record at.records) at.parts_are) in
+    let (joined, same, are) = places_are bytes at.records at.found c.args.path at.placed at.origin q c.in-Ok.places.items is.head_is is.place_is c.places_are_of_records.ensures (c.in-Ok.ensures (map placed_record at.records) at.parts_are) in
     record { joined = joined; short = at.origin.short; places_are = subst (λ l. ArePlacesOf bytes l joined) (sym c.deref.ensures.value) are })
     c.locate_joined.ensures.fails

@@ -4,7 +4,7 @@ use Rattle.warc_record.specs.Readings.{reading_of}
 use Rattle.warc_reading.proofs.HeadLemmas.{fails_ended}
 use Rattle.warc_reading.specs.Archive.{contents}
 use Rattle.warc_reading.specs.Rereading.{ended_by}
-use Rattle.warc.proofs.ReplayLemmas.{ended_sent, origin_inside, place_by_row, reads_of_head, reads_of_origin, reads_on_path}
+use Rattle.warc.proofs.ReplayLemmas.{ended_sent, origin_inside, reached_by_row, reads_of_head, reads_of_origin, reads_on_path}
 use Rattle.warc.proofs.locating.locate_row.Goals as goal
 
 pub returns-in-Err-clause-located : goal.returns-in-Err-clause-located
@@ -28,15 +28,9 @@ returns-clause-located g c = λ bytes held is.
     let says = c.in-Ok.ensures.said ∙ ap reading_of (c.in-Ok.ensures.read bytes held (record { placed = is.at.placed; has = is.has; row_is = is.at.row_is })) in
     let there = c.in-Ok.ensures.reads.kept ∙ held in
     record {
-      located = c.locate_origin.ensures.located bytes there (record {
-        at = record { records = is.at.records; found = is.at.found; placed = is.at.placed; origin = is.at.origin; parts_are = is.at.parts_are; place_is = place_by_row is.at.placed _ (c.row.view_is ∙ is.at.row_is) };
-        head_is = says;
-      });
+      located = c.locate_origin.ensures.located bytes there (reached_by_row bytes c.args.path _ c.args.row.now _ _ is.at c.row.view_is says);
       reads = reads_on_path is.at.records is.at.found c.args.path is.at.placed is.at.origin.path_is is.at.origin.stands
-          (reads_of_origin 2 is.at.records is.at.placed c.args.row.now is.at.row_is c.in-Ok.ensures.reads (c.locate_origin.ensures.reads bytes there (record {
-            at = record { records = is.at.records; found = is.at.found; placed = is.at.placed; origin = is.at.origin; parts_are = is.at.parts_are; place_is = place_by_row is.at.placed _ (c.row.view_is ∙ is.at.row_is) };
-            head_is = says;
-          })));
+          (reads_of_origin 2 is.at.records is.at.placed c.args.row.now is.at.row_is c.in-Ok.ensures.reads (c.locate_origin.ensures.reads bytes there (reached_by_row bytes c.args.path _ c.args.row.now _ _ is.at c.row.view_is says)));
     }
 
 pub returns-clause-keeps : goal.returns-clause-keeps
@@ -51,7 +45,4 @@ returns-clause-fails g c =
     (fails_more (λ bytes held is.
     let before = sym c.in-Ok.ensures.reads.kept ∙ held in
     let says = c.in-Ok.ensures.said ∙ ap reading_of (c.in-Ok.ensures.read bytes before (record { placed = is.at.placed; has = is.has; row_is = is.at.row_is })) in
-    record {
-      at = record { records = is.at.records; found = is.at.found; placed = is.at.placed; origin = is.at.origin; parts_are = is.at.parts_are; place_is = place_by_row is.at.placed _ (c.row.view_is ∙ is.at.row_is) };
-      head_is = says;
-    }) c.locate_origin.ensures.fails)
+    reached_by_row bytes c.args.path _ c.args.row.now _ _ is.at c.row.view_is says) c.locate_origin.ensures.fails)

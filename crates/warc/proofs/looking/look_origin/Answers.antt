@@ -13,7 +13,7 @@ pub returns-in-Err-Gap-clause-told : goal.returns-in-Err-Gap-clause-told
 returns-in-Err-Gap-clause-told g c = λ bytes held path is same.
     let at = is.at in
     let q : PlacedRecord = record { head = said c.args.origin.now.typed; place = c.args.place } in
-    let gap = gap_is bytes at.records at.found path at.placed at.origin q c.in-Err-Gap.gap is.head_is at.place_is c.places_are_of_records.ensures (join_gap c.join.result c.in-Err-Gap.gap _ (c.in-Err-Gap.is ∙ ap Err c.in-Err-Gap.field-0-is) (c.join.ensures (map placed_record at.records) at.parts_are)) in
+    let gap = gap_is bytes at.records at.found path at.placed at.origin q c.in-Err-Gap.gap is.head_is is.place_is c.places_are_of_records.ensures (join_gap c.join.result c.in-Err-Gap.gap _ (c.in-Err-Gap.is ∙ ap Err c.in-Err-Gap.field-0-is) (c.join.ensures (map placed_record at.records) at.parts_are)) in
     rw c.in-Err-Gap.gap-is (stored_gap at.records path.given at.placed c.in-Err-Gap.gap at.origin.stands gap)
 
 pub returns-in-Err-Gap-clause-keeps : goal.returns-in-Err-Gap-clause-keeps
@@ -32,7 +32,7 @@ pub returns-in-Ok-judge_joined-clause-told : goal.returns-in-Ok-judge_joined-cla
 returns-in-Ok-judge_joined-clause-told g c = λ bytes held path is same.
     let at = is.at in
     let q : PlacedRecord = record { head = said c.args.origin.now.typed; place = c.args.place } in
-    let (joined, whole, are) = places_are bytes at.records at.found path at.placed at.origin q c.in-Ok.places.items is.head_is at.place_is c.places_are_of_records.ensures (c.in-Ok.ensures (map placed_record at.records) at.parts_are) in
+    let (joined, whole, are) = places_are bytes at.records at.found path at.placed at.origin q c.in-Ok.places.items is.head_is is.place_is c.places_are_of_records.ensures (c.in-Ok.ensures (map placed_record at.records) at.parts_are) in
     look_made bytes at.records path.given at.placed joined c.in-Ok-judge_joined.stored c.in-Ok.places at.origin.short at.origin.stands whole are
     (c.in-Ok-judge_joined.ensures.judged bytes held at.placed.content joined (record {
       records = contents at.records;
@@ -47,7 +47,7 @@ pub returns-in-Err-clause-told : goal.returns-in-Err-clause-told
 returns-in-Err-clause-told g c = λ bytes held path is same.
     let at = is.at in
     let q : PlacedRecord = record { head = said c.args.origin.now.typed; place = c.args.place } in
-    let (joined, whole, are) = places_are bytes at.records at.found path at.placed at.origin q c.in-Ok.places.items is.head_is at.place_is c.places_are_of_records.ensures (c.in-Ok.ensures (map placed_record at.records) at.parts_are) in
+    let (joined, whole, are) = places_are bytes at.records at.found path at.placed at.origin q c.in-Ok.places.items is.head_is is.place_is c.places_are_of_records.ensures (c.in-Ok.ensures (map placed_record at.records) at.parts_are) in
     look_failed (Unit {0}) (Unit {0}) bytes at.records path.given at.placed joined c.in-Err.fault at.origin.stands whole
     (c.in-Err.ensures.judged bytes held at.placed.content joined (record {
       records = contents at.records;
@@ -72,7 +72,7 @@ returns-in-Err-clause-fails g c =
     fails_more (λ bytes held (path, is).
     let at = is.at in
     let q : PlacedRecord = record { head = said c.args.origin.now.typed; place = c.args.place } in
-    let (joined, whole, are) = places_are bytes at.records at.found path at.placed at.origin q c.in-Ok.places.items is.head_is at.place_is c.places_are_of_records.ensures (c.in-Ok.ensures (map placed_record at.records) at.parts_are) in
+    let (joined, whole, are) = places_are bytes at.records at.found path at.placed at.origin q c.in-Ok.places.items is.head_is is.place_is c.places_are_of_records.ensures (c.in-Ok.ensures (map placed_record at.records) at.parts_are) in
     record { joined = joined; short = at.origin.short; places_are = subst (λ l. ArePlacesOf bytes l joined) (sym c.deref.ensures.value) are })
     (fault_fails (Unit {0}) (Unit {0}) c.in-Err.fault c.in-Err.ensures.fails)
 
@@ -93,8 +93,8 @@ returns-in-Ok-judge_joined-clause-reads g c = λ bytes held path is.
     let at = is.at in
     let q : PlacedRecord = record { head = said c.args.origin.now.typed; place = c.args.place } in
     let from = c.in-Ok.ensures (map placed_record at.records) at.parts_are in
-    let (joined, whole, are) = places_are bytes at.records at.found path at.placed at.origin q c.in-Ok.places.items is.head_is at.place_is c.places_are_of_records.ensures from in
-    reads_joined bytes at.records at.found path at.placed at.origin 1 q c.in-Ok.places.items c.deref.result.now joined _ is.head_is at.place_is from c.deref.ensures.value c.places_are_as_long.ensures whole
+    let (joined, whole, are) = places_are bytes at.records at.found path at.placed at.origin q c.in-Ok.places.items is.head_is is.place_is c.places_are_of_records.ensures from in
+    reads_joined bytes at.records at.found path at.placed at.origin 1 q c.in-Ok.places.items c.deref.result.now joined _ is.head_is is.place_is from c.deref.ensures.value c.places_are_as_long.ensures whole
     (subst (λ l. ArePlacesOf bytes l joined) (sym c.deref.ensures.value) are) (omega arith) c.in-Ok-judge_joined.ensures.reads
 
 pub returns-in-Err-clause-reads : goal.returns-in-Err-clause-reads
@@ -102,8 +102,8 @@ returns-in-Err-clause-reads g c = λ bytes held path is.
     let at = is.at in
     let q : PlacedRecord = record { head = said c.args.origin.now.typed; place = c.args.place } in
     let from = c.in-Ok.ensures (map placed_record at.records) at.parts_are in
-    let (joined, whole, are) = places_are bytes at.records at.found path at.placed at.origin q c.in-Ok.places.items is.head_is at.place_is c.places_are_of_records.ensures from in
-    reads_joined bytes at.records at.found path at.placed at.origin 1 q c.in-Ok.places.items c.deref.result.now joined _ is.head_is at.place_is from c.deref.ensures.value c.places_are_as_long.ensures whole
+    let (joined, whole, are) = places_are bytes at.records at.found path at.placed at.origin q c.in-Ok.places.items is.head_is is.place_is c.places_are_of_records.ensures from in
+    reads_joined bytes at.records at.found path at.placed at.origin 1 q c.in-Ok.places.items c.deref.result.now joined _ is.head_is is.place_is from c.deref.ensures.value c.places_are_as_long.ensures whole
     (subst (λ l. ArePlacesOf bytes l joined) (sym c.deref.ensures.value) are) (omega arith) c.in-Err.ensures.reads
 
 pub returns-in-Ok-judge_joined-clause-places : goal.returns-in-Ok-judge_joined-clause-places
@@ -111,16 +111,16 @@ returns-in-Ok-judge_joined-clause-places g c = λ bytes held path is.
     let at = is.at in
     let q : PlacedRecord = record { head = said c.args.origin.now.typed; place = c.args.place } in
     let from = c.in-Ok.ensures (map placed_record at.records) at.parts_are in
-    let (joined, whole, are) = places_are bytes at.records at.found path at.placed at.origin q c.in-Ok.places.items is.head_is at.place_is c.places_are_of_records.ensures from in
-    places_for bytes at.records at.found path at.placed at.origin q c.in-Ok.places.items joined is.head_is at.place_is from c.places_are_as_long.ensures whole are
+    let (joined, whole, are) = places_are bytes at.records at.found path at.placed at.origin q c.in-Ok.places.items is.head_is is.place_is c.places_are_of_records.ensures from in
+    places_for bytes at.records at.found path at.placed at.origin q c.in-Ok.places.items joined is.head_is is.place_is from c.places_are_as_long.ensures whole are
 
 pub returns-in-Ok-judge_joined-clause-inside : goal.returns-in-Ok-judge_joined-clause-inside
 returns-in-Ok-judge_joined-clause-inside g c = λ bytes path at.
     let q : PlacedRecord = record { head = said c.args.origin.now.typed; place = c.args.place } in
     let from = c.in-Ok.ensures (map placed_record at.records) at.parts_are in
     record {
-      asks = joined_inside bytes at.records at.found path at.placed at.origin q c.in-Ok.places.items c.deref.result.now _ _ _ at.place_is from c.deref.ensures.value c.in-Ok-judge_joined.ensures.reads.near;
-      ends = joined_end bytes at.records at.found path at.placed at.origin q c.in-Ok.places.items at.place_is from;
+      asks = joined_inside bytes at.records at.found path at.placed at.origin q c.in-Ok.places.items c.deref.result.now _ _ _ at.start_is at.len_is from c.deref.ensures.value c.in-Ok-judge_joined.ensures.reads.near;
+      ends = joined_end bytes at.records at.found path at.placed at.origin q c.in-Ok.places.items at.start_is at.len_is from;
     }
 
 pub returns-in-Err-clause-inside : goal.returns-in-Err-clause-inside
@@ -128,6 +128,6 @@ returns-in-Err-clause-inside g c = λ bytes path at.
     let q : PlacedRecord = record { head = said c.args.origin.now.typed; place = c.args.place } in
     let from = c.in-Ok.ensures (map placed_record at.records) at.parts_are in
     record {
-      asks = joined_inside bytes at.records at.found path at.placed at.origin q c.in-Ok.places.items c.deref.result.now _ _ _ at.place_is from c.deref.ensures.value c.in-Err.ensures.reads.near;
+      asks = joined_inside bytes at.records at.found path at.placed at.origin q c.in-Ok.places.items c.deref.result.now _ _ _ at.start_is at.len_is from c.deref.ensures.value c.in-Err.ensures.reads.near;
       ends = tt;
     }

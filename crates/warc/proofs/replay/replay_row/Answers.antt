@@ -4,7 +4,7 @@ use Rattle.warc_record.specs.Readings.{reading_of}
 use Rattle.warc_reading.proofs.HeadLemmas.{fails_ended}
 use Rattle.warc_reading.specs.Archive.{contents}
 use Rattle.warc_reading.specs.Rereading.{ended_by}
-use Rattle.warc.proofs.ReplayLemmas.{asks_both, ended_late, ended_sent, head_inside, origin_inside, place_by_row, reads_of_head, reads_of_origin}
+use Rattle.warc.proofs.ReplayLemmas.{asks_both, at_by_row, ended_late, ended_sent, head_inside, origin_inside, reached_by_row, reads_of_head, reads_of_origin}
 use Rattle.warc.proofs.replay.replay_row.Goals as goal
 
 pub returns-in-Err-clause-told : goal.returns-in-Err-clause-told
@@ -32,25 +32,19 @@ returns-in-Err-clause-fails g c =
 pub returns-clause-told : goal.returns-clause-told
 returns-clause-told g c = λ bytes held is.
     let says = c.in-Ok.ensures.said ∙ ap reading_of (c.in-Ok.ensures.read bytes held (record { placed = is.at.placed; has = is.has; row_is = is.at.row_is })) in
-    c.replay_origin.ensures.told bytes (c.in-Ok.ensures.reads.kept ∙ held) (record {
-      at = record { records = is.at.records; found = is.at.found; placed = is.at.placed; origin = is.at.origin; parts_are = is.at.parts_are; place_is = place_by_row is.at.placed _ (c.row.view_is ∙ is.at.row_is) };
-      head_is = says;
-    })
+    c.replay_origin.ensures.told bytes (c.in-Ok.ensures.reads.kept ∙ held) (reached_by_row bytes c.args.path _ c.args.row.now _ _ is.at c.row.view_is says)
 
 pub returns-clause-reads : goal.returns-clause-reads
 returns-clause-reads g c = λ bytes held is.
     let says = c.in-Ok.ensures.said ∙ ap reading_of (c.in-Ok.ensures.read bytes held (record { placed = is.at.placed; has = is.has; row_is = is.at.row_is })) in
     reads_of_origin 2 is.at.records is.at.placed c.args.row.now is.at.row_is c.in-Ok.ensures.reads
-    (c.replay_origin.ensures.reads bytes (c.in-Ok.ensures.reads.kept ∙ held) (record {
-      at = record { records = is.at.records; found = is.at.found; placed = is.at.placed; origin = is.at.origin; parts_are = is.at.parts_are; place_is = place_by_row is.at.placed _ (c.row.view_is ∙ is.at.row_is) };
-      head_is = says;
-    }))
+    (c.replay_origin.ensures.reads bytes (c.in-Ok.ensures.reads.kept ∙ held) (reached_by_row bytes c.args.path _ c.args.row.now _ _ is.at c.row.view_is says))
 
 pub returns-clause-inside : goal.returns-clause-inside
 returns-clause-inside g c = λ bytes at.
     asks_both (λ q. q < length bytes) (g.S.Source.seen c.args.source.now) (g.S.Source.seen c.read_again.new.source) (g.S.Source.seen c.replay_origin.new.source).watched_reads c.in-Ok.ensures.reads.watched
     (head_inside bytes at.records at.found c.args.path at.placed at.origin c.args.row.now _ _ at.row_is c.in-Ok.ensures.reads)
-    (c.replay_origin.ensures.inside bytes (record { records = at.records; found = at.found; placed = at.placed; origin = at.origin; parts_are = at.parts_are; place_is = place_by_row at.placed _ (c.row.view_is ∙ at.row_is) }))
+    (c.replay_origin.ensures.inside bytes (at_by_row bytes c.args.path _ c.args.row.now _ _ at c.row.view_is))
 
 pub returns-clause-keeps : goal.returns-clause-keeps
 returns-clause-keeps g c = record {
@@ -64,7 +58,4 @@ returns-clause-fails g c =
     (fails_more (λ bytes held is.
     let before = sym c.in-Ok.ensures.reads.kept ∙ held in
     let says = c.in-Ok.ensures.said ∙ ap reading_of (c.in-Ok.ensures.read bytes before (record { placed = is.at.placed; has = is.has; row_is = is.at.row_is })) in
-    record {
-      at = record { records = is.at.records; found = is.at.found; placed = is.at.placed; origin = is.at.origin; parts_are = is.at.parts_are; place_is = place_by_row is.at.placed _ (c.row.view_is ∙ is.at.row_is) };
-      head_is = says;
-    }) c.replay_origin.ensures.fails)
+    reached_by_row bytes c.args.path _ c.args.row.now _ _ is.at c.row.view_is says) c.replay_origin.ensures.fails)

@@ -5,7 +5,7 @@ use Rattle.warc.specs.declared.rewriting.Replacement.TheVariants.{As, Split}
 use Rattle.warc_reading.specs.Row.{Row}
 use Rattle.warc.proofs.EmitLemmas.{both, of_fault, of_read}
 use Rattle.warc_frame.proofs.EffectLemmas.{reads_both, reads_within}
-use Rattle.warc.proofs.WholeLemmas.{reads_block_of, reads_head_of}
+use Rattle.warc_reading.proofs.ReadLemmas.{reads_block_of, reads_head_of}
 use Rattle.warc.proofs.rewriting.put_record.Goals as goal
 
 in_manner : {replacement other : Replacement} {row : Row} {bytes text : List ℕ} → replacement ≡ other → IsTextOf (text_by replacement) row bytes text → IsTextOf (text_by other) row bytes text
@@ -49,4 +49,4 @@ returns-in-Split-clause-reads g c =
     let row = c.args.row.now in
     let most = ap (λ m. len_by m row) c.in-Split.is in
     reads_within (λ at in_. in_) (omega (arith, most))
-    (reads_both (reads_head_of row c.in-Ok.ensures.reads) (reads_block_of row (2 * row.block_len) (omega (arith, c.in-Ok.ensures.whole.size)) c.put_split.ensures.reads))
+    (reads_both (reads_head_of row c.in-Ok.ensures.reads) (reads_block_of row (3 * row.block_len) (omega (arith, c.in-Ok.ensures.whole.size)) c.put_split.ensures.reads))

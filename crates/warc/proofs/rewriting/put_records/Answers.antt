@@ -4,7 +4,8 @@ use Rattle.warc.specs.Copied.{AreTextsOf, len_by, text_by}
 use Rattle.warc_reading.specs.Row.{Row}
 use Rattle.warc.proofs.EmitLemmas.{both, given, nothing, short}
 use Rattle.warc_frame.proofs.EffectLemmas.{reads_none}
-use Rattle.warc.proofs.WholeLemmas.{reads_row, reads_rows, texts_begin_more, texts_more, texts_none}
+use Rattle.warc_reading.proofs.ReadLemmas.{reads_row, reads_rows}
+use Rattle.warc.proofs.WholeLemmas.{texts_begin_more, texts_more, texts_none}
 use Rattle.warc.proofs.rewriting.put_records.Goals as goal
 
 pub writing-init : goal.writing-init

@@ -4,7 +4,7 @@ use Rattle.warc_frame.specs.Record.{max_head}
 use Rattle.warc.specs.Copied.{AreTextsOf, len_by, text_by}
 use Rattle.warc_frame.specs.Effects.{Emits}
 use Rattle.warc_frame.specs.Effects.{ReadsOnly}
-use Rattle.warc.specs.Forms.{IsInAnyRow}
+use Rattle.warc_reading.specs.Placing.{IsInAnyRow}
 use Rattle.warc.proofs.rewriting.put_records.Given as goal
 
 -- the texts of the records so far were added, and nothing has failed

@@ -1,6 +1,6 @@
-use Rattle.std.proofs.Common.{rules, ◌≡◌, ◌+◌, ◌-◌, ◌^◌, ◌<◌, ◌≤◌, ◌++◌, List, false, length, take, drop, get_or, arith, refl, ap, sym, ◌∙◌}
+use Rattle.std.proofs.Common.{rules, ◌≡◌, ◌+◌, ◌-◌, ◌^◌, ◌<◌, ◌≤◌, ◌++◌, [], List, false, length, take, drop, get_or, arith, refl, ap, sym, ◌∙◌}
 use Rattle.std.proofs.Math.Seq.{take-length}
-use Rattle.warc_value.specs.declared.hash.Verdict.TheVariants.{Good}
+use Rattle.warc_value.specs.declared.hash.Wanted.TheVariants.{Sha1}
 use Rattle.warc_frame.specs.Effects.{HasRange}
 use Rattle.warc_frame.proofs.EffectLemmas.{reads_none}
 use Rattle.warc_segment.specs.declared.place.Place.{Place}
@@ -9,7 +9,7 @@ use Rattle.warc_answer.proofs.PlaceLemmas.{same_out, same_staged, text_len, lies
 use Rattle.warc_answer.proofs.blocks.put_blocks.Goals as goal
 
 abbrev none : Place
-none = record { start = 0; len = 0; verdict = Good; truncated = false }
+none = record { start = 0; len = 0; wanted = Sha1 []; truncated = false }
 
 pub putting-init : goal.putting-init
 putting-init g c = record {

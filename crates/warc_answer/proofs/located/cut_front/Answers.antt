@@ -1,6 +1,6 @@
 use Rattle.std.proofs.Common.{rules, false, [], ◌∷◌, ◌++◌, subst, ◌≡◌, ◌+◌, ◌-◌, ◌<◌, ◌≤◌, ◌^◌, List, length, take, drop, get_or, arith, sym, ap, ◌∙◌}
 use Rattle.std.proofs.Math.Seq.{drop-nil, take-length}
-use Rattle.warc_value.specs.declared.hash.Verdict.TheVariants.{Good}
+use Rattle.warc_value.specs.declared.hash.Wanted.TheVariants.{Sha1}
 use Rattle.warc_segment.specs.declared.place.Place.{Place}
 use Rattle.std.proofs.lemmas.List.Elements.{All-nil}
 use Rattle.warc_answer.specs.Located.{AreInside, spans_text}
@@ -11,7 +11,7 @@ use Rattle.warc_answer.proofs.PlaceLemmas.{lies, text_len}
 use Rattle.warc_answer.proofs.located.cut_front.Goals as goal
 
 abbrev none : Place
-none = record { start = 0; len = 0; verdict = Good; truncated = false }
+none = record { start = 0; len = 0; wanted = Sha1 []; truncated = false }
 
 pub cutting-init : goal.cutting-init
 cutting-init g c =

@@ -1,5 +1,6 @@
 use Rattle.std.proofs.Common.{sym, subst}
-use Rattle.warc_answer.proofs.GiveLemmas.{fails_of_fault, none_out, places_lie, reads_once}
+use Rattle.warc_answer.proofs.GiveLemmas.{fails_of_fault, none_out, places_lie}
+use Rattle.warc_answer.proofs.JudgeLemmas.{reads_once}
 use Rattle.warc_record.specs.Seen.{said}
 use Rattle.warc_answer.specs.Payloads.{is_http_response}
 use Rattle.warc_answer.specs.Answers.{IsAnswerOn}

@@ -1,17 +1,12 @@
-use Rattle.std.proofs.Common.{◌≡◌, ◌≤◌, length, length-drop, drop, sym, ap, ◌∙◌, arith}
+use Rattle.std.proofs.Common.{◌≡◌, ◌≤◌, length, length-drop, drop, ap, ◌∙◌, arith}
 use Rattle.warc_frame.specs.Record.{max_archive}
 use Rattle.warc_record.specs.Readings.{Reading}
 use Rattle.warc_answer.specs.Payloads.{is_http_response, whole_block}
 use Rattle.warc_answer.specs.Places.{len_of, text_at}
 use Rattle.warc_answer.specs.declared.body.BodyStart.{BodyStart}
 use Rattle.warc_answer.specs.declared.replay.Begun.{Begun}
-use Rattle.warc_answer.proofs.GiveLemmas.{places_lie, places_text, places_len, joined_short, replay_of_bad, replay_of_none, answer_of_body, fails_of_blocks}
+use Rattle.warc_answer.proofs.GiveLemmas.{places_lie, places_text, places_len, joined_short, replay_of_none, answer_of_body, fails_of_blocks}
 use Rattle.warc_answer.proofs.replay.begin_body.Goals as goal
-
-pub returns-then-any_bad-clause-refused : goal.returns-then-any_bad-clause-refused
-returns-then-any_bad-clause-refused g c = λ bytes held records way is told.
-    replay_of_bad bytes records way c.args.path is.origin is.joined c.args.places.now told is.leads is.places_are
-    (sym c.any_bad.ensures ∙ c.if-any_bad.true)
 
 pub returns-in-Err-clause-refused : goal.returns-in-Err-clause-refused
 returns-in-Err-clause-refused g c = λ bytes held records way is told.
@@ -19,7 +14,7 @@ returns-in-Err-clause-refused g c = λ bytes held records way is told.
     let http : c.is_http_response.result ≡ is_http_response is.origin.head =
     c.is_http_response.ensures ∙ ap (λ (h : Reading). is_http_response h) is.head_is in
     replay_of_none c.one_of_three.ensures bytes records way c.args.path is.origin is.joined places told
-    c.is_http_response.result c.in-Err.fault is.leads is.places_are (sym c.any_bad.ensures ∙ c.if-any_bad.false) http
+    c.is_http_response.result c.in-Err.fault is.leads is.places_are http
     (c.in-Err.ensures.begun bytes held (places_lie bytes places is.joined is.short is.places_are))
 
 pub returns-in-Err-clause-fails : goal.returns-in-Err-clause-fails
@@ -38,5 +33,5 @@ returns-clause-begun g c = λ bytes held records way is.
     let len : c.saturating_sub.result ≡ length (drop start.skip (text_at places bytes)) =
     omega (arith, c.saturating_sub.ensures, c.total.ensures, places_len bytes places is.joined is.places_are, ap length text, length-drop start.skip (text_at places bytes)) in
     answer_of_body bytes records way c.args.path is.origin is.joined places c.is_http_response.result start
-    c.any_truncated.result c.saturating_sub.result is.leads is.places_are (sym c.any_bad.ensures ∙ c.if-any_bad.false) http
+    c.any_truncated.result c.saturating_sub.result is.leads is.places_are http
     (c.in-Ok.ensures.begun bytes held lie) c.any_truncated.ensures len

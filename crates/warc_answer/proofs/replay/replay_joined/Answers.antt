@@ -4,7 +4,8 @@ use Rattle.warc_record.specs.Seen.{said}
 use Rattle.warc_answer.specs.Payloads.{is_http_response}
 use Rattle.warc_answer.specs.declared.answer.Answer.{Answer}
 use Rattle.warc_answer.specs.declared.replay.Begun.{Begun}
-use Rattle.warc_answer.proofs.GiveLemmas.{blocks_lie, fails_of_fault, places_lie, reads_body, reads_front, reads_once}
+use Rattle.warc_answer.proofs.GiveLemmas.{blocks_lie, fails_of_fault, places_lie}
+use Rattle.warc_answer.proofs.JudgeLemmas.{reads_body, reads_front, reads_once}
 use Rattle.warc_answer.proofs.replay.replay_joined.Goals as goal
 
 pub returns-in-Err-clause-replayed : goal.returns-in-Err-clause-replayed

@@ -10,9 +10,10 @@ pub returns-clause-read : goal.returns-clause-read
 returns-clause-read g c = λ bytes held is before ids lone.
     let row = c.row.view_is ∙ is.row_is in
     let key = key_by_row is.placed _ row (c.good_heads_read.ensures is.placed.content.fields is.has.good) in
+    let judged = c.in-Ok.ensures.judged bytes held is in
     record {
-      fields_are = c.in-Ok.ensures.read bytes held is;
-      bad_digest = c.is_bad-bad_digest.ensures ∙ ap (λ (r : Row). is_bad r.verdict) row;
+      fields_are = judged.0;
+      bad_digest = c.is_bad.ensures ∙ ap is_bad judged.1;
       used_id = c.in-Ok-add.ensures.used before ids (rw (ap (λ (r : Row). id_key r.id) c.row.view_is) lone) ∙ ap (is_used before) (sym key);
     }
 

@@ -8,7 +8,8 @@ use Rattle.warc_reading.specs.Row.{Row}
 use Rattle.warc_frame.proofs.LawLemmas.{same_out, same_staged}
 use Rattle.warc_frame.proofs.EffectLemmas.{fails_after, fails_more}
 use Rattle.warc_reading.proofs.HeadLemmas.{fails_ended}
-use Rattle.warc_reading.proofs.ReadLemmas.{reads_all, reads_more}
+use Rattle.warc_reading.proofs.ReadLemmas.{reads_row, reads_rows}
+use Rattle.warc_reading.specs.Rereading.{row_len}
 use Rattle.warc_reading.proofs.PlacedLemmas.{record_at, row_has}
 use Rattle.warc_checking.proofs.RecordsLemmas.{first_all, ids_one, number_more, rest_text, sent_ended, text_more, text_rest, unread_sound}
 use Rattle.warc_checking.specs.UsedIds.{IsTally}
@@ -41,7 +42,7 @@ returns-in-Err-clause-puts g c = λ bytes held records can.
 pub returns-in-Err-clause-fails : goal.returns-in-Err-clause-fails
 returns-in-Err-clause-fails g c =
     let row_is : slice_get c.args.rows.now c.checking.position ≡ Some c.in-Some.row = sym c.get.ensures ∙ c.in-Some.is in
-    fails_after c.checking.invariant.heads.kept c.checking.invariant.sound
+    fails_after c.checking.invariant.texts.kept c.checking.invariant.sound
     (fails_more (λ bytes held are. row_has bytes are c.checking.position c.in-Some.row row_is)
     (fails_ended c.in-Err.fault c.after.result c.sent.result c.after.ensures c.in-Err.ensures.fails))
 
@@ -51,7 +52,7 @@ returns-in_err-number-clause-puts g c = λ bytes held records can.
     let i = c.checking.position in
     let row_is : slice_get c.args.rows.now i ≡ Some c.in-Some.row = sym c.get.ensures ∙ c.in-Some.is in
     let at = record_at bytes records c.args.rows.now i c.in-Some.row can row_is in
-    let examined = c.in-Ok.ensures.read bytes (c.checking.invariant.heads.kept ∙ held) (record { placed = at.0; has = at.3; row_is = at.2 }) (take i rs) (c.checking.invariant.ids bytes records held can)
+    let examined = c.in-Ok.ensures.read bytes (c.checking.invariant.texts.kept ∙ held) (record { placed = at.0; short = can.placed.short; has = at.3; written = can.placed.each i at.0 at.1; row_is = at.2 }) (take i rs) (c.checking.invariant.ids bytes records held can)
     (alone bytes records c.args.rows.now i c.in-Some.row c.checking.ids c.good_heads_read.ensures can c.checking.invariant.tally row_is) in
     let len = ap (λ (r : Row). r.block_len) (c.row.view_is ∙ at.2) in
     record {
@@ -72,19 +73,19 @@ returns-in_err-number-clause-fails g c =
     record { may = unread.0; failed = λ bytes held are. unread.1 }
 
 pub returns-clause-reads : goal.returns-clause-reads
-returns-clause-reads g c = reads_all c.args.rows.now c.checking.position _ _ c.checking.invariant.heads
+returns-clause-reads g c = reads_rows row_len c.args.rows.now c.checking.position c.checking.invariant.texts
 
 pub returns-in-Err-clause-reads : goal.returns-in-Err-clause-reads
 returns-in-Err-clause-reads g c =
     let row_is : slice_get c.args.rows.now c.checking.position ≡ Some c.in-Some.row = sym c.get.ensures ∙ c.in-Some.is in
-    let more = reads_more c.args.rows.now c.checking.position c.in-Some.row _ _ _ row_is c.checking.invariant.heads c.examine.ensures.reads in
-    reads_all c.args.rows.now (c.checking.position + 1) _ _ more
+    let more = reads_row row_len c.args.rows.now c.checking.position c.in-Some.row row_is c.checking.invariant.texts c.examine.ensures.reads in
+    reads_rows row_len c.args.rows.now (c.checking.position + 1) more
 
 pub returns-in_err-number-clause-reads : goal.returns-in_err-number-clause-reads
 returns-in_err-number-clause-reads g c =
     let row_is : slice_get c.args.rows.now c.checking.position ≡ Some c.in-Some.row = sym c.get.ensures ∙ c.in-Some.is in
-    let more = reads_more c.args.rows.now c.checking.position c.in-Some.row _ _ _ row_is c.checking.invariant.heads c.examine.ensures.reads in
-    reads_all c.args.rows.now (c.checking.position + 1) _ _ more
+    let more = reads_row row_len c.args.rows.now c.checking.position c.in-Some.row row_is c.checking.invariant.texts c.examine.ensures.reads in
+    reads_rows row_len c.args.rows.now (c.checking.position + 1) more
 
 pub checking-preserved : goal.checking-preserved
 checking-preserved g c =
@@ -97,7 +98,7 @@ checking-preserved g c =
       staged = λ bytes records start output held can is.
           let rs = contents records in
           let at = record_at bytes records c.args.rows.now i c.in-Some.row can row_is in
-          let examined = c.in-Ok.ensures.read bytes (c.checking.invariant.heads.kept ∙ held) (record { placed = at.0; has = at.3; row_is = at.2 }) (take i rs) (c.checking.invariant.ids bytes records held can)
+          let examined = c.in-Ok.ensures.read bytes (c.checking.invariant.texts.kept ∙ held) (record { placed = at.0; short = can.placed.short; has = at.3; written = can.placed.each i at.0 at.1; row_is = at.2 }) (take i rs) (c.checking.invariant.ids bytes records held can)
           (alone bytes records c.args.rows.now i c.in-Some.row c.checking.ids c.good_heads_read.ensures can c.checking.invariant.tally row_is) in
           let len = ap (λ (r : Row). r.block_len) (c.row.view_is ∙ at.2) in
           same_staged (text_more records i at.0 c.in-Ok.examined.fields c.row.inside.block_len c.in-Ok.examined.facts output at.1 examined len)
@@ -106,17 +107,17 @@ checking-preserved g c =
           let rs = contents records in
           let at = record_at bytes records c.args.rows.now i c.in-Some.row can row_is in
           ids_one records i at.0 c.examine.new.ids at.1
-          (c.in-Ok.ensures.ids bytes (c.checking.invariant.heads.kept ∙ held) (record { placed = at.0; has = at.3; row_is = at.2 }) (take i rs) (c.checking.invariant.ids bytes records held can));
+          (c.in-Ok.ensures.ids bytes (c.checking.invariant.texts.kept ∙ held) (record { placed = at.0; short = can.placed.short; has = at.3; written = can.placed.each i at.0 at.1; row_is = at.2 }) (take i rs) (c.checking.invariant.ids bytes records held can));
       number = λ bytes records held can.
           let rs = contents records in
           let at = record_at bytes records c.args.rows.now i c.in-Some.row can row_is in
-          let examined = c.in-Ok.ensures.read bytes (c.checking.invariant.heads.kept ∙ held) (record { placed = at.0; has = at.3; row_is = at.2 }) (take i rs) (c.checking.invariant.ids bytes records held can)
+          let examined = c.in-Ok.ensures.read bytes (c.checking.invariant.texts.kept ∙ held) (record { placed = at.0; short = can.placed.short; has = at.3; written = can.placed.each i at.0 at.1; row_is = at.2 }) (take i rs) (c.checking.invariant.ids bytes records held can)
           (alone bytes records c.args.rows.now i c.in-Some.row c.checking.ids c.good_heads_read.ensures can c.checking.invariant.tally row_is) in
           let len = ap (λ (r : Row). r.block_len) (c.row.view_is ∙ at.2) in
           c.saturating_add-count.ensures ∙ ap (λ n. capped (n + c.in_ok-number.number)) (c.checking.invariant.number bytes records held can)
           ∙ ap (λ n. capped (capped (length (findings_of_first i rs)) + n)) c.in_ok-number.ensures.number
           ∙ number_more records i at.0 c.in-Ok.examined.fields c.row.inside.block_len c.in-Ok.examined.facts at.1 examined len;
-      heads = reads_more c.args.rows.now i c.in-Some.row _ _ _ row_is c.checking.invariant.heads c.examine.ensures.reads;
+      texts = reads_row row_len c.args.rows.now i c.in-Some.row row_is c.checking.invariant.texts c.examine.ensures.reads;
       sound = search rules;
       silent = search rules;
     }

@@ -4,7 +4,10 @@ use Rattle.warc_frame.specs.Record.{max_head}
 use Rattle.warc_frame.specs.Send.{IsStaged}
 use Rattle.warc_reading.specs.Archive.{contents}
 use Rattle.warc_reading.specs.Row.{Placed}
-use Rattle.warc_reading.specs.Rereading.{AreCheckable, ReadsHeads}
+use Rattle.std.specs.List.{sum_by}
+use Rattle.warc_frame.specs.Effects.{ReadsOnly}
+use Rattle.warc_reading.specs.Placing.{IsInAnyRow}
+use Rattle.warc_reading.specs.Rereading.{AreCheckable, row_len}
 use Rattle.warc_checking.specs.Examining.{findings_of_first, first_text}
 use Rattle.warc_checking.specs.UsedIds.{HoldsIdsOf, IsTally}
 use Rattle.warc_checking.proofs.check.put_records.Given as goal
@@ -21,7 +24,7 @@ invariant-checking g l = record {
       → HoldsIdsOf (take l.position (contents records)) l.ids;
   number : (bytes : List ℕ) (records : List Placed) → (g.S.Source.seen l.fn.source).holds ≡ Some bytes → AreCheckable bytes records l.rows
       → l.count ≡ capped (length (findings_of_first l.position (contents records)));
-  heads : ReadsHeads (take l.position l.rows)
+  texts : ReadsOnly (IsInAnyRow l.rows) (sum_by row_len (take l.position l.rows))
       (g.S.Source.seen l.fn.source)
       (g.S.Source.seen l.source);
   sound : (g.S.Source.seen l.source).faults ≡ (g.S.Source.seen l.fn.source).faults;

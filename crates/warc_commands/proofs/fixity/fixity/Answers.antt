@@ -13,7 +13,7 @@ returns-in-Err-clause-ends g c = inr (inl (not_opened _ _ _ _ _ _ c.in-Err.fault
 pub returns-in-Ok-list-clause-ends : goal.returns-in-Ok-list-clause-ends
 returns-in-Ok-list-clause-ends g c = inl (record {
   rows = c.in-Ok.fixity.listing.rows;
-  digests = c.in-Ok.fixity.digests;
+  judged = c.in-Ok.fixity.judged;
   are = c.in-Ok.ensures.accepted;
   told = c.in-Ok-list.ensures.told;
   unfailed = c.in-Ok-list.ensures.cause;
@@ -26,7 +26,7 @@ returns-in-Ok-list-clause-ends g c = inl (record {
 pub returns-in-Err-list-clause-ends : goal.returns-in-Err-list-clause-ends
 returns-in-Err-list-clause-ends g c = inr (inr (record {
   rows = c.in-Ok.fixity.listing.rows;
-  digests = c.in-Ok.fixity.digests;
+  judged = c.in-Ok.fixity.judged;
   are = c.in-Ok.ensures.accepted;
   sent = sent_of c.in-Err-list.fault;
   front = c.in-Err-list.ensures.cut;

@@ -12,7 +12,7 @@ returns-in-Err-clause-ends g c = inr (inl (not_opened _ _ _ _ _ _ c.in-Err.fault
 pub returns-in-Ok-write-clause-ends : goal.returns-in-Ok-write-clause-ends
 returns-in-Ok-write-clause-ends g c = inl (record {
   rows = c.in-Ok.summarized.listing.rows;
-  segmented = c.in-Ok.summarized.segmented;
+  flags = c.in-Ok.summarized.flags;
   are = c.in-Ok.ensures.accepted;
   summary = c.summary.result;
   is = c.summary.ensures;
@@ -26,7 +26,7 @@ returns-in-Ok-write-clause-ends g c = inl (record {
 pub returns-in-Err-write-clause-ends : goal.returns-in-Err-write-clause-ends
 returns-in-Err-write-clause-ends g c = inr (inr (record {
   rows = c.in-Ok.summarized.listing.rows;
-  segmented = c.in-Ok.summarized.segmented;
+  flags = c.in-Ok.summarized.flags;
   are = c.in-Ok.ensures.accepted;
   summary = c.summary.result;
   is = c.summary.ensures;

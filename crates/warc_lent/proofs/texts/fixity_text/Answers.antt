@@ -14,7 +14,7 @@ returns-in-Err-clause-refused g c =
 pub returns-in-Ok-list-clause-lines : goal.returns-in-Ok-list-clause-lines
 returns-in-Ok-list-clause-lines g c = record {
   rows = c.in-Ok.fixity.listing.rows;
-  digests = c.in-Ok.fixity.digests;
+  judged = c.in-Ok.fixity.judged;
   are = c.in-Ok.ensures.accepted c.args.bytes.now (ap Some c.new.ensures.bytes);
   lines =
       c.into_inner.ensures

@@ -42,8 +42,8 @@ returns-in-Ok-kept-clause-history g c = λ was text stands.
       | in-End+in-Ok w ↦
           end_stands text piece stands.told c.step.new.self took c.in_ok-took.event takes old new stands.has w.in-End.is
           (ap (λ r. r.begin) w.reading-is ∙ w.in-Ok.ensures.begin ∙ here) (ap (λ r. r.current) w.reading-is ∙ w.end_record.ensures.current)
-          (λ k bytes is seen. ap (λ r. r.rows) w.reading-is ∙ w.in-Ok.ensures.row k bytes is seen)
-          (λ k bytes records p is seen kept size same good placed. since_more g.L.Keep.keeps was old.beside new.beside records p kept (rw w.reading-is (w.in-Ok.ensures.beside k bytes records p is seen kept.0 size same good placed)))
+          (λ k is. ap (λ r. r.rows) w.reading-is ∙ w.in-Ok.ensures.row k is)
+          (λ k bytes records p is seen kept size next. since_more g.L.Keep.keeps was old.beside new.beside records p kept (rw w.reading-is (w.in-Ok.ensures.beside k bytes records p is seen kept.0 size next)))
       | in-End+in-Err w ↦ cc (sym c.in-Ok-kept.is ∙ w.kept-is)
     ]
 

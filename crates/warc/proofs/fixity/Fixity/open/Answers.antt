@@ -3,8 +3,9 @@ use Rattle.warc.proofs.fixity.Fixity.open.Goals as goal
 
 pub returns-in-Ok : goal.returns-in-Ok
 returns-in-Ok g c =
-    opens_made _ _ _ _ _ _ _ c.in-Ok.is c.new.ensures c.new-kept.ensures (λ bytes kept. record { listed = kept.listed; digests_are = kept.beside })
+    opens_made _ _ _ _ _ _ _ c.in-Ok.is c.new.ensures (c.new-kept.ensures.verdicts, c.new-kept.ensures.digests)
+    (λ bytes kept. record { listed = kept.listed; verdicts_are = kept.beside.0; digests_are = kept.beside.1 })
     c.read_on-answer.ensures.grows
 
 pub returns-in-Err : goal.returns-in-Err
-returns-in-Err g c = opens_failed _ _ _ _ _ _ c.in-Err.is c.new.ensures c.new-kept.ensures c.read_on-answer.ensures.grows
+returns-in-Err g c = opens_failed _ _ _ _ _ _ c.in-Err.is c.new.ensures (c.new-kept.ensures.verdicts, c.new-kept.ensures.digests) c.read_on-answer.ensures.grows

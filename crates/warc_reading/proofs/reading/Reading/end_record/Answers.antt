@@ -1,8 +1,8 @@
 use Rattle.std.proofs.Common.{rules, ◌≡◌, [], ◌∷◌, ◌++◌, Option, Some, ap, sym, subst, ◌∙◌}
-use Rattle.warc_segment.specs.declared.place.Place.{Place}
-use Rattle.warc_reading.specs.Indexed.{place_of}
+use Rattle.warc_value.specs.Digests.{verdict_of}
+use Rattle.warc_reading.specs.Judging.{IsNextOf}
 use Rattle.warc_reading.specs.Row.{Row}
-use Rattle.warc_reading.specs.Stream.{HasSeen, place_by, row_by}
+use Rattle.warc_reading.specs.Stream.{HasSeen, row_by}
 use Rattle.warc_reading.specs.declared.reading.Current.{Current as Kept}
 use Rattle.warc_reading.proofs.GrowLemmas.{extends_front, extends_same}
 use Rattle.warc_reading.proofs.reading.Reading.end_record.Goals.{in-Some+in_ok-push+in-Ok, in_default}
@@ -10,13 +10,12 @@ use Rattle.warc_reading.proofs.reading.Reading.end_record.Goals as goal
 
 pub returns-clause-row : goal.returns-clause-row
 returns-clause-row g c = elim c.match-take.branch [
-  | in-Some+in_ok-push+in-Ok w ↦ λ kept bytes is seen.
+  | in-Some+in_ok-push+in-Ok w ↦ λ kept is.
       let same : ◌≡◌ {A = Kept g.row.A.Denot} w.in-Some.current kept = let e : ◌≡◌ {A = Option (Kept g.row.A.Denot)} (Some w.in-Some.current) (Some kept) = w.in-Some.ensures.value ∙ is in cc in
-      let taken : HasSeen w.in-Some.current.digest bytes = subst (λ (x : Kept g.row.A.Denot). HasSeen x.digest bytes) (sym same) seen in
-      let row = ap (λ (x : Kept g.row.A.Denot). row_by c.args.self.now.begin x bytes) same in
+      let row = ap (λ (x : Kept g.row.A.Denot). row_by c.args.self.now.begin x) same in
       let texts = w.texts-texts.ensures in
       ap (λ r. r.rows) w.self-is ∙ w.in_ok-push.ensures.ok
-      ∙ rw (w.verdict-verdict.ensures bytes taken, texts.kind, texts.date, texts.id, texts.target, texts.truncated) (ap (λ (r : Row). c.args.self.now.rows ++ r ∷ []) row)
+      ∙ rw (texts.kind, texts.date, texts.id, texts.target, texts.truncated) (ap (λ (r : Row). c.args.self.now.rows ++ r ∷ []) row)
   | in_default w ↦ search rules
 ]
 
@@ -28,13 +27,18 @@ returns-clause-extends g c = elim c.match-take.branch [
 
 pub returns-clause-beside : goal.returns-clause-beside
 returns-clause-beside g c = elim c.match-take.branch [
-  | in-Some+in_ok-push+in-Ok w ↦ λ kept bytes records p is seen keeps count head good place.
+  | in-Some+in_ok-push+in-Ok w ↦ λ kept bytes records p is seen keeps count next.
       let same : ◌≡◌ {A = Kept g.row.A.Denot} w.in-Some.current kept = let e : ◌≡◌ {A = Option (Kept g.row.A.Denot)} (Some w.in-Some.current) (Some kept) = w.in-Some.ensures.value ∙ is in cc in
       let taken : HasSeen w.in-Some.current.digest bytes = subst (λ (x : Kept g.row.A.Denot). HasSeen x.digest bytes) (sym same) seen in
-      let fields = w.fields.ensures.fields ∙ ap (λ (x : Kept g.row.A.Denot). x.head) same ∙ head in
-      let stands : ◌≡◌ {A = Place} (record { start = w.in-Some.current.block_start; len = w.in-Some.current.block_len; verdict = w.verdict-verdict.result; truncated = w.texts-texts.result.is_truncated }) (place_of p)
-      = rw (w.verdict-verdict.ensures bytes taken, w.texts-texts.ensures.truncated) (ap (λ (x : Kept g.row.A.Denot). place_by x bytes) same ∙ place) in
-      let now = w.in-Ok.ensures.ok records p keeps (w.len-position.ensures ∙ count) fields good stands in
+      let P : Kept g.row.A.Denot → Type 0 = λ x. IsNextOf g.L.Keep.judges p x.head x.block_start x.block_len (verdict_of x.digest.wanted bytes) in
+      let here = subst P (sym same) next in
+      let now = w.in-Ok.ensures.ok records p keeps (w.len-position.ensures ∙ count) (record {
+        fields_are = w.fields.ensures.fields ∙ here.fields_are;
+        good = here.good;
+        start_is = here.start_is;
+        len_is = here.len_is;
+        verdict_is = w.verdict-verdict.ensures bytes taken ∙ here.verdict_is;
+      }) in
       subst (λ r. g.L.Keep.keeps r.beside (records ++ p ∷ [])) (sym w.self-is) now
   | in_default w ↦ search rules
 ]

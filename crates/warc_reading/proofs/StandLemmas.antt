@@ -7,7 +7,7 @@ use Rattle.warc_frame.specs.Record.{head_text}
 use Rattle.warc_frame.specs.Spelling.{Spells}
 use Rattle.warc_reading.specs.Archive.{SpellsFrom}
 use Rattle.warc_reading.specs.Row.{Placed}
-use Rattle.warc.specs.Standing.{IsPlacedIn}
+use Rattle.warc_reading.specs.Placing.{IsPlacedIn}
 
 front_len : (head block : List ℕ) → length (head ++ block ++ crlf ++ crlf) ≡ length head + length block + 4
 front_len head block = simp length-append (omega arith)

@@ -1,0 +1,50 @@
+-- A record that is examined: its head is read again, and its block.
+use Rattle.std.proofs.Common.{◌≡◌, ◌≤◌, ℕ, List, [], ◌∷◌, length, take, drop, ap, ◌∙◌, arith}
+use Rattle.warc_field.specs.Area.{Pair}
+use Rattle.warc_value.specs.Digests.{verdict_of}
+use Rattle.warc_value.specs.declared.hash.Wanted.{Wanted}
+use Rattle.warc_frame.specs.Effects.{HasRange, ReadsOnly, ReadsRange}
+use Rattle.warc_frame.specs.Seen.{IsInRange, SeenSource}
+use Rattle.warc_frame.proofs.EffectLemmas.{reads_both, reads_within}
+use Rattle.warc_record.specs.Readings.{digest_wanted}
+use Rattle.warc_digest.specs.Judging.{judged_len}
+use Rattle.warc_digest.proofs.RangeLemmas.{reads_judged}
+use Rattle.warc_reading.specs.Judging.{verdict_on}
+use Rattle.warc_reading.specs.Placing.{IsInRow}
+use Rattle.warc_reading.specs.Rereading.{HasHeadOf, HasTextOf, ReadsHeads, row_len}
+use Rattle.warc_reading.specs.Row.{Row}
+use Rattle.warc_reading.proofs.ReadLemmas.{reads_block_of, reads_head_of}
+
+abbrev pub head_there : (row : Row) (bytes : List ℕ) → HasTextOf row bytes → HasHeadOf row bytes
+head_there row bytes is = record { placed = is.placed; has = is.has; row_is = is.row_is }
+
+-- the block lies among the bytes
+pub block_there : (row : Row) (bytes : List ℕ) (start len : ℕ) → start ≡ row.block_start → len ≡ row.block_len
+    → HasTextOf row bytes → HasRange start len bytes
+block_there row bytes start len start_is len_is is =
+    let begin = ap (λ (r : Row). r.block_start) is.row_is in
+    let size = ap (λ (r : Row). r.block_len) is.row_is in
+    (omega (arith, start_is, len_is, begin, size, is.written.end, is.written.within), omega (arith, is.short))
+
+-- it is judged by the digest that its head asks for
+pub block_judged : (row : Row) (bytes : List ℕ) (is : HasTextOf row bytes) (start len : ℕ) (wanted : Wanted)
+    (fields : List Pair) → start ≡ row.block_start → len ≡ row.block_len → wanted ≡ digest_wanted fields
+    → fields ≡ is.placed.content.fields → verdict_of wanted (take len (drop start bytes)) ≡ verdict_on is.placed
+block_judged row bytes is start len wanted fields start_is len_is wanted_is fields_are =
+    let begin : start ≡ is.placed.block_start = start_is ∙ ap (λ (r : Row). r.block_start) is.row_is in
+    let size : len ≡ length is.placed.content.block = len_is ∙ ap (λ (r : Row). r.block_len) is.row_is in
+    let block : take len (drop start bytes) ≡ is.placed.content.block =
+    ap (λ n. take n (drop start bytes)) size
+    ∙ ap (λ n. take (length is.placed.content.block) (drop n bytes)) begin ∙ is.written.block in
+    ap (verdict_of wanted) block
+    ∙ ap (λ w. verdict_of w is.placed.content.block) (wanted_is ∙ ap digest_wanted fields_are)
+
+-- no other byte is read
+pub reads_examined : (row : Row) (start len : ℕ) (wanted : Wanted) {old mid new : SeenSource} → start ≡ row.block_start
+    → len ≡ row.block_len → row.offset ≤ row.block_start → ReadsHeads (row ∷ []) old mid
+    → ReadsRange start (judged_len wanted len) mid new → ReadsOnly (IsInRow row) (row_len row) old new
+reads_examined row start len wanted {old} {mid} {new} start_is len_is order head block =
+    let here : ReadsOnly (IsInRange row.block_start row.block_len) row.block_len mid new =
+    reads_within (λ q in_. (omega (arith, in_.0, start_is), omega (arith, in_.1, start_is, len_is))) (omega (arith, len_is))
+    (reads_judged wanted start len block) in
+    reads_both (reads_head_of row head) (reads_block_of row row.block_len order here)

@@ -1,0 +1,32 @@
+-- Which blocks are judged by their digest as they are read (ISO 28500:2017, 5.8). This project's own notion.
+use Rattle.std.specs.Prelude.{◌≡◌, ℕ, Bool, true, false, List, length, None}
+use Rattle.warc_field.specs.Area.{Pair}
+use Rattle.warc_value.specs.Digests.{verdict_of}
+use Rattle.warc_value.specs.declared.hash.Verdict.{Verdict}
+use Rattle.warc_value.specs.declared.hash.Wanted.{Wanted}
+use Rattle.warc_value.specs.declared.hash.Wanted.TheVariants.{Unchecked}
+use Rattle.warc_record.specs.Heads.{head_fault}
+use Rattle.warc_record.specs.Readings.{digest_wanted}
+use Rattle.warc_reading.specs.Row.{Placed}
+
+-- the digest that a block is judged by where blocks are judged, and none where they aren't
+abbrev pub judged_by : Bool → Wanted → Wanted
+judged_by true wanted = wanted
+judged_by false wanted = Unchecked
+
+-- what is found of a record's block as it is read
+abbrev pub verdict_by : Bool → Placed → Verdict
+verdict_by judges p = verdict_of (judged_by judges (digest_wanted p.content.fields)) p.content.block
+
+-- these are the fields of a record's head, which is good, the offset and the length of its block, and what was found of
+-- the block as it was read
+pub record IsNextOf (judges : Bool) (p : Placed) (fields : List Pair) (start len : ℕ) (verdict : Verdict) : Type 0 where
+  pub fields_are : fields ≡ p.content.fields
+  pub good : head_fault p.content.fields ≡ None
+  pub start_is : start ≡ p.block_start
+  pub len_is : len ≡ length p.content.block
+  pub verdict_is : verdict ≡ verdict_by judges p
+
+-- how a record's block compares with the digest that its head asks for
+abbrev pub verdict_on : Placed → Verdict
+verdict_on p = verdict_of (digest_wanted p.content.fields) p.content.block
