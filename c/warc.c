@@ -11,6 +11,7 @@ void warc_rt_close(warc_archive *archive);
 size_t warc_rt_count(warc_archive *archive);
 size_t warc_rt_row(warc_archive *archive, size_t position, warc_row *row, uint8_t *texts, size_t texts_length,
                    warc_problem *problem);
+uint32_t warc_rt_verdict(warc_archive *archive, size_t position, warc_problem *problem);
 size_t warc_rt_captures(warc_archive *archive, const uint8_t *uri, size_t uri_length, uint64_t *positions,
                         size_t positions_length, warc_problem *problem);
 size_t warc_rt_replay(warc_archive *archive, const uint8_t *uri, size_t uri_length, const uint8_t *date,
@@ -110,9 +111,10 @@ bool warc_block_at(warc_archive *archive, size_t position, warc_span *span, warc
 
 uint32_t warc_verdict_at(warc_archive *archive, size_t position, warc_problem *problem) {
     warc_problem none;
-    warc_row row;
     if (problem == NULL) problem = &none;
-    return read_row(archive, position, &row, problem) ? row.verdict : WARC_UNCHECKED;
+    if (!begin(archive != NULL, problem)) return WARC_UNCHECKED;
+    uint32_t verdict = warc_rt_verdict(archive, position, problem);
+    return problem->code == 0 ? verdict : WARC_UNCHECKED;
 }
 
 size_t warc_captures(warc_archive *archive, const uint8_t *uri, size_t uri_length, uint64_t *positions,

@@ -40,10 +40,14 @@
  * MEMORY comes from malloc, realloc and free. If it runs out, the answer is WARC_FAULT_MEMORY or WARC_NO_MEMORY, and the
  * archive stays as it was. An archive keeps rows and an index, and no block: 230 bytes for each record of a crawl by wget.
  *
+ * TIME. warc_open reads each byte once, warc_grow each new one, and neither hashes anything. A block is hashed where its
+ * verdict is asked for: by warc_verdict_at that of one record, by warc_check and warc_fixity those of all records whose
+ * digests can be checked, by warc_replay and warc_body_at those that are joined.
+ *
  * PROVED. A call over a handle is one call of a library function whose contract says what is answered and what is put into
- * the buffers: put_row, put_captures, put_replay, put_body, put_list or put_check of the crate warc_lent, count or grow of
- * warc. Around it the archive is taken out of the handle and put back, and a problem becomes numbers. warc_head_at,
- * warc_block_at and warc_verdict_at take theirs from the row. warc_open, warc_fixity, warc_problem_text and
+ * the buffers: put_row, verdict_at, put_captures, put_replay, put_body, put_list or put_check of the crate warc_lent, count
+ * or grow of warc. Around it the archive is taken out of the handle and put back, and a problem becomes numbers.
+ * warc_head_at and warc_block_at take theirs from the row. warc_open, warc_fixity, warc_problem_text and
  * warc_abi_version state their contracts themselves; warc_open answers true only for bytes that spell good records, and
  * otherwise gives their first fault, or says that memory ran out. No contract says that a handle holds the archive that was
  * opened: contracts see no value of a struct that C keeps (docs/PROMISES.md). What this page demands of the caller isn't
@@ -61,7 +65,7 @@ extern "C" {
 #endif
 
 /* The version of this interface. It changes with any change of a call, a struct or a number here. */
-#define WARC_ABI_VERSION 1
+#define WARC_ABI_VERSION 2
 
 /* The version that the library has. A program that loads the library compares it with WARC_ABI_VERSION. */
 uint32_t warc_abi_version(void);
@@ -127,8 +131,8 @@ typedef struct {
     bool is_open;
 } warc_archive;
 
-/* Opens an archive over these bytes: reads them once, in order. If one is open, that is closed first. Answers false if
- * the bytes are refused, with the first fault and its offset. */
+/* Opens an archive over these bytes: reads them once, in order, and hashes nothing. If one is open, that is closed first.
+ * Answers false if the bytes are refused, with the first fault and its offset. */
 bool warc_open(warc_archive *archive, const uint8_t *bytes, size_t length, warc_problem *problem);
 
 /* Reads on in bytes that begin with those of the archive, where it stopped, and has these bytes from then on. A refusal
@@ -143,9 +147,6 @@ size_t warc_count(warc_archive *archive);
 
 /* ---- Records */
 
-/* How a block compares with the digest that its head states. */
-enum { WARC_GOOD = 0, WARC_BAD = 1, WARC_UNCHECKED = 2 };
-
 /* What is kept of a record. `offset` is that of its first byte; its head ends where its block begins. Each text has fewer
  * than 65,536 bytes. `is_truncated` is 1 if the record says that its block isn't whole. */
 typedef struct {
@@ -156,7 +157,6 @@ typedef struct {
     uint32_t date_length;
     uint32_t id_length;
     uint32_t target_length;
-    uint32_t verdict;
     uint32_t is_truncated;
 } warc_row;
 
@@ -176,8 +176,12 @@ typedef struct {
 bool warc_head_at(warc_archive *archive, size_t position, warc_span *span, warc_problem *problem);
 bool warc_block_at(warc_archive *archive, size_t position, warc_span *span, warc_problem *problem);
 
+/* How a block compares with the digest that its head states. */
+enum { WARC_GOOD = 0, WARC_BAD = 1, WARC_UNCHECKED = 2 };
+
 /* How the block of the record at a position compares with its digest: WARC_GOOD, WARC_BAD or WARC_UNCHECKED, the last
- * also with a problem. */
+ * also with a problem. Reads the head again, and the block too if its digest can be checked. Nothing of it is kept: each
+ * call reads anew. WARC_CHANGED says that the bytes aren't what they were. */
 uint32_t warc_verdict_at(warc_archive *archive, size_t position, warc_problem *problem);
 
 /* ---- Bodies */
