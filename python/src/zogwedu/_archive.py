@@ -91,14 +91,14 @@ class Body:
 
 class Record:
     """A record of an archive: `position`, `type`, `date`, `id`, `target` (None if absent), `offset` of its head and
-    `length` of its block in bytes, `verdict` ("good", "bad" or "unchecked") and `truncated`.
+    `length` of its block in bytes, and `truncated`. `verdict`, `head`, `block` and `body()` read the archive.
 
     Texts are decoded as UTF-8, with `surrogateescape` for other bytes: `text.encode("utf-8", "surrogateescape")` gives
     the bytes.
     """
 
     __slots__ = (
-        "_archive", "position", "offset", "length", "type", "date", "id", "target", "verdict", "truncated", "_block"
+        "_archive", "position", "offset", "length", "type", "date", "id", "target", "truncated", "_block", "_verdict"
     )
 
     def __init__(self, archive: "Archive", position: int, row: Any, texts: List[bytes]) -> None:
@@ -112,8 +112,18 @@ class Record:
         self.date: str = date
         self.id: str = identity
         self.target: Optional[str] = target or None
-        self.verdict: str = VERDICTS[row.verdict]
         self.truncated: bool = bool(row.is_truncated)
+        self._verdict: Optional[str] = None
+
+    @property
+    def verdict(self) -> str:
+        """How its block compares with the digest that its head states: "good", "bad" or "unchecked".
+
+        The block is hashed when this is read for the first time; the answer is kept.
+        """
+        if self._verdict is None:
+            self._verdict = VERDICTS[self._archive._use().verdict(self.position)]
+        return self._verdict
 
     @property
     def head(self) -> memoryview:

@@ -6,7 +6,7 @@ from typing import Any, List, Tuple
 
 from ._problems import Closed, NoBody, NoRecord, Refused, WarcError
 
-ABI_VERSION = 1
+ABI_VERSION = 2
 FIRST_REASON, LAST_REASON = 101, 110
 SEGMENT = 107
 CODED = 110
@@ -27,7 +27,7 @@ class Handle(c.Structure):
 class Row(c.Structure):
     _fields_ = [
         ("offset", U64), ("block_offset", U64), ("block_length", U64), ("type_length", U32), ("date_length", U32),
-        ("id_length", U32), ("target_length", U32), ("verdict", U32), ("is_truncated", U32),
+        ("id_length", U32), ("target_length", U32), ("is_truncated", U32),
     ]
 
 
@@ -63,6 +63,7 @@ def load() -> Any:
         "close": (None, [handle]),
         "count": (SIZE, [handle]),
         "row_at": (SIZE, [handle, SIZE, c.POINTER(Row), POINTER, SIZE, problem]),
+        "verdict_at": (U32, [handle, SIZE, problem]),
         "captures": (SIZE, [handle, c.c_char_p, SIZE, c.POINTER(U64), SIZE, problem]),
         "replay": (SIZE, [handle, c.c_char_p, SIZE, c.c_char_p, SIZE, answer, spans, SIZE, problem]),
         "body_at": (SIZE, [handle, SIZE, answer, spans, SIZE, problem]),
@@ -179,6 +180,15 @@ class Opened:
             texts.append(text[at : at + size])
             at += size
         return row, texts
+
+    def verdict(self, position: int) -> int:
+        """How the block of a record compares with its digest: 0 good, 1 bad, 2 unchecked."""
+        problem = Problem()
+        with self._lock:
+            verdict = int(lib.warc_verdict_at(self._at, position, c.byref(problem)))
+        if problem.code:
+            raise error_of(problem)
+        return verdict
 
     def _located(self, ask: Any) -> Tuple[Answer, List[Tuple[int, int]]]:
         """What is said of a body, and its spans. `ask` is called again if there are more of them than it had room for."""
