@@ -1,6 +1,6 @@
 //! report ARCHIVE: what the crate gives of an archive, in the form that tests/callers/compare.py compares.
 use std::io::{self, Write};
-use zogwedu::{Archive, Body, Error};
+use zogwedu::{Archive, Body, Error, Verdict};
 
 fn put_text(out: &mut impl Write, title: &str, text: Result<Vec<u8>, Error>) -> io::Result<()> {
     writeln!(out, "== {title}")?;
@@ -23,6 +23,15 @@ fn put_body(out: &mut impl Write, body: Result<Body<'_>, Error>) -> io::Result<(
     writeln!(out)
 }
 
+fn verdict_text(verdict: Result<Verdict, Error>) -> String {
+    match verdict {
+        Ok(Verdict::Good) => "good".to_string(),
+        Ok(Verdict::Bad) => "bad".to_string(),
+        Ok(Verdict::Unchecked) => "unchecked".to_string(),
+        Err(error) => error.to_string(),
+    }
+}
+
 fn report(out: &mut impl Write, archive: &Archive<'_>) -> io::Result<()> {
     put_text(out, "list", archive.list())?;
     writeln!(out, "== rows")?;
@@ -34,6 +43,10 @@ fn report(out: &mut impl Write, archive: &Archive<'_>) -> io::Result<()> {
     }
     put_text(out, "check", archive.check())?;
     put_text(out, "fixity", archive.fixity())?;
+    writeln!(out, "== verdicts")?;
+    for position in 0..archive.len() {
+        writeln!(out, "{position} {}", verdict_text(archive.verdict(position)))?;
+    }
     for record in archive {
         writeln!(out, "== body {}", record.position)?;
         put_body(out, archive.body(record.position))?;

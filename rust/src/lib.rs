@@ -91,8 +91,6 @@ pub struct Record<'a> {
     pub id: Vec<u8>,
     /// Its target, empty if it is absent.
     pub target: Vec<u8>,
-    /// How its block compares with its digest.
-    pub verdict: Verdict,
     /// Whether it says that its block isn't whole.
     pub is_truncated: bool,
     head: &'a [u8],
@@ -217,11 +215,6 @@ impl<'a> Archive<'a> {
         let (kind, rest) = texts.split_at(row.type_length as usize);
         let (date, rest) = rest.split_at(row.date_length as usize);
         let (id, target) = rest.split_at(row.id_length as usize);
-        let verdict = match row.verdict {
-            0 => Verdict::Good,
-            1 => Verdict::Bad,
-            _ => Verdict::Unchecked,
-        };
         Record {
             position,
             offset: row.offset,
@@ -229,10 +222,23 @@ impl<'a> Archive<'a> {
             date: date.to_vec(),
             id: id.to_vec(),
             target: target.to_vec(),
-            verdict,
             is_truncated: row.is_truncated != 0,
             head: self.slice(row.offset, row.block_offset - row.offset),
             block: self.slice(row.block_offset, row.block_length),
+        }
+    }
+
+    /// How the block of the record at a position compares with the digest that its head states. The block is hashed for
+    /// it, each time anew.
+    pub fn verdict(&self, position: usize) -> Result<Verdict, Error> {
+        let mut problem = raw::Problem::default();
+        // SAFETY: the handle is open.
+        let verdict = unsafe { raw::warc_verdict_at(&mut *self.handle.borrow_mut(), position, &mut problem) };
+        match (problem.code, verdict) {
+            (0, 0) => Ok(Verdict::Good),
+            (0, 1) => Ok(Verdict::Bad),
+            (0, _) => Ok(Verdict::Unchecked),
+            _ => Err(Error::of(problem)),
         }
     }
 

@@ -1,7 +1,7 @@
 //! warc.h, as Rust declares it.
 use std::os::raw::{c_char, c_void};
 
-pub const ABI_VERSION: u32 = 1;
+pub const ABI_VERSION: u32 = 2;
 
 #[repr(C)]
 #[derive(Clone, Copy, Default)]
@@ -27,7 +27,6 @@ pub struct Row {
     pub date_length: u32,
     pub id_length: u32,
     pub target_length: u32,
-    pub verdict: u32,
     pub is_truncated: u32,
 }
 
@@ -58,6 +57,7 @@ extern "C" {
     pub fn warc_row_at(
         handle: *mut Handle, position: usize, row: *mut Row, texts: *mut u8, length: usize, problem: *mut Problem,
     ) -> usize;
+    pub fn warc_verdict_at(handle: *mut Handle, position: usize, problem: *mut Problem) -> u32;
     pub fn warc_captures(
         handle: *mut Handle, uri: *const u8, uri_length: usize, positions: *mut u64, length: usize,
         problem: *mut Problem,

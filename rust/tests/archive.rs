@@ -11,7 +11,16 @@ fn lists_and_replays() {
     let body = archive.replay(b"http://127.0.0.1:8765/", b"9999").unwrap();
     assert_eq!((body.chosen, body.given, body.status, body.len()), (11, 11, Some(200), 93));
     assert_eq!(archive.captures(b"http://127.0.0.1:8765/sky.png").unwrap(), [4, 13]);
-    assert_eq!(archive.record(13).unwrap().verdict, Verdict::Bad);
+}
+
+#[test]
+fn judges_a_block_where_it_is_asked_to() {
+    let front = Archive::open(CRAWL).unwrap().record(9).unwrap().offset as usize;
+    let mut archive = Archive::open(&CRAWL[..front]).unwrap();
+    assert_eq!(archive.verdict(0), Ok(Verdict::Good));
+    assert_eq!(archive.verdict(13).unwrap_err().to_string(), "E1 NoRecord");
+    archive.grow(CRAWL).unwrap();
+    assert_eq!((archive.verdict(0), archive.verdict(13)), (Ok(Verdict::Good), Ok(Verdict::Bad)));
 }
 
 #[test]
