@@ -1,6 +1,6 @@
 #!/usr/bin/env python3
-"""Compares what the program, C, Python and Rust give of archives: list, check, fixity, and each body by position and by
-URI and date.
+"""Compares what the program, C, Python and Rust give of archives: list, check, fixity, the verdict on each block, and each
+body by position and by URI and date.
 
 Usage: compare.py WARC C_REPORT RUST_REPORT ARCHIVE..
 
@@ -45,15 +45,23 @@ def program_replay(warc, path, target, date):
     return body
 
 
+def verdicts_text(fixity, count):
+    """The verdict on each record's block, from the lines of `warc fixity`, which name the blocks that aren't good."""
+    named = dict(line.split(b"\t")[:2] for line in fixity.splitlines()[:-1])
+    return b"".join(b"%d %s\n" % (number, named.get(b"%d" % number, b"good")) for number in range(count))
+
+
 def program_report(warc, path):
     """The report of an archive, made by the program."""
     listed, message, status = run(warc, "list", "--", path)
     if status:
         return b"== refused\n" + unnamed(message)
     parts = [b"== list\n", listed, b"== rows\n", listed]
-    parts += [b"== check\n", run(warc, "check", "--", path)[0], b"== fixity\n", run(warc, "fixity", "--", path)[0]]
+    fixity = run(warc, "fixity", "--", path)[0]
+    parts += [b"== check\n", run(warc, "check", "--", path)[0], b"== fixity\n", fixity]
     with zogwedu.Archive.open(path, mmap=False) as archive:
         targets = [(record.target, record.date) for record in archive]
+    parts += [b"== verdicts\n", verdicts_text(fixity, len(targets))]
     for position, (target, date) in enumerate(targets):
         parts += [f"== body {position}\n".encode(), program_body(warc, "body", path, str(position))]
         if target:

@@ -88,7 +88,7 @@ static void ask_record(warc_archive *archive, size_t position, const text *of) {
     uint64_t positions[4];
     warc_row_at(archive, position, &row, texts, sizeof texts, &problem);
     if (problem.code) abort();
-    warc_verdict_at(archive, position, NULL);
+    if (warc_verdict_at(archive, position, &problem) > WARC_UNCHECKED || problem.code) abort();
     if (!warc_head_at(archive, position, &span, &problem) || span.offset + span.length > of->length) abort();
     if (!warc_block_at(archive, position, &span, &problem) || span.offset + span.length > of->length) abort();
     const uint8_t *date = texts + row.type_length, *uri = date + row.date_length + row.id_length;
@@ -111,6 +111,8 @@ static void ask_all(warc_archive *archive, const text *of) {
     warc_check(archive, out, below(ROOM), &problem);
     warc_row_at(archive, warc_count(archive), NULL, NULL, 0, &problem);
     if (problem.code != WARC_NO_RECORD && problem.code != WARC_NOT_OPEN) abort();
+    if (warc_verdict_at(archive, warc_count(archive), &problem) != WARC_UNCHECKED || problem.code == 0) abort();
+    if (problem.code != WARC_NO_RECORD && problem.code != WARC_NOT_OPEN) abort();
     for (size_t position = 0; position < warc_count(archive) && position < 50; position++) ask_record(archive, position, of);
 }
 
@@ -125,6 +127,9 @@ static void ask_wrongly(void) {
     if (warc_grow(&archive, NULL, 0, &problem) || problem.code != WARC_NOT_OPEN) abort();
     if (warc_replay(&archive, &byte, 1, NULL, 0, NULL, NULL, 0, &problem) || problem.code == 0) abort();
     if (warc_body_at(&archive, 0, NULL, NULL, 3, &problem) || problem.code != WARC_BAD_ARGUMENT) abort();
+    if (warc_verdict_at(NULL, 0, &problem) != WARC_UNCHECKED || problem.code != WARC_BAD_ARGUMENT) abort();
+    if (warc_verdict_at(&archive, 0, &problem) != WARC_UNCHECKED || problem.code != WARC_NOT_OPEN) abort();
+    if (warc_verdict_at(&archive, 0, NULL) != WARC_UNCHECKED) abort();
     if (warc_list(&archive, NULL, 0, NULL) || warc_count(&archive) || warc_count(NULL)) abort();
     if (warc_problem_text(NULL, NULL, 0)) abort();
     warc_close(NULL);

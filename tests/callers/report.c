@@ -71,6 +71,18 @@ static void print_rows(warc_archive *archive) {
     }
 }
 
+/* The verdict on each record's block. */
+static void print_verdicts(warc_archive *archive) {
+    static const char *const names[] = {"good", "bad", "unchecked"};
+    printf("== verdicts\n");
+    for (size_t position = 0; position < warc_count(archive); position++) {
+        warc_problem problem;
+        uint32_t verdict = warc_verdict_at(archive, position, &problem);
+        if (problem.code || verdict > WARC_UNCHECKED) exit(4);
+        printf("%zu %s\n", position, names[verdict]);
+    }
+}
+
 /* The facts and the bytes of a body, or why there is none. */
 static void print_body(size_t count, const warc_answer *answer, const warc_span *spans, const warc_problem *problem) {
     if (problem->code) {
@@ -123,6 +135,7 @@ int main(int argc, char **argv) {
     print_rows(&archive);
     print_text("check", warc_check, &archive);
     print_text("fixity", ask_fixity, &archive);
+    print_verdicts(&archive);
     print_bodies(&archive);
     warc_close(&archive);
     if (warc_count(&archive) != 0) return 5;

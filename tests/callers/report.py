@@ -50,6 +50,7 @@ def report(path, **how):
     with archive:
         parts = [b"== list\n", archive.list_text(), b"== rows\n", *map(row_text, archive)]
         parts += [b"== check\n", *map(finding_text, archive.check()), b"== fixity\n", fixity_text(archive.fixity())]
+        parts += [b"== verdicts\n", *(f"{record.position} {record.verdict}\n".encode() for record in archive)]
         for record in archive:
             parts += [f"== body {record.position}\n".encode(), body_text(record.body)]
             if record.target:

@@ -91,6 +91,24 @@ class Reading(unittest.TestCase):
             with self.assertRaises(IndexError):
                 archive[len(archive)]
 
+    def test_verdicts(self):
+        with zogwedu.Archive.open(CRAWL) as archive:
+            verdicts = [record.verdict for record in archive]
+            fixity = archive.fixity()
+        self.assertEqual([verdicts.count(name) for name in ("good", "bad", "unchecked")],
+                         [fixity.good, fixity.bad, fixity.unchecked])
+        self.assertEqual([(it.position, it.verdict) for it in fixity.blocks],
+                         [(number, name) for number, name in enumerate(verdicts) if name != "good"])
+
+    def test_a_verdict_is_kept(self):
+        archive = zogwedu.Archive.open(CRAWL)
+        asked, unasked = archive[13], archive[13]
+        self.assertEqual(asked.verdict, "bad")
+        archive.close()
+        self.assertEqual(asked.verdict, "bad")
+        with self.assertRaises(zogwedu.Closed):
+            unasked.verdict
+
     def test_dates(self):
         with zogwedu.Archive.open(CRAWL) as archive:
             east = timezone(timedelta(hours=2))
@@ -134,7 +152,7 @@ class Growing(unittest.TestCase):
                 file.write(whole[:first])
                 file.flush()
                 archive = zogwedu.Archive.open(file.name, **how)
-                old = archive[2].block
+                old, records = archive[2].block, list(archive)
                 file.write(whole[first : first + 100])
                 file.flush()
                 with self.assertRaises(zogwedu.Refused):
@@ -144,6 +162,7 @@ class Growing(unittest.TestCase):
                 file.flush()
                 self.assertEqual((archive.grow(), len(archive), archive.grow()), (9, 18, 0))
                 self.assertEqual(bytes(old), bytes(archive[2].block))
+                self.assertEqual([it.verdict for it in records], [it.verdict for it in archive][:9])
                 old.release()
                 archive.close()
 
