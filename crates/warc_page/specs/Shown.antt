@@ -2,14 +2,17 @@
 -- says why, or in state 2 where memory doesn't suffice. This project's own notion.
 use Rattle.std.specs.Prelude.{◌≡◌, ◌⊎◌, ℕ, List, length, map, Option, Some, None, Result, Ok, Err}
 use Rattle.std.specs.List.{flat_map}
+use Rattle.warc_value.specs.Digests.{verdict_of}
 use Rattle.warc_frame.specs.Count.{capped}
+use Rattle.warc_frame.specs.Reading.{Head, any_fields, head_of}
 use Rattle.warc_frame.specs.declared.fault.Fault.{Fault}
+use Rattle.warc_record.specs.Readings.{digest_wanted}
 use Rattle.warc_reading.specs.Archive.{IsArchiveOf}
 use Rattle.warc_reading.specs.Row.{Row}
 use Rattle.warc.specs.Front.{AreRowsOfFront}
 use Rattle.warc_lent.specs.Buffers.{HoldsFront}
 use Rattle.warc_lent.specs.Problems.{problem_text}
-use Rattle.warc_lent.specs.Rows.{row_numbers, row_texts}
+use Rattle.warc_lent.specs.Rows.{row_numbers, row_texts, verdict_number}
 use Rattle.warc_lent.specs.Texts.{AreFindingsOf, IsTextPut, IsRefusedFor, PutsSome}
 use Rattle.warc_lent.specs.declared.problem.Problem.{Problem}
 use Rattle.warc_lent.specs.declared.problem.Problem.TheVariants as problems
@@ -62,3 +65,8 @@ pub record Replies (Puts : Result ℕ Problem → Type 0) (outcome : PageOutcome
   pub answered : Result ℕ Problem
   pub puts : Puts answered
   pub ends : EndsWith answered outcome text
+
+-- how a block compares with the digest that a head asks for, or 3
+abbrev pub IsVerdictOn : List ℕ → List ℕ → ℕ → Type 0
+IsVerdictOn text block number = (number ≡ 3) ⊎ ((head : Head) × (head_of any_fields text ≡ Ok head)
+    × (number ≡ verdict_number (verdict_of (digest_wanted head.fields) block)))

@@ -10,6 +10,7 @@ mod archive;
 mod ending;
 mod findings;
 mod front;
+mod judging;
 mod open;
 mod shapes;
 
@@ -17,5 +18,6 @@ pub use answers::{page_body, page_replay};
 pub use archive::{Open, PageArchive};
 pub use findings::page_findings;
 pub use front::page_front;
+pub use judging::page_verdict;
 pub use open::page_open;
 pub use shapes::{PageFront, PageOutcome};
