@@ -4,8 +4,8 @@
 Usage: page.py PAGE PROGRAM FOLDER
 
 The archive is made in FOLDER once and kept: 50,000 pages of 10,000 bytes, each with the digest of its block. Printed:
-seconds of the program; seconds until the page shows its first rows, all rows and the findings, and until the archive is
-open for questions; and seconds of one answer then.
+seconds of the program; seconds until the page shows its first rows, all rows, the findings and the last verdict, and until
+the archive is open for questions; and seconds of one answer then.
 """
 import os
 import sys
@@ -21,17 +21,18 @@ RECORDS, LENGTH = 50_000, 10_000
 
 
 def open_page(page, archive):
-    """Seconds until the first rows, all rows and the findings are there and the archive is open, and seconds of an answer."""
+    """Seconds until the first rows, all rows, the findings and all verdicts are there and the archive is open, and those
+    of an answer."""
     browser = Browser()
     try:
         browser.go(os.path.abspath(page))
         browser.run("""window.seen = {}; const old = hear; room.library.worker.onmessage = (() => {
           const before = room.library.worker.onmessage;
-          return (event) => { if (event.data.report && !window.seen[event.data.report]) window.seen[event.data.report] = performance.now(); before(event); }; })(); 0""")
+          return (event) => { if (event.data.report && (event.data.report === 'verdicts' || !window.seen[event.data.report])) window.seen[event.data.report] = performance.now(); before(event); }; })(); 0""")
         browser.run("const given = openFile; openFile = (file) => { window.began = performance.now(); given(file); }; 0")
         browser.give_file("#file", archive)
-        browser.until("(room.findings !== null && room.isOpen) || document.getElementById('status').textContent.includes('stopped')", 300)
-        times = browser.run("['rows', 'listed', 'findings', 'opened'].map((name) => (window.seen[name] - window.began) / 1000)")
+        browser.until("(room.findings !== null && room.isOpen && room.counts.judged === room.rows.count) || document.getElementById('status').textContent.includes('stopped')", 300)
+        times = browser.run("['rows', 'listed', 'findings', 'verdicts', 'opened'].map((name) => (window.seen[name] - window.began) / 1000)")
         begun = time.monotonic()
         browser.run("room.library.ask([{ position: 7 }]).then((answers) => answers[0].length)")
         return [*times, time.monotonic() - begun]
@@ -48,7 +49,7 @@ def main():
     for command in ("list", "check"):
         print(f"  warc {command}: {min(run([*program.split(), command, archive]) for _ in range(RUNS))[0]:.2f} s")
     least = [min(times) for times in zip(*(open_page(page, archive) for _ in range(RUNS)))]
-    for name, seconds in zip(("first rows", "all rows", "findings", "open for questions", "one answer"), least):
+    for name, seconds in zip(("first rows", "all rows", "findings", "all verdicts", "open for questions", "one answer"), least):
         print(f"  page, {name}: {seconds:.3f} s")
 
 

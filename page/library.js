@@ -13,9 +13,11 @@ function shown(bytes) {
 // A text for people that a reader typed, as the bytes of an archive.
 const typed = (words) => new TextEncoder().encode(words);
 
-// Where the numbers of a row are: offset, block and its length, four lengths of texts, verdict, mark of truncation.
-const ROW_BYTES = 48, LENGTHS = 24, VERDICT = 40, TRUNCATED = 44;
-const VERDICTS = ['good', 'bad', 'unchecked'];
+// Where the numbers of a row are: offset, block and its length, four lengths of texts, mark of truncation. In the four
+// bytes after them this page keeps the verdict on the block.
+const ROW_BYTES = 48, LENGTHS = 24, TRUNCATED = 40, VERDICT = 44;
+const UNJUDGED = 3;
+const VERDICTS = ['good', 'bad', 'unchecked', '…'];
 
 // The rows of all records, in the pieces in which they came.
 class Rows {
@@ -26,10 +28,19 @@ class Rows {
     for (let number = 0; number < count; number += 1) {
       let length = 0;
       for (let part = 0; part < 4; part += 1) length += view.getUint32(number * ROW_BYTES + LENGTHS + part * 4, true);
+      view.setUint32(number * ROW_BYTES + VERDICT, UNJUDGED, true);
       starts[number + 1] = starts[number] + length;
     }
     this.pieces.push({ first: this.count, base, count, view, words: new Uint8Array(words), starts });
     this.count += count;
+  }
+
+  // Keeps the verdicts on the blocks of the records from a position on.
+  judge(first, verdicts) {
+    verdicts.forEach((verdict, number) => {
+      const piece = this.piece(first + number);
+      piece.view.setUint32((first + number - piece.first) * ROW_BYTES + VERDICT, verdict, true);
+    });
   }
 
   piece(position) {
@@ -41,7 +52,7 @@ class Rows {
     return this.pieces[low];
   }
 
-  // What the library keeps of the record at a position.
+  // What the library keeps of the record at a position, and the verdict on its block as far as it is known.
   row(position) {
     const piece = this.piece(position), number = position - piece.first, at = number * ROW_BYTES;
     const big = (place) => Number(piece.view.getBigUint64(at + place, true));
@@ -53,7 +64,7 @@ class Rows {
     });
     return {
       position, offset: big(0) + piece.base, blockStart: big(8) + piece.base, blockLength: big(16),
-      verdict: VERDICTS[piece.view.getUint32(at + VERDICT, true)], truncated: piece.view.getUint32(at + TRUNCATED, true) === 1,
+      get verdict() { return VERDICTS[piece.view.getUint32(at + VERDICT, true)]; }, truncated: piece.view.getUint32(at + TRUNCATED, true) === 1,
       kind: latin.decode(texts[0]), date: latin.decode(texts[1]), id: texts[2], target: texts[3],
     };
   }

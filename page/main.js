@@ -29,7 +29,7 @@ function make(name, properties = {}, ...children) {
 // ---------------------------------------------------------------- the archive
 
 const room = { file: null, rows: new Rows(), library: null, fault: '', end: 0, holds: false, listed: false, findings: null,
-  filters: new Map(), words: '', sort: { by: 'position', up: true }, order: null, current: -1, visit: 0, urls: [] };
+  filters: new Map(), words: '', sort: { by: 'position', up: true }, order: null, current: -1, visit: 0, urls: [], waits: [] };
 
 function captureTime(date) {
   const time = Date.parse(date);
@@ -39,9 +39,9 @@ function captureTime(date) {
 const dateText = (time) => new Date(time).toISOString().replace(/\.000Z$/, 'Z');
 const hostOf = (target) => /^[a-z][a-z0-9+.-]*:\/\/(?:[^/?#@]*@)?([^/?#]*)/i.exec(target)?.[1]?.toLowerCase() ?? '';
 
-// Counts over all records, added to as rows come.
+// Counts over all records, added to as rows come, and then as their blocks are judged.
 class Counts {
-  constructor() { this.seen = 0; this.kinds = new Map(); this.hosts = new Map(); this.verdicts = [0, 0, 0]; this.times = []; this.first = Infinity; this.last = -Infinity; }
+  constructor() { this.seen = 0; this.kinds = new Map(); this.hosts = new Map(); this.verdicts = [0, 0, 0]; this.judged = 0; this.times = []; this.first = Infinity; this.last = -Infinity; }
 
   addAll(rows) {
     for (; this.seen < rows.count; this.seen += 1) this.add(rows.row(this.seen));
@@ -51,12 +51,16 @@ class Counts {
     const kind = row.kind.toLowerCase(), host = CAPTURES.has(kind) ? hostOf(latin.decode(row.target)) : '';
     this.kinds.set(kind, (this.kinds.get(kind) ?? 0) + 1);
     if (host) this.hosts.set(host, (this.hosts.get(host) ?? 0) + 1);
-    this.verdicts[VERDICTS.indexOf(row.verdict)] += 1;
     const time = CAPTURES.has(kind) ? captureTime(row.date) : null;
     if (time === null) return;
     this.times.push(time);
     this.first = Math.min(this.first, time);
     this.last = Math.max(this.last, time);
+  }
+
+  judge(verdicts) {
+    verdicts.forEach((verdict) => { this.verdicts[verdict] += 1; });
+    this.judged += verdicts.length;
   }
 }
 
@@ -73,7 +77,7 @@ function showProgress(part) {
 
 function openFile(file) {
   forgetUrls();
-  Object.assign(room, { file, number: Date.now(), rows: new Rows(), counts: new Counts(), fault: '', end: 0, holds: false, listed: false, isOpen: false, findings: null, order: null,
+  Object.assign(room, { file, number: Date.now(), rows: new Rows(), counts: new Counts(), fault: '', end: 0, holds: false, listed: false, isOpen: false, isStopped: false, findings: null, order: null, waits: [],
     current: -1, words: '', captures: null, targets: null, drawn: Infinity, began: performance.now(), visit: room.visit + 1, sort: { by: 'position', up: true } });
   room.filters.clear();
   byId('words').value = '';
@@ -118,6 +122,8 @@ function hear(message) {
     say(`${many(room.rows.count, 'record')} read in ${(room.listedIn / 1000).toFixed(1)} s.${looks ? ' Looking for findings…' : room.holds ? '' : ' This archive is too long to be replayed here.'}`);
     showProgress(looks ? -1 : null);
     soon();
+  } else if (message.report === 'verdicts') {
+    if (room.listed) takeVerdicts(message);
   } else if (message.report === 'findings') {
     room.findingLines = message.lines;
     room.findings = readFindings(message.lines);
@@ -133,8 +139,28 @@ function hear(message) {
     say(`The library stopped. ${why}`);
     room.holds = false;
     room.listed = true;
+    room.isStopped = true;
+    endWaits(() => true);
     drawAll();
   }
+}
+
+function takeVerdicts({ first, verdicts }) {
+  room.rows.judge(first, verdicts);
+  room.counts.judge(verdicts);
+  endWaits(({ position }) => room.rows.verdict(position) !== UNJUDGED);
+  soon();
+}
+
+function endWaits(isOver) {
+  room.waits.filter(isOver).forEach(({ done }) => done());
+  room.waits = room.waits.filter((wait) => !isOver(wait));
+}
+
+// Waits until the block of the record at a position is judged, or none is any more.
+function judged(position) {
+  if (room.isStopped || room.rows.verdict(position) !== UNJUDGED) return Promise.resolve();
+  return new Promise((done) => { room.waits.push({ position, done }); });
 }
 
 function readFindings(lines) {
@@ -189,7 +215,7 @@ function drawAll() {
 
 function drawNumbers() {
   const numbers = [[room.rows.count, 'records'], [room.counts.times.length, 'captures'], [room.counts.hosts.size, 'hosts'],
-    [room.counts.verdicts[0], 'blocks good'], [room.counts.verdicts[1], 'bad'], [room.counts.verdicts[2], 'unchecked'],
+    ...['blocks good', 'bad', 'unchecked'].map((name, verdict) => [room.counts.judged < room.rows.count ? '…' : room.counts.verdicts[verdict], name]),
     [room.findings ? room.findings.length : '…', 'findings']];
   const span = room.counts.first <= room.counts.last ? `${dateText(room.counts.first).slice(0, 10)} to ${dateText(room.counts.last).slice(0, 10)}` : '';
   byId('numbers').replaceChildren(...numbers.map(([number, name]) => make('div', {}, make('b', {}, typeof number === 'number' ? number.toLocaleString('en') : number), make('span', {}, name))),
@@ -271,9 +297,11 @@ function plot(id, ...children) {
 function drawPlots() {
   plot('types', bars('type', sorted(room.counts.kinds), tone));
   plot('hosts', room.counts.hosts.size ? bars('host', sorted(room.counts.hosts).slice(0, 100)) : make('p', { className: 'none' }, 'none'));
-  plot('verdicts', bars('verdict', VERDICTS.map((name, number) => [name, room.counts.verdicts[number]]).filter((it) => it[1]),
-    (value) => ({ good: 'var(--good)', bad: 'var(--bad)' })[value] ?? 'var(--c8)',
-    (value) => ({ good: 'the block has the digest that its record states', bad: 'the block doesn’t have the digest that its record states', unchecked: 'the record states no digest, or one that can’t be checked' })[value]));
+  if (room.counts.judged || !room.rows.count) {
+    plot('verdicts', bars('verdict', room.counts.verdicts.map((count, number) => [VERDICTS[number], count]).filter((it) => it[1]),
+      (value) => ({ good: 'var(--good)', bad: 'var(--bad)' })[value] ?? 'var(--c8)',
+      (value) => ({ good: 'the block has the digest that its record states', bad: 'the block doesn’t have the digest that its record states', unchecked: 'the record states no digest, or one that can’t be checked' })[value]));
+  } else plot('verdicts', make('p', { className: 'none' }, 'not judged yet'));
   drawTimes();
   if (!room.findings) { plot('findings', make('p', { className: 'none' }, room.listed && !room.holds ? 'not looked for: the archive is too long' : 'not looked for yet')); return; }
   const numbers = new Map();

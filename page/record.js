@@ -128,9 +128,16 @@ async function completed(it) {
   Object.assign(it, { type, http });
 }
 
+// The verdict on a record's block, now or once it is judged.
+function verdictOf(row) {
+  const word = make('span', { className: `verdict ${row.verdict}` }, row.verdict);
+  judged(row.position).then(() => { word.className = `verdict ${row.verdict}`; word.textContent = row.verdict; });
+  return word;
+}
+
 function titleOf(row) {
   return make('header', {}, closing(), make('h2', {}, make('bdi', {}, shown(row.target) || `${row.kind} ${latin.decode(row.id)}`)),
-    make('div', { className: 'sub' }, `Record ${row.position}, ${row.kind}, ${row.date}, ${size(row.blockLength)}, digest `, make('span', { className: `verdict ${row.verdict}` }, row.verdict), row.truncated ? ', marked as truncated' : ''));
+    make('div', { className: 'sub' }, `Record ${row.position}, ${row.kind}, ${row.date}, ${size(row.blockLength)}, digest `, verdictOf(row), row.truncated ? ', marked as truncated' : ''));
 }
 
 // The captures of the URI as points in time.
@@ -186,7 +193,7 @@ const isCoded = (it) => numberOf(it.answer?.reason ?? '') === 'P10';
 // A revisit as wget 1.21 writes it: with the digest of no bytes, although it stores the HTTP head.
 const EMPTY_DIGEST = '3I42H3S6NNFQ2MSVX7XZKYAYSCX5QBYJ'; // the SHA-1 of no bytes
 const OF_WGET = 'The digest of this revisit is bad since wget 1.21 states the digest of no bytes in each revisit, although it stores the HTTP head there. It says nothing of the body, which comes from another record with a digest of its own.';
-const isOfWget = ({ row, own }) => row.verdict === 'bad' && row.kind.toLowerCase() === 'revisit' && fieldOf(own.fields, 'WARC-Block-Digest').endsWith(EMPTY_DIGEST);
+const isOfWget = ({ row, own }) => row.blockLength > 0 && row.kind.toLowerCase() === 'revisit' && fieldOf(own.fields, 'WARC-Block-Digest').toUpperCase() === `SHA1:${EMPTY_DIGEST}`;
 
 // Why there is no body, and what to do.
 function noBody(reason) {
@@ -353,8 +360,9 @@ async function blockTab(it) {
   return [it.row.blockLength ? (isBinary ? hexView(bytes) : textView(shown(bytes))) : make('p', {}, 'The block is empty.'), make('div', { className: 'actions' }, make('button', { className: 'button', type: 'button', on: { click: () => download(whole, `block-${it.position}`) } }, 'Save the block'))];
 }
 
-const VERDICT_WORDS = { good: 'good: the block has the digest that the record states', bad: 'bad: the block doesn’t have the digest that the record states', unchecked: 'unchecked: the record states no digest, or one that can’t be checked' };
+const VERDICT_WORDS = { good: 'good: the block has the digest that the record states', bad: 'bad: the block doesn’t have the digest that the record states', unchecked: 'unchecked: the record states no digest, or one that can’t be checked', '…': 'not judged' };
 async function factsTab(it) {
+  await judged(it.position);
   const stated = fieldOf(it.own.fields, 'WARC-Block-Digest');
   const facts = [['Position', String(it.position)], ['Offset', `byte ${it.row.offset.toLocaleString('en')}`], ['Type', it.row.kind], ['Date', it.row.date], ['Id', latin.decode(it.row.id)], ['Target', shown(it.row.target) || '–'],
     ['Head', size(it.row.blockStart - it.row.offset)], ['Block', `${it.row.blockLength.toLocaleString('en')} bytes from byte ${it.row.blockStart.toLocaleString('en')} on`], ['Digest of the block', VERDICT_WORDS[it.row.verdict]],

@@ -20,7 +20,11 @@ const HELPERS = typeof Worker === 'function' ? Math.min(4, navigator.hardwareCon
 const LEAST_SHARED = 32 * MEGABYTE; // bytes: a shorter file is listed by this worker alone
 const MOST_TWICE = navigator.deviceMemory >= 8 ? Infinity : 1024 * MEGABYTE; // bytes: of a longer file there is no second copy in memory, for its findings
 const BEGINNING = '\r\n\r\nWARC/1.'; // what a record's beginning looks like, after the end of the record before it
-const SMALL = 4096; // bytes of memory that a question is given
+const SMALL = 4096; // bytes of memory that a question, or a verdict, is given
+const MOST_OF_HEAD = 16 * MEGABYTE; // bytes of memory that reading a head needs at most
+const MOST_JUDGING = 64 * MEGABYTE; // what verdicts are given until their module is started anew
+const NO_VERDICT = 3;
+const LEAST_PAGES = 16; // by which a memory grows at least
 const SPARE = 64 * MEGABYTE; // what questions may use of an open archive's memory, until it is opened anew
 const SPANS = 64; // for how many parts of a body there is room at first
 
@@ -32,7 +36,9 @@ let kept = null; // the instance that holds the archive
 let count = 0, textBytes = 0, end = 0;
 let run = 0; // number of the file that was opened last
 let openings = 0; // how often an archive was opened in a module's memory
-let looking = null; // the helper that looks for findings
+let looking = null; // the helpers that look for findings and judge blocks
+let listed = []; // records that were listed together: the first one's position, from which offset to which, and their rows
+let judging = null; // the instance in which blocks are judged
 
 const round = (number, to) => Math.ceil(number / to) * to;
 
@@ -53,7 +59,7 @@ class Instance {
     const at = this.end;
     this.end = round(this.end + bytes + 1, UNIT);
     const pages = Math.ceil((this.end - this.memory.buffer.byteLength) / WASM_PAGE);
-    if (pages > 0) grow(this.memory, pages);
+    if (pages > 0) grow(this.memory, Math.max(pages, LEAST_PAGES));
     return at;
   }
 
@@ -84,6 +90,17 @@ class Instance {
     this.spent += room;
     this.exports[name](BigInt(at), BigInt(room / UNIT), ...parts.map(BigInt));
     return this.number(outcome);
+  }
+
+  // The verdict on a block by its head, with fresh memory, and with more where that didn't suffice.
+  verdict(...parts) {
+    for (let room = SMALL; room <= MOST_OF_HEAD; room *= 4) {
+      const at = this.take(room);
+      this.spent += room;
+      const verdict = Number(this.exports.page_verdict(...[at, room / UNIT, ...parts].map(BigInt)));
+      if (verdict !== NO_VERDICT) return verdict;
+    }
+    throw new Error('a head isn’t what it was');
   }
 
   // Calls an export with fresh memory, and with more where that didn't suffice.
@@ -130,12 +147,12 @@ function placed(fault, start) {
 }
 
 // Reports the records that were found from an offset on. Returns whether there may be more after the bytes so far.
-function report(found, start, stop) {
-  count += found.records;
-  textBytes += found.texts;
-  postMessage({ report: 'rows', base: start, count: found.records, rows: found.rows, words: found.words,
-    read: start + found.end, size: file.size }, [found.rows, found.words]);
-  return !found.fault || (found.fault.startsWith('F11 ') && stop < file.size);
+function report({ records, texts, rows, words, end: length, fault }, start, stop) {
+  if (records) listed.push({ first: count, start, stop: start + length, rows: rows.slice(0) });
+  count += records;
+  textBytes += texts;
+  postMessage({ report: 'rows', base: start, count: records, rows, words, read: start + length, size: file.size }, [rows, words]);
+  return !fault || (fault.startsWith('F11 ') && stop < file.size);
 }
 
 // Helpers that list bytes side by side. They are started when they are needed.
@@ -349,11 +366,36 @@ function findings(instance) {
 }
 
 // The findings by a helper, so that questions don't wait for them; of a long archive by this worker.
-async function findByHelper(mine) {
-  const helpers = looking = new Helpers(), alone = async () => ({ lines: findings(await full()) });
+async function findBy(helpers, mine) {
+  const alone = async () => ({ lines: findings(await full()) });
   const { lines } = await (isAlone() ? alone() : helpers.ask({ find: { file, end, count, textBytes } }).catch(alone));
-  helpers.stop();
   if (mine === run) postMessage({ report: 'findings', lines: text(lines) });
+}
+
+// The verdicts on the blocks of records that were listed together, which are read again.
+async function judge({ file: from, start, stop, rows }) {
+  const bytes = new Uint8Array(await from.slice(start, stop).arrayBuffer());
+  if (!judging || judging.spent > MOST_JUDGING) judging = new Instance();
+  const at = judging.lend('bytes', Math.max(bytes.length, PIECE)), view = new DataView(rows);
+  judging.bytes(at, bytes.length).set(bytes);
+  const verdicts = Uint8Array.from({ length: rows.byteLength / ROW }, (_, number) => {
+    const [head, block, length] = [0, 8, 16].map((place) => Number(view.getBigUint64(number * ROW + place, true)));
+    return judging.verdict(at + head, block - head, at + block, length);
+  });
+  return { verdicts };
+}
+
+// The verdicts on all blocks by helpers side by side, or by this worker between questions.
+async function judgeBy(helpers, mine) {
+  const waiting = listed.splice(0), here = file;
+  const goOn = async () => {
+    for (let next; mine === run && (next = waiting.shift());) {
+      const task = { file: here, ...next }, alone = () => judge(task);
+      const { verdicts } = await (HELPERS < 2 ? alone() : helpers.ask({ judge: task }).catch(alone));
+      if (mine === run) postMessage({ report: 'verdicts', first: next.first, verdicts }, [verdicts.buffer]);
+    }
+  };
+  await Promise.all(Array.from({ length: HELPERS }, goOn));
 }
 
 const isAlone = () => HELPERS < 2 || end > MOST_TWICE;
@@ -415,21 +457,24 @@ async function open(given) {
   looking?.stop();
   file = given;
   kept = null;
-  count = 0; textBytes = 0; end = 0;
+  count = 0; textBytes = 0; end = 0; listed = [];
   const fault = await (file.size <= limit ? listKept(mine) : listPieces(mine));
   if (fault === null) return;
   const holds = end <= limit;
   postMessage({ report: 'listed', fault, end, holds });
-  if (!holds || (fault && end === 0)) return;
-  const found = findByHelper(mine).catch((error) => { if (mine === run) fail(0, error); });
-  if (isAlone()) await found;
+  if (end === 0 && fault) return;
+  const helpers = looking = new Helpers(), works = holds ? [findBy, judgeBy] : [judgeBy];
+  const [first, ...others] = works.map((work) => work(helpers, mine).catch((error) => { if (mine === run) fail(0, error); }));
+  Promise.all([first, ...others]).then(() => helpers.stop());
+  if (!holds) return;
+  if (isAlone()) await first;
   if (mine !== run) return;
   await ready();
   postMessage({ report: 'opened' });
 }
 
-// What a helper does: it lists bytes, or looks for the findings of a file.
-async function help({ list, find }) {
+// What a helper does: it lists bytes, judges blocks of a file, or looks for its findings.
+async function help({ list, find, judge: task }) {
   if (list) {
     if (!kept || kept.spent > SPENT / 2) kept = new Instance();
     const at = kept.lend('bytes', Math.max(list.length, PIECE));
@@ -438,6 +483,7 @@ async function help({ list, find }) {
     postMessage(found, [found.rows, found.words]);
     return;
   }
+  if (task) { postMessage(await judge(task)); return; }
   ({ file, end, count, textBytes } = find);
   const lines = findings(await filled());
   postMessage({ lines }, [lines.buffer]);
@@ -456,7 +502,7 @@ function respond({ id, open: given, questions }) {
 onmessage = ({ data }) => {
   if (data.wasm) { compiled = new WebAssembly.Module(data.wasm); ({ limit, script } = data); return; }
   if (data.module) { compiled = data.module; return; }
-  if (data.list || data.find) { help(data).catch((error) => postMessage({ why: whyOf(error) })); return; }
+  if (data.list || data.find || data.judge) { help(data).catch((error) => postMessage({ why: whyOf(error) })); return; }
   if (data.open) run += 1;
   queue = queue.then(() => respond(data));
 };

@@ -64,6 +64,7 @@ class Tests:
         browser.go(self.page)
         browser.give_file("#file", archive)
         browser.until("room.listed && (!room.holds || room.findings !== null || (room.fault && room.end === 0))", 600)
+        browser.until("room.counts.judged === room.rows.count", 600)
         return browser
 
 
@@ -81,6 +82,17 @@ def lines_of(browser):
     return lines.encode("latin-1")
 
 
+def verdicts_of(browser):
+    return browser.run("(() => { const all = []; for (let p = 0; p < room.rows.count; p += 1) all.push(room.rows.row(p).verdict); return all; })()")
+
+
+def verdicts_by_program(tests, archive, count):
+    """The verdict on each record's block, from the lines of `warc fixity`, which name the blocks that aren't good."""
+    lines = tests.warc("fixity", archive)[0].decode("latin-1").split("\n")[:-2]
+    named = dict(line.split("\t")[:2] for line in lines)
+    return [named.get(str(position), "good") for position in range(count)]
+
+
 def same_as_program(tests, name, archive):
     """List, findings and every replay of an archive equal the program's bytes."""
     browser = tests.opened(archive)
@@ -95,6 +107,9 @@ def same_as_program(tests, name, archive):
             archive = good
             out = tests.warc("list", archive)[0]
         tests.holds(lines_of(browser) == out, f"{name}: list", out[:200])
+        verdicts = verdicts_by_program(tests, archive, out.count(b"\n"))
+        tests.holds(verdicts_of(browser) == verdicts, f"{name}: verdicts", verdicts[:20])
+        tests.holds(browser.run("room.counts.verdicts") == [verdicts.count(it) for it in ("good", "bad", "unchecked")], f"{name}: counts of verdicts")
         if browser.run("room.findings === null"):
             return
         tests.holds(browser.run("room.findingLines").encode("latin-1") == tests.warc("check", archive)[0], f"{name}: findings")
