@@ -11,6 +11,7 @@ mod ranges;
 mod records;
 mod splitting;
 mod steps;
+mod turns;
 mod writing;
 
 use std::alloc::{AllocError, Global};
@@ -29,5 +30,7 @@ pub fn answer(
     let is_of_faults = faults::answer(alloc, case, answer)?;
     let is_of_devices = devices::answer(alloc, case, kept, answer)?;
     let is_of_writing = writing::answer(alloc, case, kept, answer)?;
-    Ok(is_of_records || is_of_pieces || is_of_faults || is_of_devices || is_of_writing)
+    let is_of_turns = turns::answer(alloc, case, kept, answer)?;
+    let is_of_all = is_of_records || is_of_pieces || is_of_faults || is_of_devices;
+    Ok(is_of_all || is_of_writing || is_of_turns)
 }

@@ -165,21 +165,23 @@ fn head_fault<A: Allocator + Copy>(alloc: A, fields: &Fields<A>) -> Option<Fault
     type_head(alloc, fields).err()
 }
 
-/// Where the calls on a head meet want of memory.
-fn want_met<A: Allocator + Copy>(alloc: A, fields: &Fields<A>) -> Want {
-    if head_fault(alloc, fields).is_some() {
-        Want::OfHead
-    } else if findings(alloc, fields, 3).is_err() {
-        Want::OfFindings
-    } else {
-        Want::Nowhere
+/// Where the calls on a head meet want of memory. `None` where they tell of another fault, or where the call that met
+/// it doesn't go well when it is made again.
+fn want_met<A: Allocator + Copy>(alloc: A, fields: &Fields<A>) -> Option<Want> {
+    match head_fault(alloc, fields) {
+        Some(FaultKind::Memory) => head_fault(alloc, fields).is_none().then_some(Want::OfHead),
+        Some(_) => None,
+        None if findings(alloc, fields, 3).is_ok() => Some(Want::Nowhere),
+        None => findings(alloc, fields, 3)
+            .is_ok()
+            .then_some(Want::OfFindings),
     }
 }
 
 /// The same of the fields of an area that are read with ample memory.
 fn want_of_area<A: Allocator + Copy>(ample: A, heap: A, area: &[u8]) -> Option<Want> {
     match read_area(ample, area) {
-        Ok(fields) => Some(want_met(heap, &fields)),
+        Ok(fields) => want_met(heap, &fields),
         Err(_) => None,
     }
 }
