@@ -1,6 +1,7 @@
 //! One call of an archive or of a listing, by the words of a case: what it answers, as text.
 
 use crate::calls::{captured, checked, extracted, replayed};
+use crate::places::{add_head, add_located, add_located_for, add_outcome};
 use crate::replays::Asked;
 use crate::telling::{add_check, add_done, add_extract, add_line, add_replay, add_text};
 use std::alloc::{AllocError, Allocator, Global};
@@ -82,6 +83,15 @@ pub(crate) fn ask_archive<S: Source, A: Allocator + Copy, W: Sink>(
             let told = archive.stored_to(case.number(3) as usize, out);
             add_stored(alloc, &mut text, told)?;
         }
+        "locate" => add_located_for(alloc, archive, case, &mut text)?,
+        "located" => {
+            let told = archive.locate_at(case.number(3) as usize);
+            add_located(alloc, &mut text, told)?;
+        }
+        "outcome" => {
+            let told = archive.outcome_at(case.number(3) as usize);
+            add_outcome(alloc, &mut text, told)?;
+        }
         "record" => {
             let taken = archive.record(case.number(3) as usize);
             add_taken(alloc, &mut text, taken)?;
@@ -112,6 +122,10 @@ pub(crate) fn ask_listing<S: Source, A: Allocator + Copy, W: Sink>(
         "block" => {
             let told = listing.block_to(case.number(3) as usize, out);
             add_extract(alloc, &mut text, told)?;
+        }
+        "heading" => {
+            let told = listing.head(case.number(3) as usize);
+            add_head(alloc, &mut text, told)?;
         }
         "record" => {
             let taken = listing.record(case.number(3) as usize);

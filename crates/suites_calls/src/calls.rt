@@ -1,7 +1,7 @@
 //! Calls of archives, each in a function of its own: plain values.
 
 use std::alloc::{AllocError, Allocator, Global};
-use warc::{Archive, ExtractFault, Outcome};
+use warc::{Archive, ExtractFault, Located, Outcome};
 use warc_answer::{Answer, ReplayFault};
 use warc_frame::{Fault, MemSink, OutFault, Sink, Source};
 use warc_value::Moment;
@@ -37,6 +37,15 @@ pub fn replayed<S: Source, A: Allocator + Copy, W: Sink>(
     out: &mut W,
 ) -> Result<Answer, ReplayFault> {
     archive.replay(uri, moment, out)
+}
+
+/// Where an archive has the body that a replay gives.
+pub(crate) fn located<S: Source, A: Allocator + Copy>(
+    archive: &mut Archive<S, A>,
+    uri: &[u8],
+    moment: &Moment,
+) -> Result<Located<A>, ReplayFault> {
+    archive.locate(uri, moment)
 }
 
 /// What an archive answers to an extraction.

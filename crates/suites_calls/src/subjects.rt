@@ -2,7 +2,7 @@
 
 use crate::all::{all_of, all_of_listing};
 use crate::asking::{ask_archive, ask_listing};
-use crate::calls::{opened, refused};
+use crate::calls::opened;
 use std::alloc::{AllocError, Allocator, Global};
 use suites_script::Case;
 use warc::{Archive, Listing};
@@ -37,17 +37,6 @@ fn indexed<S: Source + Drop, A: Allocator + Copy>(
     }
 }
 
-/// Why a listing doesn't grow by a source, if it doesn't.
-fn refused_by_listing<S: Source + Drop, A: Allocator + Copy>(
-    listing: &mut Listing<S, A>,
-    source: S,
-) -> Option<Fault> {
-    match listing.grow(source) {
-        Ok(()) => None,
-        Err((fault, _source)) => Some(fault),
-    }
-}
-
 impl<S: Source + Drop, A: Allocator + Copy> Subject<S, A> {
     /// Opens what a word names, or says why it doesn't open: a listing by `listing`, and else an archive.
     pub fn open(name: &str, heap: A, source: S) -> Result<Subject<S, A>, Fault> {
@@ -71,11 +60,19 @@ impl<S: Source + Drop, A: Allocator + Copy> Subject<S, A> {
         }
     }
 
+    /// Lets it grow by a source.
+    pub fn grow(&mut self, source: S) -> Result<(), (Fault, S)> {
+        match self {
+            Subject::OfArchive(archive) => archive.grow(source),
+            Subject::OfListing(listing) => listing.grow(source),
+        }
+    }
+
     /// Why it doesn't grow by a source, if it doesn't.
     pub fn refused(&mut self, source: S) -> Option<Fault> {
-        match self {
-            Subject::OfArchive(archive) => refused(archive, source),
-            Subject::OfListing(listing) => refused_by_listing(listing, source),
+        match self.grow(source) {
+            Ok(()) => None,
+            Err((fault, _source)) => Some(fault),
         }
     }
 

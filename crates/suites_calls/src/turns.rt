@@ -103,6 +103,11 @@ fn turn_opened<S: Source + Drop, A: Allocator + Copy>(
     }
 }
 
+/// Whether a number isn't 0, in a word.
+fn some_or_no(count: u64) -> &'static str {
+    if count > 0 { "some" } else { "no" }
+}
+
 /// How many failures came while something was opened, and how many behind that.
 #[derive(Clone, Copy)]
 struct Turns {
@@ -142,10 +147,19 @@ impl Turns {
         }
     }
 
-    /// Adds how many there were, or which one comes otherwise.
-    fn tell(self, alloc: Global, of: &str, answer: &mut Vec<u8>) -> Result<(), AllocError> {
+    /// Adds how many there were, or only whether there were any; or which one comes otherwise.
+    fn tell(
+        self,
+        alloc: Global,
+        of: &str,
+        is_counted: bool,
+        answer: &mut Vec<u8>,
+    ) -> Result<(), AllocError> {
         let (opening, behind) = (self.opening, self.behind);
-        let line = if self.is_whole {
+        let line = if self.is_whole && is_counted {
+            format!(in alloc; "{opening} {of} while it is opened, {behind} behind that\n")?
+        } else if self.is_whole {
+            let (opening, behind) = (some_or_no(opening), some_or_no(behind));
             format!(in alloc; "{opening} {of} while it is opened, {behind} behind that\n")?
         } else {
             let number = opening.saturating_add(behind);
@@ -291,7 +305,7 @@ fn tell_writes(
 }
 
 /// Adds what the call of a case answers, how many bytes go out, and how many reads, requests for memory and writes fail
-/// in turn.
+/// in turn; of reads and requests only whether any do, where the first word of the case says so.
 fn add_all_turns(
     alloc: Global,
     subject: &mut Subject<MemSource, Global>,
@@ -299,11 +313,12 @@ fn add_all_turns(
     bytes: &[u8],
     answer: &mut Vec<u8>,
 ) -> Result<(), AllocError> {
+    let is_counted = case.text(0) == "in-turn";
     let whole = told_by(alloc, subject, case)?;
     answer.extend_from_slice(&whole.text)?;
     add_number(alloc, answer, "sent", whole.sent.len() as u64)?;
-    turn_reads(alloc, case, bytes, &whole)?.tell(alloc, "reads", answer)?;
-    turn_requests(alloc, case, bytes, &whole)?.tell(alloc, "requests", answer)?;
+    turn_reads(alloc, case, bytes, &whole)?.tell(alloc, "reads", is_counted, answer)?;
+    turn_requests(alloc, case, bytes, &whole)?.tell(alloc, "requests", is_counted, answer)?;
     tell_writes(alloc, subject, case, &whole, answer)
 }
 

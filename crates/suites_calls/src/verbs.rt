@@ -1,6 +1,7 @@
 //! What answers each verb of a case.
 
 use crate::checks::{add_check_changed, add_check_of, add_check_thrice, add_check_unread};
+use crate::copying::add_front;
 use crate::fronts::add_fronts;
 use crate::judging::add_refusals;
 use crate::kept::{add_kept, add_kept_same};
@@ -47,7 +48,8 @@ pub fn answer_once(
         "checked-fronts" => add_fronts(alloc, case, archive, answer)?,
         "judged-refused" => add_refusals(alloc, case, archive, answer)?,
         "kept" => add_kept(alloc, case, archive, answer)?,
-        "in-turn" => add_turns(alloc, case, archive, answer)?,
+        "in-turn" | "some-in-turn" => add_turns(alloc, case, archive, answer)?,
+        "front-in-turn" => add_front(alloc, case, archive, answer)?,
         "kept-as" => add_kept_same(alloc, case, archive, answer)?,
         _ => return Ok(false),
     }

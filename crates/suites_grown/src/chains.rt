@@ -132,7 +132,7 @@ pub(crate) fn add_chain_answers(
     bytes: &[u8],
     answer: &mut Vec<u8>,
 ) -> Result<(), AllocError> {
-    let at_once = all_of_bytes(alloc, &chain_of(alloc, case, bytes)?)?;
+    let at_once = all_of_bytes(alloc, "archive", &chain_of(alloc, case, bytes)?)?;
     let grown = all_from_nothing(alloc, case, bytes)?;
     if at_once.as_slice() != grown.as_slice() {
         add_line(answer, b"another answer where it grows")?;

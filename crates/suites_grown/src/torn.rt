@@ -3,39 +3,39 @@
 use crate::growth::{joined, longer};
 use crate::wanted::{Wanted, answers};
 use std::alloc::{AllocError, Global};
-use suites_calls::{opened, refused, source_of};
+use suites_calls::{Subject, source_of};
 use suites_script::Case;
-use warc::Archive;
 use warc_frame::{FaultKind, MemSource};
 
-/// Whether an archive refuses to grow by the front of a record, which ends at this offset, and answers as before then.
+/// Whether it refuses to grow by the front of a record, which ends at this offset, and answers as before then.
 fn is_torn(
     alloc: Global,
-    archive: &mut Archive<MemSource>,
+    subject: &mut Subject<MemSource, Global>,
     source: MemSource,
     end: usize,
     wanted: &Wanted,
 ) -> Result<bool, AllocError> {
-    let fault = refused(archive, source);
+    let fault = subject.refused(source);
     let torn = FaultKind::Truncated.at(end as u64);
-    Ok(answers(alloc, archive, &wanted.before)? && fault == Some(torn))
+    Ok(answers(alloc, subject, &wanted.before)? && fault == Some(torn))
 }
 
 /// Whether it grows by the whole record.
 fn is_whole(
     alloc: Global,
-    archive: &mut Archive<MemSource>,
+    subject: &mut Subject<MemSource, Global>,
     source: MemSource,
     wanted: &Wanted,
 ) -> Result<bool, AllocError> {
-    let fault = refused(archive, source);
-    Ok(answers(alloc, archive, &wanted.after)? && fault.is_none())
+    let fault = subject.refused(source);
+    Ok(answers(alloc, subject, &wanted.after)? && fault.is_none())
 }
 
-/// Whether an archive of these bytes refuses that front of a record, which is so long, and then grows by the record.
+/// Whether what was opened of these bytes refuses that front of a record, which is so long, and then grows by the
+/// record.
 fn recovers(
     alloc: Global,
-    archive: &mut Archive<MemSource>,
+    subject: &mut Subject<MemSource, Global>,
     (bytes, most): (&[u8], usize),
     (record, len): (&[u8], usize),
     wanted: &Wanted,
@@ -43,26 +43,28 @@ fn recovers(
     let front = record.get(..len).unwrap_or(record);
     let torn = longer(alloc, bytes, front, most)?;
     let end = bytes.len().saturating_add(len);
-    let is_refused = is_torn(alloc, archive, torn, end, wanted)?;
+    let is_refused = is_torn(alloc, subject, torn, end, wanted)?;
     let whole = longer(alloc, bytes, record, most)?;
-    Ok(is_whole(alloc, archive, whole, wanted)? && is_refused)
+    Ok(is_whole(alloc, subject, whole, wanted)? && is_refused)
 }
 
-/// The same of an archive that is opened for it.
+/// The same of what a word names, which is opened for it.
 fn recovers_once_open(
     alloc: Global,
+    name: &str,
     (bytes, most): (&[u8], usize),
     (record, len): (&[u8], usize),
     wanted: &Wanted,
 ) -> Result<bool, AllocError> {
-    match opened(alloc, source_of(alloc, bytes, most)?) {
-        Ok(mut archive) => recovers(alloc, &mut archive, (bytes, most), (record, len), wanted),
+    match Subject::open(name, alloc, source_of(alloc, bytes, most)?) {
+        Ok(mut subject) => recovers(alloc, &mut subject, (bytes, most), (record, len), wanted),
         Err(_) => Ok(false),
     }
 }
 
-/// Adds how many fronts of the record that a case gives an archive refuses, each as torn at its end. It answers as
-/// before then, and as the longer one once it has grown by the whole record.
+/// Adds how many fronts of the record that a case gives are refused, each as torn at its end, by the archive or the
+/// listing that its second word names. It answers as before then, and as the longer one once it has grown by the whole
+/// record.
 pub(crate) fn add_torn(
     alloc: Global,
     case: &Case<'_>,
@@ -70,11 +72,11 @@ pub(crate) fn add_torn(
     most: usize,
     answer: &mut Vec<u8>,
 ) -> Result<(), AllocError> {
-    let record = case.given();
-    let wanted = Wanted::of(alloc, archive, &joined(alloc, archive, record)?)?;
+    let (name, record) = (case.text(1), case.given());
+    let wanted = Wanted::of(alloc, name, archive, &joined(alloc, archive, record)?)?;
     let mut count = 0u64;
     for len in 1..record.len() {
-        if recovers_once_open(alloc, (archive, most), (record, len), &wanted)? {
+        if recovers_once_open(alloc, name, (archive, most), (record, len), &wanted)? {
             count = count.saturating_add(1);
         }
     }

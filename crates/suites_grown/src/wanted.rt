@@ -1,45 +1,45 @@
-//! What archives are wanted to answer before they grow and after.
+//! What archives and listings are wanted to answer before they grow and after.
 
 use std::alloc::{AllocError, Allocator, Global};
-use suites_calls::{all_of, opened, source_of};
-use warc::Archive;
-use warc_frame::{MemSource, Source};
+use suites_calls::{Subject, source_of};
+use warc_frame::Source;
 
-/// All that an archive answers before it grows, and all that it answers then.
+/// All that is answered before it grows, and all that is answered then.
 #[derive(Drop)]
 pub(crate) struct Wanted {
     pub(crate) before: Vec<u8>,
     pub(crate) after: Vec<u8>,
 }
 
-/// All that an archive answers that is opened of these bytes; nothing where it doesn't open.
-pub(crate) fn all_of_bytes(alloc: Global, bytes: &[u8]) -> Result<Vec<u8>, AllocError> {
-    match opened(alloc, source_of(alloc, bytes, usize::MAX)?) {
-        Ok(mut archive) => all_in(alloc, &mut archive),
+/// All that is answered by what a word names, opened of these bytes; nothing where it doesn't open.
+pub(crate) fn all_of_bytes(alloc: Global, name: &str, bytes: &[u8]) -> Result<Vec<u8>, AllocError> {
+    match Subject::open(name, alloc, source_of(alloc, bytes, usize::MAX)?) {
+        Ok(mut subject) => subject.all(alloc),
         Err(_) => Ok(Vec::new(alloc)),
     }
 }
 
-fn all_in(alloc: Global, archive: &mut Archive<MemSource>) -> Result<Vec<u8>, AllocError> {
-    all_of(alloc, archive)
-}
-
 impl Wanted {
-    /// What archives of these bytes and of the longer ones answer that are opened at once.
-    pub(crate) fn of(alloc: Global, bytes: &[u8], longer: &[u8]) -> Result<Wanted, AllocError> {
+    /// What is answered by what a word names, opened at once of these bytes and of the longer ones.
+    pub(crate) fn of(
+        alloc: Global,
+        name: &str,
+        bytes: &[u8],
+        longer: &[u8],
+    ) -> Result<Wanted, AllocError> {
         Ok(Wanted {
-            before: all_of_bytes(alloc, bytes)?,
-            after: all_of_bytes(alloc, longer)?,
+            before: all_of_bytes(alloc, name, bytes)?,
+            after: all_of_bytes(alloc, name, longer)?,
         })
     }
 }
 
-/// Whether all that an archive answers is this.
-pub(crate) fn answers<S: Source, A: Allocator + Copy>(
+/// Whether this is all that is answered.
+pub(crate) fn answers<S: Source + Drop, A: Allocator + Copy>(
     alloc: Global,
-    archive: &mut Archive<S, A>,
+    subject: &mut Subject<S, A>,
     wanted: &[u8],
 ) -> Result<bool, AllocError> {
-    let all = all_of(alloc, archive)?;
+    let all = subject.all(alloc)?;
     Ok(!wanted.is_empty() && all.as_slice() == wanted)
 }

@@ -6,7 +6,8 @@ use crate::runs::{Asked, run_in_pieces};
 use std::alloc::{AllocError, Global};
 use warc_commands::Command;
 
-const SALVAGE: Command<'static> = Command::Salvage { archive: "a.warc" };
+/// The command that salvages.
+pub(crate) const SALVAGE: Command<'static> = Command::Salvage { archive: "a.warc" };
 
 /// Whether what is salvaged of some bytes are the good records that they begin with, by a plain reading.
 fn is_salvaged(alloc: Global, bytes: &[u8]) -> Result<bool, AllocError> {

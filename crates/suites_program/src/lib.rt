@@ -9,6 +9,7 @@ mod fronts;
 mod lines;
 mod plain;
 mod runs;
+mod salvaging;
 mod turns;
 mod usage;
 mod ways;

@@ -23,7 +23,12 @@ enum Stage {
 
 /// Whether a run failed behind the opening: what went out is the front of the whole, and the line tells this, and how
 /// many bytes that has.
-fn is_cut(alloc: Global, ended: &Ended, whole: &Ended, told: &str) -> Result<bool, AllocError> {
+pub(crate) fn is_cut(
+    alloc: Global,
+    ended: &Ended,
+    whole: &Ended,
+    told: &str,
+) -> Result<bool, AllocError> {
     let line = format!(in alloc; "warc: {told} after {}\n", ended.out.len())?;
     let is_front = whole.out.starts_with(&ended.out);
     Ok(is_front && ended.err.as_slice() == line.as_bytes() && ended.status == 3)

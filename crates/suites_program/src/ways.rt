@@ -4,6 +4,7 @@ use crate::archives::PIECES;
 use crate::fronts::tell_salvaged;
 use crate::lines::{tell, tell_count, tell_end};
 use crate::runs::{Asked, Ended, run_broken, run_changing, run_cut, run_endless, run_in_pieces};
+use crate::salvaging::answer_salvaging;
 use crate::turns::{tell_as_alone, tell_reads, tell_requests, tell_writes};
 use crate::usage::answer_usage;
 use crate::words::{command_of, is_command, words_from};
@@ -37,7 +38,7 @@ pub fn answer(
     archive: &[u8],
     answer: &mut Vec<u8>,
 ) -> Result<bool, AllocError> {
-    if answer_usage(alloc, case, answer)? {
+    if answer_usage(alloc, case, answer)? || answer_salvaging(alloc, case, archive, answer)? {
         return Ok(true);
     }
     if case.text(0) == "each-front-salvages" {
