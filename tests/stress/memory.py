@@ -65,6 +65,8 @@ def refused_requests(stress):
                 stress.judge(is_right, (*command, "request", number), seen)
                 if not was_refused:
                     break
+            else:
+                stress.judge(False, (*command, "more requests than"), MOST)
         stress.end()
 
 
@@ -83,6 +85,8 @@ def refused_words(stress):
             stress.judge(is_right, (*words, "request", number), seen)
             if not was_refused:
                 break
+        else:
+            stress.judge(False, (*words, "more requests than"), MOST)
     stress.end()
 
 

@@ -26,7 +26,7 @@ sys.path.insert(0, os.path.join(os.path.dirname(HERE), "reference"))
 import generate  # noqa: E402
 import warc_reference  # noqa: E402
 
-MOST_CALLS = 50
+MOST_CALLS = 200
 MOST_SECONDS = 120
 TARGET = "http://a.example/x"
 FIRST_ID = "urn:uuid:00000000-0000-4000-8000-000000000001"
@@ -221,6 +221,8 @@ def failing_calls(stress, calls, error, path):
                 stress.judge(seen == stress.expected[command], command, seen)
                 break
             stress.judge(is_failure(seen, stress.expected[command].out), (*command, "call", number), seen)
+        else:
+            stress.judge(False, (*command, "more calls than"), MOST_CALLS)
     stress.end()
 
 
@@ -264,6 +266,8 @@ def failing_piped_reads(stress):
                     stress.judge(seen == stress.expected[command], command, seen)
                     break
                 stress.judge(is_failure(seen, stress.expected[command].out), (*command, "call", number), seen)
+            else:
+                stress.judge(False, (*command, "more calls than"), MOST_CALLS)
         stress.end()
 
 
