@@ -6,14 +6,13 @@ use Rattle.std.proofs.lemmas.List.Filters.{sum_by-filter_both}
 use Rattle.std.proofs.lemmas.Fmt.{length-decimal-le}
 use Rattle.std.specs.List.{sum_by}
 use Rattle.warc_field.specs.Area.{Pair, canonical_fields, canonical_line}
-use Rattle.warc_field.specs.Lines.{crlf}
 use Rattle.warc_record.specs.declared.types.Kind.{Kind}
 use Rattle.warc_record.specs.declared.checks.TableCheck.{TableCheck}
 use Rattle.warc_record.specs.declared.checks.TableCheck.TheVariants.{Lacks, HasForbidden, Repeats}
 use Rattle.warc_record.specs.Readings.{Reading, reading_of}
 use Rattle.warc_record.specs.Table.{Rule, rules}
 use Rattle.warc_record.specs.FindingLaws.{FindingsAreFew, FindingsAreShort, told_len}
-use Rattle.warc_record.specs.Findings.{SeenFinding, NotUtf8, Digest, SegmentNumber, IdUsed, NoContentType, Profile, BareId, NoOrigin, broken_rule, finding_number, by_table, findings_by, findings_of, is_broken, is_not_utf8, not_utf8, has_bad_segment, has_bare_id, has_unknown_profile, lacks_content_type, lacks_origin, once}
+use Rattle.warc_record.specs.Findings.{SeenFinding, NotUtf8, Digest, SegmentNumber, IdUsed, NoContentType, Profile, BareId, NoOrigin, broken_rule, by_table, findings_by, findings_of, is_broken, is_not_utf8, not_utf8, has_bad_segment, has_bare_id, has_unknown_profile, lacks_content_type, lacks_origin, once}
 use Rattle.warc_record.specs.Kinds.{is_known}
 
 few_of : {X : Type 0} (f : X → SeenFinding) (p : X → Bool) (xs : List X) → length (map f (filter p xs)) ≤ length xs

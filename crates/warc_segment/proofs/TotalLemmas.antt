@@ -1,5 +1,5 @@
 -- How long a joined block is: as its record's own, or as the total that a segment states.
-use Rattle.std.proofs.Common.{◌≡◌, ◌⊎◌, inl, inr, ℕ, zero, suc, ◌+◌, ◌-◌, Bool, true, false, ◌&&◌, ◌==◌, List, [], ◌∷◌, ◌++◌, length, length-append, map, Option, Some, None, Result, Ok, Err, slice_get, option_and_then, option_map, refl, sym, ◌∙◌, ap, subst, arith, if◌then◌else◌, find, sum_by, nat_le, nat_eq}
+use Rattle.std.proofs.Common.{◌≡◌, ◌⊎◌, inl, inr, ℕ, suc, ◌+◌, ◌-◌, Bool, true, false, ◌&&◌, ◌==◌, List, [], ◌∷◌, ◌++◌, length, length-append, map, Option, Some, None, Result, Ok, Err, slice_get, option_and_then, option_map, refl, sym, ◌∙◌, ap, subst, arith, if◌then◌else◌, find, sum_by, nat_le, nat_eq}
 use Rattle.std.specs.List.{filter_map, flat_map, cons_option, enumerate_from, range_with_len}
 use Rattle.std.specs.Option.{option_map_or, option_or, option_eq}
 use Rattle.std.proofs.lemmas.Bool.{eqb-true}
@@ -10,9 +10,9 @@ use Rattle.warc_record.specs.Kinds.{is_continuation}
 use Rattle.warc_record.specs.Texts.{is_same_text}
 use Rattle.warc_segment.specs.declared.gap.Gap.{Gap}
 use Rattle.warc_segment.specs.declared.gap.Gap.TheVariants.{Repeated, AfterEnd, Absent, Total, Number}
-use Rattle.warc_segment.specs.Series.{Piece, Member, numbered, member_of, series_of, member_numbered, in_order}
+use Rattle.warc_segment.specs.Series.{Member, numbered, member_of, series_of, member_numbered, in_order}
 use Rattle.warc_segment.specs.Gaps.{least_repeated, end_of, least_after, least_absent, has_total, absent_or_total, gap_to, gap_of, followers, unless_gap, joined}
-use Rattle.warc_segment.specs.Joined.{ReadRecord, piece_read, with_members, joined_records, JoinedHasTotal}
+use Rattle.warc_segment.specs.Joined.{ReadRecord, piece_read, with_members, JoinedHasTotal}
 
 -- ---- members and records
 
