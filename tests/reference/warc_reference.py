@@ -687,6 +687,31 @@ def captures_command(archive, target=None, flag=None):
     return b"".join(lines), b"", 0
 
 
+def dates_of(records):
+    """The dates of the first and the last record by instant, as they are written."""
+    if not records:
+        return b"-", b"-"
+    dates = [record.first("WARC-Date") for record in records]
+    instants = [record.instant for record in records]
+    last = len(instants) - 1 - instants[::-1].index(max(instants))
+    return dates[instants.index(min(instants))], dates[last]
+
+
+def summary_command(archive):
+    records = archive.records
+    verdicts = [record.digest_verdict() for record in records]
+    kinds = [record.kind or "other" for record in records]
+    values = [("records", len(records)), ("bytes", len(archive.data))]
+    values += [(kind, kinds.count(kind)) for kind in (*KINDS, "other")]
+    values += [("captures", sum(kind in CAPTURES for kind in kinds))]
+    values += [(verdict, verdicts.count(verdict)) for verdict in ("good", "bad", "unchecked")]
+    for name, field in (("truncated", "WARC-Truncated"), ("segmented", "WARC-Segment-Number")):
+        values.append((name, sum(not record.is_absent(field) for record in records)))
+    lines = [b"%s\t%d\n" % (name.encode(), value) for name, value in values]
+    lines += [b"%s date\t%s\n" % pair for pair in zip((b"first", b"last"), dates_of(records))]
+    return b"".join(lines), b"", 0
+
+
 def rewrite_command(archive):
     return b"".join(record.canonical() for record in archive.records), b"", 0
 
@@ -709,7 +734,7 @@ def salvage_command(archive):
 
 COMMANDS = {"list": list_command, "check": check_command, "fixity": fixity_command, "extract": extract_command,
             "head": head_command, "block": block_command, "replay": replay_command, "body": body_command, "captures": captures_command,
-            "rewrite": rewrite_command, "convert": convert_command}
+            "rewrite": rewrite_command, "convert": convert_command, "summary": summary_command}
 
 
 def fault_line(fault):

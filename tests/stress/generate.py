@@ -413,12 +413,12 @@ def pointed_command(chance, data):
     return line + ("--stored",) if command == "body" and yes(chance, 3) else line
 
 
-WHOLE = ("list", "check", "fixity", "salvage", "rewrite", "convert", "captures")
+WHOLE = ("list", "check", "fixity", "salvage", "rewrite", "convert", "captures", "summary")
 FLAGS = ("--stored", "--uri-hex")
 
 
 def command_lines(seed, data):
-    """The eleven command lines to run over the archive of a seed, without the name of the archive."""
+    """The twelve command lines to run over the archive of a seed, without the name of the archive."""
     chance = random.Random("commands %d" % seed)
     return [(command,) for command in WHOLE] + [pointed_command(chance, data) for _ in range(4)]
 
