@@ -14,9 +14,9 @@ fn answer_by(
     answer: &mut Vec<u8>,
 ) -> Result<bool, AllocError> {
     Ok(
-        suites_calls::answer_by(alloc, case, archive, most, answer)?
-            || suites_grown::answer_by(alloc, case, archive, most, answer)?
-            || suites_moved::answer_by(alloc, case, archive, most, answer)?,
+        suites_archives_calls::answer_by(alloc, case, archive, most, answer)?
+            || suites_archives_grown::answer_by(alloc, case, archive, most, answer)?
+            || suites_archives_moved::answer_by(alloc, case, archive, most, answer)?,
     )
 }
 
@@ -28,9 +28,9 @@ fn answer_once(
     answer: &mut Vec<u8>,
 ) -> Result<bool, AllocError> {
     Ok(
-        suites_calls::answer_once(alloc, case, archive, answer)?
-            || suites_grown::answer_once(alloc, case, archive, answer)?
-            || suites_moved::answer_once(alloc, case, answer)?,
+        suites_archives_calls::answer_once(alloc, case, archive, answer)?
+            || suites_archives_grown::answer_once(alloc, case, archive, answer)?
+            || suites_archives_moved::answer_once(alloc, case, answer)?,
     )
 }
 

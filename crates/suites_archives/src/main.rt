@@ -7,8 +7,8 @@ mod by_reads;
 use std::alloc::{AllocError, Global};
 use std::io::{self, Read, Write};
 use std::process::ExitCode;
-use suites_moved::{Moves, keeps_answers};
-use suites_program::Archives;
+use suites_archives_moved::{Moves, keeps_answers};
+use suites_archives_program::Archives;
 use suites_script::{Case, Trial, try_script};
 
 #[derive(Drop)]
@@ -39,7 +39,7 @@ fn answer_about(
     archive: &[u8],
     answer: &mut Vec<u8>,
 ) -> Result<(), AllocError> {
-    let is_known = suites_program::answer(alloc, case, archive, answer)?
+    let is_known = suites_archives_program::answer(alloc, case, archive, answer)?
         || by_reads::answer(alloc, case, archive, answer)?;
     if is_known {
         Ok(())

@@ -5,9 +5,9 @@
 use std::alloc::{AllocError, Global};
 use std::io::{self, Read, Write};
 use std::process::ExitCode;
-use suites_answered::Replays;
-use suites_kept::Records;
-use suites_ordered::Orders;
+use suites_lookups_answered::Replays;
+use suites_lookups_kept::Records;
+use suites_lookups_ordered::Orders;
 use suites_script::{Case, Trial, try_script};
 
 #[derive(Drop)]

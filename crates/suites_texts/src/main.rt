@@ -23,8 +23,8 @@ impl Trial for Trials {
             self.text = case.given().to_vec(alloc)?;
             return Ok(());
         }
-        let is_parsed = suites_parsed::answer(alloc, case, &self.text, answer)?;
-        let is_framed = suites_framed::answer(alloc, case, &self.text, answer)?;
+        let is_parsed = suites_texts_parsed::answer(alloc, case, &self.text, answer)?;
+        let is_framed = suites_texts_framed::answer(alloc, case, &self.text, answer)?;
         if !is_parsed && !is_framed {
             answer.extend_from_slice(b"no such case\n")?;
         }

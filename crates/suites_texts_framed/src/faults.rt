@@ -1,0 +1,112 @@
+//! Faults in words, and the lines of versions.
+
+use std::alloc::{AllocError, Global};
+use suites_script::Case;
+use suites_texts_parsed::tell_line;
+use warc_frame::{FaultKind, Mandatory, OutFault, ReadFault, Version, WriteFault};
+use warc_write::{MakeFault, SplitFault};
+
+/// Every kind of a record's fault, but that other fields than `WARC-Date` stand more than once.
+const KINDS: [FaultKind; 17] = [
+    FaultKind::Version,
+    FaultKind::HeadTooLong,
+    FaultKind::Field,
+    FaultKind::Missing(Mandatory::ContentLength),
+    FaultKind::Missing(Mandatory::Type),
+    FaultKind::Missing(Mandatory::RecordId),
+    FaultKind::Missing(Mandatory::Date),
+    FaultKind::Repeated(Mandatory::Date),
+    FaultKind::Length,
+    FaultKind::BadType,
+    FaultKind::Id,
+    FaultKind::Date,
+    FaultKind::End,
+    FaultKind::Truncated,
+    FaultKind::TooLong,
+    FaultKind::Read,
+    FaultKind::Memory,
+];
+
+const MAKE_FAULTS: [MakeFault; 5] = [
+    MakeFault::Date,
+    MakeFault::Text,
+    MakeFault::TooLong,
+    MakeFault::Memory,
+    MakeFault::Kind,
+];
+
+const SPLIT_FAULTS: [SplitFault; 7] = [
+    SplitFault::NotUuid,
+    SplitFault::AlreadySegmented,
+    SplitFault::Kind,
+    SplitFault::Size,
+    SplitFault::Memory,
+    SplitFault::TooLong,
+    SplitFault::BadDigest,
+];
+
+/// Adds each fault of records, at the offset that is the word at its place.
+fn tell_faults(alloc: Global, case: &Case<'_>, answer: &mut Vec<u8>) -> Result<(), AllocError> {
+    for (place, kind) in KINDS.iter().enumerate() {
+        tell_line(
+            alloc,
+            answer,
+            &kind.at(case.number(place.saturating_add(1))),
+        )?;
+    }
+    Ok(())
+}
+
+/// Adds each fault of what is given, behind as many bytes as its word says.
+fn tell_out_faults(alloc: Global, case: &Case<'_>, answer: &mut Vec<u8>) -> Result<(), AllocError> {
+    tell_line(alloc, answer, &OutFault::Read(case.number(1)))?;
+    tell_line(alloc, answer, &OutFault::Write(case.number(2)))?;
+    tell_line(alloc, answer, &OutFault::Memory(case.number(3)))
+}
+
+/// Adds the faults of devices.
+fn tell_device_faults(alloc: Global, answer: &mut Vec<u8>) -> Result<(), AllocError> {
+    tell_line(alloc, answer, &ReadFault)?;
+    tell_line(alloc, answer, &WriteFault)
+}
+
+/// Adds each fault of records that are made.
+fn tell_make_faults(alloc: Global, answer: &mut Vec<u8>) -> Result<(), AllocError> {
+    for fault in &MAKE_FAULTS {
+        tell_line(alloc, answer, fault)?;
+    }
+    Ok(())
+}
+
+/// Adds each fault of records that are split.
+fn tell_split_faults(alloc: Global, answer: &mut Vec<u8>) -> Result<(), AllocError> {
+    for fault in &SPLIT_FAULTS {
+        tell_line(alloc, answer, fault)?;
+    }
+    Ok(())
+}
+
+/// Adds the lines of both versions.
+fn tell_versions(answer: &mut Vec<u8>) -> Result<(), AllocError> {
+    answer.extend_from_slice(Version::V1_0.line())?;
+    answer.extend_from_slice(Version::V1_1.line())
+}
+
+/// Answers a case of faults or versions.
+pub(crate) fn answer(
+    alloc: Global,
+    case: &Case<'_>,
+    answer: &mut Vec<u8>,
+) -> Result<bool, AllocError> {
+    let told = match case.text(0) {
+        "faults" => tell_faults(alloc, case, answer),
+        "faults-of-output" => tell_out_faults(alloc, case, answer),
+        "faults-of-devices" => tell_device_faults(alloc, answer),
+        "faults-of-making" => tell_make_faults(alloc, answer),
+        "faults-of-splitting" => tell_split_faults(alloc, answer),
+        "versions" => tell_versions(answer),
+        _ => return Ok(false),
+    };
+    told?;
+    Ok(true)
+}

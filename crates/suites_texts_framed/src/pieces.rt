@@ -1,0 +1,176 @@
+//! Archives in pieces: every cutting gives the same.
+
+use crate::devices::number_or_all;
+use crate::records::{changed, tell_cut};
+use crate::steps::{Stepping, tell_letters, tell_steps};
+use std::alloc::{AllocError, Global};
+use suites_script::Case;
+use suites_texts_parsed::{tell_line, tell_refusals, tell_text, text_of};
+use warc_frame::{FaultKind, Framed, MAX_ARCHIVE, decode, write_one};
+
+/// The canonical texts of records, one behind the other.
+fn texts_of(alloc: Global, records: &[Framed]) -> Result<Vec<u8>, AllocError> {
+    let mut texts = Vec::new(alloc);
+    for record in records {
+        write_one(record, &mut texts)?;
+    }
+    Ok(texts)
+}
+
+/// What the pieces of a stream give whose first byte stands at an offset: their records' canonical texts, or the fault.
+fn given_by(alloc: Global, at: u64, pieces: &[&[u8]]) -> Result<Vec<u8>, AllocError> {
+    match decode(alloc, at.min(MAX_ARCHIVE), pieces) {
+        Ok(records) => texts_of(alloc, &records),
+        Err(fault) => {
+            let told = format!(in alloc; "{fault}\n")?;
+            Ok(told.into_bytes())
+        }
+    }
+}
+
+/// The first of the last places of a text at which it can be cut so that the two pieces give something else.
+fn first_other_place(
+    alloc: Global,
+    at: u64,
+    text: &[u8],
+    first: usize,
+    wanted: &[u8],
+) -> Result<Option<usize>, AllocError> {
+    for place in first..=text.len() {
+        let (front, back) = text.split_at(place);
+        if given_by(alloc, at, &[front, back])?.as_slice() != wanted {
+            return Ok(Some(place));
+        }
+    }
+    Ok(None)
+}
+
+/// What pieces of so many bytes give.
+fn given_in_many(alloc: Global, at: u64, text: &[u8], size: usize) -> Result<Vec<u8>, AllocError> {
+    let mut pieces = Vec::new(alloc);
+    for piece in text.chunks(size.max(1)) {
+        pieces.push(piece)?;
+    }
+    given_by(alloc, at, &pieces)
+}
+
+/// Whether pieces of one byte and of two give the same.
+fn is_given_in_many(
+    alloc: Global,
+    at: u64,
+    text: &[u8],
+    wanted: &[u8],
+) -> Result<bool, AllocError> {
+    let ones = given_in_many(alloc, at, text, 1)?;
+    let twos = given_in_many(alloc, at, text, 2)?;
+    Ok(ones.as_slice() == wanted && twos.as_slice() == wanted)
+}
+
+/// Adds what a text gives cut at each of its last places, into single bytes, and into twos.
+fn tell_cuttings(
+    alloc: Global,
+    answer: &mut Vec<u8>,
+    at: u64,
+    text: &[u8],
+    last: usize,
+) -> Result<(), AllocError> {
+    let first = text.len().saturating_sub(last);
+    let wanted = given_by(alloc, at, &[text])?;
+    if let Some(place) = first_other_place(alloc, at, text, first, &wanted)? {
+        let told = format!(in alloc; "something else cut at {place}")?;
+        return tell_line(alloc, answer, &told);
+    }
+    if !is_given_in_many(alloc, at, text, &wanted)? {
+        return tell_line(
+            alloc,
+            answer,
+            &"something else in pieces of one byte or two",
+        );
+    }
+    tell_text(alloc, answer, &wanted, text)
+}
+
+/// The same of a case, whose words say where the first byte stands, how many places there are, and what is replaced.
+fn tell_cuttings_of(
+    alloc: Global,
+    case: &Case<'_>,
+    answer: &mut Vec<u8>,
+    text: &[u8],
+) -> Result<(), AllocError> {
+    let text = changed(alloc, case, 3, text)?;
+    let last = number_or_all(case, 2);
+    tell_cuttings(alloc, answer, case.number(1), &text, last)
+}
+
+/// Adds what the pieces of a text give that have as many bytes as the words say.
+fn tell_pieces(
+    alloc: Global,
+    case: &Case<'_>,
+    answer: &mut Vec<u8>,
+    text: &[u8],
+) -> Result<(), AllocError> {
+    let mut pieces = Vec::new(alloc);
+    let mut rest = text;
+    for word in 1..20usize {
+        if !case.word(word).is_empty() {
+            let (piece, behind) = rest.split_at(rest.len().min(case.number(word) as usize));
+            pieces.push(piece)?;
+            rest = behind;
+        }
+    }
+    let given = given_by(alloc, 0, &pieces)?;
+    tell_text(alloc, answer, &given, text)
+}
+
+/// Whether a text gives that it is cut off at its end, whole and in two pieces.
+fn is_told_as_cut(alloc: Global, text: &[u8]) -> bool {
+    let (front, back) = text.split_at(text.len() / 2);
+    let expected = Some(FaultKind::Truncated.at(text.len() as u64));
+    decode(alloc, 0, &[text]).err() == expected
+        && decode(alloc, 0, &[front, back]).err() == expected
+}
+
+/// The length of the first text that another begins with and that isn't told as cut off there.
+fn first_not_cut(alloc: Global, text: &[u8]) -> Option<usize> {
+    for len in 1..text.len() {
+        if !is_told_as_cut(alloc, &text[..len]) {
+            return Some(len);
+        }
+    }
+    None
+}
+
+/// Answers a case of archives in pieces.
+pub(crate) fn answer(
+    alloc: Global,
+    case: &Case<'_>,
+    kept: &[u8],
+    answer: &mut Vec<u8>,
+) -> Result<bool, AllocError> {
+    let told = match case.text(0) {
+        "cut" => tell_cuttings_of(alloc, case, answer, text_of(case, kept)),
+        "pieces" => tell_pieces(alloc, case, answer, text_of(case, kept)),
+        "fronts-in-pieces" => {
+            let count = text_of(case, kept).len().saturating_sub(1);
+            tell_cut(
+                alloc,
+                answer,
+                first_not_cut(alloc, text_of(case, kept)),
+                count,
+            )
+        }
+        "steps" => tell_steps(alloc, case, answer, text_of(case, kept)),
+        "letters" => tell_letters(alloc, case, answer, text_of(case, kept)),
+        "steps-without-memory" => {
+            tell_refusals(
+                alloc,
+                answer,
+                &Stepping(text_of(case, kept)),
+                case.number(1),
+            )
+        }
+        _ => return Ok(false),
+    };
+    told?;
+    Ok(true)
+}
