@@ -84,7 +84,7 @@ def shorten(text):
 
 
 def show(seed, line, given, expected):
-    print("difference: seed %d, command %s" % (seed, " ".join(map(repr, line))))
+    print("difference: seed %d, command %s" % (seed, " ".join(map(repr, line))), flush=True)
     for name, one, other in zip(("output", "message", "status"), given, expected):
         if one != other:
             print("  %s: the program %s, the reference %s" % (
@@ -148,7 +148,7 @@ def compare_captures(program, folder, seed, counts):
         if not agrees(answer_of(columns), message, status):
             counts["differences"] += 1
             if counts["differences"] <= MOST_SHOWN:
-                print("difference: seed %d, captures %r, replay %r" % (seed, columns, message))
+                print("difference: seed %d, captures %r, replay %r" % (seed, columns, message), flush=True)
 
 
 def main(program, count, seed):
