@@ -1,16 +1,17 @@
 #!/usr/bin/env python3
-"""Times `warc list`, `warc check`, `warc rewrite` and `warc split` on archives of its own, beside `cat` and `sha1sum`.
+"""Times `warc list`, `check`, `rewrite`, `split` and `replay` on archives of its own, beside `cat` and `sha1sum`.
 
 Usage: bench.py PROGRAM FOLDER
 
-The archives are made in FOLDER once and kept; each record carries the digest of its block, so that opening hashes all
-blocks. Each command runs nine times, the commands interleaved, and the least time counts. Printed per archive and
-command: seconds, ratios, bytes and records a second, peak memory.
+The archives are made in FOLDER once and kept; each record carries the digest of its block, so that `check` hashes all
+blocks. One of them, of 8,000 visits, is like what a crawler writes; the others are of resources of one length. Each
+command runs nine times, the commands interleaved, and the least time counts. Printed per archive and command:
+seconds, ratios, bytes and records a second, peak memory.
 """
 import os
 import sys
 
-from shared import make, run
+from shared import crawl_target, make, make_crawl, run
 
 RUNS = 9
 ARCHIVES = [
@@ -21,6 +22,30 @@ ARCHIVES = [
     ("large", 5, 100_000_000),
     ("one", 1, 1_000_000_000),
 ]
+VISITS = 8_000
+TIMED = ("list", "check", "rewrite", "split", "replay")
+
+
+def measure(program, path, count, uri):
+    """Prints the least time of each command over an archive of so many records, with what it is beside the yardsticks."""
+    size = os.path.getsize(path)
+    commands = {name: [program, name, path] for name in TIMED}
+    commands["split"].append("1000000")
+    commands["replay"] += [uri, "9999"]
+    commands["cat"] = ["cat", path]
+    commands["sha1sum"] = ["sha1sum", path]
+    least = {}
+    for _ in range(RUNS):
+        for key, words in commands.items():
+            least[key] = min(least.get(key, (1e9, 0)), run(words))
+    print(f"{os.path.basename(path)}: {size} bytes, {count} records")
+    for key in TIMED:
+        seconds, peak = least[key]
+        print(
+            f"  {key}: {seconds:.2f} s, {seconds / least['cat'][0]:.1f} of cat, "
+            f"{seconds / least['sha1sum'][0]:.3f} of sha1sum, {size / seconds / 1e6:.0f} MB/s, "
+            f"{count / seconds:.0f} records/s, peak {peak / 1024:.0f} MB"
+        )
 
 
 def main():
@@ -29,27 +54,10 @@ def main():
     for name, count, length in ARCHIVES:
         path = os.path.join(folder, name + ".warc")
         make(path, count, length)
-        size = os.path.getsize(path)
-        commands = {
-            "list": [program, "list", path],
-            "check": [program, "check", path],
-            "rewrite": [program, "rewrite", path],
-            "split": [program, "split", path, "1000000"],
-            "cat": ["cat", path],
-            "sha1sum": ["sha1sum", path],
-        }
-        least = {}
-        for _ in range(RUNS):
-            for key, words in commands.items():
-                least[key] = min(least.get(key, (1e9, 0)), run(words))
-        print(f"{name}: {size} bytes, {count} records")
-        for key in ("list", "check", "rewrite", "split"):
-            seconds, peak = least[key]
-            print(
-                f"  {key}: {seconds:.2f} s, {seconds / least['cat'][0]:.1f} of cat, "
-                f"{seconds / least['sha1sum'][0]:.2f} of sha1sum, {size / seconds / 1e6:.0f} MB/s, "
-                f"{count / seconds:.0f} records/s, peak {peak / 1024:.0f} MB"
-            )
+        measure(program, path, count, "http://a.example/0")
+    path = os.path.join(folder, "crawl.warc")
+    make_crawl(path, VISITS)
+    measure(program, path, 2 * VISITS, crawl_target(0))
 
 
 main()

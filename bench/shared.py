@@ -2,6 +2,7 @@
 import base64
 import hashlib
 import os
+import random
 import shutil
 import subprocess
 import sys
@@ -9,6 +10,8 @@ import tempfile
 import time
 
 PROGRAMS = os.path.join(os.path.dirname(os.path.abspath(__file__)), "crates")
+# The identifiers of a crawl's requests begin here.
+REQUESTS = 1 << 24
 
 
 def lines_of(path):
@@ -93,6 +96,61 @@ def make(path, count, length, has_digests=True):
             out.write(head(number, length, digest))
             out.write(block)
             out.write(b"\r\n\r\n")
+    os.rename(path + ".part", path)
+
+
+def crawl_record(kind, number, target, block, more=()):
+    """A record of a crawl: number sixteen million and up are requests, so that no identifier comes twice."""
+    digest = base64.b32encode(hashlib.sha1(block).digest()).decode()
+    fields = [
+        ("WARC-Type", kind),
+        ("WARC-Record-ID", f"<urn:uuid:00000000-0000-4000-8000-{number:012x}>"),
+        ("WARC-Target-URI", target),
+        ("WARC-Date", time.strftime("%Y-%m-%dT%H:%M:%SZ", time.gmtime(1_600_000_000 + number % REQUESTS))),
+        ("WARC-IP-Address", f"192.0.2.{number % 250}"),
+        ("WARC-Block-Digest", f"sha1:{digest}"),
+        *more,
+        ("Content-Type", f"application/http; msgtype={'request' if kind == 'request' else 'response'}"),
+        ("Content-Length", str(len(block))),
+    ]
+    lines = "".join(f"{name}: {value}\r\n" for name, value in fields)
+    return f"WARC/1.1\r\n{lines}\r\n".encode() + block + b"\r\n\r\n"
+
+
+def crawl_target(number):
+    """The URI of a page of the crawl."""
+    return f"https://www.site{number % 300:03}.example/articles/{number % 17}/page-{number}.html?lang=en"
+
+
+def make_crawl(path, count):
+    """Makes an archive as a crawler writes it, unless it is there: so many visits with a request each. A visit is a page of
+    20,000 to 60,000 random bytes, or, each seventh, a revisit of an earlier page."""
+    if os.path.exists(path):
+        return
+    numbers = random.Random(7)
+    noise = numbers.randbytes(120_000)
+    response = "HTTP/1.1 200 OK\r\nContent-Type: text/html; charset=utf-8\r\nVary: Accept-Encoding\r\n" + f"X: {'p' * 500}\r\n"
+    pages = []
+    with open(path + ".part", "wb", buffering=1 << 20) as out:
+        for number in range(count):
+            target = crawl_target(number)
+            if number % 7 == 6:
+                target, digest = numbers.choice(pages)
+                more = [
+                    ("WARC-Profile", "http://netpreserve.org/warc/1.1/revisit/identical-payload-digest"),
+                    ("WARC-Refers-To-Target-URI", target),
+                    ("WARC-Payload-Digest", digest),
+                ]
+                out.write(crawl_record("revisit", number, target, f"{response}\r\n".encode(), more))
+            else:
+                begin = numbers.randrange(60_000)
+                body = noise[begin : begin + numbers.randrange(20_000, 60_000)]
+                digest = "sha1:" + base64.b32encode(hashlib.sha1(body).digest()).decode()
+                pages.append((target, digest))
+                block = f"{response}Content-Length: {len(body)}\r\n\r\n".encode() + body
+                out.write(crawl_record("response", number, target, block, [("WARC-Payload-Digest", digest)]))
+            request = f"GET {target} HTTP/1.1\r\nUser-Agent: crawler\r\nAccept: */*\r\n\r\n".encode()
+            out.write(crawl_record("request", REQUESTS + number, target, request))
     os.rename(path + ".part", path)
 
 
