@@ -12,7 +12,14 @@ dpkg --install "$package" > /dev/null
 cd /
 /usr/bin/warc list /usr/share/doc/zogwedu/examples/abc.warc
 /usr/bin/warc-collection --help > /dev/null
-MANWIDTH=80 man --warnings warc-replay 2>&1 | grep -q '^SYNOPSIS'
+for page in $(dpkg --listfiles zogwedu | sed -n 's|^/usr/share/man/man\(.\)/\(.*\)\.\1\.gz$|\1/\2|p'); do
+    MANWIDTH=80 man --warnings "${page%%/*}" "${page#*/}" > "$folder/page" 2> "$folder/warnings"
+    if [ -s "$folder/warnings" ] || ! grep -q '^SYNOPSIS\|^DESCRIPTION' "$folder/page"; then
+        echo "the manual page ${page#*/} is wrong" >&2
+        cat "$folder/warnings" >&2
+        exit 1
+    fi
+done
 dpkg --remove zogwedu > /dev/null
 if [ -e /usr/bin/warc ] || [ -e /usr/share/doc/zogwedu ]; then
     echo "the package left files behind" >&2
