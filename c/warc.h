@@ -38,7 +38,7 @@
  * also over the same bytes. No call is made from a signal handler.
  *
  * MEMORY comes from malloc, realloc and free. If it runs out, the answer is WARC_FAULT_MEMORY or WARC_NO_MEMORY, and the
- * archive stays as it was. An archive keeps rows and an index, and no block: 230 bytes for each record of a crawl by wget.
+ * archive stays as it was. An archive keeps rows and an index, and no block: 300 bytes for each record of a crawl by wget.
  *
  * TIME. warc_open reads each byte once, warc_grow each new one, and neither hashes anything. A block is hashed where its
  * verdict is asked for: by warc_verdict_at that of one record, by warc_check and warc_fixity those of all records whose
