@@ -168,8 +168,8 @@ impl Turns {
     }
 }
 
-/// What comes of a front whose source is read a byte at a time, where the read of a number fails. While it is opened,
-/// that is told at the offset that was asked for.
+/// What comes of a front whose source is read a byte at a time, if the read with a given number fails. While it is
+/// opened, the failure is reported at the offset of that read.
 fn turn_unread(
     alloc: Global,
     bytes: &[u8],
@@ -340,7 +340,8 @@ fn add_reads(alloc: Global, turns: Option<Turns>, answer: &mut Vec<u8>) -> Resul
     answer.extend_from_slice(line.as_bytes())
 }
 
-/// Adds whether more requests for memory than so many are refused in turn while it is opened, and how many behind that.
+/// Adds whether more requests for memory than a given number are refused in turn while it is opened, and how many
+/// later.
 fn add_requests(
     alloc: Global,
     turns: Option<Turns>,

@@ -98,7 +98,7 @@ fn unread(
     }
 }
 
-/// The offset behind the last read that fails in turn, from that of the first one on, until none fails. Nothing where
+/// The offset after the last read that fails in turn, from the offset of the first one, until none fails. Nothing if
 /// something else comes.
 fn last_unread(
     alloc: Global,
@@ -116,7 +116,7 @@ fn last_unread(
     Ok(None)
 }
 
-/// Adds how many reads fail in turn until none does. Each is told where it was made, and what the second word of the
+/// Adds how many reads fail in turn until none does. Each is reported at its offset, and what the second word of the
 /// case names answers as before then, and as the longer one once it has grown.
 pub(crate) fn add_unread(
     alloc: Global,
@@ -217,9 +217,9 @@ fn count_unkept(
     Ok(None)
 }
 
-/// Adds whether more requests for memory than a case says are refused in turn until none is. Each is told at the end of
-/// the archive, and what the third word of the case names answers as before then, and as the longer one once it has
-/// grown.
+/// Adds whether more requests for memory than a case says are refused in turn until none is. Each is reported at the
+/// end of the archive, and what the third word of the case names answers as before then, and as the longer one once it
+/// has grown.
 pub(crate) fn add_unkept(
     alloc: Global,
     case: &Case<'_>,

@@ -43,7 +43,7 @@ fn good_in(alloc: Global, archive: &[u8], len: usize) -> &[u8] {
     front.get(..good_len(alloc, front)).unwrap_or(b"")
 }
 
-/// How far the run comes of which the read of a number fails, each being of so many bytes.
+/// How far the run comes if the read with a given number fails, each read being of a given length.
 fn stage_unread(
     alloc: Global,
     asked: Asked<'_>,
@@ -92,7 +92,7 @@ fn count_unread(
     Ok(None)
 }
 
-/// Tells how many reads of so many bytes fail in turn, until none does.
+/// Tells how many reads of a given length fail in turn, until none does.
 fn tell_unread(
     alloc: Global,
     asked: Asked<'_>,
@@ -157,7 +157,7 @@ fn count_refused(
     Ok(None)
 }
 
-/// Tells whether more than so many requests for memory are refused in turn.
+/// Tells whether more than a given number of requests for memory are refused in turn.
 fn tell_refused(
     alloc: Global,
     asked: Asked<'_>,

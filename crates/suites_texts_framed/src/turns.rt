@@ -42,7 +42,7 @@ fn whole_of(alloc: Global, call: Call, records: &[Framed]) -> Vec<u8> {
 /// What comes of a call of which a write fails.
 #[derive(Clone, Copy)]
 enum Turn {
-    /// What went out is the front of the whole, and its length is told.
+    /// What went out is the front of the whole, and its length is reported.
     Cut,
 
     /// All went out.
@@ -75,7 +75,7 @@ fn turn_cut(
     (turn, out.bytes().len())
 }
 
-/// Whether so many bytes went out before the write of a number, where so many did before the one before it.
+/// Whether the first write that fails is at the beginning, and each other one at most a piece after the one before it.
 fn is_next(number: u64, last: usize, sent: usize) -> bool {
     if number == 0 {
         sent == 0
