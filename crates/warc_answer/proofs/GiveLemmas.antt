@@ -19,7 +19,7 @@ use Rattle.warc_frame.specs.Record.{Record, max_archive}
 use Rattle.warc_frame.specs.Send.{WentOut, sent_of}
 use Rattle.warc_record.specs.Readings.{number_in, present_value}
 use Rattle.warc_payload.specs.declared.HeadInfo.{HeadInfo}
-use Rattle.warc_payload.specs.Head.{HasNoHead, IsInfoOf, front_of, most_head_bytes}
+use Rattle.warc_payload.specs.Head.{HasNoHead, IsInfoOf, front_of}
 use Rattle.warc_payload.specs.Laws.{OneOfThree}
 use Rattle.warc_payload.specs.Payload.{GivesBody, GivesCodedBody}
 use Rattle.warc_segment.specs.declared.place.Place.{Place}

@@ -1,14 +1,19 @@
 -- Whether joined blocks are what their digests say, and where the body begins in them. States of the code: no public
 -- clause cites them.
-use Rattle.std.specs.Prelude.{◌≡◌, ℕ, ◌≤◌, Bool, true, false, List, length, min, take, drop, Option, Some, None, Result, Ok, Err}
+use Rattle.std.specs.Prelude.{◌≡◌, ℕ, ◌≤◌, Bool, true, false, List, length, min, take, drop, Option, Some, None, Result, Ok, Err, IfErr}
 use Rattle.std.specs.Bool.{MatchBool}
 use Rattle.std.specs.List.{list_any}
 use Rattle.warc_value.specs.Digests.{is_bad, verdict_of}
+use Rattle.warc_frame.specs.Effects.{FailsBy}
+use Rattle.warc_frame.specs.Failing.{failed_by}
+use Rattle.warc_frame.specs.Seen.{IfHeld, SeenSource}
 use Rattle.warc_frame.specs.declared.fault.OutFault.TheVariants as outs
 use Rattle.warc_payload.specs.Head.{HasNoHead, most_head_bytes}
 use Rattle.warc_payload.specs.Payload.{GivesBody, GivesCodedBody}
 use Rattle.warc_segment.specs.declared.place.Place.{Place}
-use Rattle.warc_answer.specs.Places.{bytes_at, len_of}
+use Rattle.warc_answer.specs.Origins.{ReadsToJudge}
+use Rattle.warc_answer.specs.Places.{LieIn, bytes_at, len_of, text_at}
+use Rattle.warc_answer.specs.Replays.{WantsNoMemory, out_result}
 use Rattle.warc_answer.specs.declared.answer.Reason.{Reason as Why}
 use Rattle.warc_answer.specs.declared.answer.Reason.TheVariants.{NotFound, Segments, BadDigest, BadHead, Coded}
 use Rattle.warc_answer.specs.declared.answer.ReplayFault.{ReplayFault}
@@ -50,3 +55,14 @@ abbrev pub IsStart : Bool → Bool → List ℕ → Result BodyStart ReplayFault
 IsStart bad http text (Ok start) = (bad ≡ false) × BeginsAt http text start
 IsStart bad http text (Err (Reason why)) = BeginsNowhere bad http text why
 IsStart bad http text (Err (Out e)) = e ≡ outs.Read 0
+
+-- the joined blocks are judged, and where the body begins in them is found: what is answered, and that nothing is
+-- written, no memory is wanted, and what is read
+pub record FindsStart (http : Bool) (places : List Place) (old new : SeenSource)
+    (result : Result BodyStart ReplayFault) : Type 0 where
+  pub begun : IfHeld old.holds (λ bytes. LieIn places bytes →
+      IsStart (any_bad_at bytes places) http (text_at places bytes) result)
+  pub unwritten : (n : ℕ) → failed_by (out_result result) n ≡ n
+  pub device : IfErr result WantsNoMemory
+  pub reads : ReadsToJudge http places old new
+  pub fails : FailsBy (LieIn places) (out_result result) old new

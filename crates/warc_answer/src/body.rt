@@ -1,14 +1,8 @@
 //! Where the body begins in the joined blocks of an origin.
-ghost use Rattle.std.specs.Prelude.{◌≡◌, ℕ, false, length, true, IfErr};
-ghost use Rattle.warc_frame.specs.Effects.{FailsBy};
-ghost use Rattle.warc_frame.specs.Failing.{failed_by};
-ghost use Rattle.warc_frame.specs.Seen.{IfHeld};
+ghost use Rattle.std.specs.Prelude.{◌≡◌, false, length, true};
 ghost use Rattle.warc_record.specs.Seen.{said};
-ghost use Rattle.warc_answer.specs.Giving.{HasRoom, IsStart, any_bad_at};
-ghost use Rattle.warc_answer.specs.Origins.{ReadsToJudge};
+ghost use Rattle.warc_answer.specs.Giving.{FindsStart, HasRoom};
 ghost use Rattle.warc_answer.specs.Payloads.{is_http, is_http_response};
-ghost use Rattle.warc_answer.specs.Places.{LieIn, text_at};
-ghost use Rattle.warc_answer.specs.Replays.{WantsNoMemory, out_result};
 
 use crate::answer::{Reason, ReplayFault};
 use crate::blocks::{any_bad, judge_blocks};
@@ -57,12 +51,7 @@ fn start_through<S: Source>(
     front: &mut [u8],
 ) -> Result<BodyStart, ReplayFault>
     requires { HasRoom (length front.old) places.now }
-    ensures begun { IfHeld (S.seen source.old).holds (λ bytes. LieIn places.now bytes →
-        IsStart (any_bad_at bytes places.now) true (text_at places.now bytes) result) }
-    ensures unwritten { (n : ℕ) → failed_by (out_result result) n ≡ n }
-    ensures device { IfErr result WantsNoMemory }
-    ensures reads { ReadsToJudge true places.now (S.seen source.old) (S.seen source.new) }
-    ensures fails { FailsBy (LieIn places.now) (out_result result) (S.seen source.old) (S.seen source.new) }
+    ensures { FindsStart true places.now (S.seen source.old) (S.seen source.new) result }
 {
     front_tells_head();
     front_tells_no_head();
@@ -86,12 +75,7 @@ fn find_behind_long_head<S: Source>(
     source: &mut S,
     places: &[Place],
 ) -> Result<BodyStart, ReplayFault>
-    ensures begun { IfHeld (S.seen source.old).holds (λ bytes. LieIn places.now bytes →
-        IsStart (any_bad_at bytes places.now) true (text_at places.now bytes) result) }
-    ensures unwritten { (n : ℕ) → failed_by (out_result result) n ≡ n }
-    ensures device { IfErr result WantsNoMemory }
-    ensures reads { ReadsToJudge true places.now (S.seen source.old) (S.seen source.new) }
-    ensures fails { FailsBy (LieIn places.now) (out_result result) (S.seen source.old) (S.seen source.new) }
+    ensures { FindsStart true places.now (S.seen source.old) (S.seen source.new) result }
 {
     let mut front = [0; MOST_HEAD_BYTES];
     start_through(source, places, &mut front)
@@ -99,12 +83,7 @@ fn find_behind_long_head<S: Source>(
 
 /// The same, through a short buffer where the joined blocks are short.
 fn find_behind_head<S: Source>(source: &mut S, places: &[Place]) -> Result<BodyStart, ReplayFault>
-    ensures begun { IfHeld (S.seen source.old).holds (λ bytes. LieIn places.now bytes →
-        IsStart (any_bad_at bytes places.now) true (text_at places.now bytes) result) }
-    ensures unwritten { (n : ℕ) → failed_by (out_result result) n ≡ n }
-    ensures device { IfErr result WantsNoMemory }
-    ensures reads { ReadsToJudge true places.now (S.seen source.old) (S.seen source.new) }
-    ensures fails { FailsBy (LieIn places.now) (out_result result) (S.seen source.old) (S.seen source.new) }
+    ensures { FindsStart true places.now (S.seen source.old) (S.seen source.new) result }
 {
     if total(places) > PIECE as u64 {
         return find_behind_long_head(source, places);
@@ -115,12 +94,7 @@ fn find_behind_head<S: Source>(source: &mut S, places: &[Place]) -> Result<BodyS
 
 /// Where the body begins in the joined blocks of another origin: at once. The blocks are judged.
 fn find_whole<S: Source>(source: &mut S, places: &[Place]) -> Result<BodyStart, ReplayFault>
-    ensures begun { IfHeld (S.seen source.old).holds (λ bytes. LieIn places.now bytes →
-        IsStart (any_bad_at bytes places.now) false (text_at places.now bytes) result) }
-    ensures unwritten { (n : ℕ) → failed_by (out_result result) n ≡ n }
-    ensures device { IfErr result WantsNoMemory }
-    ensures reads { ReadsToJudge false places.now (S.seen source.old) (S.seen source.new) }
-    ensures fails { FailsBy (LieIn places.now) (out_result result) (S.seen source.old) (S.seen source.new) }
+    ensures { FindsStart false places.now (S.seen source.old) (S.seen source.new) result }
 {
     match any_bad(source, places) {
         Ok(false) => Ok(BodyStart {
@@ -139,12 +113,7 @@ pub(crate) fn find_body<S: Source>(
     http: bool,
     places: &[Place],
 ) -> Result<BodyStart, ReplayFault>
-    ensures begun { IfHeld (S.seen source.old).holds (λ bytes. LieIn places.now bytes →
-        IsStart (any_bad_at bytes places.now) http (text_at places.now bytes) result) }
-    ensures unwritten { (n : ℕ) → failed_by (out_result result) n ≡ n }
-    ensures device { IfErr result WantsNoMemory }
-    ensures reads { ReadsToJudge http places.now (S.seen source.old) (S.seen source.new) }
-    ensures fails { FailsBy (LieIn places.now) (out_result result) (S.seen source.old) (S.seen source.new) }
+    ensures { FindsStart http places.now (S.seen source.old) (S.seen source.new) result }
 {
     if http {
         find_behind_head(source, places)
