@@ -1,5 +1,5 @@
 -- What calls do one after another: what they read of a source, and who has failed.
-use Rattle.std.proofs.Common.{◌≡◌, inl, inr, ◌⊎◌, ℕ, ◌+◌, ◌≤◌, Bool, List, Some, Result, Ok, Err, refl, ap, subst, ◌∙◌, arith}
+use Rattle.std.proofs.Common.{◌≡◌, ℕ, ◌+◌, ◌≤◌, Bool, List, Some, Result, Ok, Err, refl, ap, subst, ◌∙◌, arith}
 use Rattle.warc_frame.specs.Effects.{FailsBy, ReadsOnly}
 use Rattle.warc_frame.specs.Failing.{HasFailedBy, MayHaveFailedBy}
 use Rattle.warc_frame.specs.Seen.{SeenSource}
