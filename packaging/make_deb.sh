@@ -23,7 +23,7 @@ rm -rf "$root/usr/lib" "$root/usr/include"
 mkdir -p "$root/usr/share/zsh/vendor-completions"
 mv "$root/usr/share/zsh/site-functions/_warc" "$root/usr/share/zsh/vendor-completions/"
 rmdir "$root/usr/share/zsh/site-functions"
-rm "$doc/LICENSE-APACHE" "$doc/LICENSE-MIT"
+rm "$doc/LICENSE-APACHE" "$doc/LICENSE-MIT" "$doc/FILES"
 mv "$doc/CHANGELOG.md" "$doc/changelog"
 find "$root/usr/share/man" -type f -exec gzip -9n {} +
 gzip -9n "$doc/changelog"

@@ -1,8 +1,10 @@
 #!/usr/bin/env bash
 # Makes the Debian package of a tarball, has lintian judge it, installs it, runs the program and removes it. As root.
+# On Debian it installs what it needs and isn't there.
 # Usage: test.sh TARBALL
 set -euo pipefail
 here=$(dirname "$(readlink -f "${BASH_SOURCE[0]}")")
+bash "$here/../tools/need.sh" lintian:lintian man:man-db
 folder=$(mktemp -d)
 trap 'rm -rf "$folder"' EXIT
 

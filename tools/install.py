@@ -4,7 +4,8 @@ The library for C and its header are installed too, where `make lib` built them.
 
 Usage: install.py install|uninstall FOLDER
 
-FOLDER is the prefix, as /usr/local. The manual pages and completions are those that `make man` put under out/.
+FOLDER is the prefix, as /usr/local. The manual pages and completions are those that `make man` put under out/. What is
+installed is listed in FOLDER/share/doc/zogwedu/FILES, and that is what is removed, whatever this folder has built by then.
 """
 import glob
 import os
@@ -13,6 +14,7 @@ import sys
 from shared import TOP, put_copy
 
 DOCS = "share/doc/zogwedu"
+LIST = f"{DOCS}/FILES"
 
 
 def files():
@@ -37,17 +39,25 @@ def files():
 
 
 def install(folder):
-    """Copies each file, the program as one that runs."""
+    """Copies each file, the program as one that runs, and lists them."""
+    names = [LIST]
     for source, name in files():
+        names.append(name)
         to = f"{folder}/{name}"
         os.makedirs(os.path.dirname(to), exist_ok=True)
         put_copy(f"{TOP}/{source}", to, 0o755 if name.startswith("bin/") or name.endswith(".so") else 0o644)
+    with open(f"{folder}/{LIST}", "w", encoding="utf-8") as out:
+        out.writelines(f"{name}\n" for name in names)
+    os.chmod(out.name, 0o644)
 
 
 def uninstall(folder):
-    """Removes each file, and the folders of the documents that are empty then."""
-    own = ("lib/libwarc.a", "lib/libwarc.so", "include/warc.h")
-    for name in [*(name for _, name in files()), *own]:
+    """Removes each file that is listed, and the folders of the documents that are empty then."""
+    if not os.path.exists(f"{folder}/{LIST}"):
+        sys.exit(f"nothing is installed: there is no {folder}/{LIST}")
+    with open(f"{folder}/{LIST}", encoding="utf-8") as listed:
+        names = listed.read().splitlines()
+    for name in names:
         if os.path.exists(f"{folder}/{name}"):
             os.remove(f"{folder}/{name}")
     for name in (f"{DOCS}/docs", f"{DOCS}/examples", DOCS):
