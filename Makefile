@@ -24,7 +24,7 @@
 PREFIX ?= /usr/local
 DESTDIR ?=
 JOBS ?= $(shell nproc)
-VERSION := $(shell sed -n 's/^const VERSION: &str = "\(.*\)";$$/\1/p' crates/warc_commands/src/words.rt)
+VERSION := $(shell sed -n 's/^const VERSION: &str = "\(.*\)";$$/\1/p' crates/warc_arguments/src/words.rt)
 
 .PHONY: all try test check lint test-docs lint-docs man install uninstall dist verify-dist test-package stress bench clean
 .PHONY: lib python rust test-callers page test-page numbers

@@ -77,7 +77,7 @@ def calls_of(crates_named, rows):
 
 def commands_elsewhere():
     """Commands that the program has and a page hasn't, or the other way round."""
-    own = set(re.findall(r'^        name: "(\w+)",\n        about:', read("crates/warc_commands/src/words.rt"), re.MULTILINE))
+    own = set(re.findall(r'^        name: "(\w+)",\n        about:', read("crates/warc_arguments/src/words.rt"), re.MULTILINE))
     sections = set(re.findall(r"^## warc (\w+)$", read("docs/PROGRAM.md"), re.MULTILINE))
     rows = set(re.findall(r"^\| `warc (\w+)", read("README.md"), re.MULTILINE))
     for page, named in (("docs/PROGRAM.md", sections), ("README.md", rows)):

@@ -1,5 +1,5 @@
 #!/usr/bin/env python3
-"""Makes docs/NUMBERS.md from the table in crates/warc_commands/src/numbers.rt, from which `warc explain` answers too.
+"""Makes docs/NUMBERS.md from the table in crates/warc_arguments/src/numbers.rt, from which `warc explain` answers too.
 
 Usage: make_numbers.py
 
@@ -10,7 +10,7 @@ import re
 
 from shared import TOP, read
 
-TABLE = "crates/warc_commands/src/numbers.rt"
+TABLE = "crates/warc_arguments/src/numbers.rt"
 PAGE = "docs/NUMBERS.md"
 ENTRY = re.compile(r'^    \(\n        "(\w+)",\n        "([^"]*)",\n    \),$', re.MULTILINE)
 COMMAND = re.compile(r"'((?:warc|gunzip|cat|-)[^']*|-)'")
@@ -28,7 +28,7 @@ INTRO = """# Numbers
 What the numbers mean that the program prints, and what to do. `warc explain F10` prints the same lines.
 [FORMAT.md](FORMAT.md) has the exact rules.
 
-This page is made from `crates/warc_commands/src/numbers.rt`: change that, and run `make numbers`.
+This page is made from `crates/warc_arguments/src/numbers.rt`: change that, and run `make numbers`.
 """
 
 

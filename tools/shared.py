@@ -4,7 +4,7 @@ import re
 import shutil
 
 TOP = os.path.dirname(os.path.dirname(os.path.abspath(__file__)))
-WORDS = f"{TOP}/crates/warc_commands/src/words.rt"
+WORDS = f"{TOP}/crates/warc_arguments/src/words.rt"
 
 
 def read(path):

@@ -17,12 +17,13 @@ use Rattle.warc_reading.specs.Row.{Row}
 use Rattle.warc.specs.Capturing.{outcomes_seen}
 use Rattle.warc.specs.Outcomes.{CaptureSeen, outcome_seen}
 use Rattle.warc.specs.declared.outcome.Outcome.{Outcome}
+use Rattle.warc_arguments.specs.Digits.{uri_named}
 use Rattle.warc_commands.specs.Captures.{CapturesEnds, CountEnds, JudgesListed, LinesEnd, ListedEnds}
 use Rattle.warc_commands.specs.Devices.{Devices, devices}
 use Rattle.warc_commands.specs.Program.{Tells, told_line}
-use Rattle.warc_commands.specs.Uris.{IsStarved, UriEnds, uri_fault_text, uri_listed, uri_named}
-use Rattle.warc_commands.specs.declared.uris.UriFault.{UriFault}
-use Rattle.warc_commands.specs.declared.uris.UriFault.TheVariants.{Digits, Memory}
+use Rattle.warc_commands.specs.Uris.{IsStarved, UriEnds, uri_fault_text, uri_listed}
+use Rattle.warc_arguments.specs.declared.digits.UriFault.{UriFault}
+use Rattle.warc_arguments.specs.declared.digits.UriFault.TheVariants.{Digits, Memory}
 use Rattle.warc_commands.proofs.ProgramLemmas.{may_have_failed}
 
 -- no capture, or some

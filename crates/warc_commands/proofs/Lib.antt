@@ -1,8 +1,6 @@
-pub mod ClapLaws
 pub mod MakingLemmas
 pub mod ProgramLemmas
 pub mod ReadLemmas
 pub mod SalvageLemmas
 mod WorkedValues
 pub mod CaptureLemmas
-mod ExplainLemmas

@@ -4,9 +4,11 @@ use Rattle.warc_value.specs.Dates.{instant_of}
 use Rattle.warc.specs.Forms.{texts_as}
 use Rattle.warc.specs.declared.copying.Form.TheVariants.{Canonical, Converted}
 use Rattle.warc.specs.declared.part.Part.TheVariants.{Head, Block}
+use Rattle.warc_arguments.specs.Digits.{uri_named}
+use Rattle.warc_arguments.specs.Explanations.{explained}
 use Rattle.warc_commands.specs.Bodies.{BodyEnds}
 use Rattle.warc_commands.specs.Devices.{Devices}
-use Rattle.warc_commands.specs.Explaining.{ExplainEnds, explained}
+use Rattle.warc_commands.specs.Explaining.{ExplainEnds}
 use Rattle.warc_commands.specs.Fixity.{FixityEnds}
 use Rattle.warc_commands.specs.Parts.{PartEnds, position_of}
 use Rattle.warc_commands.specs.Program.{CheckEnds, ExtractEnds, ListEnds, MakeEnds, ReplayEnds, SplitEnds, WriteEnds, size_of}
@@ -14,9 +16,9 @@ use Rattle.warc_commands.specs.Captures.{CapturesEnds}
 use Rattle.warc_commands.specs.Salvage.{SalvageEnds}
 use Rattle.warc_commands.specs.Stored.{StoredEnds}
 use Rattle.warc_commands.specs.Summaries.{SummaryEnds}
-use Rattle.warc_commands.specs.Uris.{UriEnds, uri_listed, uri_named}
-use Rattle.warc_commands.specs.declared.words.Command.{Command}
-use Rattle.warc_commands.specs.declared.words.Command.TheVariants as command
+use Rattle.warc_commands.specs.Uris.{UriEnds, uri_listed}
+use Rattle.warc_arguments.specs.declared.words.Command.{Command}
+use Rattle.warc_arguments.specs.declared.words.Command.TheVariants as command
 
 -- how a run of the command ends
 abbrev pub Ends : Command → Devices → Devices → ℕ → Type 0

@@ -1,8 +1,6 @@
 pub mod Asking
 pub mod Bodies
 pub mod Captures
-pub mod Command
-pub mod CommandLine
 pub mod Devices
 pub mod Ends
 pub mod Explaining

@@ -1,9 +1,9 @@
 -- Which bytes of its source a command asks for, and in how many reads at most.
-use Rattle.std.specs.Prelude.{◌≡◌, ℕ, ◌+◌, ◌*◌, ◌≤◌, List, length}
+use Rattle.std.specs.Prelude.{◌≡◌, ℕ, ◌+◌, ◌*◌, ◌≤◌, length}
 use Rattle.warc_frame.specs.Record.{max_archive, max_block}
 use Rattle.warc_frame.specs.Seen.{AsksOnly, IfHeld, SeenSource}
-use Rattle.warc_commands.specs.declared.words.Command.{Command}
-use Rattle.warc_commands.specs.declared.words.Command.TheVariants as command
+use Rattle.warc_arguments.specs.declared.words.Command.{Command}
+use Rattle.warc_arguments.specs.declared.words.Command.TheVariants as command
 
 -- no byte above offset 2^48 is asked for
 abbrev pub AsksNear : SeenSource → SeenSource → Type 0

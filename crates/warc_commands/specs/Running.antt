@@ -1,27 +1,23 @@
 -- How a run of the program ends, by its words and by what the system gives it.
-use Rattle.std.specs.Prelude.{◌≡◌, ℕ, ◌+◌, Bool, true, false, List, [], map, length, nat_le, take, Option, Some, None, Result, Ok, Err, IfOk, IfErr, MatchOption, MatchResult, Vec, String, codes, string_bytes, ◌⊎◌, if◌then◌else◌}
+use Rattle.std.specs.Prelude.{◌≡◌, ℕ, ◌+◌, Bool, true, false, List, [], map, length, nat_le, take, Option, Some, None, Result, Ok, Err, MatchOption, MatchResult, Vec, String, codes, string_bytes, ◌⊎◌, if◌then◌else◌}
 use Rattle.std.specs.Str.{bytes_eq}
 use Rattle.std.specs.IoError.{error_kind}
 use Rattle.std.specs.declared.io.Error.{Error}
 use Rattle.std.specs.declared.io.ErrorKind.{ErrorKind}
 use Rattle.std.specs.declared.io.ErrorKind.TheVariants.{OutOfMemory}
-use Rattle.clap.specs.Faults.{fault_of}
-use Rattle.clap.specs.Takes.{takes}
-use Rattle.clap.specs.Walk.{Text}
 use Rattle.warc_frame.specs.FaultText.{out_fault_text}
 use Rattle.warc_frame.specs.Seen.{IfHeld, Seen, SeenSource}
 use Rattle.warc_frame.specs.declared.fault.OutFault.TheVariants.{Memory}
-use Rattle.warc_commands.specs.Command.{asked_by, opens_nothing, path_word, reads_once}
-use Rattle.warc_commands.specs.CommandLine.{IsToldBy, asked_of, warc_app}
+use Rattle.warc_arguments.specs.Command.{opens_nothing, path_word, reads_once}
+use Rattle.warc_arguments.specs.Parsed.{IsParsed}
 use Rattle.warc_commands.specs.Devices.{devices}
 use Rattle.warc_commands.specs.Ends.{Ends, IsStatusOf, writes_front}
 use Rattle.warc_commands.specs.Program.{FaultEnds, IsNotRead, Tells, told_line}
 use Rattle.warc_commands.specs.declared.running.Place.{Place}
 use Rattle.warc_commands.specs.declared.running.Place.TheVariants.{File, Memory as InMemory, Input, Nowhere}
-use Rattle.warc_commands.specs.declared.words.Command.{Command}
-use Rattle.warc_commands.specs.declared.words.CommandFault.{CommandFault}
-use Rattle.warc_commands.specs.declared.words.CommandFault.TheVariants.{Memory as NoMemory}
-use Rattle.warc_commands.specs.declared.words.Request.{Request}
+use Rattle.warc_arguments.specs.declared.words.Command.{Command}
+use Rattle.warc_arguments.specs.declared.words.CommandFault.{CommandFault}
+use Rattle.warc_arguments.specs.declared.words.Request.{Request}
 
 -- what the system may give a run: for a path a file or an error; standard input as a file, if it is one; standard input
 -- as it comes
@@ -39,7 +35,7 @@ abbrev pub outputs : Seen → Seen → Outputs
 outputs out err = record { out = out; err = err }
 
 -- where the bytes of a command are, by its path
-abbrev pub place_at : Text → Place
+abbrev pub place_at : List ℕ → Place
 place_at path =
     if bytes_eq path (codes "-") then Input else (if bytes_eq path (codes "/dev/stdin") then InMemory else File)
 
@@ -141,15 +137,8 @@ PlaceEnds InMemory gives command old new status = ReadsMemory gives (codes "read
 PlaceEnds Input gives command old new status = ReadsInput gives command old new status
 PlaceEnds Nowhere gives command old new status = IsRunOver command (in_memory []) old new status
 
--- what words name, as `parse` answers it
-pub record IsParsed (words : List Text) (parsed : Result Request CommandFault) : Type 0 where
-  pub named : IfOk parsed (λ r. Some (asked_by r) ≡ asked_of words)
-  pub accepted : IfOk parsed (λ _. fault_of warc_app words ≡ [])
-  pub taken : IfErr parsed (λ e. takes warc_app words ≡ true → e ≡ NoMemory)
-  pub told : IfErr parsed (IsToldBy (fault_of warc_app words))
-
 -- how a run ends whose words are texts
-pub record WordsEnd (gives : Offer → Type 0) (words : List Text) (old new : Outputs) (status : ℕ) : Type 0 where
+pub record WordsEnd (gives : Offer → Type 0) (words : List (List ℕ)) (old new : Outputs) (status : ℕ) : Type 0 where
   pub parsed : Result Request CommandFault
   pub is : IsParsed words parsed
   pub ends : MatchResult parsed

@@ -1,20 +1,14 @@
 -- How the commands end that are given a URI as it is or as hexadecimal digits.
 use Rattle.std.specs.Prelude.{◌≡◌, ℕ, ◌⊎◌, Bool, true, false, List, codes, Option, Some, None, option_map}
-use Rattle.std.specs.Result.{result_ok}
-use Rattle.hex.specs.Hex.{decode_of}
+use Rattle.warc_arguments.specs.Digits.{uri_named}
 use Rattle.warc_frame.specs.FaultText.{out_fault_text}
 use Rattle.warc_frame.specs.declared.fault.OutFault.TheVariants.{Memory}
 use Rattle.warc_commands.specs.Devices.{Devices}
-use Rattle.warc_commands.specs.declared.uris.UriFault.{UriFault}
-use Rattle.warc_commands.specs.declared.uris.UriFault.TheVariants.{Digits, Memory as NoMemory}
+use Rattle.warc_arguments.specs.declared.digits.UriFault.{UriFault}
+use Rattle.warc_arguments.specs.declared.digits.UriFault.TheVariants.{Digits, Memory as NoMemory}
 use Rattle.warc_commands.specs.Program.{IsBadWord, Tells, told_line}
 
--- the URI that a word names: as it is, or by two hexadecimal digits for each byte
-abbrev pub uri_named : Bool → List ℕ → Option (List ℕ)
-uri_named false word = Some word
-uri_named true word = result_ok (decode_of word)
-
--- the same where there may be no word, which names no URI
+-- the URI that a word names, if there is a word; where digits are wanted, no word names no URI
 abbrev pub uri_listed : Bool → Option (List ℕ) → Option (Option (List ℕ))
 uri_listed false word = Some word
 uri_listed true None = None

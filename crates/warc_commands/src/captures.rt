@@ -10,9 +10,10 @@ ghost use Rattle.warc_commands.specs.Uris.{UriEnds, uri_listed};
 ghost use Rattle.warc_reading.specs.Indexed.{IsIndexed};
 
 use crate::program::{DONE, FOUND, tell, tell_cut, tell_refusal};
-use crate::uris::{UriFault, bytes_of, tell_fault};
+use crate::uris::tell_fault;
 use std::alloc::{AllocError, Allocator};
 use warc::{Archive, Outcome};
+use warc_arguments::{UriFault, bytes_of};
 use warc_frame::{OutFault, Sink, Source};
 
 /// Writes a line for each capture, of all or of the URI that a word names.

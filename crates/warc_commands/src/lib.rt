@@ -1,4 +1,4 @@
-//! The commands of the program `warc`: the words that name them, and what each does with a source and two sinks.
+//! The commands of the program `warc`: what each does with a source and two sinks.
 #![tactic(auto)]
 
 mod bodies;
@@ -7,7 +7,6 @@ mod explaining;
 mod extracting;
 mod fixity;
 mod making;
-mod numbers;
 mod parts;
 mod program;
 mod running;
@@ -16,9 +15,9 @@ mod splitting;
 mod stored;
 mod summary;
 mod uris;
-mod words;
 
-pub use numbers::EXPLANATIONS;
 pub use program::{perform, refuse};
 pub use running::{System, run};
-pub use words::{Command, CommandFault, Draft, Request, parse};
+
+// What the calls above take, so that a caller needs this crate alone.
+pub use warc_arguments::{Command, CommandFault, Draft, EXPLANATIONS, Request, parse};

@@ -11,8 +11,8 @@ ghost use Rattle.warc_commands.specs.Reads.{ReadsForRecord, file_piece};
 ghost use Rattle.warc_frame.specs.Ranges.{IsReadAt};
 
 use crate::program::{DONE, FAILED, line_of, tell, tell_cut};
-use crate::words::Draft;
 use std::alloc::Allocator;
+use warc_arguments::Draft;
 use warc_frame::{Framed, MAX_BLOCK, OutFault, Sink, Source};
 use warc_record::Kind;
 use warc_write::{MakeFault, make, refusal_of_long, render_one};

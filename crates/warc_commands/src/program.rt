@@ -20,11 +20,11 @@ use crate::splitting::split;
 use crate::stored::stored;
 use crate::summary::summary;
 use crate::uris::replay_named;
-use crate::words::{Command, CommandFault};
 use arrayvec::ArrayString;
 use itoa::Buffer;
 use std::alloc::Allocator;
 use warc::{Checked, Form, Listing, Part};
+use warc_arguments::{Command, CommandFault};
 use warc_frame::{Fault, FaultKind, OutFault, Sink, Source, send_all};
 
 /// The exit status where all was done.

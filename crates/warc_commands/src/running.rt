@@ -6,13 +6,13 @@ ghost use Rattle.std.specs.IoError.{error_kind};
 ghost use Rattle.warc_commands.specs.Program.{Tells, told_line};
 ghost use Rattle.warc_commands.specs.Running.{Offer, IsRunOver, MemoryEnds, PipeEnds, PlaceEnds, ReadsFile, ReadsInput, ReadsMemory, ReadsStream, RunEnds, WordsEnd};
 ghost use Rattle.warc_commands.specs.Running.{command_place, in_memory, max_input, opened, outputs, place_at, redirected, stop_text, streamed};
-ghost use Rattle.warc_commands.specs.Command.{reads_once};
+ghost use Rattle.warc_arguments.specs.Command.{reads_once};
 
 use crate::making::read_front;
 use crate::program::{FAILED, line_of, perform, refuse, tell, tell_cut};
-use crate::words::{Command, parse};
 use std::alloc::Global;
 use std::io::{self, ErrorKind};
+use warc_arguments::{Command, parse};
 use warc_frame::{MemSource, OutFault, Sink, Source};
 
 /// The most bytes of standard input that are kept in memory.

@@ -1,38 +1,17 @@
 //! URIs that are written as hexadecimal digits.
-ghost use Rattle.std.specs.Prelude.{◌≡◌, Err, IfOk, None, Some, true};
+ghost use Rattle.std.specs.Prelude.{◌≡◌, true};
 ghost use Rattle.warc_value.specs.Dates.{instant_of};
 ghost use Rattle.warc_commands.specs.Devices.{devices};
 ghost use Rattle.warc_commands.specs.Program.{ReplayEnds, Tells, told_line};
 ghost use Rattle.warc_commands.specs.Reads.{ReadsTimes};
-ghost use Rattle.warc_commands.specs.Uris.{UriEnds, uri_fault_text, uri_named};
+ghost use Rattle.warc_commands.specs.Uris.{UriEnds, uri_fault_text};
+ghost use Rattle.warc_arguments.specs.Digits.{uri_named};
 
 use crate::extracting::replay;
 use crate::program::{FAILED, tell, tell_cut};
-use hex::FromHexError;
 use std::alloc::Allocator;
+use warc_arguments::{UriFault, bytes_of};
 use warc_frame::{OutFault, Sink, Source};
-
-/// Why digits name no URI.
-#[derive(Clone, Copy, Debug, PartialEq, Eq)]
-pub(crate) enum UriFault {
-    /// Their number is odd, or one isn't a hexadecimal digit.
-    Digits,
-
-    /// A growth of the memory was refused.
-    Memory,
-}
-
-/// The bytes that hexadecimal digits name.
-pub(crate) fn bytes_of<A: Allocator + Copy>(alloc: A, word: &str) -> Result<Vec<u8, A>, UriFault>
-    ensures ok { IfOk result (λ bytes. uri_named true word.now ≡ Some bytes.items) }
-    ensures bad { result ≡ Err UriFault.Digits → uri_named true word.now ≡ None }
-{
-    match hex::decode(alloc, word.as_bytes()) {
-        Ok(bytes) => Ok(bytes),
-        Err(FromHexError::OutOfMemory) => Err(UriFault::Memory),
-        Err(_) => Err(UriFault::Digits),
-    }
-}
 
 /// Reports why digits name no URI, and answers the exit status.
 pub(crate) fn tell_fault<E: Sink>(fault: UriFault, err: &mut E) -> u8

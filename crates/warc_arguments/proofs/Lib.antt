@@ -1,0 +1,3 @@
+pub mod ClapLaws
+mod ExplainLemmas
+mod WorkedValues

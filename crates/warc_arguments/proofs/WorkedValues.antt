@@ -1,0 +1,75 @@
+-- What words name, computed.
+use Rattle.std.proofs.Common.{◌≡◌, ℕ, true, false, List, [], ◌∷◌, Option, Some, codes, refl}
+use Rattle.clap.specs.Faults.{fault_of}
+use Rattle.clap.specs.Takes.{takes}
+use Rattle.clap.specs.declared.error.kind.ErrorKind.TheVariants.{DisplayHelp, DisplayVersion, MissingRequiredArgument, MissingSubcommand, UnknownArgument}
+use Rattle.clap.proofs.OnLiterals.{clap_on_literals}
+use Rattle.warc_arguments.specs.Command.{Asked}
+use Rattle.warc_arguments.specs.CommandLine.{asked_of, warc_app}
+
+-- a command with these texts, and without a flag
+abbrev plainly : List ℕ → List (List ℕ) → Option Asked
+plainly name texts = Some (record { command = (name, texts); flags = []; quiet = false })
+
+-- warc list a.warc
+list_names : asked_of (codes "warc" ∷ codes "list" ∷ codes "a.warc" ∷ []) ≡ plainly (codes "list") (codes "a.warc" ∷ [])
+unfolding clap_on_literals
+list_names = refl
+
+list_takes : takes warc_app (codes "warc" ∷ codes "list" ∷ codes "a.warc" ∷ []) ≡ true
+unfolding clap_on_literals
+list_takes = refl
+
+-- an empty word is a word, and a word with a minus stands behind `--`
+empty_names : asked_of (codes "warc" ∷ codes "list" ∷ [] ∷ []) ≡ plainly (codes "list") ([] ∷ [])
+unfolding clap_on_literals
+empty_names = refl
+
+minus_names : asked_of (codes "warc" ∷ codes "list" ∷ codes "--" ∷ codes "-a" ∷ []) ≡ plainly (codes "list") (codes "-a" ∷ [])
+unfolding clap_on_literals
+minus_names = refl
+
+minus_faults : fault_of warc_app (codes "warc" ∷ codes "list" ∷ codes "-a" ∷ []) ≡ UnknownArgument ∷ []
+unfolding clap_on_literals
+minus_faults = refl
+
+-- the flag of every command, before or after its words
+quiet_asked : asked_of (codes "warc" ∷ codes "list" ∷ codes "a.warc" ∷ codes "--quiet" ∷ []) ≡ Some (record { command = (codes "list", codes "a.warc" ∷ []); flags = []; quiet = true })
+unfolding clap_on_literals
+quiet_asked = refl
+
+quiet_first : asked_of (codes "warc" ∷ codes "split" ∷ codes "--quiet" ∷ codes "a.warc" ∷ codes "2" ∷ []) ≡ Some (record { command = (codes "split", codes "a.warc" ∷ codes "2" ∷ []); flags = []; quiet = true })
+unfolding clap_on_literals
+quiet_first = refl
+
+-- requests
+help_faults : fault_of warc_app (codes "warc" ∷ codes "--help" ∷ []) ≡ DisplayHelp ∷ []
+unfolding clap_on_literals
+help_faults = refl
+
+version_faults : fault_of warc_app (codes "warc" ∷ codes "--version" ∷ []) ≡ DisplayVersion ∷ []
+unfolding clap_on_literals
+version_faults = refl
+
+-- mistakes
+bare_faults : fault_of warc_app (codes "warc" ∷ []) ≡ MissingSubcommand ∷ []
+unfolding clap_on_literals
+bare_faults = refl
+
+list_faults : fault_of warc_app (codes "warc" ∷ codes "list" ∷ []) ≡ MissingRequiredArgument ∷ []
+unfolding clap_on_literals
+list_faults = refl
+
+-- warc check a.warc
+check_names : asked_of (codes "warc" ∷ codes "check" ∷ codes "a.warc" ∷ []) ≡ plainly (codes "check") (codes "a.warc" ∷ [])
+unfolding clap_on_literals
+check_names = refl
+
+check_faults : fault_of warc_app (codes "warc" ∷ codes "check" ∷ []) ≡ MissingRequiredArgument ∷ []
+unfolding clap_on_literals
+check_faults = refl
+
+-- warc split a.warc 2
+split_names : asked_of (codes "warc" ∷ codes "split" ∷ codes "a.warc" ∷ codes "2" ∷ []) ≡ plainly (codes "split") (codes "a.warc" ∷ codes "2" ∷ [])
+unfolding clap_on_literals
+split_names = refl

@@ -1,0 +1,80 @@
+-- A command of the program.
+use Rattle.std.specs.Prelude.{Bool, true, false, List, [], ◌∷◌, ◌++◌, codes, option_map}
+use Rattle.std.specs.Option.{option_to_list}
+use Rattle.clap.specs.Walk.{Text}
+use Rattle.warc_arguments.specs.declared.words.Command.{Command}
+use Rattle.warc_arguments.specs.declared.words.Command.TheVariants as command
+use Rattle.warc_arguments.specs.declared.words.Draft.{Draft}
+use Rattle.warc_arguments.specs.declared.words.Request.{Request}
+
+-- the words of `write` before the path of its file
+abbrev pub draft_texts : Draft → List Text
+draft_texts d = d.kind.now ∷ d.uri.now ∷ d.date.now ∷ d.uuid.now ∷ d.content_type.now ∷ []
+
+-- its name, and the texts in order of the words that are given
+abbrev pub view_of : Command → Text × List Text
+view_of (command.List archive) = (codes "list", archive.now ∷ [])
+view_of (command.Check archive) = (codes "check", archive.now ∷ [])
+view_of (command.Extract archive id) = (codes "extract", archive.now ∷ id.now ∷ [])
+view_of (command.Replay archive uri date hex) = (codes "replay", archive.now ∷ uri.now ∷ date.now ∷ [])
+view_of (command.Body archive position stored) = (codes "body", archive.now ∷ position.now ∷ [])
+view_of (command.Captures archive uri hex) =
+    (codes "captures", archive.now ∷ option_to_list (option_map (λ u. u.now) uri))
+view_of (command.Rewrite archive) = (codes "rewrite", archive.now ∷ [])
+view_of (command.Convert archive) = (codes "convert", archive.now ∷ [])
+view_of (command.Split archive size) = (codes "split", archive.now ∷ size.now ∷ [])
+view_of (command.Write draft file) = (codes "write", draft_texts draft ++ file.now ∷ [])
+view_of (command.Head archive position) = (codes "head", archive.now ∷ position.now ∷ [])
+view_of (command.Block archive position) = (codes "block", archive.now ∷ position.now ∷ [])
+view_of (command.Fixity archive) = (codes "fixity", archive.now ∷ [])
+view_of (command.Salvage archive) = (codes "salvage", archive.now ∷ [])
+view_of (command.Summary archive) = (codes "summary", archive.now ∷ [])
+view_of (command.Explain number) = (codes "explain", number.now ∷ [])
+
+-- whether each of its flags is given, in order; `--quiet`, which every command has, isn't one of them
+abbrev pub flags_of : Command → List Bool
+flags_of (command.Replay archive uri date hex) = hex ∷ []
+flags_of (command.Body archive position stored) = stored ∷ []
+flags_of (command.Captures archive uri hex) = hex ∷ []
+flags_of _ = []
+
+-- what words ask for
+pub record Asked : Type 0 where
+  pub command : Text × List Text
+  pub flags : List Bool
+  pub quiet : Bool
+
+abbrev pub asked_by : Request → Asked
+asked_by r = record { command = view_of r.command; flags = flags_of r.command; quiet = r.quiet }
+
+-- the path of the file that it reads; empty if it reads none
+abbrev pub path_word : Command → Text
+path_word (command.List archive) = archive.now
+path_word (command.Check archive) = archive.now
+path_word (command.Extract archive id) = archive.now
+path_word (command.Replay archive uri date hex) = archive.now
+path_word (command.Body archive position stored) = archive.now
+path_word (command.Captures archive uri hex) = archive.now
+path_word (command.Rewrite archive) = archive.now
+path_word (command.Convert archive) = archive.now
+path_word (command.Split archive size) = archive.now
+path_word (command.Write draft file) = file.now
+path_word (command.Head archive position) = archive.now
+path_word (command.Block archive position) = archive.now
+path_word (command.Fixity archive) = archive.now
+path_word (command.Salvage archive) = archive.now
+path_word (command.Summary archive) = archive.now
+path_word (command.Explain number) = []
+
+-- whether it asks for each offset once, in order
+abbrev pub reads_once : Command → Bool
+reads_once (command.List archive) = true
+reads_once (command.Check archive) = true
+reads_once (command.Fixity archive) = true
+reads_once (command.Summary archive) = true
+reads_once _ = false
+
+-- whether it opens no file and reads nothing
+abbrev pub opens_nothing : Command → Bool
+opens_nothing (command.Explain number) = true
+opens_nothing _ = false

@@ -1,0 +1,5 @@
+pub mod Command
+pub mod CommandLine
+pub mod Digits
+pub mod Explanations
+pub mod Parsed
