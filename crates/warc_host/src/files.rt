@@ -1,16 +1,16 @@
 //! The files of the system, and standard input.
-ghost use Rattle.std.specs.Prelude.{⊤};
-
 use crate::progress::Progress;
 use std::cell::Cell;
 use std::fs::{self, File};
 use std::io::{self, Read, Seek, SeekFrom, Stdin};
-use warc_commands::System;
 use warc_frame::FileSource;
 use warc_stream::{StreamSource, WatchedSource, WindowSource};
 
 /// A file that is read through a window, which passes each read on to the progress.
-type WindowedFile<'a> = WindowSource<WatchedSource<'a, FileSource<Noted<'a, File>>, Progress<'a>>>;
+pub type HostFile<'a> = WindowSource<WatchedSource<'a, FileSource<Noted<'a, File>>, Progress<'a>>>;
+
+/// Standard input as it comes, which passes each read on to the progress.
+pub type HostStream<'a> = WatchedSource<'a, StreamSource<Noted<'a, Stdin>>, Progress<'a>>;
 
 /// The path of standard input.
 const STANDARD_INPUT: &str = "/dev/stdin";
@@ -52,14 +52,9 @@ pub struct Host<'a> {
     pub reason: &'a Cell<Option<i32>>,
 }
 
-impl<'a> System for Host<'a> {
-    type File = WindowedFile<'a>;
-
-    type Stream = WatchedSource<'a, StreamSource<Noted<'a, Stdin>>, Progress<'a>>;
-
-    ghost gives = { λ _ _. ⊤ };
-
-    fn open(&self, path: &str) -> io::Result<WindowedFile<'a>> {
+impl<'a> Host<'a> {
+    /// Opens the file at a path.
+    pub fn open(&self, path: &str) -> io::Result<HostFile<'a>> {
         let opened = File::open(self.rt, path);
         note(self.reason, &opened);
         let file = opened?;
@@ -74,14 +69,16 @@ impl<'a> System for Host<'a> {
         Ok(WindowSource::new(self.rt.alloc(), source))
     }
 
-    fn redirected(&self) -> Option<WindowedFile<'a>> {
+    /// Standard input as a file, where it is one that opens.
+    pub fn redirected(&self) -> Option<HostFile<'a>> {
         match fs::metadata(self.rt, STANDARD_INPUT) {
             Ok(metadata) if metadata.is_file() => self.open(STANDARD_INPUT).ok(),
             _ => None,
         }
     }
 
-    fn stream(&self) -> WatchedSource<'a, StreamSource<Noted<'a, Stdin>>, Progress<'a>> {
+    /// Standard input as it comes.
+    pub fn stream(&self) -> HostStream<'a> {
         let reader = Noted {
             reader: self.rt.stdin(),
             reason: self.reason,

@@ -1,23 +1,15 @@
-//! What `main` of the program calls: the words and the files of the system, a run over them, and what people see
-//! beside the lines that are promised, where standard error is a terminal.
+//! What `main` of the program calls: a run over the words, the files and the outputs of the system.
 #![tactic(auto)]
 
 mod files;
-mod progress;
 
-use files::Host;
-use progress::{ErasingSink, Progress};
+use files::Files;
 use std::cell::Cell;
-use std::env;
-use std::io::{self, IsTerminal};
+use std::io::IsTerminal;
 use std::process::ExitCode;
-use warc_commands::{parse, run};
+use warc_commands::run;
 use warc_frame::OutSink;
-
-/// The exit status where the archive was refused, and where a run failed.
-const REFUSED: u8 = 2;
-
-const FAILED: u8 = 3;
+use warc_host::{ErasingSink, Host, Progress, hint, is_quiet, words};
 
 /// Runs the program over the words, the files and the outputs of the system.
 pub fn run_program(rt: &HostRuntime) -> ExitCode {
@@ -29,12 +21,14 @@ pub fn run_program(rt: &HostRuntime) -> ExitCode {
         sink: OutSink::new(rt.stderr()),
         progress: &progress,
     };
-    let host = Host {
-        rt,
-        progress: &progress,
-        reason: &reason,
+    let files = Files {
+        host: Host {
+            rt,
+            progress: &progress,
+            reason: &reason,
+        },
     };
-    let status = run(rt.alloc(), &host, &words, &mut out, &mut err);
+    let status = run(rt.alloc(), &files, &words, &mut out, &mut err);
     progress.erase();
     if let Ok(words) = &words
         && rt.stderr().is_terminal()
@@ -48,49 +42,4 @@ pub fn run_program(rt: &HostRuntime) -> ExitCode {
         );
     }
     ExitCode::from(status)
-}
-
-/// The words of the command line, the program's name being the first.
-fn words(rt: &HostRuntime) -> io::Result<Vec<String>> {
-    Ok(env::args(rt)?.collect(rt.alloc())?)
-}
-
-/// Whether the words ask for no progress.
-fn is_quiet(rt: &HostRuntime, words: &io::Result<Vec<String>>) -> bool {
-    match words {
-        Ok(words) => matches!(parse(rt.alloc(), words.as_slice()), Ok(request) if request.quiet),
-        Err(_) => false,
-    }
-}
-
-/// Writes a line for people on standard error, if there is more to say: how a compressed archive is read, or the path
-/// and the system's reason where a file didn't open or a read failed.
-fn hint(
-    rt: &HostRuntime,
-    words: &[String],
-    status: u8,
-    is_gzip: bool,
-    reason: Option<i32>,
-) -> io::Result<()> {
-    let Ok(request) = parse(rt.alloc(), words) else {
-        return Ok(());
-    };
-    let path = request.command.path();
-    if status == REFUSED && is_gzip && words.len() > 1 {
-        let name = words[1].as_str();
-        return eprintln!(rt; "this looks like gzip: gunzip -c {path} | warc {name} -");
-    }
-    match reason {
-        Some(code) => hint_reason(rt, path, status, code),
-        None => Ok(()),
-    }
-}
-
-/// Writes the path and the system's reason, where a run failed.
-fn hint_reason(rt: &HostRuntime, path: &str, status: u8, code: i32) -> io::Result<()> {
-    if status != FAILED {
-        return Ok(());
-    }
-    let error = io::Error::from_raw_os_error(code);
-    eprintln!(rt; "{path}: {error}")
 }

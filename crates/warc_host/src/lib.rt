@@ -1,0 +1,11 @@
+//! What the program has to do with the system: the words of its command line, its files and standard input, and what
+//! people see beside the lines that are promised, where standard error is a terminal.
+#![tactic(auto)]
+
+mod files;
+mod hints;
+mod progress;
+
+pub use files::{Host, HostFile, HostStream, Noted};
+pub use hints::{hint, is_quiet, words};
+pub use progress::{ErasingSink, Progress};
