@@ -18,6 +18,7 @@ import time
 from shared import TOP, below, crates, put_copy, rows
 
 PROGRAM = "warc_tool"
+TREE = f"{TOP}/out/build"
 PARTS = ("src", "specs", "proofs")
 # A crate doesn't keep its processors busy all the time, so a few more jobs run than there are processors. Each job loads
 # the libraries below, so a small crate is done sooner with one.
@@ -150,7 +151,7 @@ def prove(top, words, jobs, tree):
 
 
 def main():
-    jobs, tree = int(sys.argv[1]), (sys.argv[2:] or [f"{TOP}/out/build"])[0]
+    jobs, tree = int(sys.argv[1]), (sys.argv[2:] or [TREE])[0]
     begin = time.monotonic()
     folder = prove(PROGRAM, ["run", "--", "--version"], jobs, tree)
     os.makedirs(f"{TOP}/bin", exist_ok=True)

@@ -3,8 +3,9 @@
 
 Usage: build_lib.py JOBS [FOLDER]
 
-The crates are proved below FOLDER (out/build_lib if left out), as build.py proves those of the program. The
-libraries are the proved functions, c/warc.c, and what the toolchain has of the C library's memory (liblibc_c.a).
+The crates are proved below FOLDER (out/build if left out), as build.py proves those of the program, so that the crates of
+both are proved once. The libraries are the proved functions, c/warc.c, and what the toolchain has of the C library's
+memory (liblibc_c.a).
 """
 import os
 import shutil
@@ -13,7 +14,7 @@ import sys
 import tempfile
 import time
 
-from build import prove
+from build import TREE, prove
 from shared import TOP
 
 CRATE = "warc_c"
@@ -52,7 +53,7 @@ def link(proved, memory):
 
 def main():
     """Proves, builds and links."""
-    jobs, tree = int(sys.argv[1]), (sys.argv[2:] or [f"{TOP}/out/build_lib"])[0]
+    jobs, tree = int(sys.argv[1]), (sys.argv[2:] or [TREE])[0]
     begin = time.monotonic()
     folder = prove(CRATE, ["lib"], jobs, tree)
     link(f"{folder}/out/lib{CRATE}.a", f"{kit()}/c/liblibc_c.a")
