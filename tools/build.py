@@ -5,9 +5,11 @@ Usage: build.py JOBS [FOLDER]
 
 Each crate is proved in a tree of its own below FOLDER (out/build if left out), which has its sources, and the crates below
 it with their libraries: the toolchain lets one run at a time work in a tree. The processors are shared among the crates
-whose lower crates are done. What was proved is kept there, and a later run proves only what changed. A line is printed for
-each crate when it is done, with the seconds that it took; its log is FOLDER/NAME/log.
+whose lower crates are done. What was proved is kept there, and a later run proves only what changed: a crate is passed
+over where FOLDER/NAME/mark has the checksum of all that its proof stands on. A line is printed for each crate when it is
+done, with the seconds that it took; its log is FOLDER/NAME/log.
 """
+import hashlib
 import os
 import re
 import shutil
@@ -15,11 +17,12 @@ import subprocess
 import sys
 import time
 
-from shared import TOP, below, crates, put_copy, rows
+from shared import TOP, below, crates, put_copy, read, rows
 
 PROGRAM = "warc_tool"
 TREE = f"{TOP}/out/build"
 PARTS = ("src", "specs", "proofs")
+KEPT = "   kept from an earlier check"
 # A crate doesn't keep its processors busy all the time, so a few more jobs run than there are processors. Each job loads
 # the libraries below, so a small crate is done sooner with one.
 SPARE = 1.5
@@ -58,15 +61,29 @@ def make_tree(name, uses, tree):
     return f"{to}/crates/{name}"
 
 
+def sources(name):
+    """The path and the bytes of each file of a crate's code, definitions and proofs."""
+    for part in PARTS:
+        for at, folders, names in os.walk(f"{TOP}/crates/{name}/{part}"):
+            folders.sort()
+            for file in sorted(names):
+                with open(f"{at}/{file}", "rb") as text:
+                    yield os.path.relpath(f"{at}/{file}", TOP), text.read()
+
+
 def lines_of(name):
     """How many lines of code and proofs a crate has, by which its time is reckoned."""
-    count = 0
-    for part in PARTS:
-        for at, _, names in os.walk(f"{TOP}/crates/{name}/{part}"):
-            for file in names:
-                with open(f"{at}/{file}", "rb") as text:
-                    count += text.read().count(b"\n")
-    return count
+    return sum(text.count(b"\n") for _, text in sources(name))
+
+
+def mark_of(name, uses, words, kit):
+    """A checksum of all that a crate's proof stands on: the toolchain, and the sources of the crate and of those below."""
+    mark = hashlib.sha256(f"{kit} {words} {read('HANDLES')}".encode())
+    for low in below(name, uses):
+        mark.update(f"{rows()[low]}\n".encode())
+        for path, text in sources(low):
+            mark.update(f"{path} {len(text)}\n".encode() + text)
+    return mark.hexdigest()
 
 
 def ways(names, uses):
@@ -94,7 +111,7 @@ class Run:
         if self.process.returncode:
             sys.exit(f"{''.join(text.splitlines(True)[-20:])}{self.name} isn't proved: see {self.path}")
         is_new = re.search(rf"^crate {self.name}: .* checked=[1-9]", text, re.MULTILINE)
-        took = f"{time.monotonic() - self.begun:5.0f} s" if is_new else "   kept from an earlier check"
+        took = f"{time.monotonic() - self.begun:5.0f} s" if is_new else KEPT
         print(f"{self.name:15} {took}", flush=True)
 
 
@@ -125,15 +142,48 @@ def start_ready(ready, running, way, most, start):
         running.append(start(ready.pop(0), max(1, free - len(ready))))
 
 
+class Marks:
+    """The marks of crates that are proved, in the files FOLDER/NAME/mark."""
+
+    def __init__(self, tree, marks):
+        self.tree, self.marks = tree, marks
+
+    def is_kept(self, name):
+        """Whether the crate as it is was proved by an earlier run."""
+        path = f"{self.tree}/{name}/mark"
+        if not os.path.exists(path):
+            return False
+        with open(path, encoding="ascii") as text:
+            return text.read() == self.marks[name]
+
+    def drop(self, name):
+        """Takes the mark away, before the crate is proved anew."""
+        if os.path.exists(f"{self.tree}/{name}/mark"):
+            os.remove(f"{self.tree}/{name}/mark")
+
+    def put(self, name):
+        """Marks a crate that is proved."""
+        with open(f"{self.tree}/{name}/mark", "w", encoding="ascii") as text:
+            text.write(self.marks[name])
+
+
 def prove(top, words, jobs, tree):
     """Proves a crate by these words of `rt`, and before it the crates below it."""
     uses, running, done = crates(), [], set()
     names = below(top, uses)
-    way, most, waiting = ways(names, uses), most_jobs(jobs), list(names)
+    words_of = {name: words if name == top else ["lib"] for name in names}
+    kit = subprocess.run(["rt", "version"], capture_output=True, text=True, check=True).stdout
+    marks = Marks(tree, {name: mark_of(name, uses, words_of[name], kit) for name in names})
+    way, most = ways(names, uses), most_jobs(jobs)
+    for name in filter(marks.is_kept, names):
+        print(f"{name:15} {KEPT}", flush=True)
+        done.add(name)
+    waiting = [name for name in names if name not in done]
 
     def start(name, share):
+        marks.drop(name)
         few = 1 + lines_of(name) // LINES_OF_A_JOB
-        return Run(name, make_tree(name, uses, tree), words if name == top else ["lib"], min(share, few, jobs))
+        return Run(name, make_tree(name, uses, tree), words_of[name], min(share, few, jobs))
 
     try:
         while len(done) < len(names):
@@ -143,6 +193,7 @@ def prove(top, words, jobs, tree):
             waiting += ready
             run = ended(running)
             run.report()
+            marks.put(run.name)
             done.add(run.name)
     finally:
         for run in running:
