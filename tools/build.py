@@ -77,7 +77,7 @@ def lines_of(name):
 
 
 def mark_of(name, uses, words, kit):
-    """A checksum of all that a crate's proof stands on: the toolchain, and the sources of the crate and of those below."""
+    """A checksum of all that a crate's proof stands on: the toolchain, its sources and those of the crates below."""
     mark = hashlib.sha256(f"{kit} {words} {read('HANDLES')}".encode())
     for low in below(name, uses):
         mark.update(f"{rows()[low]}\n".encode())

@@ -3,8 +3,8 @@
 
 Usage: build_lib.py JOBS [FOLDER]
 
-The crates are proved below FOLDER (out/build if left out), as build.py proves those of the program, so that the crates of
-both are proved once. The libraries are the proved functions, c/warc.c, and what the toolchain has of the C library's
+The crates are proved below FOLDER (out/build if left out), as build.py proves those of the program, and beside them: what
+both use is proved once. The libraries are the proved functions, c/warc.c, and what the toolchain has of the C library's
 memory (liblibc_c.a).
 """
 import os

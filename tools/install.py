@@ -5,7 +5,7 @@ The library for C and its header are installed too, where `make lib` built them.
 Usage: install.py install|uninstall FOLDER
 
 FOLDER is the prefix, as /usr/local. The manual pages and completions are those that `make man` put under out/. What is
-installed is listed in FOLDER/share/doc/zogwedu/FILES, and that is what is removed, whatever this folder has built by then.
+installed is listed in FOLDER/share/doc/zogwedu/FILES, and that is what is removed.
 """
 import glob
 import os

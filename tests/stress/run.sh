@@ -12,8 +12,8 @@ count=${STRESS_COUNT:-100000}
 seed=${STRESS_SEED:-1}
 archives=${STRESS_ARCHIVES:-2000}
 status=0
-bash tools/need.sh strace:strace valgrind:valgrind parallel:parallel /usr/sbin/sshd:openssh-server wget:wget ip:iproute2 ||
-    exit 1
+bash tools/need.sh strace:strace valgrind:valgrind parallel:parallel /usr/sbin/sshd:openssh-server wget:wget \
+    ip:iproute2 || exit 1
 python3 tests/stress/differential.py bin/warc $(((count + 9) / 10)) "$seed" || status=1
 python3 tests/stress/system.py bin/warc || status=1
 python3 tests/stress/memory.py bin/warc || status=1
