@@ -1,0 +1,4 @@
+mod LineLemmas
+mod NameLemmas
+mod ValueLemmas
+mod HeadLemmas

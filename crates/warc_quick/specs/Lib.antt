@@ -1,0 +1,3 @@
+pub mod Quick
+pub mod Names
+pub mod Fronts

@@ -1,0 +1,40 @@
+-- A head that is read in place: the good head at the front of a text, and what it says (ISO 28500:2017, 4 and 5). Which
+-- heads are read so is this project's own choice.
+use Rattle.std.specs.Prelude.{◌≡◌, ℕ, ◌≤◌, List, [], length, take, None, Ok, unwrap_or}
+use Rattle.warc_field.specs.Area.{Pair}
+use Rattle.warc_value.specs.Digests.{wanted_digest}
+use Rattle.warc_frame.specs.declared.version.Version.{Version}
+use Rattle.warc_frame.specs.Reading.{any_fields, head_of}
+use Rattle.warc_frame.specs.Record.{block_len}
+use Rattle.warc_record.specs.Heads.{head_fault}
+use Rattle.warc_record.specs.Readings.{Reading, digest_wanted, reading_of}
+use Rattle.warc_record.specs.declared.head.HeadTexts.{HeadTexts}
+use Rattle.warc_quick.specs.declared.head.QuickHead.{QuickHead}
+
+-- the most bytes of a head that is read in place
+abbrev pub max_quick_head : ℕ
+max_quick_head = 32768
+
+-- these are the texts that are listed of a head that says this, each empty if it is absent, and its mark
+pub record AreTexts (head : Reading) (texts : HeadTexts) : Type 0 where
+  pub kind : texts.kind.now ≡ unwrap_or head.type_text []
+  pub date : texts.date.now ≡ unwrap_or head.date_text []
+  pub id : texts.id.now ≡ unwrap_or head.id_text []
+  pub target : texts.target.now ≡ unwrap_or head.target []
+  pub truncated : texts.is_truncated ≡ head.truncated
+
+-- these are the fields of a good head, which says this
+pub record Says (fields : List Pair) (found : QuickHead) : Type 0 where
+  pub good : head_fault fields ≡ None
+  pub block : block_len fields ≡ Ok found.block_len
+  pub texts : AreTexts (reading_of fields) found.texts
+  pub wanted : digest_wanted fields ≡ wanted_digest found.digest.now
+
+-- the first bytes of a text are a whole, good head, which says this
+pub record IsQuickHead (text : List ℕ) (found : QuickHead) : Type 0 where
+  pub version : Version
+  pub fields : List Pair
+  pub within : found.len ≤ length text
+  pub whole : head_of any_fields (take found.len text)
+      ≡ Ok (record { version = version; fields = fields; len = found.len; block_len = found.block_len })
+  pub says : Says fields found

@@ -1,0 +1,141 @@
+//! A plain head.
+ghost use Rattle.std.specs.Prelude.{◌≡◌, ◌<◌, ◌≤◌, ◌++◌, List, IfSome, Some};
+ghost use Rattle.warc_field.specs.Area.{Pair};
+ghost use Rattle.warc_field.specs.Lines.{crlf};
+ghost use Rattle.warc_frame.specs.declared.version.Version.{Version};
+ghost use Rattle.warc_frame.specs.VersionLine.{version_line};
+ghost use Rattle.warc_record.specs.Ids.{ends_id, is_id};
+ghost use Rattle.warc_frame.specs.Record.{block_number, max_block};
+ghost use Rattle.warc_quick.specs.Fronts.{AreOnlyValues, BeginsWithFields};
+ghost use Rattle.warc_quick.specs.Quick.{Says, IsQuickHead, max_quick_head};
+
+use crate::lines::first_line;
+use crate::names::QuickName;
+use crate::values::Values;
+use warc_field::{decimal, is_name};
+use warc_frame::{MAX_BLOCK, MAX_HEAD, Version};
+use warc_record::{HeadTexts, bare};
+use warc_value::read_date;
+
+/// A head of at most this many bytes is within the limit when it is written canonically, too.
+const MAX_QUICK_HEAD: usize = MAX_HEAD / 2;
+
+/// A good head that was read in place: each of its texts is a part of the text that was read.
+#[derive(Clone, Copy)]
+pub struct QuickHead<'a> {
+    /// How many bytes the head has, the empty line that ends it included: at most 32,768.
+    pub len: usize,
+
+    /// How many bytes the block after it has, as its `Content-Length` says: at most 2^40.
+    pub block_len: u64,
+
+    /// What of it is listed.
+    pub texts: HeadTexts<'a>,
+
+    /// The value of `WARC-Block-Digest`, empty if it is absent.
+    pub digest: &'a [u8],
+}
+
+/// What follows the version line at the front of a text.
+fn after_version(text: &[u8]) -> Option<&[u8]>
+    ensures { IfSome result (λ rest. (version : Version) × (text.now ≡ version_line version ++ rest.now)) }
+{
+    match text.strip_prefix(Version::V1_1.line()) {
+        Some(rest) => Some(rest),
+        None => text.strip_prefix(Version::V1_0.line()),
+    }
+}
+
+/// The values of the fields of a head whose lines follow the version line, and what follows the empty line.
+fn read_lines(text: &[u8]) -> Option<(Values<'_>, &[u8])>
+    ensures { IfSome result (λ read. BeginsWithFields text.now read.0.values (crlf ++ read.1.now)) }
+{
+    let mut values = Values::none();
+    let mut rest = text;
+    while !rest.starts_with(b"\r\n") {
+        let line = first_line(rest)?;
+        if !values.add(&line) {
+            return None;
+        }
+        rest = line.more;
+    }
+    Some((values, &rest[2..]))
+}
+
+/// Whether no id contains this byte.
+#[tactic(auto, unfolding(warc_field::specs::Text::is_blank))]
+fn ends_id(byte: u8) -> bool
+    ensures { result ≡ ends_id byte }
+{
+    matches!(byte, b'<' | b'>' | b' ' | b'\t')
+}
+
+/// Whether a value holds an id.
+#[tactic(auto, unfolding(warc_record::specs::Ids::is_bare_id))]
+fn holds_id(value: &[u8]) -> bool
+    ensures { result ≡ is_id value.now }
+{
+    let bare = bare(value);
+    if bare.is_empty() {
+        return false;
+    }
+    !bare.iter().any(|byte| ends_id(*byte))
+}
+
+/// The length of the block that a `Content-Length` states, if a block may be so long.
+fn block_len(value: &[u8]) -> Option<u64>
+    ensures value { result ≡ block_number (Some value.now) }
+    ensures small { IfSome result (λ len. len ≤ max_block) }
+{
+    match decimal(value) {
+        Some(len) if len <= MAX_BLOCK => Some(len),
+        _ => None,
+    }
+}
+
+/// What the fields of these values say, if their head is good.
+fn good_head<'a>(len: usize, values: &Values<'a>) -> Option<QuickHead<'a>>
+    ensures lengths { IfSome result (λ head. (head.len ≡ len) × (head.block_len ≤ max_block)) }
+    ensures says { (fields : List Pair) → AreOnlyValues fields values.now.values → IfSome result (Says fields) }
+{
+    let block_len = block_len(values.only(QuickName::ContentLength)?)?;
+    let kind = values.only(QuickName::Type)?;
+    if !is_name(kind) {
+        return None;
+    }
+    let id = values.only(QuickName::RecordId)?;
+    if !holds_id(id) {
+        return None;
+    }
+    let date = values.only(QuickName::Date)?;
+    read_date(date)?;
+    Some(QuickHead {
+        len,
+        block_len,
+        texts: HeadTexts {
+            kind,
+            date,
+            id,
+            target: bare(values.or_empty(QuickName::TargetUri)),
+            is_truncated: !values.or_empty(QuickName::Truncated).is_empty(),
+        },
+        digest: values.or_empty(QuickName::BlockDigest),
+    })
+}
+
+/// Reads the good head at the front of a text, if it is plain and there whole. `None` says nothing of the text.
+///
+/// A head is plain if each field is on one line, no value has a control character other than tabs, the names that are
+/// looked for are spelled as in the standard and occur at most once, and it has at most 32,768 bytes.
+pub fn quick_head(text: &[u8]) -> Option<QuickHead<'_>>
+    ensures head { IfSome result (IsQuickHead text.now) }
+    ensures bounds { IfSome result (λ head. (0 < head.len) × (head.len ≤ max_quick_head)
+        × (head.block_len ≤ max_block)) }
+{
+    let (values, rest) = read_lines(after_version(text)?)?;
+    let len = text.len() - rest.len();
+    if len > MAX_QUICK_HEAD {
+        return None;
+    }
+    good_head(len, &values)
+}

@@ -1,0 +1,12 @@
+//! The head of a WARC record, read in place and in one pass. It takes no memory, and copies no name and no value.
+//!
+//! Most heads are plain: each field is on a line of its own, and each name that is looked for is spelled as in the
+//! standard and occurs at most once. These are read here. Any other head is left to `warc_frame` and `warc_record`.
+#![tactic(auto)]
+
+mod head;
+mod lines;
+mod names;
+mod values;
+
+pub use head::{QuickHead, quick_head};

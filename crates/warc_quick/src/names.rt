@@ -1,0 +1,112 @@
+//! The names by which a head is read in place.
+ghost use Rattle.std.specs.Prelude.{◌≡◌, ◌<◌, IfSome, false};
+ghost use Rattle.warc_field.specs.Text.{same};
+ghost use Rattle.std.specs.Char.{to_ascii_lowercase};
+ghost use Rattle.std.specs.Prelude.{slice_index};
+ghost use Rattle.warc_quick.specs.Names.{quick_name, quick_place, quick_by, IsNaming};
+
+use warc_field::is_name;
+use warc_frame::names;
+
+/// A name by which a head is read in place.
+#[derive(Clone, Copy, Debug, PartialEq, Eq)]
+pub(crate) enum QuickName {
+    Type,
+    RecordId,
+    Date,
+    ContentLength,
+    TargetUri,
+    BlockDigest,
+    Truncated,
+}
+
+/// How many there are.
+pub(crate) const COUNT: usize = QuickName::Truncated as usize + 1;
+
+/// What a field's name is: one of these names, spelled as in the standard, or none of them in any case.
+#[derive(Clone, Copy, Debug, PartialEq, Eq)]
+pub(crate) enum Naming {
+    Known(QuickName),
+    Other,
+}
+
+/// The only name of this length whose eighth letter is this one, in lower case.
+fn candidate(len: usize, letter: u8) -> Option<QuickName>
+    ensures { result ≡ quick_by len letter }
+{
+    match (len, letter) {
+        (9, b'p') => Some(QuickName::Type),
+        (9, b't') => Some(QuickName::Date),
+        (14, b'c') => Some(QuickName::RecordId),
+        (14, b'-') => Some(QuickName::ContentLength),
+        (14, b'u') => Some(QuickName::Truncated),
+        (15, b'r') => Some(QuickName::TargetUri),
+        (17, b'o') => Some(QuickName::BlockDigest),
+        _ => None,
+    }
+}
+
+/// The eighth letter of a text in lower case, or 0 if it is shorter.
+fn eighth(text: &[u8]) -> u8
+    ensures { result ≡ to_ascii_lowercase (slice_index text.now 7) }
+{
+    if text.len() > 7 {
+        text[7].to_ascii_lowercase()
+    } else {
+        0
+    }
+}
+
+impl QuickName {
+    /// The name, as the standard writes it.
+    fn text(self) -> &'static str
+        ensures { result.now ≡ quick_name self }
+    {
+        match self {
+            QuickName::Type => names::WARC_TYPE,
+            QuickName::RecordId => names::WARC_RECORD_ID,
+            QuickName::Date => names::WARC_DATE,
+            QuickName::ContentLength => names::CONTENT_LENGTH,
+            QuickName::TargetUri => names::WARC_TARGET_URI,
+            QuickName::BlockDigest => names::WARC_BLOCK_DIGEST,
+            QuickName::Truncated => names::WARC_TRUNCATED,
+        }
+    }
+
+    /// Its place among these names.
+    pub(crate) fn place(self) -> usize
+        ensures place { result ≡ quick_place self }
+        ensures within { result < COUNT }
+    {
+        self as usize
+    }
+}
+
+/// A text that none of these names is in any case, if it is a name.
+fn other_name(text: &[u8]) -> Option<Naming>
+    requires { (name : QuickName) → same text.now (quick_name name) ≡ false }
+    ensures { IfSome result (IsNaming text.now) }
+{
+    if is_name(text) {
+        Some(Naming::Other)
+    } else {
+        None
+    }
+}
+
+/// Which name a text is, unless it is no name, or one of these names in another case.
+pub(crate) fn judge_name(text: &[u8]) -> Option<Naming>
+    ensures { IfSome result (IsNaming text.now) }
+{
+    let Some(known) = candidate(text.len(), eighth(text)) else {
+        return other_name(text);
+    };
+    let name = known.text().as_bytes();
+    if text == name {
+        return Some(Naming::Known(known));
+    }
+    if text.eq_ignore_ascii_case(name) {
+        return None;
+    }
+    other_name(text)
+}
