@@ -1,0 +1,114 @@
+//! The suite of plain heads: what `warc_quick` answers to a script on standard input, each head compared with the
+//! reading that keeps its fields.
+#![tactic(auto)]
+
+use std::alloc::{AllocError, Global};
+use std::io::{self, Read, Write};
+use std::process::ExitCode;
+use suites_script::{Case, Trial, try_script};
+use warc_frame::read_head;
+use warc_quick::{QuickHead, quick_head};
+use warc_record::{HeadTexts, judge_head};
+
+/// The text that cases speak of which give none.
+#[derive(Drop)]
+struct Trials {
+    text: Vec<u8>,
+}
+
+/// Whether two readings give the same texts and the same mark.
+fn have_same_texts(one: &HeadTexts<'_>, other: &HeadTexts<'_>) -> bool {
+    one.kind == other.kind
+        && one.date == other.date
+        && one.id == other.id
+        && one.target == other.target
+        && one.is_truncated == other.is_truncated
+}
+
+/// Whether the reading that keeps the fields gives the same.
+fn is_confirmed(alloc: Global, text: &[u8], quick: &QuickHead<'_>) -> bool {
+    let Ok(head) = read_head(alloc, text) else {
+        return false;
+    };
+    if head.len != quick.len || head.block_len != quick.block_len {
+        return false;
+    }
+    match judge_head(head.fields) {
+        Ok(good) => have_same_texts(&quick.texts, &good.texts()),
+        Err(_) => false,
+    }
+}
+
+/// Adds what a head says.
+fn tell_quick(
+    alloc: Global,
+    answer: &mut Vec<u8>,
+    quick: &QuickHead<'_>,
+) -> Result<(), AllocError> {
+    let lengths = format!(in alloc;
+        "head of {} bytes, block of {}\n",
+        quick.len, quick.block_len
+    )?;
+    answer.extend_from_slice(lengths.as_bytes())?;
+    let texts = quick.texts;
+    for text in [texts.kind, texts.date, texts.id, texts.target, quick.digest] {
+        answer.extend_from_slice(text)?;
+        answer.push(b'\n')?;
+    }
+    if texts.is_truncated {
+        answer.extend_from_slice(b"truncated\n")?;
+    }
+    Ok(())
+}
+
+/// Adds what the head at the front of a text says, if it is read in place.
+fn tell_head(alloc: Global, answer: &mut Vec<u8>, text: &[u8]) -> Result<(), AllocError> {
+    match quick_head(text) {
+        Some(quick) if is_confirmed(alloc, text, &quick) => tell_quick(alloc, answer, &quick),
+        Some(_) => answer.extend_from_slice(b"read in two ways\n"),
+        None => answer.extend_from_slice(b"not read in place\n"),
+    }
+}
+
+/// The text that a case gives or else the one that was kept, changed by the words of the case if it has some.
+fn text_of(alloc: Global, case: &Case<'_>, kept: &[u8]) -> Result<Vec<u8>, AllocError> {
+    let text = if case.gives() { case.given() } else { kept };
+    if case.word(1).is_empty() {
+        return text.to_vec(alloc);
+    }
+    match case.changed(alloc, 1, text)? {
+        Some(changed) => Ok(changed),
+        None => text.to_vec(alloc),
+    }
+}
+
+impl Trial for Trials {
+    fn answer(
+        &mut self,
+        alloc: Global,
+        case: &Case<'_>,
+        answer: &mut Vec<u8>,
+    ) -> Result<(), AllocError> {
+        match case.text(0) {
+            "text" => {
+                self.text = case.given().to_vec(alloc)?;
+                Ok(())
+            }
+            "quick" => tell_head(alloc, answer, &text_of(alloc, case, &self.text)?),
+            _ => answer.extend_from_slice(b"no such case\n"),
+        }
+    }
+}
+
+fn main(rt: HostRuntime) -> io::Result<ExitCode> {
+    let alloc = rt.alloc();
+    let mut script = Vec::new(alloc);
+    rt.reader().read_to_end(&mut script)?;
+    let mut trials = Trials {
+        text: Vec::new(alloc),
+    };
+    let report = try_script(alloc, &script, &mut trials)?;
+    let status = report.status();
+    rt.stdout().write_all(&report.into_text(alloc)?)?;
+    Ok(status)
+}
