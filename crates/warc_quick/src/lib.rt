@@ -1,4 +1,4 @@
-//! The head of a WARC record, read in place and in one pass. It takes no memory, and copies no name and no value.
+//! The head of a WARC record, read in place, line by line. It takes no memory, and copies no name and no value.
 //!
 //! Most heads are plain: each field is on a line of its own, and each name that is looked for is spelled as in the
 //! standard and occurs at most once. These are read here. Any other head is left to `warc_frame` and `warc_record`.

@@ -1,8 +1,7 @@
 //! The names by which a head is read in place.
-ghost use Rattle.std.specs.Prelude.{◌≡◌, ◌<◌, IfSome, false};
+ghost use Rattle.std.specs.Prelude.{◌≡◌, ◌<◌, IfSome, false, slice_index};
 ghost use Rattle.warc_field.specs.Text.{same};
 ghost use Rattle.std.specs.Char.{to_ascii_lowercase};
-ghost use Rattle.std.specs.Prelude.{slice_index};
 ghost use Rattle.warc_quick.specs.Names.{quick_name, quick_place, quick_by, IsNaming};
 
 use warc_field::is_name;
