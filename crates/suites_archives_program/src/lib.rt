@@ -9,6 +9,7 @@ mod fronts;
 mod lines;
 mod plain;
 mod runs;
+mod salvaged;
 mod salvaging;
 mod turns;
 mod usage;

@@ -2,15 +2,17 @@
 
 use crate::lines::tell_count;
 use crate::runs::{Asked, Ended, Refused, run_broken, run_cut, run_in_pieces, run_refused};
+use crate::salvaged::{good_in, is_salvaged};
 use std::alloc::{AllocError, Global};
+use warc_commands::Command;
 use warc_vectors::Break;
 
 /// More failures than any run of the suites has.
-const MOST: u64 = 5000;
+pub(crate) const MOST: u64 = 5000;
 
-/// How far a run came of which a read failed.
+/// How far a run came of which a read or a request for memory failed.
 #[derive(Clone, Copy)]
-enum Stage {
+pub(crate) enum Stage {
     /// The archive wasn't open.
     Opening,
     /// It was, and some of the output may be out.
@@ -23,12 +25,7 @@ enum Stage {
 
 /// Whether a run failed behind the opening: what went out is the front of the whole, and the line tells this, and how
 /// many bytes that has.
-pub(crate) fn is_cut(
-    alloc: Global,
-    ended: &Ended,
-    whole: &Ended,
-    told: &str,
-) -> Result<bool, AllocError> {
+fn is_cut(alloc: Global, ended: &Ended, whole: &Ended, told: &str) -> Result<bool, AllocError> {
     let line = format!(in alloc; "warc: {told} after {}\n", ended.out.len())?;
     let is_front = whole.out.starts_with(&ended.out);
     Ok(is_front && ended.err.as_slice() == line.as_bytes() && ended.status == 3)
@@ -39,13 +36,35 @@ fn is_begun(ended: &Ended, line: &[u8]) -> bool {
     ended.out.is_empty() && ended.err.starts_with(line) && ended.status == 3
 }
 
+/// Whether a run failed since the read of the bytes from an offset on did, before the archive was open. Then nothing
+/// went out, or, if the run salvages, the good records before that offset.
+fn is_unopened(
+    alloc: Global,
+    asked: Asked<'_>,
+    ended: &Ended,
+    at: u64,
+) -> Result<bool, AllocError> {
+    let fault = format!(in alloc; "F13 Read at {at}")?;
+    if let Command::Salvage { .. } = asked.command {
+        let records = good_in(alloc, asked.archive, at as usize);
+        return is_salvaged(alloc, ended, &fault, records);
+    }
+    let line = format!(in alloc; "warc: {fault}\n")?;
+    Ok(is_begun(ended, line.as_bytes()))
+}
+
 /// How far a run came that ended otherwise than the whole, since a read failed. That asked for the bytes from an offset
 /// on if the archive wasn't open.
-fn stage_of(alloc: Global, ended: &Ended, whole: &Ended, at: u64) -> Result<Stage, AllocError> {
-    let line = format!(in alloc; "warc: F13 Read at {at}\n")?;
+fn stage_of(
+    alloc: Global,
+    asked: Asked<'_>,
+    ended: &Ended,
+    whole: &Ended,
+    at: u64,
+) -> Result<Stage, AllocError> {
     Ok(if is_cut(alloc, ended, whole, "read failed")? {
         Stage::Behind
-    } else if is_begun(ended, line.as_bytes()) {
+    } else if is_unopened(alloc, asked, ended, at)? {
         Stage::Opening
     } else {
         Stage::Otherwise
@@ -69,7 +88,8 @@ fn stage_at(
         return Ok(Stage::Otherwise);
     }
     let at = (most as u64).saturating_mul(number.saturating_sub(1));
-    stage_of(alloc, &ended, whole, at.min(asked.archive.len() as u64))
+    let end = asked.archive.len() as u64;
+    stage_of(alloc, asked, &ended, whole, at.min(end))
 }
 
 /// How many reads fail in turn while the archive is opened, and how many behind that. Nothing where a run ends
