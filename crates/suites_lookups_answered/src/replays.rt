@@ -27,6 +27,9 @@ const PATH: Path = Path {
 /// What is there before a body.
 const BEFORE: &[u8] = b"before ";
 
+/// More reads and writes than any case makes.
+const MOST: u64 = 5000;
+
 /// How many bytes a read gives at most, and the number of the read that fails, counted from 1; at 0 none does.
 #[derive(Clone, Copy)]
 struct Reads {
@@ -143,7 +146,7 @@ fn fail_each(
     answer: &mut Vec<u8>,
 ) -> Result<(), AllocError> {
     let mut last = Vec::new(alloc);
-    for number in 1..100u64 {
+    for number in 1..MOST {
         let told = fail_at(alloc, origin, blocks, failing, number)?;
         if told != last {
             answer.extend_from_slice(format!(in alloc; "from {number} on: ")?.as_bytes())?;
@@ -153,11 +156,11 @@ fn fail_each(
             }
         }
         if told.starts_with(b"chosen") {
-            break;
+            return Ok(());
         }
         last = told;
     }
-    Ok(())
+    answer.extend_from_slice(b"there are more of them\n")
 }
 
 /// Tells what is answered, which is the same with reads of 1 byte, of 7 bytes and of all.

@@ -11,6 +11,9 @@ use warc_vectors::{Heap, RefusingAllocator};
 /// What is told where memory is refused.
 const NO_MEMORY: &[u8] = b"out of memory\n";
 
+/// More requests for memory than any case makes.
+const MOST: u64 = 5000;
+
 /// Adds what a head says, again where memory was refused. Whether it was refused; `None` where that left another number
 /// of bytes kept, or where memory was refused again.
 fn add_again<'a>(
@@ -164,76 +167,90 @@ fn perform(
     make_and_tell(alloc, &mut parts, willing, records, case, told)
 }
 
-/// The same where the request of that number is refused; at 0 none is. Heads take their memory elsewhere.
+/// The same where the request of that number is refused, and whether it was; at 0 none is. Heads take their memory
+/// elsewhere.
 fn perform_at(
     alloc: Global,
     records: &Records,
     case: &Case<'_>,
     number: u64,
     told: &mut Vec<u8>,
-) -> Result<Option<bool>, AllocError> {
+) -> Result<(Option<bool>, bool), AllocError> {
     let willing = RefusingAllocator::new(alloc, 0);
     let heap = RefusingAllocator::new(alloc, number);
-    perform(alloc, &heap, &willing, records, case, told)
+    let added = perform(alloc, &heap, &willing, records, case, told)?;
+    Ok((added, heap.has_refused()))
 }
 
-/// What was refused in runs so far: an addition in one, the joining in one; and whether one went wrong.
+/// What comes of a run in which the request of a number is to be refused.
 #[derive(Clone, Copy)]
-struct Refused {
-    additions: bool,
-    joins: bool,
-    is_wrong: bool,
+enum Turn {
+    /// An addition was refused, and went well when it was made again.
+    Addition,
+
+    /// The joining was refused.
+    Joining,
+
+    /// There is no such request.
+    Absent,
+    Otherwise,
 }
 
-/// Where the request of that number is refused, and this was told where none was.
-fn refused_at(
+/// What comes of the run where the request of that number is refused, if this was told where none was.
+fn turn_at(
     alloc: Global,
     records: &Records,
     case: &Case<'_>,
     number: u64,
     wanted: &[u8],
-) -> Result<Refused, AllocError> {
+) -> Result<Turn, AllocError> {
     let mut told = Vec::new(alloc);
-    let added = perform_at(alloc, records, case, number, &mut told)?;
-    let is_join_refused = told.as_slice() == NO_MEMORY;
-    Ok(Refused {
-        additions: added == Some(true),
-        joins: is_join_refused,
-        is_wrong: added.is_none() || !(is_join_refused || told.as_slice() == wanted),
+    let (added, has_refused) = perform_at(alloc, records, case, number, &mut told)?;
+    Ok(match (added, has_refused) {
+        (Some(true), true) if told.as_slice() == wanted => Turn::Addition,
+        (Some(false), true) if told.as_slice() == NO_MEMORY => Turn::Joining,
+        (Some(false), false) if told.as_slice() == wanted => Turn::Absent,
+        _ => Turn::Otherwise,
     })
 }
 
-/// Where each of the first 127 requests is refused in turn.
+/// What was refused in one run or another.
+#[derive(Clone, Copy)]
+struct Refused {
+    additions: bool,
+    joins: bool,
+}
+
+/// What is refused where each request is in turn, until there is none. Nothing where something else comes of one, or
+/// more are to come.
 fn refuse_each(
     alloc: Global,
     records: &Records,
     case: &Case<'_>,
     wanted: &[u8],
-) -> Result<Refused, AllocError> {
+) -> Result<Option<Refused>, AllocError> {
     let mut all = Refused {
         additions: false,
         joins: false,
-        is_wrong: false,
     };
-    for number in 1..128u64 {
-        let one = refused_at(alloc, records, case, number, wanted)?;
-        all = Refused {
-            additions: all.additions || one.additions,
-            joins: all.joins || one.joins,
-            is_wrong: all.is_wrong || one.is_wrong,
-        };
+    for number in 1..MOST {
+        match turn_at(alloc, records, case, number, wanted)? {
+            Turn::Addition => all.additions = true,
+            Turn::Joining => all.joins = true,
+            Turn::Absent => return Ok(Some(all)),
+            Turn::Otherwise => return Ok(None),
+        }
     }
-    Ok(all)
+    Ok(None)
 }
 
 impl Refused {
     fn text(self) -> &'static [u8] {
-        match (self.is_wrong, self.additions, self.joins) {
-            (true, _, _) => b"something else once a request is refused\n",
-            (false, true, true) => b"the same where an addition or the joining was refused\n",
-            (false, true, false) => b"the same where an addition was refused\n",
-            (false, false, true) => b"the same where the joining was refused\n",
-            (false, false, false) => b"no request is refused\n",
+        match (self.additions, self.joins) {
+            (true, true) => b"the same where an addition or the joining was refused\n",
+            (true, false) => b"the same where an addition was refused\n",
+            (false, true) => b"the same where the joining was refused\n",
+            (false, false) => b"no request is refused\n",
         }
     }
 }
@@ -380,9 +397,11 @@ fn tell_refused(
 ) -> Result<(), AllocError> {
     let mut told = Vec::new(alloc);
     tell_plain(alloc, records, case, &mut told)?;
-    let refused = refuse_each(alloc, records, case, &told)?;
     answer.extend_from_slice(&told)?;
-    answer.extend_from_slice(refused.text())
+    match refuse_each(alloc, records, case, &told)? {
+        Some(refused) => answer.extend_from_slice(refused.text()),
+        None => answer.extend_from_slice(b"something else once a request is refused\n"),
+    }
 }
 
 /// Tells what a case asks for where no request is refused.
@@ -393,8 +412,8 @@ fn tell_plain(
     told: &mut Vec<u8>,
 ) -> Result<(), AllocError> {
     match perform_at(alloc, records, case, 0, told) {
-        Ok(Some(_)) => Ok(()),
-        Ok(None) => told.extend_from_slice(b"a record is refused\n"),
+        Ok((Some(_), _)) => Ok(()),
+        Ok((None, _)) => told.extend_from_slice(b"a record is refused\n"),
         Err(error) => Err(error),
     }
 }
