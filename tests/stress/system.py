@@ -70,6 +70,7 @@ def made_record(block):
 COMMANDS = (("list",), ("check",), ("fixity",), ("salvage",), ("rewrite",), ("convert",), ("extract", FIRST_ID),
             ("head", "0"), ("block", "0"), ("body", "701"), ("replay", TARGET, "9999"), ("split", "50000"), ("write",))
 COMMANDS += tuple((name,) for name in ("captures", "summary") if name in warc_reference.COMMANDS)
+COMMANDS += (("body", "701", "--stored"), ("captures", TARGET))
 SHORT = ("list", "check", "fixity", "head", "body", "captures", "summary")
 
 
@@ -428,6 +429,12 @@ def odd_files(stress):
     stress.end()
 
 
+def dashed(words):
+    """The words with -- before those that aren't flags."""
+    flags = [word for word in words if word in generate.FLAGS]
+    return [words[0], *flags, "--", *(word for word in words[1:] if word not in flags)]
+
+
 def odd_names(stress):
     """Names with dashes, spaces, a line end, and bytes that aren't UTF-8."""
     stress.begin("odd names")
@@ -444,9 +451,9 @@ def odd_names(stress):
             stress.judge(seen == stress.expected[command], (*command, "./" + name), seen)
             if name == "-":
                 continue
-            words = words_for(command, name)
-            seen = stress.run([words[0], "--", *words[1:]])
-            stress.judge(seen == stress.expected[command], (words[0], "--", *words[1:]), seen)
+            words = dashed(words_for(command, name))
+            seen = stress.run(words)
+            stress.judge(seen == stress.expected[command], words, seen)
         seen = stress.run([word if word != "RAW" else raw for word in words_for(command, "RAW")])
         stress.judge(seen == Result(b"", b"warc: the arguments aren't text\n", 3), (*command, raw), seen)
         with open(raw, "rb") as file:
