@@ -6,7 +6,7 @@ use crate::replays::Asked;
 use crate::telling::{add_check, add_done, add_extract, add_line, add_replay, add_text};
 use std::alloc::{AllocError, Allocator, Global};
 use suites_script::Case;
-use warc::{Archive, BodyFault, Form, Listing, StoredAt, TakeFault};
+use warc::{Archive, BodyFault, Form, Listing, StoredAt, TakeFault, Verdict};
 use warc_frame::{Framed, Sink, Source};
 
 /// Adds the version of a record, how many fields it has, and its block.
@@ -21,6 +21,20 @@ fn add_taken<A: Allocator + Copy>(
             text.extend_from_slice(line.as_bytes())?;
             add_line(text, record.block())
         }
+        Err(fault) => add_text(alloc, text, &fault),
+    }
+}
+
+/// Adds how the block of a record compares with its digest.
+fn add_verdict(
+    alloc: Global,
+    text: &mut Vec<u8>,
+    told: Result<Verdict, TakeFault>,
+) -> Result<(), AllocError> {
+    match told {
+        Ok(Verdict::Good) => add_line(text, b"good"),
+        Ok(Verdict::Bad) => add_line(text, b"bad"),
+        Ok(Verdict::Unchecked) => add_line(text, b"unchecked"),
         Err(fault) => add_text(alloc, text, &fault),
     }
 }
@@ -58,6 +72,35 @@ fn add_replayed<S: Source, A: Allocator + Copy, W: Sink>(
     }
 }
 
+/// Adds what a capture of an archive gives, by the call that the third word of a case names.
+fn add_capture<S: Source, A: Allocator + Copy, W: Sink>(
+    alloc: Global,
+    archive: &mut Archive<S, A>,
+    case: &Case<'_>,
+    out: &mut W,
+    text: &mut Vec<u8>,
+) -> Result<(), AllocError> {
+    match case.text(2) {
+        "body" => {
+            let told = archive.replay_at(case.number(3) as usize, out);
+            add_replay(alloc, text, told)
+        }
+        "stored" => {
+            let told = archive.stored_to(case.number(3) as usize, out);
+            add_stored(alloc, text, told)
+        }
+        "located" => {
+            let told = archive.locate_at(case.number(3) as usize);
+            add_located(alloc, text, told)
+        }
+        "outcome" => {
+            let told = archive.outcome_at(case.number(3) as usize);
+            add_outcome(alloc, text, told)
+        }
+        _ => add_line(text, b"no such call"),
+    }
+}
+
 /// What an archive answers to the call that the third word of a case names.
 pub(crate) fn ask_archive<S: Source, A: Allocator + Copy, W: Sink>(
     alloc: Global,
@@ -75,28 +118,16 @@ pub(crate) fn ask_archive<S: Source, A: Allocator + Copy, W: Sink>(
             let told = extracted(archive, case.word(3), out);
             add_extract(alloc, &mut text, told)?;
         }
-        "body" => {
-            let told = archive.replay_at(case.number(3) as usize, out);
-            add_replay(alloc, &mut text, told)?;
-        }
-        "stored" => {
-            let told = archive.stored_to(case.number(3) as usize, out);
-            add_stored(alloc, &mut text, told)?;
-        }
         "locate" => add_located_for(alloc, archive, case, &mut text)?,
-        "located" => {
-            let told = archive.locate_at(case.number(3) as usize);
-            add_located(alloc, &mut text, told)?;
-        }
-        "outcome" => {
-            let told = archive.outcome_at(case.number(3) as usize);
-            add_outcome(alloc, &mut text, told)?;
-        }
         "record" => {
             let taken = archive.record(case.number(3) as usize);
             add_taken(alloc, &mut text, taken)?;
         }
-        _ => add_line(&mut text, b"no such call")?,
+        "verdict" => {
+            let told = archive.verdict(case.number(3) as usize);
+            add_verdict(alloc, &mut text, told)?;
+        }
+        _ => add_capture(alloc, archive, case, out, &mut text)?,
     }
     Ok(text)
 }
@@ -130,6 +161,10 @@ pub(crate) fn ask_listing<S: Source, A: Allocator + Copy, W: Sink>(
         "record" => {
             let taken = listing.record(case.number(3) as usize);
             add_taken(alloc, &mut text, taken)?;
+        }
+        "verdict" => {
+            let told = listing.verdict(case.number(3) as usize);
+            add_verdict(alloc, &mut text, told)?;
         }
         _ => add_line(&mut text, b"no such call")?,
     }
