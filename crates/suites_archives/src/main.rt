@@ -17,19 +17,34 @@ struct Trials {
     moves: Moves,
 }
 
-/// Says where an archive that a case gives answers otherwise once it is moved to WARC 1.1.
+/// Says where an archive answers otherwise once that of a text is moved to WARC 1.1.
 fn tell_moved(
+    alloc: Global,
+    archive: &[u8],
+    text: &[u8],
+    moves: &mut Moves,
+    answer: &mut Vec<u8>,
+) -> Result<(), AllocError> {
+    if !keeps_answers(alloc, archive, text, moves)? {
+        answer.extend_from_slice(b"another answer once it is moved\n")?;
+    }
+    Ok(())
+}
+
+/// Says where an archive that a case gives answers otherwise once it is moved, or where the last one answers otherwise
+/// than a text that is moved in its place.
+fn tell_moved_case(
     alloc: Global,
     case: &Case<'_>,
     archive: &[u8],
     moves: &mut Moves,
     answer: &mut Vec<u8>,
 ) -> Result<(), AllocError> {
-    let is_new = matches!(case.text(0), "archive" | "by");
-    if is_new && !keeps_answers(alloc, archive, moves)? {
-        answer.extend_from_slice(b"another answer once it is moved\n")?;
+    match case.text(0) {
+        "archive" | "by" => tell_moved(alloc, archive, archive, moves, answer),
+        "compared" => tell_moved(alloc, archive, case.given(), moves, answer),
+        _ => Ok(()),
     }
-    Ok(())
 }
 
 /// Adds what a case answers about an archive.
@@ -56,7 +71,7 @@ impl Trial for Trials {
         answer: &mut Vec<u8>,
     ) -> Result<(), AllocError> {
         if self.archives.answer(alloc, case, answer)? {
-            tell_moved(alloc, case, self.archives.bytes(), &mut self.moves, answer)
+            tell_moved_case(alloc, case, self.archives.bytes(), &mut self.moves, answer)
         } else {
             answer_about(alloc, case, self.archives.bytes(), answer)
         }

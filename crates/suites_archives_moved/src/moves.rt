@@ -43,15 +43,15 @@ fn outcome_from(
     Ok(Outcome::Same(before.bodies))
 }
 
-/// What comes of all answers once the archive is moved.
+/// What comes of all answers of an archive once the archive of a text is moved.
 fn outcome_of(
     alloc: Global,
-    bytes: &[u8],
+    (bytes, text): (&[u8], &[u8]),
     most: usize,
     questions: &Questions,
 ) -> Result<Outcome, AllocError> {
     match answers_of(alloc, bytes, most, questions)? {
-        Some(before) => outcome_from(alloc, bytes, most, questions, &before),
+        Some(before) => outcome_from(alloc, text, most, questions, &before),
         None => Ok(Outcome::Unopened),
     }
 }
@@ -64,7 +64,7 @@ fn add_moved(
     questions: &Questions,
     answer: &mut Vec<u8>,
 ) -> Result<(), AllocError> {
-    match outcome_of(alloc, bytes, most, questions)? {
+    match outcome_of(alloc, (bytes, bytes), most, questions)? {
         Outcome::Unopened => add_line(answer, b"it doesn't open"),
         Outcome::ByLibrary => add_line(answer, b"another answer once it is moved by the library"),
         Outcome::ByCommand => add_line(answer, b"another answer once it is moved by the command"),
@@ -169,11 +169,16 @@ impl Moves {
     }
 }
 
-/// Whether the archive of these bytes itself does so. Counts this.
-fn keeps_own_answers(alloc: Global, bytes: &[u8], moves: &mut Moves) -> Result<bool, AllocError> {
+/// Whether the archive of these bytes itself does so. Counts where it does.
+fn keeps_own_answers(
+    alloc: Global,
+    bytes: &[u8],
+    text: &[u8],
+    moves: &mut Moves,
+) -> Result<bool, AllocError> {
     match questions_of(alloc, bytes)? {
         Ok(questions) => {
-            let outcome = outcome_of(alloc, bytes, usize::MAX, &questions)?;
+            let outcome = outcome_of(alloc, (bytes, text), usize::MAX, &questions)?;
             Ok(moves.add(questions.count(), outcome))
         }
         Err(_) => Ok(true),
@@ -181,14 +186,19 @@ fn keeps_own_answers(alloc: Global, bytes: &[u8], moves: &mut Moves) -> Result<b
 }
 
 /// Whether the archive of these bytes, and each archive that it begins with where it has few records, answers the same
-/// once it is moved to WARC 1.1 by the library or by the command: for each of its targets as of each of its dates, and
-/// as of the first and the last instant of all. One that doesn't open does.
-pub fn keeps_answers(alloc: Global, archive: &[u8], moves: &mut Moves) -> Result<bool, AllocError> {
+/// as that of as many bytes of a text once this is moved to WARC 1.1 by the library or by the command: for each of its
+/// targets as of each of its dates, and as of the first and the last instant of all. One that doesn't open does.
+pub fn keeps_answers(
+    alloc: Global,
+    archive: &[u8],
+    text: &[u8],
+    moves: &mut Moves,
+) -> Result<bool, AllocError> {
     for end in offsets_of(alloc, archive, MOST_FRONTS)? {
         let front = archive.get(..end).unwrap_or(archive);
-        if !keeps_own_answers(alloc, front, moves)? {
+        if !keeps_own_answers(alloc, front, text.get(..end).unwrap_or(text), moves)? {
             return Ok(false);
         }
     }
-    keeps_own_answers(alloc, archive, moves)
+    keeps_own_answers(alloc, archive, text, moves)
 }

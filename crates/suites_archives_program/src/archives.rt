@@ -72,8 +72,8 @@ impl Archives {
         &self.bytes
     }
 
-    /// Whether a case gives, makes or opens an archive. Adds what it answers: nothing where one is given or made that
-    /// opens as it reads.
+    /// Whether a case gives, makes, opens or compares an archive. Adds what it answers: nothing where one is given or
+    /// made that opens as it reads.
     pub fn answer(
         &mut self,
         alloc: Global,
@@ -87,6 +87,7 @@ impl Archives {
             "first" => self.cut(alloc, case.number(1), answer)?,
             "flood" => self.flood(alloc, case)?,
             "opens" => tell_opened(alloc, &self.bytes, &mut self.openings, answer)?,
+            "compared" => self.compare(alloc, case.given(), answer)?,
             "each-front-opens" => tell_fronts(alloc, &self.bytes, &mut self.openings, answer)?,
             _ => return Ok(false),
         }
@@ -117,7 +118,7 @@ impl Archives {
         self.bytes = bytes.to_vec(alloc)?;
         self.given_count = self.given_count.saturating_add(1);
         self.damages.damage_both(alloc, bytes, answer)?;
-        tell_otherwise(alloc, bytes, &mut self.openings, answer)
+        tell_otherwise(alloc, bytes, bytes, &mut self.openings, answer)
     }
 
     /// Takes an archive that was made of the one that was given.
@@ -130,7 +131,7 @@ impl Archives {
         self.bytes = bytes;
         self.made_count = self.made_count.saturating_add(1);
         self.damages.damage_both(alloc, &self.bytes, answer)?;
-        tell_otherwise(alloc, &self.bytes, &mut self.openings, answer)
+        tell_otherwise(alloc, &self.bytes, &self.bytes, &mut self.openings, answer)
     }
 
     /// Makes an archive of the one that was given and so many records after it: the text of a case, in which `#` is the
@@ -168,6 +169,19 @@ impl Archives {
             }
             None => answer.extend_from_slice(b"it is shorter\n"),
         }
+    }
+
+    /// Says where it doesn't open as the plain reading of another text says, also as damaged archives are opened.
+    fn compare(
+        &mut self,
+        alloc: Global,
+        text: &[u8],
+        answer: &mut Vec<u8>,
+    ) -> Result<(), AllocError> {
+        if !self.damages.opens(alloc, &self.bytes, text) {
+            answer.extend_from_slice(b"read at once it opens otherwise\n")?;
+        }
+        tell_otherwise(alloc, &self.bytes, text, &mut self.openings, answer)
     }
 
     /// A line of how often archives were damaged.
@@ -216,7 +230,8 @@ fn opened(alloc: Global, source: MemSource) -> (Result<usize, Fault>, MemSource)
     }
 }
 
-/// Whether an archive opens so, read so many bytes at a time, and its source is given back as it was. Counts this.
+/// Whether an archive opens so, read so many bytes at a time, and its source is given back as it was. Counts where it
+/// does.
 fn opens_so(
     alloc: Global,
     bytes: &[u8],
@@ -225,17 +240,21 @@ fn opens_so(
     openings: &mut Openings,
 ) -> Result<bool, AllocError> {
     let (count, source) = opened(alloc, MemSource::new(bytes.to_vec(alloc)?, most.max(1)));
-    openings.add(count);
-    Ok(count == wanted && source.into_inner().as_slice() == bytes)
+    let is_so = count == wanted && source.into_inner().as_slice() == bytes;
+    if is_so {
+        openings.add(count);
+    }
+    Ok(is_so)
 }
 
-/// Whether an archive opens as the plain reading says, with reads of 1 byte, of 7 bytes and of all.
+/// Whether an archive opens as the plain reading of a text says, with reads of 1 byte, of 7 bytes and of all.
 pub(crate) fn opens_as_read(
     alloc: Global,
     bytes: &[u8],
+    text: &[u8],
     openings: &mut Openings,
 ) -> Result<bool, AllocError> {
-    let plain = read_plainly(alloc, bytes);
+    let plain = read_plainly(alloc, text);
     for most in PIECES {
         if !opens_so(alloc, bytes, most, plain, openings)? {
             return Ok(false);
@@ -244,14 +263,15 @@ pub(crate) fn opens_as_read(
     Ok(true)
 }
 
-/// Says where an archive doesn't open as the plain reading says.
+/// Says where an archive doesn't open as the plain reading of a text says.
 fn tell_otherwise(
     alloc: Global,
     bytes: &[u8],
+    text: &[u8],
     openings: &mut Openings,
     answer: &mut Vec<u8>,
 ) -> Result<(), AllocError> {
-    if opens_as_read(alloc, bytes, openings)? {
+    if opens_as_read(alloc, bytes, text, openings)? {
         Ok(())
     } else {
         answer.extend_from_slice(b"it opens otherwise than it reads\n")
@@ -271,7 +291,7 @@ fn tell_opened(
         Err(fault) => format!(in alloc; "{fault}\n")?,
     };
     answer.extend_from_slice(line.as_bytes())?;
-    tell_otherwise(alloc, bytes, openings, answer)
+    tell_otherwise(alloc, bytes, bytes, openings, answer)
 }
 
 /// How many of the fronts that are shorter than an archive open as they read.
@@ -283,7 +303,8 @@ fn tell_fronts(
 ) -> Result<(), AllocError> {
     let mut count = 0u64;
     for len in 0..bytes.len() {
-        if opens_as_read(alloc, bytes.get(..len).unwrap_or(b""), openings)? {
+        let front = bytes.get(..len).unwrap_or(b"");
+        if opens_as_read(alloc, front, front, openings)? {
             count = count.saturating_add(1);
         }
     }

@@ -77,18 +77,22 @@ impl Damages {
         false
     }
 
-    /// Whether an archive opens as it reads.
-    fn opens(&mut self, alloc: Global, bytes: &[u8]) -> bool {
+    /// Whether an archive opens as the plain reading of a text says. Counts it where it does and has no fault.
+    pub(crate) fn opens(&mut self, alloc: Global, bytes: &[u8], text: &[u8]) -> bool {
         let count = count_of(alloc, bytes);
-        self.opened = self.opened.saturating_add(u64::from(count.is_ok()));
-        count == read_plainly(alloc, bytes)
+        let is_so = count == read_plainly(alloc, text);
+        self.opened = self
+            .opened
+            .saturating_add(u64::from(is_so && count.is_ok()));
+        is_so
     }
 
     /// The first length at which an archive is cut and opens otherwise than it reads.
     fn cut(&mut self, alloc: Global, bytes: &[u8]) -> Option<usize> {
         for len in 0..bytes.len() {
             self.cuts = self.cuts.saturating_add(1);
-            if !self.opens(alloc, bytes.get(..len).unwrap_or(b"")) {
+            let front = bytes.get(..len).unwrap_or(b"");
+            if !self.opens(alloc, front, front) {
                 return Some(len);
             }
         }
@@ -103,7 +107,7 @@ impl Damages {
             if new != old {
                 put(bytes, at, new);
                 self.changes = self.changes.saturating_add(1);
-                is_so = self.opens(alloc, bytes) && is_so;
+                is_so = self.opens(alloc, bytes, bytes) && is_so;
             }
         }
         put(bytes, at, old);
