@@ -4,17 +4,17 @@
 #
 #   STRESS_COUNT=1000 STRESS_SEED=7 STRESS_ARCHIVES=100 bash tests/stress/run.sh
 #
-# STRESS_COUNT is the number of runs over generated archives, some ten for each archive; STRESS_ARCHIVES the number of
-# archives of the collection. As root on Debian it installs what it needs and isn't there.
+# STRESS_COUNT is the number of generated archives, over each of which twelve command lines are run; STRESS_ARCHIVES the
+# number of archives of the collection. As root on Debian it installs what it needs and isn't there.
 set -u
 cd "$(dirname "$0")/../.."
-count=${STRESS_COUNT:-100000}
+count=${STRESS_COUNT:-10000}
 seed=${STRESS_SEED:-1}
 archives=${STRESS_ARCHIVES:-2000}
 status=0
 bash tools/need.sh strace:strace valgrind:valgrind parallel:parallel /usr/sbin/sshd:openssh-server wget:wget \
     ip:iproute2 || exit 1
-python3 tests/stress/differential.py bin/warc $(((count + 9) / 10)) "$seed" || status=1
+python3 tests/stress/differential.py bin/warc "$count" "$seed" || status=1
 python3 tests/stress/system.py bin/warc || status=1
 python3 tests/stress/memory.py bin/warc || status=1
 python3 tests/stress/terminal.py bin/warc || status=1
