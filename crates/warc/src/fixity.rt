@@ -113,9 +113,17 @@ impl<A: Allocator + Copy> Keep<A> for Digests<A> {
 
     ghost judges = { true };
 
+    ghost needs_fields = { true };
+
     fn judges() -> bool {
         true
     }
+
+    fn needs_fields() -> bool {
+        true
+    }
+
+    fn pass(&self) {}
 
     fn keep(
         &mut self,

@@ -430,9 +430,17 @@ impl<A: Allocator + Copy> Keep<A> for OwnFindings<A> {
 
     ghost judges = { true };
 
+    ghost needs_fields = { true };
+
     fn judges() -> bool {
         true
     }
+
+    fn needs_fields() -> bool {
+        true
+    }
+
+    fn pass(&self) {}
 
     fn keep(
         &mut self,

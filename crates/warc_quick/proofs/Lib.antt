@@ -2,3 +2,4 @@ mod LineLemmas
 mod NameLemmas
 mod ValueLemmas
 mod HeadLemmas
+mod PlainLemmas

@@ -1,15 +1,17 @@
 -- A head that is read in place: the good head at the front of a text, and what it says (ISO 28500:2017, 4 and 5). Which
 -- heads are read so is this project's own choice.
-use Rattle.std.specs.Prelude.{◌≡◌, ℕ, ◌≤◌, List, [], length, take, None, Ok, unwrap_or}
+use Rattle.std.specs.Prelude.{◌≡◌, ℕ, ◌+◌, ◌≤◌, List, [], length, take, None, Ok, unwrap_or}
 use Rattle.warc_field.specs.Area.{Pair}
 use Rattle.warc_value.specs.Digests.{wanted_digest}
 use Rattle.warc_frame.specs.declared.version.Version.{Version}
 use Rattle.warc_frame.specs.Reading.{any_fields, head_of}
-use Rattle.warc_frame.specs.Record.{block_len}
+use Rattle.warc_frame.specs.Record.{Record, block_len}
+use Rattle.warc_frame.specs.Spelling.{Spells}
 use Rattle.warc_record.specs.Heads.{head_fault}
 use Rattle.warc_record.specs.Readings.{Reading, digest_wanted, reading_of}
 use Rattle.warc_record.specs.declared.head.HeadTexts.{HeadTexts}
 use Rattle.warc_quick.specs.declared.head.QuickHead.{QuickHead}
+use Rattle.warc_quick.specs.declared.plain.QuickRecord.{QuickRecord}
 
 -- the most bytes of a head that is read in place
 abbrev pub max_quick_head : ℕ
@@ -38,3 +40,12 @@ pub record IsQuickHead (text : List ℕ) (found : QuickHead) : Type 0 where
   pub whole : head_of any_fields (take found.len text)
       ≡ Ok (record { version = version; fields = fields; len = found.len; block_len = found.block_len })
   pub says : Says fields found
+
+-- the first bytes of a text spell a record, whose good head says this
+pub record IsQuickRecord (text : List ℕ) (found : QuickRecord) : Type 0 where
+  pub content : Record
+  pub within : found.len ≤ length text
+  pub spelled : Spells content (take found.len text)
+  pub says : Says content.fields found.head
+  pub block : found.head.block_len ≡ length content.block
+  pub end : found.head.len + length content.block + 4 ≡ found.len

@@ -7,6 +7,8 @@
 mod head;
 mod lines;
 mod names;
+mod plain;
 mod values;
 
 pub use head::{QuickHead, quick_head};
+pub use plain::{QuickRecord, quick_record};

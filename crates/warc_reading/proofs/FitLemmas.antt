@@ -1,16 +1,16 @@
 -- Each row of an archive fits an entry of 32 bytes.
-use Rattle.std.proofs.Common.{◌≡◌, ℕ, ◌+◌, ◌<◌, ◌≤◌, ◌^◌, Bool, true, false, List, [], ◌∷◌, ◌++◌, length, map, codes, Option, None, Some, if◌then◌else◌, length-append, refl, sym, ap, subst, ◌∙◌, arith}
+use Rattle.std.proofs.Common.{◌≡◌, ℕ, ◌+◌, ◌≤◌, Bool, true, false, List, [], ◌∷◌, ◌++◌, length, map, codes, Option, None, Some, if◌then◌else◌, length-append, refl, sym, ap, subst, ◌∙◌, arith}
 use Rattle.std.specs.Prelude.{option_and_then, unwrap_or, ◌==◌}
 use Rattle.std.specs.List.{sum_by}
 use Rattle.std.proofs.lemmas.List.Sums.{sum_by-cons}
 use Rattle.warc_field.specs.Area.{SpellsFields, first_value}
-use Rattle.warc_frame.specs.Record.{head_text, max_archive, max_head}
+use Rattle.warc_frame.specs.Record.{head_text, max_archive}
 use Rattle.warc_frame.specs.Spelling.{Spells, record_text}
 use Rattle.warc_frame.specs.VersionLine.{version_line}
 use Rattle.warc_record.specs.Ids.{bare_text}
 use Rattle.warc_record.specs.Readings.{unless_empty}
 use Rattle.warc_record.proofs.LawLemmas.{bare_texts_are_no_longer}
-use Rattle.warc_reading.specs.Archive.{IsArchiveOf, SpellsFrom}
+use Rattle.warc_reading.specs.Archive.{SpellsFrom}
 use Rattle.warc_reading.specs.Fitting.{Fits, RowsFit}
 use Rattle.warc_reading.specs.Keeping.{texts_len}
 use Rattle.warc_reading.specs.Row.{Placed, Row, row_of}

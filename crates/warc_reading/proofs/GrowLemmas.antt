@@ -8,7 +8,8 @@ use Rattle.warc_frame.specs.Decoding.{Finishes, IsAt, PhaseIs, State}
 use Rattle.warc_frame.specs.Device.{Gives}
 use Rattle.warc_frame.specs.Ranges.{IsReadAt}
 use Rattle.warc_frame.specs.Reading.{fault}
-use Rattle.warc_frame.specs.Record.{max_archive}
+use Rattle.warc_frame.specs.Record.{Record, max_archive}
+use Rattle.warc_frame.specs.Spelling.{SpellsAll}
 use Rattle.warc_frame.specs.Seen.{GoesOn, InOrder, SeenSource}
 use Rattle.warc_frame.specs.Told.{Lies, Told, nothing}
 use Rattle.warc_frame.specs.declared.fault.Fault.{Fault}
@@ -88,43 +89,52 @@ wants_after : {A L : Type 0} {judges : Bool} (K : L → List Placed → Type 0) 
 wants_after K bytes taken was is told r offset has (inl same) = omega (arith, same, begins_after K bytes (bytes ++ taken) was is told r has)
 wants_after K bytes taken was is told r offset has (inr after) = omega (arith, after, length-append bytes taken)
 
--- the decoder begins behind records that it might have taken
-begins_behind : (bytes : List ℕ) (records : List Placed) (d : State) → SpellsFrom 0 records bytes → IsAt (length bytes) [] nothing d → IsAt 0 bytes (record { records = contents records; unclosed = None }) d
-begins_behind bytes records d spelled is =
+-- a decoder that begins behind records might have taken them
+pub at_behind : (at start : ℕ) (bytes : List ℕ) (records : List Record) (d : State) → SpellsAll records bytes → start ≡ at + length bytes
+    → IsAt start [] nothing d → IsAt at bytes (record { records = records; unclosed = None }) d
+at_behind at start bytes records d spelled begins is =
     let none : is.rest ≡ [] = no_more is.front is.rest is.taken_is in
     let P : List ℕ → Type 0 = λ rest. PhaseIs rest None d d.phase in
     record {
       front = bytes;
       rest = [];
       taken_is = sym (append-nil bytes);
-      spelled = spells_all 0 records bytes spelled;
-      position_is = omega (arith, is.position_is);
+      spelled = spelled;
+      position_is = omega (arith, begins, is.position_is);
       phase_is = subst P none is.phase_is;
+    }
+
+-- what is kept of records stands where the decoder begins behind them
+pub kept_stands : {A L : Type 0} {judges : Bool} (K : L → List Placed → Type 0) (bytes : List ℕ) (d : State) (r : Reading A L) → IsKeptOf K bytes (r.rows, r.beside) → r.begin ≡ length bytes → r.current ≡ None
+    → IsAt r.begin [] nothing d → Stands judges K bytes d r
+kept_stands {A} {L} {judges} K bytes d r is at none start =
+    let records = is.listed.are.records in
+    let M : Option (Current A) → Type 0 = λ c. Matches judges (length bytes) [] None c in
+    record {
+      told = record { records = contents records; unclosed = None };
+      is_at = at_behind 0 r.begin bytes (contents records) d (spells_all 0 records bytes is.listed.are.spelled) (omega (arith, at)) start;
+      has = record {
+        records = records;
+        front = bytes;
+        rest = [];
+        text_is = sym (append-nil bytes);
+        spelled = is.listed.are.spelled;
+        told_is = refl;
+        good = accepted (contents records) is.listed.are.good;
+        rows_are = is.listed.are.rows_are;
+        beside = is.beside;
+        begin_is = at;
+        current = subst M (sym none) tt;
+      };
     }
 
 pub begun : {A L : Type 0} {judges : Bool} (K : L → List Placed → Type 0) (bytes : List ℕ) (d : State) (r : Reading A L) (is : IsKeptOf K bytes (r.rows, r.beside)) → r.begin ≡ length bytes → r.current ≡ None
     → IsAt r.begin [] nothing d → Stands judges (Since K is.listed.are.records) (bytes ++ []) d r
 begun {A} {L} {judges} K bytes d r is at none start =
     let was = is.listed.are.records in
-    let M : Option (Current A) → Type 0 = λ c. Matches judges (length bytes) [] None c in
-    let Q : ℕ → Type 0 = λ n. IsAt n [] nothing d in
-    let told : Told = record { records = contents was; unclosed = None } in
-    let has : HasRead judges (Since K was) bytes told r = record {
-      records = was;
-      front = bytes;
-      rest = [];
-      text_is = sym (append-nil bytes);
-      spelled = is.listed.are.spelled;
-      told_is = refl;
-      good = accepted (contents was) is.listed.are.good;
-      rows_are = is.listed.are.rows_are;
-      beside = (is.beside, extends_none was);
-      begin_is = at;
-      current = subst M (sym none) tt;
-    } in
-    let stands : Stands judges (Since K was) bytes d r = record { told = told; is_at = begins_behind bytes was d is.listed.are.spelled (subst Q at start); has = has } in
+    let since : IsKeptOf (Since K was) bytes (r.rows, r.beside) = record { listed = is.listed; beside = (is.beside, extends_none was) } in
     let P : List ℕ → Type 0 = λ t. Stands judges (Since K was) t d r in
-    subst P (sym (append-nil bytes)) stands
+    subst P (sym (append-nil bytes)) (kept_stands (Since K was) bytes d r since at none start)
 
 -- ---- what a source gives from an offset on
 

@@ -15,4 +15,5 @@ pub mod FitLemmas
 pub mod HeadLemmas
 pub mod PlaceLemmas
 pub mod PlacedLemmas
+pub mod PlainLemmas
 pub mod ReadLemmas

@@ -24,7 +24,7 @@ spells_all q [] text is = is
 spells_all q (p ∷ ps) text (front, rest, one, at, block, text_is, more) = (front, rest, one, text_is, spells_all (q + length front) ps rest more)
 
 -- one more record behind them
-spells_more : (q : ℕ) (ps : List Placed) (p : Placed) (text last : List ℕ) → SpellsFrom q ps text → Spells p.content last → p.offset ≡ q + length text
+pub spells_more : (q : ℕ) (ps : List Placed) (p : Placed) (text last : List ℕ) → SpellsFrom q ps text → Spells p.content last → p.offset ≡ q + length text
     → p.block_start + length p.content.block + 4 ≡ (q + length text) + length last → SpellsFrom q (ps ++ p ∷ []) (text ++ last)
 spells_more q [] p text last is one at block =
     let size : length text ≡ 0 = ap length is in
@@ -47,7 +47,7 @@ split_last (x ∷ rs) r t (front, rest, s, e, more) =
     let (a, b, all, one, is) = split_last rs r rest more in
     (front ++ a, b, (front, a, s, refl, all), one, e ∙ ap (λ y. front ++ y) is ∙ sym (append_assoc front a b))
 
-accepted_more : (rs : List Record) (r : Record) → AllAccepted head_fault rs → head_fault r.fields ≡ None → AllAccepted head_fault (rs ++ r ∷ [])
+pub accepted_more : (rs : List Record) (r : Record) → AllAccepted head_fault rs → head_fault r.fields ≡ None → AllAccepted head_fault (rs ++ r ∷ [])
 accepted_more [] r all one = (one, tt)
 accepted_more (x ∷ rs) r (first, all) one = (first, accepted_more rs r all one)
 

@@ -1,5 +1,5 @@
 -- Which rows fit the entries of 32 bytes in which they are kept: the rows of any archive. This project's own notion.
-use Rattle.std.specs.Prelude.{◌≡◌, ℕ, ◌+◌, ◌^◌, ◌<◌, ◌≤◌, List, [], ◌∷◌, ◌++◌, length}
+use Rattle.std.specs.Prelude.{ℕ, ◌+◌, ◌^◌, ◌<◌, ◌≤◌, List, ◌∷◌, ◌++◌, length}
 use Rattle.std.specs.List.{sum_by}
 use Rattle.warc_frame.specs.Record.{max_archive}
 use Rattle.warc_reading.specs.Archive.{IsArchiveOf}

@@ -1,9 +1,9 @@
 -- Where a record is among the bytes of an archive, and which bytes are those of rows' records. This project's own
 -- notion.
 use Rattle.std.specs.Prelude.{◌≡◌, ℕ, ◌+◌, ◌<◌, ◌≤◌, List, length, take, drop, slice_get, Some}
-use Rattle.warc_frame.specs.Record.{Record, max_archive}
+use Rattle.warc_frame.specs.Record.{max_archive}
 use Rattle.warc_frame.specs.Spelling.{Spells}
-use Rattle.warc_reading.specs.Row.{Placed, Row, row_of}
+use Rattle.warc_reading.specs.Row.{Placed, Row}
 
 -- the bytes have at its offset a text of this length, which spells the record and in which its block begins where the
 -- place says

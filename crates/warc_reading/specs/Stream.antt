@@ -1,11 +1,11 @@
 -- What is kept of an archive while it is read as a stream. States of the code, but for `IsKeptOf`, which public
 -- contracts cite.
-use Rattle.std.specs.Prelude.{◌≡◌, ℕ, Bool, ◌+◌, ◌<◌, ◌≤◌, ◌⊎◌, List, [], ◌++◌, length, map, take, drop, Option, Some, None, unwrap_or}
+use Rattle.std.specs.Prelude.{◌≡◌, ◌≢◌, ℕ, Bool, ◌+◌, ◌<◌, ◌≤◌, ◌⊎◌, List, [], ◌++◌, length, map, take, drop, Option, Some, None, unwrap_or, Result, Ok, IfErr, IfOk, MatchResult, OnErr}
 use Rattle.warc_field.specs.Area.{Pair}
 use Rattle.warc_value.specs.Running.{HasTaken}
 use Rattle.warc_value.specs.declared.hash.Wanted.{Wanted}
 use Rattle.warc_value.specs.declared.hash.Wanted.TheVariants.{Sha1, Unchecked}
-use Rattle.warc_frame.specs.Decoding.{State, IsAt}
+use Rattle.warc_frame.specs.Decoding.{Finishes, State, IsAt}
 use Rattle.warc_frame.specs.Faults.{AllAccepted}
 use Rattle.warc_frame.specs.Record.{max_archive}
 use Rattle.warc_frame.specs.Told.{Told, Unclosed, IsHeadOf}
@@ -149,3 +149,24 @@ Follows start taken old new = old.next ≡ Some start
 -- this text was read of a source, from its beginning on
 abbrev pub HasGiven : SeenSource → SeenSource → List ℕ → Type 0
 HasGiven old new text = HasGivenFrom 0 old new text
+
+-- the decoder stands between records: whatever it took, all of it was reported
+abbrev pub IsBetween : State → Type 0
+IsBetween d = (at : ℕ) (taken : List ℕ) (told : Told) → IsAt at taken told d → Finishes at taken told (Ok tt)
+
+-- the front of a piece is taken, and what lies in it is kept; or it is refused, and what was kept stays
+pub record TakesFront {A L : Type 0} (judges : Bool) (Keeps : L → List Placed → Type 0) (piece : List ℕ)
+    (d : State) (r : Reading A L) (after : State) (now : Reading A L) (answer : Result ℕ Fault) : Type 0 where
+  pub history : (was : List Placed) (text : List ℕ) → Stands judges (Since Keeps was) text d r
+      → MatchResult answer (λ took. Stands judges (Since Keeps was) (text ++ take took piece) after now)
+      (StaysRefused (text ++ piece))
+  pub begins : (was : List Placed) (text : List ℕ) → Stands judges (Since Keeps was) text d r
+      → MatchResult answer (λ took. BeginsSince text r.begin now.begin) (WantsSince text piece r.begin)
+  pub left : (was : List Placed) (text : List ℕ) → Stands judges (Since Keeps was) text d r
+      → OnErr answer (IsLeft Keeps was now.beside)
+  pub stops : (was : List Placed) (text : List ℕ) → Stands judges (Since Keeps was) text d r
+      → IfErr answer (Stops (text ++ piece) now.rows)
+  pub rows : Extends r.rows now.rows
+  pub taken : (at : ℕ) (taken : List ℕ) (told : Told) → IsAt at taken told d → MatchResult answer
+      (λ took. (next : Told) × IsAt at (taken ++ take took piece) next after) (λ f. f.kind ≢ Read)
+  pub within : IfOk answer (λ took. (0 < took) × (took ≤ length piece))

@@ -27,6 +27,18 @@ pub trait Keep<A: Allocator> {
     fn judges() -> bool
         ensures { result ≡ judges };
 
+    /// The fields of each record's head are needed.
+    ghost needs_fields: { Bool };
+
+    /// Whether the fields of each record's head are needed. If they aren't, a row is all that is kept of a record.
+    fn needs_fields() -> bool
+        ensures { result ≡ needs_fields };
+
+    /// Passes over the next record, of which a row is all that is kept. It does nothing.
+    fn pass(&self)
+        ensures { (records : List Placed) (p : Placed) → needs_fields ≡ false → keeps self.now records →
+            keeps self.now (records ++ p ∷ []) };
+
     /// Keeps what is needed of the next record, by its position, the fields of its good head, where its block begins,
     /// how long it is, and what was found of it: `Unchecked` where blocks aren't judged. If memory is refused, it keeps
     /// what it kept of the records before.
@@ -59,9 +71,17 @@ impl<A: Allocator> Keep<A> for RowsAlone {
 
     ghost judges = { false };
 
+    ghost needs_fields = { false };
+
     fn judges() -> bool {
         false
     }
+
+    fn needs_fields() -> bool {
+        false
+    }
+
+    fn pass(&self) {}
 
     fn keep(
         &mut self,
@@ -198,9 +218,17 @@ impl<O: EntryList, A: Allocator + Copy> Keep<A> for RecordLookup<O, A> {
 
     ghost judges = { false };
 
+    ghost needs_fields = { true };
+
     fn judges() -> bool {
         false
     }
+
+    fn needs_fields() -> bool {
+        true
+    }
+
+    fn pass(&self) {}
 
     fn keep(
         &mut self,

@@ -1,5 +1,5 @@
 //! Reads the good records of a source as a stream, and keeps a row of each, and what else is needed.
-ghost use Rattle.std.specs.Prelude.{◌≡◌, ◌≢◌, ℕ, ◌+◌, ◌-◌, ◌<◌, ◌≤◌, ◌^◌, List, [], ◌∷◌, ◌++◌, length, min, take, Some, None, IfOk, IfErr, OnErr, OnOk, MatchResult, is_err};
+ghost use Rattle.std.specs.Prelude.{◌≡◌, ◌≢◌, ℕ, ◌+◌, ◌-◌, ◌<◌, ◌≤◌, ◌^◌, List, [], ◌∷◌, ◌++◌, length, min, take, Some, None, IfOk, IfErr, OnErr, OnOk, MatchResult, is_err, IfSome, false};
 ghost use Rattle.warc_value.specs.Digests.{verdict_of};
 ghost use Rattle.warc_record.specs.Heads.{head_fault};
 ghost use Rattle.warc_record.specs.Readings.{digest_wanted};
@@ -15,7 +15,8 @@ ghost use Rattle.warc_frame.specs.Ranges.{IsReadAt};
 ghost use Rattle.warc_frame.specs.Record.{max_archive};
 ghost use Rattle.warc_frame.specs.Seen.{GoesOn, IfHeld, InOrder};
 ghost use Rattle.warc_frame.specs.Told.{Told};
-ghost use Rattle.warc_reading.specs.Stream.{BeginsSince, Extends, HasSeen, WantsSince, IsHead, IsKeptOf, IsLeft, Since, Stands, StaysRefused, Stops, row_by};
+ghost use Rattle.warc_quick.specs.Quick.{IsQuickRecord};
+ghost use Rattle.warc_reading.specs.Stream.{Extends, HasSeen, IsBetween, WantsSince, IsHead, IsKeptOf, IsLeft, Since, Stands, StaysRefused, Stops, TakesFront, row_by};
 ghost use Rattle.warc_reading.specs.declared.reading.Current.{Current as Kept};
 
 use crate::keeping::{Keep, RowsAlone};
@@ -24,6 +25,7 @@ use crate::spare_fields::SpareFields;
 use std::alloc::{AllocError, Allocator};
 use warc_field::Fields;
 use warc_frame::{Decoder, Event, Fault, FaultKind, MAX_ARCHIVE, ReadFault, Source};
+use warc_quick::{QuickRecord, quick_record};
 use warc_record::{GoodHead, judge_head};
 use warc_value::{Running, Verdict, Wanted};
 
@@ -227,33 +229,72 @@ impl<A: Allocator + Copy, L: Keep<A> + Drop> Reading<A, L> {
     }
 }
 
+/// The record that a piece begins with, if it can be read in place: the decoder stands between records, the head is
+/// plain, and the record ends within the piece and within the limit of an archive.
+fn plain_record<'a, A: Allocator + Copy>(
+    decoder: &Decoder<A>,
+    piece: &'a [u8],
+) -> Option<QuickRecord<'a>>
+    ensures found { IfSome result (IsQuickRecord piece.now) }
+    ensures between { IfSome result (λ _. IsBetween decoder.now) }
+    ensures limit { IfSome result (λ found. decoder.now.position + found.len ≤ max_archive) }
+{
+    if decoder.finish().is_err() {
+        return None;
+    }
+    let found = quick_record(piece)?;
+    if found.len as u64 > MAX_ARCHIVE - decoder.position() {
+        return None;
+    }
+    Some(found)
+}
+
+/// Keeps a row of the record that a piece begins with, which was read in place, and returns how many bytes it has. The
+/// decoder goes on after it.
+fn take_plain<A: Allocator + Copy, L: Keep<A> + Drop>(
+    alloc: A,
+    decoder: &mut Decoder<A>,
+    reading: &mut Reading<A, L>,
+    found: &QuickRecord<'_>,
+    piece: &[u8],
+) -> Result<usize, Fault>
+    requires fields { L.needs_fields ≡ false }
+    requires found { IsQuickRecord piece.now found.now }
+    requires between { IsBetween decoder.old }
+    requires limit { decoder.old.position + found.now.len ≤ max_archive }
+    ensures { TakesFront L.judges L.keeps piece.now decoder.old reading.old decoder.new reading.new result }
+{
+    let begin = decoder.position();
+    let end = begin + found.len as u64;
+    let texts = &found.head.texts;
+    let kept = reading.rows.push(&Row {
+        offset: begin,
+        block_start: begin + found.head.len as u64,
+        block_len: found.head.block_len,
+        is_truncated: texts.is_truncated,
+        kind: texts.kind,
+        date: texts.date,
+        id: texts.id,
+        target: texts.target,
+    });
+    if kept.is_err() {
+        return Err(FaultKind::Memory.at(reading.begin));
+    }
+    reading.beside.pass();
+    reading.begin = end;
+    *decoder = Decoder::new(alloc, end);
+    Ok(found.len)
+}
+
 /// Keeps what the decoder reports of the piece's beginning, and returns how many bytes that takes.
-fn take_front<A: Allocator + Copy, L: Keep<A> + Drop>(
+fn take_event<A: Allocator + Copy, L: Keep<A> + Drop>(
     alloc: A,
     decoder: &mut Decoder<A>,
     reading: &mut Reading<A, L>,
     piece: &[u8],
 ) -> Result<usize, Fault>
     requires { 0 < length piece.now }
-    ensures history { (was : List Placed) (text : List ℕ)
-        → Stands L.judges (Since L.keeps was) text decoder.old reading.old
-        → MatchResult result (λ took.
-        Stands L.judges (Since L.keeps was) (text ++ take took piece.now) decoder.new reading.new)
-        (StaysRefused (text ++ piece.now)) }
-    ensures begins { (was : List Placed) (text : List ℕ)
-        → Stands L.judges (Since L.keeps was) text decoder.old reading.old
-        → MatchResult result (λ _. BeginsSince text reading.old.begin reading.new.begin)
-        (WantsSince text piece.now reading.old.begin) }
-    ensures left { (was : List Placed) (text : List ℕ)
-        → Stands L.judges (Since L.keeps was) text decoder.old reading.old
-        → OnErr result (IsLeft L.keeps was reading.new.beside) }
-    ensures stops { (was : List Placed) (text : List ℕ)
-        → Stands L.judges (Since L.keeps was) text decoder.old reading.old
-        → IfErr result (Stops (text ++ piece.now) reading.new.rows) }
-    ensures rows { Extends reading.old.rows reading.new.rows }
-    ensures taken { (at : ℕ) (taken : List ℕ) (told : Told) → IsAt at taken told decoder.old → MatchResult result
-        (λ took. (now : Told) × IsAt at (taken ++ take took piece.now) now decoder.new) (λ f. f.kind ≢ FaultKind.Read) }
-    ensures within { IfOk result (λ took. (0 < took) × (took ≤ length piece.now)) }
+    ensures { TakesFront L.judges L.keeps piece.now decoder.old reading.old decoder.new reading.new result }
 {
     let _begin = decoder.position();
     let (took, event) = decoder.step(piece)?;
@@ -275,6 +316,24 @@ fn take_front<A: Allocator + Copy, L: Keep<A> + Drop>(
         Ok(()) => Ok(took),
         Err(kind) => Err(kind.at(begin)),
     }
+}
+
+/// The same. If rows are all that is kept, a plain record that the piece begins with is read in place.
+fn take_front<A: Allocator + Copy, L: Keep<A> + Drop>(
+    alloc: A,
+    decoder: &mut Decoder<A>,
+    reading: &mut Reading<A, L>,
+    piece: &[u8],
+) -> Result<usize, Fault>
+    requires { 0 < length piece.now }
+    ensures { TakesFront L.judges L.keeps piece.now decoder.old reading.old decoder.new reading.new result }
+{
+    if !L::needs_fields() {
+        if let Some(found) = plain_record(decoder, piece) {
+            return take_plain(alloc, decoder, reading, &found, piece);
+        }
+    }
+    take_event(alloc, decoder, reading, piece)
 }
 
 /// Keeps what the decoder reports of a piece.

@@ -1,0 +1,146 @@
+-- A record that is read in place, and what is kept of it.
+use Rattle.std.proofs.Common.{◌≡◌, ℕ, ◌+◌, ◌≤◌, Bool, true, false, List, [], ◌∷◌, ◌++◌, length, take, Option, Some, None, Result, Ok, Err, OnErr, OnOk, is_err, refl, sym, ap, subst, ◌∙◌, arith, length-append}
+use Rattle.std.specs.Prelude.{unwrap_or}
+use Rattle.std.proofs.lemmas.List.{append_assoc, append-nil, length-take-le, map-append}
+use Rattle.warc_frame.specs.Decoding.{Finishes, IsAt, State}
+use Rattle.warc_frame.specs.Faults.{AllAccepted}
+use Rattle.warc_frame.specs.Record.{Record, max_archive}
+use Rattle.warc_frame.specs.Spelling.{Spells, SpellsAll}
+use Rattle.warc_frame.specs.Told.{Told, Unclosed, nothing}
+use Rattle.warc_frame.specs.declared.fault.Fault.{Fault}
+use Rattle.warc_record.specs.Heads.{head_fault}
+use Rattle.warc_record.specs.Readings.{reading_of}
+use Rattle.warc_quick.specs.Quick.{IsQuickRecord}
+use Rattle.warc_quick.specs.declared.plain.QuickRecord.{QuickRecord}
+use Rattle.warc_reading.specs.Archive.{SpellsFrom, contents}
+use Rattle.warc_reading.specs.Row.{Placed, Row, row_of}
+use Rattle.warc_reading.specs.Stream.{IsBetween, IsKeptOf, Matches, Stands}
+use Rattle.warc_reading.specs.declared.reading.Current.{Current}
+use Rattle.warc_reading.specs.declared.reading.Reading.{Reading}
+use Rattle.warc_reading.proofs.GoodLemmas.{accepted, are_good}
+use Rattle.warc_reading.proofs.GrowLemmas.{at_behind, kept_stands}
+use Rattle.warc_reading.proofs.StreamLemmas.{accepted_more, kept_whole, spells_all, spells_more}
+
+-- a record that is spelled behind others
+all_more : (rs : List Record) (r : Record) (text last : List ℕ) → SpellsAll rs text → Spells r last → SpellsAll (rs ++ r ∷ []) (text ++ last)
+all_more [] r text last none one = (last, [], one, ap (λ t. t ++ last) none ∙ sym (append-nil last), refl)
+all_more (x ∷ rs) r text last (front, rest, first, is, more) one =
+    (front, rest ++ last, first, ap (λ t. t ++ last) is ∙ append_assoc front rest last, all_more rs r rest last more one)
+
+-- the decoder begins anew behind a record that it might have taken
+pub next_at : (at : ℕ) (taken last : List ℕ) (told : Told) (d after : State) (r : Record) → IsBetween d → IsAt at taken told d → Spells r last
+    → IsAt (d.position + length last) [] nothing after → (next : Told) × IsAt at (taken ++ last) next after
+next_at at taken last told d after r between is one start =
+    let (none, spelled) = between at taken told is in (
+      record { records = told.records ++ r ∷ []; unclosed = None },
+      at_behind at (d.position + length last) (taken ++ last) (told.records ++ r ∷ []) after (all_more told.records r taken last spelled one)
+          (omega (arith, is.position_is, length-append taken last)) start,
+    )
+
+-- a record is kept behind those of a text
+kept_more : {L : Type 0} (K : L → List Placed → Type 0) (text last : List ℕ) (rows : List Row) (l m : L) (p : Placed) (is : IsKeptOf K text (rows, l))
+    → Spells p.content last → head_fault p.content.fields ≡ None → p.offset ≡ length text → p.block_start + length p.content.block + 4 ≡ length text + length last
+    → length (text ++ last) ≤ max_archive → K m (is.listed.are.records ++ p ∷ []) → IsKeptOf K (text ++ last) (rows ++ row_of p ∷ [], m)
+kept_more K text last rows l m p is one good offset start short keeps =
+    let are = is.listed.are in
+    let records = are.records ++ p ∷ [] in
+    let spelled : SpellsFrom 0 records (text ++ last) =
+    spells_more 0 are.records p text last are.spelled one (omega (arith, offset)) (omega (arith, start)) in
+    let each : contents records ≡ contents are.records ++ p.content ∷ [] = map-append (λ (x : Placed). x.content) are.records (p ∷ []) in
+    let Q : List Record → Type 0 = λ rs. AllAccepted head_fault rs in
+    let all = subst Q (sym each) (accepted_more (contents are.records) p.content (accepted (contents are.records) are.good) good) in
+    record {
+      listed = record {
+        short = short;
+        are = record {
+          records = records;
+          spelled = spelled;
+          good = are_good (contents records) (text ++ last) (spells_all 0 records (text ++ last) spelled) all;
+          rows_are = ap (λ l. l ++ row_of p ∷ []) are.rows_are ∙ sym (map-append row_of are.records (p ∷ []));
+        };
+      };
+      beside = keeps;
+    }
+
+-- no record is being read
+none_open : {A : Type 0} (judges : Bool) (begin : ℕ) (rest : List ℕ) (o : Option Unclosed) (c : Option (Current A)) → o ≡ None → Matches judges begin rest o c → c ≡ None
+none_open judges begin rest None None none m = refl
+none_open judges begin rest None (Some c) none m = absurd m
+none_open judges begin rest (Some u) c none m = cc none
+
+-- where a record stands whose head has so many bytes
+abbrev placed_at : ℕ → ℕ → Record → Placed
+placed_at at head r = record { offset = at; block_start = at + head; content = r }
+
+-- the row that is kept of it
+abbrev pub plain_row : ℕ → QuickRecord → Row
+plain_row at found = record {
+  offset = at;
+  block_start = at + found.head.len;
+  block_len = found.head.block_len;
+  is_truncated = found.head.texts.is_truncated;
+  kind = found.head.texts.kind.now;
+  date = found.head.texts.date.now;
+  id = found.head.texts.id.now;
+  target = found.head.texts.target.now;
+}
+
+row_by_texts : (at start len : ℕ) (mark : Bool) (kind date id target : List ℕ) (r : Record) → kind ≡ unwrap_or (reading_of r.fields).type_text []
+    → date ≡ unwrap_or (reading_of r.fields).date_text [] → id ≡ unwrap_or (reading_of r.fields).id_text [] → target ≡ unwrap_or (reading_of r.fields).target []
+    → mark ≡ (reading_of r.fields).truncated → len ≡ length r.block
+    → ◌≡◌ {A = Row} (record { offset = at; block_start = start; block_len = len; is_truncated = mark; kind = kind; date = date; id = id; target = target })
+    (row_of (record { offset = at; block_start = start; content = r }))
+row_by_texts at start len mark kind date id target r kind_is date_is id_is target_is mark_is len_is =
+    rw (kind_is, date_is, id_is, target_is, mark_is, len_is) refl
+
+row_is : (at : ℕ) (piece : List ℕ) (found : QuickRecord) (is : IsQuickRecord piece found) → plain_row at found ≡ row_of (placed_at at found.head.len is.content)
+row_is at piece found is =
+    let t = found.head.texts in
+    let texts = is.says.texts in
+    row_by_texts at (at + found.head.len) found.head.block_len t.is_truncated t.kind.now t.date.now t.id.now t.target.now is.content
+    texts.kind texts.date texts.id texts.target texts.truncated is.block
+
+module _ {A L : Type 0} {judges : Bool} (K : L → List Placed → Type 0) (text piece : List ℕ) (d after : State) (old new : Reading A L) (found : QuickRecord)
+    (stands : Stands judges K text d old) (is : IsQuickRecord piece found) (between : IsBetween d) (limit : d.position + found.len ≤ max_archive) where
+  here : d.position ≡ length text
+  here = omega (arith, stands.is_at.position_is)
+
+  spelled : SpellsAll stands.told.records text
+  spelled = (between 0 text stands.told stands.is_at).1
+
+  kept : IsKeptOf K text (old.rows, old.beside)
+  kept = kept_whole text stands.told old stands.has spelled (omega (arith, here, limit))
+
+  -- its text
+  size : length (take found.len piece) ≡ found.len
+  size = length-take-le found.len piece is.within
+
+  -- no other record is being read
+  pub plain_alone : old.current ≡ None
+  plain_alone = none_open judges (length stands.has.front) stands.has.rest stands.told.unclosed old.current (between 0 text stands.told stands.is_at).0 stands.has.current
+
+  pub plain_stands : new.rows ≡ old.rows ++ plain_row d.position found ∷ [] → new.begin ≡ d.position + found.len → new.current ≡ old.current
+      → ((records : List Placed) (p : Placed) → K old.beside records → K new.beside (records ++ p ∷ []))
+      → IsAt (d.position + found.len) [] nothing after → Stands judges K (text ++ take found.len piece) after new
+  plain_stands rows begin current keeps start =
+      let p : Placed = placed_at d.position found.head.len is.content in
+      let more = kept_more K text (take found.len piece) old.rows old.beside new.beside p kept is.spelled is.says.good here
+      (omega (arith, here, size, is.end)) (omega (arith, here, size, limit, length-append text (take found.len piece))) (keeps kept.listed.are.records p kept.beside) in
+      let row : old.rows ++ row_of p ∷ [] ≡ new.rows = sym (rows ∙ ap (λ (x : Row). old.rows ++ x ∷ []) (row_is d.position piece found is)) in
+      let P : List Row → Type 0 = λ l. IsKeptOf K (text ++ take found.len piece) (l, new.beside) in
+      let Q : ℕ → Type 0 = λ n. IsAt n [] nothing after in
+      kept_stands K (text ++ take found.len piece) after new (subst P row more)
+      (omega (arith, begin, here, size, length-append text (take found.len piece))) (current ∙ plain_alone) (subst Q (sym begin) start)
+
+-- what `finish` says where it is no error
+pub finished : (answer : Result (Unit {0}) Fault) → is_err answer ≡ false → (at : ℕ) (taken : List ℕ) (told : Told) → Finishes at taken told answer → Finishes at taken told (Ok tt)
+finished (Ok u) ok at taken told is = is
+finished (Err f) ok at taken told is = cc ok
+
+pub pushed : {E P : Type 0} (answer : Result (Unit {0}) E) → is_err answer ≡ false → OnOk answer P → P
+pushed (Ok u) ok is = is
+pushed (Err e) ok is = cc ok
+
+pub unpushed : {E P : Type 0} (answer : Result (Unit {0}) E) → is_err answer ≡ true → OnErr answer P → P
+unpushed (Ok u) bad is = cc bad
+unpushed (Err e) bad is = is
