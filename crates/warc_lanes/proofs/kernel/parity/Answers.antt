@@ -1,0 +1,8 @@
+use Rattle.warc_lanes.proofs.LaneLemmas.{at_itself, at_zip}
+use Rattle.warc_lanes.proofs.kernel.parity.Goals as goal
+
+pub returns : goal.returns
+returns c j h =
+    let x = at_itself c.args.x j c.fits-x.0 in
+    let y = at_itself c.args.y j c.fits-y.0 in
+    (at_zip _ h (at_zip _ h x y) (at_itself c.args.z j c.fits-z.0)).lane_is
