@@ -9,7 +9,7 @@ use Rattle.std.proofs.lemmas.Bool.{lt-ltb, ltb-false}
 use Rattle.warc_field.specs.Area.{Pair, first_value, count_of}
 use Rattle.warc_field.specs.Text.{same}
 use Rattle.warc_quick.specs.declared.names.QuickName.{QuickName}
-use Rattle.warc_quick.specs.Names.{quick_name, quick_place}
+use Rattle.warc_quick.specs.Names.{quick_count, quick_name, quick_place}
 use Rattle.warc_quick.specs.Fronts.{AreOnlyValues, BeginsWithFields, BeginsWithLine, IsOnlyValue}
 use Rattle.warc_quick.specs.declared.lines.Line.{Line}
 use Rattle.warc_quick.proofs.LineLemmas.{some_bytes, spells_more}
@@ -100,7 +100,7 @@ absent : (found : Option (Bor (List ℕ))) → is_some found ≡ false → found
 absent None none = refl
 absent (Some text) none = absurd (cc)
 
-place_within : (name : QuickName) → quick_place name < 7
+place_within : (name : QuickName) → quick_place name < quick_count
 place_within «Type» = omega arith
 place_within RecordId = omega arith
 place_within Date = omega arith

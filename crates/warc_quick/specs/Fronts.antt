@@ -4,7 +4,7 @@ use Rattle.std.specs.Borrow.{Bor}
 use Rattle.warc_field.specs.Area.{Pair, IsFieldLine, SpellsFields, count_of, first_value}
 use Rattle.warc_quick.specs.declared.lines.Line.{Line}
 use Rattle.warc_quick.specs.declared.names.QuickName.{QuickName}
-use Rattle.warc_quick.specs.Names.{IsNaming, quick_name, quick_place}
+use Rattle.warc_quick.specs.Names.{IsNaming, quick_count, quick_name, quick_place}
 
 -- a text begins with the line of a field, which has such a name, and this follows
 pub record BeginsWithLine (text : List ℕ) (line : Line) : Type 0 where
@@ -20,7 +20,7 @@ pub record IsOnlyValue (name : List ℕ) (fields : List Pair) (value : Option (B
 
 -- each name has at its place the value of its only field
 pub record AreOnlyValues (fields : List Pair) (values : List (Option (Bor (List ℕ)))) : Type 0 where
-  pub room : length values ≡ 7
+  pub room : length values ≡ quick_count
   pub each : (name : QuickName) → IsOnlyValue (quick_name name) fields (get_or values (quick_place name) None)
 
 -- a text begins with the lines of fields that have these values, and this follows

@@ -25,6 +25,10 @@ quick_place TargetUri = 4
 quick_place BlockDigest = 5
 quick_place Truncated = 6
 
+-- how many names there are
+abbrev pub quick_count : ℕ
+quick_count = 7
+
 -- the only name of this length whose eighth letter is this one, in lower case
 abbrev pub quick_by : ℕ → ℕ → Option QuickName
 quick_by len letter =
