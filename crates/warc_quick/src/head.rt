@@ -4,7 +4,7 @@ ghost use Rattle.warc_field.specs.Area.{Pair};
 ghost use Rattle.warc_field.specs.Lines.{crlf};
 ghost use Rattle.warc_frame.specs.declared.version.Version.{Version};
 ghost use Rattle.warc_frame.specs.VersionLine.{version_line};
-ghost use Rattle.warc_record.specs.Ids.{ends_id, is_id};
+ghost use Rattle.warc_record.specs.Ids.{is_id};
 ghost use Rattle.warc_frame.specs.Record.{block_number, max_block};
 ghost use Rattle.warc_quick.specs.Fronts.{AreOnlyValues, BeginsWithFields};
 ghost use Rattle.warc_quick.specs.Quick.{Says, IsQuickHead, max_quick_head};
@@ -14,7 +14,7 @@ use crate::names::QuickName;
 use crate::values::Values;
 use warc_field::{decimal, is_name};
 use warc_frame::{MAX_BLOCK, MAX_HEAD, Version};
-use warc_record::{HeadTexts, bare};
+use warc_record::{HeadTexts, bare, is_bare_id};
 use warc_value::read_date;
 
 /// A head of at most this many bytes is within the limit when it is written canonically, too.
@@ -62,24 +62,11 @@ fn read_lines(text: &[u8]) -> Option<(Values<'_>, &[u8])>
     Some((values, &rest[2..]))
 }
 
-/// Whether no id contains this byte.
-#[tactic(auto, unfolding(warc_field::specs::Text::is_blank))]
-fn ends_id(byte: u8) -> bool
-    ensures { result ≡ ends_id byte }
-{
-    matches!(byte, b'<' | b'>' | b' ' | b'\t')
-}
-
 /// Whether a value holds an id.
-#[tactic(auto, unfolding(warc_record::specs::Ids::is_bare_id))]
 fn holds_id(value: &[u8]) -> bool
     ensures { result ≡ is_id value.now }
 {
-    let bare = bare(value);
-    if bare.is_empty() {
-        return false;
-    }
-    !bare.iter().any(|byte| ends_id(*byte))
+    is_bare_id(bare(value))
 }
 
 /// The length of the block that a `Content-Length` states, if a block may be so long.

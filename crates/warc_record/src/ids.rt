@@ -143,7 +143,7 @@ fn holds_id_end(text: &[u8]) -> bool
 
 /// Whether a bare text is an id: it isn't empty, and contains no bracket, space or tab.
 #[tactic(auto, unfolding(crate::specs::Ids::is_bare_id))]
-pub(crate) fn is_bare_id(bare: &[u8]) -> bool
+pub fn is_bare_id(bare: &[u8]) -> bool
     ensures { result ≡ is_bare_id bare.now }
 {
     !bare.is_empty() && !holds_id_end(bare)
