@@ -1,5 +1,5 @@
 -- What a caller proves of the calls that it makes.
-use Rattle.std.proofs.Common.{◌≡◌, ℕ, List, [], ◌++◌, Some, Ok, sym, ap, subst, ◌∙◌}
+use Rattle.std.proofs.Common.{◌≡◌, ℕ, List, [], Some, Ok, sym, subst}
 use Rattle.std.specs.Io.KnownBytes.{append_known}
 use Rattle.warc_value.specs.Dates.{Instant}
 use Rattle.warc_frame.specs.Device.{Stored}

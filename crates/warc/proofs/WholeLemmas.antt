@@ -1,9 +1,8 @@
 -- The records that bytes spell stand among them whole, and the texts that are written of them.
-use Rattle.std.proofs.Common.{◌≡◌, ℕ, ◌+◌, ◌-◌, ◌^◌, ◌<◌, ◌≤◌, List, [], ◌∷◌, ◌++◌, length, map, take, drop, None, Some, Result, append_assoc, length-append, refl, sym, ap, subst, ◌∙◌, arith}
+use Rattle.std.proofs.Common.{◌≡◌, ℕ, ◌+◌, ◌^◌, ◌<◌, ◌≤◌, List, [], ◌∷◌, ◌++◌, length, map, take, drop, None, Some, Result, append_assoc, length-append, refl, sym, ap, subst, ◌∙◌, arith}
 use Rattle.std.proofs.Math.Seq.{drop-append_seam, take-append_seam}
 use Rattle.std.proofs.lemmas.List.{append-nil, take-append-drop}
-use Rattle.std.proofs.lemmas.List.Sums.{sum_by-cons, sum_by-take-le, sum_by_push}
-use Rattle.std.specs.List.{AllByRecursion, flat_map, slice_get, sum_by}
+use Rattle.std.specs.List.{AllByRecursion, flat_map, slice_get}
 use Rattle.warc_field.specs.Area.{Pair, canonical_fields}
 use Rattle.warc_field.specs.Lines.{crlf}
 use Rattle.warc_frame.specs.Effects.{HasRange}
@@ -16,22 +15,19 @@ use Rattle.warc_record.specs.Heads.{head_fault}
 use Rattle.warc_write.specs.Conversion.{converted, converted_fields}
 use Rattle.warc_reading.specs.Archive.{IsArchiveOf, SpellsFrom, contents}
 use Rattle.warc.specs.Copied.{AreTextsOf, HasWhole, IsCopiedOf, IsCopy, IsTextOf}
-use Rattle.warc_frame.specs.Effects.{ReadsOnly, Sends}
-use Rattle.warc_frame.specs.Seen.{IsInRange, Seen}
+use Rattle.warc_frame.specs.Effects.{Sends}
+use Rattle.warc_frame.specs.Seen.{Seen}
 use Rattle.warc_frame.specs.declared.fault.OutFault.{OutFault}
 use Rattle.warc.specs.Forms.{IsOutputOf, text_as}
-use Rattle.warc_reading.specs.Placing.{IsInAnyRow, IsInRow}
-use Rattle.warc_reading.specs.Rereading.{ReadsHeads}
 use Rattle.warc_frame.specs.Seen.{SeenSource}
 use Rattle.warc_reading.specs.Row.{Placed, Row, row_of}
 use Rattle.warc.specs.declared.copying.Copied.{Copied}
 use Rattle.warc.specs.declared.copying.Form.{Form}
 use Rattle.warc.specs.declared.copying.Form.TheVariants.{Canonical, Converted}
 use Rattle.warc.proofs.EmitLemmas.{Begins, InTurn}
-use Rattle.warc_frame.proofs.EffectLemmas.{fails_more, reads_both, reads_within}
+use Rattle.warc_frame.proofs.EffectLemmas.{fails_more}
 use Rattle.warc_reading.proofs.GoodLemmas.{accepted}
 use Rattle.warc_reading.proofs.PlaceLemmas.{HeadsAreRead, head_here}
-use Rattle.warc_reading.proofs.ReadLemmas.{one_row}
 use Rattle.warc_reading.proofs.PlacedLemmas.{take_one}
 
 front_len : (head block : List ℕ) → length (((head ++ block) ++ crlf) ++ crlf) ≡ length head + length block + 4

@@ -1,6 +1,6 @@
 -- The forms in which the records of an archive are written anew, and what is read of the archive for it.
-use Rattle.std.specs.Prelude.{◌≡◌, ℕ, ◌+◌, ◌-◌, ◌*◌, ◌<◌, ◌≤◌, List, Some, Result}
-use Rattle.std.specs.List.{flat_map, slice_get, sum_by}
+use Rattle.std.specs.Prelude.{◌≡◌, ℕ, ◌+◌, ◌-◌, ◌*◌, List, Result}
+use Rattle.std.specs.List.{flat_map, sum_by}
 use Rattle.warc_frame.specs.Effects.{ReadsOnly, Sends}
 use Rattle.warc_frame.specs.Record.{Record}
 use Rattle.warc_frame.specs.Seen.{Seen, SeenSource}

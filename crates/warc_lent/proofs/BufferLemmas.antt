@@ -1,5 +1,5 @@
 -- What buffers hold after more is put into them.
-use Rattle.std.proofs.Common.{◌≡◌, ◌⊎◌, ℕ, ◌+◌, ◌-◌, ◌<◌, ◌≤◌, List, [], ◌∷◌, ◌++◌, length, take, drop, set, map, get_or, ◌^◌, refl, sym, subst, ap, ◌∙◌, inl, inr, arith, Some}
+use Rattle.std.proofs.Common.{◌≡◌, ℕ, ◌+◌, ◌-◌, ◌<◌, ◌≤◌, List, [], ◌∷◌, ◌++◌, length, take, drop, set, map, ◌^◌, sym, subst, ap, ◌∙◌, inl, inr, arith, Some}
 use Prim.Native.Nat.{min, suc}
 use Rattle.std.proofs.lemmas.Bool.{cases_lt}
 use Rattle.std.proofs.lemmas.List.{append-nil, append_assoc, drop_all, take_all, take_min, take-append-le, take_more_set, set_past, length-append, length-drop, length-map, length-set, length-take-le, length_push, map_more, nil_from_length}

@@ -1,7 +1,7 @@
 -- What is put of a body for callers in other languages: what is said of it, and where it lies. This project's own
 -- notion.
-use Rattle.std.specs.Prelude.{◌≡◌, ℕ, ◌⊎◌, List, length, map, unwrap_or, Option, Some, None, Result, Ok, Err}
-use Rattle.warc_value.specs.Dates.{Instant, instant_of}
+use Rattle.std.specs.Prelude.{◌≡◌, ℕ, List, length, map, unwrap_or, Option, Some, None, Result, Ok, Err}
+use Rattle.warc_value.specs.Dates.{Instant}
 use Rattle.warc_frame.specs.Record.{Record}
 use Rattle.warc_index.specs.declared.unfound.Unfound.{Unfound}
 use Rattle.warc_answer.specs.Answers.{path_at, path_for}

@@ -1,5 +1,5 @@
 -- What a handle owns: where it is open, a reference for good to the archive that its pointer leads to.
-use Rattle.std.specs.Prelude.{Bool, true, false, [], ◌∷◌}
+use Rattle.std.specs.Prelude.{Bool, true, false, []}
 use Rattle.std.specs.contracts.prelude.RefAllocator.TheImpl as of_reference
 use Rattle.warc.specs.contracts.archives.Archive as archive
 use Rattle.warc_frame.specs.contracts.source.SliceSource as lent
@@ -10,7 +10,7 @@ use mir.Syntax.{Dict, impl, tnil, dnil}
 use base.Fml.{Fml, ftrue, feq, fex, fsep}
 use denote.RattleType.{RattleType}
 use denote.RawPtr.{Ptr, block_ptr}
-use denote.Ref.{MutBor, MutRef, ShrRef, mut_vals}
+use denote.Ref.{MutRef, ShrRef, mut_vals}
 use denote.Signature.{static_lft}
 
 -- what a row says of an allocator doesn't depend on its table of methods

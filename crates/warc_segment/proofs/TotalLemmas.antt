@@ -9,7 +9,7 @@ use Rattle.warc_record.specs.declared.readings.SegmentNumber.TheVariants as numb
 use Rattle.warc_record.specs.Kinds.{is_continuation}
 use Rattle.warc_record.specs.Texts.{is_same_text}
 use Rattle.warc_segment.specs.declared.gap.Gap.{Gap}
-use Rattle.warc_segment.specs.declared.gap.Gap.TheVariants.{Repeated, AfterEnd, Absent, Total, Number}
+use Rattle.warc_segment.specs.declared.gap.Gap.TheVariants.{Repeated, AfterEnd, Total, Number}
 use Rattle.warc_segment.specs.Series.{Member, numbered, member_of, series_of, member_numbered, in_order}
 use Rattle.warc_segment.specs.Gaps.{least_repeated, end_of, least_after, least_absent, has_total, absent_or_total, gap_to, gap_of, followers, unless_gap, joined}
 use Rattle.warc_segment.specs.Joined.{ReadRecord, piece_read, with_members, JoinedHasTotal}

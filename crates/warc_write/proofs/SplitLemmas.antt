@@ -1,7 +1,7 @@
 -- The fields of segments, as they are put together.
 use Rattle.std.proofs.Common.{◌≡◌, ℕ, ◌+◌, ◌<◌, nat_lt, true, false, List, [], ◌∷◌, ◌++◌, length}
 use Rattle.std.proofs.Common.{take, get_or, map}
-use Rattle.std.proofs.Common.{append_assoc, codes, decimal, Option, Some, None, is_none, is_some, Result, Ok}
+use Rattle.std.proofs.Common.{append_assoc, codes, decimal, Option, None, is_none, is_some, Result, Ok}
 use Rattle.std.proofs.Common.{Err, refl, sym, ap, ◌∙◌}
 use Rattle.std.specs.Prelude.{filter}
 use Rattle.std.specs.Option.{ok_or}

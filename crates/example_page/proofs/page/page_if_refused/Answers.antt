@@ -1,4 +1,4 @@
-use Rattle.std.proofs.Common.{◌≡◌, ℕ, List, IfOk, ap, subst, sym}
+use Rattle.std.proofs.Common.{ℕ, List, IfOk, ap, subst, sym}
 use Rattle.warc_frame.specs.Device.{Stored}
 use Rattle.warc_reading.specs.Archive.{Contents}
 use Rattle.warc_reading.specs.Indexed.{IsIndexed}

@@ -1,4 +1,4 @@
-use Rattle.std.proofs.Common.{ℕ, ◌*◌, List, [], Option, ap, refl, subst, arith, ◌∙◌}
+use Rattle.std.proofs.Common.{ℕ, ◌*◌, List, [], Option, ap, refl, subst, arith}
 use Rattle.warc_frame.specs.Effects.{ReadsOnly}
 use Rattle.warc_frame.specs.Seen.{IsInRange}
 use Rattle.warc_frame.specs.declared.fault.OutFault.TheVariants as outs

@@ -1,4 +1,4 @@
-use Rattle.std.proofs.Common.{◌≡◌, length, map, take}
+use Rattle.std.proofs.Common.{map, take}
 use Rattle.warc_lent.specs.Bodies.{span_numbers}
 use Rattle.warc_lent.specs.Buffers.{HoldsFront}
 use Rattle.warc_lent.proofs.bodies.put_spans.Given as goal

@@ -1,4 +1,3 @@
-use Rattle.std.proofs.Common.{◌≡◌}
 use Rattle.warc_record.proofs.ByteLemmas.{ends_by_blank, ends_by_bracket}
 use Rattle.warc_record.proofs.ids.holds_id_end.Goals as goal
 

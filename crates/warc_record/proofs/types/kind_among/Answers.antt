@@ -1,4 +1,4 @@
-use Rattle.std.proofs.Common.{◌≡◌, ℕ, ◌+◌, List, [], Bor, Option, true, false, sym, ap, ◌∙◌}
+use Rattle.std.proofs.Common.{ℕ, List, [], Bor, Option, sym, ap, ◌∙◌}
 use Rattle.std.specs.Option.{option_map_or}
 use Rattle.std.specs.Str.{str_eq_ignore_ascii_case}
 use Rattle.warc_record.specs.declared.types.Kind.{Kind}

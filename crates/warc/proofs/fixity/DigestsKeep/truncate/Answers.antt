@@ -1,4 +1,4 @@
-use Rattle.std.proofs.Common.{ap, map, sym, take, ◌∙◌}
+use Rattle.std.proofs.Common.{ap, sym, take, ◌∙◌}
 use Rattle.std.proofs.lemmas.List.{take-map}
 use Rattle.warc_reading.specs.Judging.{verdict_on}
 use Rattle.warc.specs.Fixity.{Judgements, digest_kept}
