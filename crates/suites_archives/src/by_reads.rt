@@ -4,8 +4,7 @@
 use std::alloc::{AllocError, Global};
 use suites_script::Case;
 
-/// Adds what calls answer where reads give so many bytes at most, and says whether the verb of the case is one of
-/// theirs.
+/// Adds what calls answer if a read gives `most` bytes at most, and says whether the verb of the case is one of theirs.
 fn answer_by(
     alloc: Global,
     case: &Case<'_>,
@@ -34,7 +33,7 @@ fn answer_once(
     )
 }
 
-/// Adds what is answered by reads of so many bytes, where it isn't this.
+/// Adds what is answered if a read gives `most` bytes at most, unless it is the same.
 fn add_other(
     alloc: Global,
     case: &Case<'_>,

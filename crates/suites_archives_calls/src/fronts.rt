@@ -22,8 +22,8 @@ fn check_broken(
     }
 }
 
-/// How many bytes a check writes before the read of a number fails, where these are the first of the whole and their
-/// number is told.
+/// How many bytes a check writes before the read with this number fails. `None` unless they are the first of the whole
+/// output and the fault has their number.
 fn front_before(
     alloc: Global,
     bytes: &[u8],
@@ -72,7 +72,7 @@ fn fronts_of(
     Ok(fronts)
 }
 
-/// These bytes so many times.
+/// These bytes, repeated `count` times.
 fn repeated(alloc: Global, bytes: &[u8], count: u64) -> Result<Vec<u8>, AllocError> {
     let mut text = Vec::new(alloc);
     for _ in 0..count {

@@ -4,7 +4,7 @@ use std::alloc::{AllocError, Global};
 use warc_frame::MemSource;
 use warc_vectors::{BrokenSource, ChangingSource};
 
-/// A source of these bytes, of which each read gives so many at most.
+/// A source of these bytes, of which a read gives `most` at most.
 pub fn source_of(alloc: Global, bytes: &[u8], most: usize) -> Result<MemSource, AllocError> {
     Ok(MemSource::new(bytes.to_vec(alloc)?, most.max(1)))
 }

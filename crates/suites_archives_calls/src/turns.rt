@@ -39,8 +39,8 @@ enum Turn {
     Otherwise,
 }
 
-/// What comes of a call that failed, and of the same call after it, which has to go well. The bytes that went out are
-/// the front of the whole, and their number is told.
+/// What comes of a call that failed, and of the same call after it, which has to go well. The bytes that went out must
+/// be the front of the whole, and the fault must have their number.
 fn turn_of(
     alloc: Global,
     first: &Told,

@@ -11,7 +11,7 @@ use crate::turns::add_turns;
 use std::alloc::{AllocError, Global};
 use suites_script::Case;
 
-/// Adds what is answered where reads give so many bytes at most, and says whether the verb of the case is one of these.
+/// Adds what is answered if a read gives `most` bytes at most, and says whether the verb of the case is one of these.
 pub fn answer_by(
     alloc: Global,
     case: &Case<'_>,

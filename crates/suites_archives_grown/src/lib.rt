@@ -17,7 +17,7 @@ use suites_archives_calls::source_of;
 use suites_script::Case;
 use torn::add_torn;
 
-/// Adds what is answered where reads give so many bytes at most, and says whether the verb of the case is one of these.
+/// Adds what is answered if a read gives `most` bytes at most, and says whether the verb of the case is one of these.
 pub fn answer_by(
     alloc: Global,
     case: &Case<'_>,

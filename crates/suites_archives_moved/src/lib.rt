@@ -13,7 +13,7 @@ use returns::add_returned;
 use std::alloc::{AllocError, Global};
 use suites_script::Case;
 
-/// Adds what is answered where reads give so many bytes at most, and says whether the verb of the case is one of these.
+/// Adds what is answered if a read gives `most` bytes at most, and says whether the verb of the case is one of these.
 pub fn answer_by(
     alloc: Global,
     case: &Case<'_>,

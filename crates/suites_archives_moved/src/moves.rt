@@ -6,7 +6,7 @@ use std::alloc::{AllocError, Global};
 use suites_archives_calls::{add_line, add_text};
 use suites_script::{Case, add_link};
 
-/// Of an archive of so many records at most each one that it begins with is asked too.
+/// The most records of an archive of which each front is asked too.
 const MOST_FRONTS: usize = 8;
 
 /// Whether there are other answers, and the same.

@@ -134,8 +134,8 @@ impl Archives {
         tell_otherwise(alloc, &self.bytes, &self.bytes, &mut self.openings, answer)
     }
 
-    /// Makes an archive of the one that was given and so many records after it: the text of a case, in which `#` is the
-    /// number of a record, and `@` the number before it.
+    /// Makes an archive of the one that was given and as many more records as the second word says. Each is the text
+    /// of the case, in which `#` is the number of the record, and `@` the number before it.
     fn flood(&mut self, alloc: Global, case: &Case<'_>) -> Result<(), AllocError> {
         self.bytes = self.given.to_vec(alloc)?;
         self.made_count = self.made_count.saturating_add(1);
@@ -160,7 +160,7 @@ impl Archives {
         }
     }
 
-    /// Leaves so many of the first bytes.
+    /// Leaves the first `len` bytes.
     fn cut(&mut self, alloc: Global, len: u64, answer: &mut Vec<u8>) -> Result<(), AllocError> {
         match self.given.get(..len as usize) {
             Some(front) => {
@@ -230,8 +230,8 @@ fn opened(alloc: Global, source: MemSource) -> (Result<usize, Fault>, MemSource)
     }
 }
 
-/// Whether an archive opens so, read so many bytes at a time, and its source is given back as it was. Counts where it
-/// does.
+/// Whether an archive opens as wanted if a read gives `most` bytes at most, and its source is given back as it was.
+/// Counts the openings.
 fn opens_so(
     alloc: Global,
     bytes: &[u8],

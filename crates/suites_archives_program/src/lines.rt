@@ -1,4 +1,4 @@
-//! How a run is told.
+//! How a run is reported.
 
 use crate::runs::Ended;
 use std::alloc::{AllocError, Global};

@@ -63,7 +63,7 @@ fn run<S: Source + Drop, A: Allocator + Copy>(
     (ended, source)
 }
 
-/// The run of a command over its archive, each read being of so many bytes at most.
+/// The run of a command over its archive, of which a read gives `most` bytes at most.
 pub(crate) fn run_in_pieces(
     alloc: Global,
     asked: Asked<'_>,
@@ -132,8 +132,8 @@ pub(crate) fn run_refused(
     })
 }
 
-/// The run of a command over its archive to a sink that takes so many bytes at most, of which the write of a number
-/// breaks; and the run after it, over the source that came back.
+/// The run of a command over its archive to a sink that takes `most` bytes at a time, and of which the write with this
+/// number breaks; and the run after it, over the source that came back.
 pub(crate) fn run_cut(
     alloc: Global,
     asked: Asked<'_>,

@@ -71,7 +71,7 @@ fn stage_of(
     })
 }
 
-/// How far the run comes of which the read of a number fails. An archive is opened by reads of so many bytes, each from
+/// How far a run comes if the read with this number fails. An archive is opened by reads of `most` bytes, each from
 /// where the one before ended.
 fn stage_at(
     alloc: Global,
@@ -112,7 +112,7 @@ fn count_reads(
     Ok(None)
 }
 
-/// Tells how many reads of so many bytes fail in turn, until none fails.
+/// Reports how many reads of `most` bytes fail in turn, until none fails.
 pub(crate) fn tell_reads(
     alloc: Global,
     asked: Asked<'_>,
@@ -129,8 +129,8 @@ pub(crate) fn tell_reads(
     }
 }
 
-/// How far the run comes of which the write of a number breaks, counted from 0, each being of so many bytes at most.
-/// Before it exactly the bytes of the writes went out. The run after it ends as if none had broken.
+/// How far a run comes if the write with this number breaks, counted from 0, where each takes `most` bytes at most.
+/// What went out before must be exactly what the writes took. The run after it must end as if none had broken.
 fn stage_of_write(
     alloc: Global,
     asked: Asked<'_>,
@@ -186,7 +186,7 @@ fn count_short(
     Ok(count)
 }
 
-/// Tells how many writes of so many bytes fail in turn, take nothing and take one byte, until none does.
+/// Reports how many writes of `most` bytes fail in turn, take nothing and take one byte, until none does.
 pub(crate) fn tell_writes(
     alloc: Global,
     asked: Asked<'_>,

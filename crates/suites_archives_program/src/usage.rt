@@ -104,7 +104,7 @@ fn tell_lacking(text: &str, lines: &[u8], answer: &mut Vec<u8>) -> Result<(), Al
     Ok(())
 }
 
-/// Tells what is told where memory is wanting.
+/// Adds the line of a command line for which there is no memory.
 fn tell_memory(alloc: Global, answer: &mut Vec<u8>) -> Result<(), AllocError> {
     let line = format!(in alloc; "{}\n", CommandFault::Memory)?;
     answer.extend_from_slice(line.as_bytes())

@@ -115,7 +115,7 @@ fn tell_pieces(alloc: Global, asked: Asked<'_>, answer: &mut Vec<u8>) -> Result<
     Ok(())
 }
 
-/// Whether a run with reads of so many bytes ends like another.
+/// Whether a run ends like another if a read gives `most` bytes at most.
 fn ends_like(
     alloc: Global,
     asked: Asked<'_>,

@@ -115,14 +115,14 @@ fn break_write(
     write_out(alloc, origin, blocks, &mut writer)
 }
 
-/// What fails: the read of a number where reads give so many bytes at most, or the write of that number.
+/// What fails: a read, of which each gives this many bytes at most, or a write.
 #[derive(Clone, Copy)]
 enum Failing {
     Reads(usize),
     Writes(Break),
 }
 
-/// Tells what is answered where that of a number fails.
+/// What is answered if the read or write with this number fails.
 fn fail_at(
     alloc: Global,
     origin: &Typed,
@@ -136,8 +136,8 @@ fn fail_at(
     }
 }
 
-/// Tells what is answered where one read or write fails, from the first one to the first that isn't made. What is told
-/// of one as of the one before isn't told again.
+/// Adds what is answered if one read or write fails, from the first one to the first that isn't made. The same answer
+/// twice in a row is added once.
 fn fail_each(
     alloc: Global,
     origin: &Typed,
@@ -183,7 +183,7 @@ fn replay_in_pieces(
     Ok(())
 }
 
-/// Tells what is answered of a block that is said to stand at a place of these bytes.
+/// Reports what is answered for a place of a block in a source of these bytes.
 fn replay_place(
     alloc: Global,
     origin: &Typed,

@@ -1,4 +1,4 @@
-//! What is told of a replay.
+//! How a replay is reported.
 
 use crate::stored::{Block, begin_with};
 use std::alloc::{AllocError, Global};

@@ -53,7 +53,7 @@ pub(crate) enum Step {
     /// The record of that number among those that are known is added.
     Add(usize),
 
-    /// The first so many records are kept.
+    /// The first records are kept, as many as this.
     Keep(usize),
 }
 
@@ -152,7 +152,7 @@ impl Records {
         self.heads.push(head).map_err(|_| AllocError)
     }
 
-    /// Takes the words of a case as what happens to the archive. The first word that is no record's name is told.
+    /// Takes the words of a case as what happens to the archive. Reports the first word that is no record's name.
     fn happen(&mut self, case: &Case<'_>, answer: &mut Vec<u8>) -> Result<(), AllocError> {
         self.steps.clear();
         let mut is_count = false;
@@ -172,7 +172,7 @@ impl Records {
         Ok(())
     }
 
-    /// Makes an archive of a chain of so many revisits, each of which names the next one, and the record behind it.
+    /// Makes an archive of a chain of `length` revisits, each of which names the next one, and the record after it.
     fn chain(&mut self, alloc: Global, length: u64, end: &str) -> Result<(), AllocError> {
         self.steps.clear();
         for number in 0..length {

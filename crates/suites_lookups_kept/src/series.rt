@@ -8,7 +8,7 @@ use warc_segment::{Gap, JoinFault, Parts, Place};
 use warc_value::Wanted;
 use warc_vectors::{Heap, RefusingAllocator};
 
-/// What is told where memory is refused.
+/// The answer if memory is refused.
 const NO_MEMORY: &[u8] = b"out of memory\n";
 
 /// More requests for memory than any case makes.
@@ -196,7 +196,7 @@ enum Turn {
     Otherwise,
 }
 
-/// What comes of the run where the request of that number is refused, if this was told where none was.
+/// What comes of a run if the request with this number is refused. Without a refusal the answer is `wanted`.
 fn turn_at(
     alloc: Global,
     records: &Records,
@@ -255,7 +255,7 @@ impl Refused {
     }
 }
 
-/// Adds a segment with a number to a series of so many, each of a block of one byte. The last one alone states the
+/// Adds a segment with a number to a series of `count`, each with a block of one byte. The last one alone states the
 /// total.
 fn add_number<'a>(
     parts: &mut Parts<Heap<'a>>,

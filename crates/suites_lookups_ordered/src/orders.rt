@@ -43,7 +43,7 @@ enum Added {
 }
 
 impl Added {
-    /// What is told of it, if anything is.
+    /// The line of it, or nothing.
     fn text(self) -> &'static [u8] {
         match self {
             Added::Done | Added::Again => b"",
@@ -174,8 +174,8 @@ fn ordered(
     make(alloc, &mut rising, work, case, from, told)
 }
 
-/// Adds the first so many entries to those that wait, each again where it is refused. How many were; `None` where one
-/// is refused again.
+/// Adds the entries to those that wait, each again if it is refused. Returns how many were refused, or `None` if one is
+/// refused again.
 fn wait(waiting: &mut Waiting<Heap<'_>>, rows: &[Row<'_>]) -> Option<u64> {
     let mut again = 0u64;
     for row in rows {
@@ -273,7 +273,7 @@ fn perform_at(
     (again, heap.has_refused())
 }
 
-/// What comes of it, if this was told where none was.
+/// What comes of it if the request with this number is refused. Without a refusal the answer is `wanted`.
 fn refused_at(
     alloc: Global,
     work: &Work<'_>,
@@ -287,7 +287,7 @@ fn refused_at(
     Ok(Refusal::of(is_right, is_refused))
 }
 
-/// Tells what comes of it where each request is refused in turn, if this was told where none was.
+/// Reports what comes of it if each request is refused in turn. Without a refusal the answer is `wanted`.
 fn refuse(
     alloc: Global,
     work: &Work<'_>,
@@ -368,7 +368,7 @@ impl Orders {
         answer_about(alloc, &work, case, answer)
     }
 
-    /// Draws so many entries with the texts.
+    /// Draws `count` entries with the texts.
     fn draw(&mut self, alloc: Global, count: u64) -> Result<(), AllocError> {
         let texts = lines(alloc, &self.texts)?;
         self.entries = drawn_lines(alloc, &texts, count)?;

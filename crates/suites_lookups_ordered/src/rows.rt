@@ -53,7 +53,7 @@ pub(crate) fn rows<'a>(
     Ok(rows)
 }
 
-/// The first so many entries.
+/// The first `count` entries.
 pub(crate) fn front<'a, 'b>(rows: &'a [Row<'b>], count: usize) -> &'a [Row<'b>] {
     rows.get(..count).unwrap_or(rows)
 }

@@ -24,7 +24,7 @@ fn digit(byte: u8) -> u8 {
     }
 }
 
-/// The byte that stands behind a backslash, where it isn't `x`.
+/// The byte that a byte after a backslash stands for, unless it is `x`.
 fn named(byte: u8) -> u8 {
     match byte {
         b'n' => b'\n',

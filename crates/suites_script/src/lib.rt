@@ -8,7 +8,7 @@
 //! replay http://a.example/x 2020      the words of a case, with one blank between two
 //! | a text that is given with it, and the end of a line (CRLF)
 //! + a text that is given with it
-//! * 256 a text that is given with it so many times
+//! * 256 a text that is given with it as many times as the number says
 //! > a text that is wanted, and the end of a line (LF)
 //! . a text that is wanted
 //! ```

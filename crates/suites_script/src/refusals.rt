@@ -57,7 +57,7 @@ impl Refusals {
         !self.is_wrong
     }
 
-    /// Tells of the runs, of which there should be more than so many.
+    /// Reports the runs. There should be more than `least`.
     pub fn tell(self, alloc: Global, least: u64, answer: &mut Vec<u8>) -> Result<(), AllocError> {
         let (how, number) = if self.is_wrong {
             ("something else once this request is refused", self.count)

@@ -15,7 +15,7 @@ pub trait Trial {
     ) -> Result<(), AllocError>;
 }
 
-/// What is told of the cases so far, how many stood under each name, and how many failed.
+/// The report on the cases so far, how many are under each name, and how many failed.
 #[derive(Drop)]
 pub struct Report {
     told: Vec<u8>,
@@ -98,7 +98,7 @@ impl Report {
         }
     }
 
-    /// All that is told, with how many cases and steps there were, and how many failed.
+    /// The whole report, with how many cases and steps there were, and how many failed.
     pub fn into_text(mut self, alloc: Global) -> Result<Vec<u8>, AllocError> {
         let total = format!(in alloc;
             "{} cases, {} steps, {} failed\n",

@@ -47,8 +47,8 @@ fn tell_reads<S: Source>(
     tell_parts(answer, &[told.as_bytes(), &bytes, b"\n"])
 }
 
-/// Adds what a source in memory gives that gives so many bytes at most at once, and what is asked past its end and for
-/// no bytes.
+/// Adds what a source in memory gives, `most` bytes at most at once, and what it gives past its end and if no bytes are
+/// asked for.
 fn tell_source(
     alloc: Global,
     answer: &mut Vec<u8>,
@@ -99,7 +99,7 @@ fn tell_odd_file(alloc: Global, answer: &mut Vec<u8>, trick: Trick) -> Result<()
     tell_parts(answer, &[&bytes, told.as_bytes()])
 }
 
-/// Whether the read of that number fails, and no other, where each gives a byte of a text of so many.
+/// Whether the read with this number fails, and no other, where each gives a byte of a text of `len`.
 fn fails_at(source: &mut BrokenSource, number: u64, len: u64) -> bool {
     for read in 0..=len {
         let answer = source.read_at(read, &mut [0; 2]);
@@ -162,7 +162,7 @@ pub(crate) fn tell_taken(answer: &mut Vec<u8>, bytes: &[u8]) -> Result<(), Alloc
     tell_parts(answer, &[b"[", bytes, b"]\n"])
 }
 
-/// Adds what is told where a text is sent to a writer that breaks, and what that took.
+/// Adds the answer if a text is sent to a writer that breaks, and what the writer took.
 fn tell_send(
     alloc: Global,
     case: &Case<'_>,
@@ -193,8 +193,8 @@ fn tell_flush(
     tell_line(alloc, answer, &buffer.sent())
 }
 
-/// Adds what is told of a text, the same text and nothing that are written to a sink in memory which holds three bytes,
-/// and whose first growth is refused; and what the sink holds each time.
+/// Adds the answers if a text, the same text and nothing are written to a sink in memory that holds three bytes and
+/// whose first growth is refused; and what the sink holds each time.
 fn tell_sink(alloc: Global, answer: &mut Vec<u8>, text: &[u8]) -> Result<(), AllocError> {
     let heap = RefusingAllocator::new(alloc, 2);
     let mut sink = MemSink::new(b"abc".to_vec(&heap)?);

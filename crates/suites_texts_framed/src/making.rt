@@ -86,7 +86,7 @@ pub(crate) fn tell_made(
     }
 }
 
-/// Adds whether each refused request is told of, of which there are as many as the seventh word says, or more.
+/// Adds whether each refused request is reported. There are as many as the seventh word says, or more.
 pub(crate) fn tell_made_without_memory(
     alloc: Global,
     case: &Case<'_>,

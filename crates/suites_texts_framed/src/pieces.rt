@@ -45,7 +45,7 @@ fn first_other_place(
     Ok(None)
 }
 
-/// What pieces of so many bytes give.
+/// What pieces of `size` bytes give.
 fn given_in_many(alloc: Global, at: u64, text: &[u8], size: usize) -> Result<Vec<u8>, AllocError> {
     let mut pieces = Vec::new(alloc);
     for piece in text.chunks(size.max(1)) {

@@ -28,7 +28,7 @@ pub(crate) fn tell_range(
     }
 }
 
-/// Puts each range of a text whose offset and length the words from the third on say, and adds what is told. Tells
+/// Puts each range of a text whose offset and length the words from the third on say, and adds the answers. Returns
 /// whether all were put.
 fn put_ranges(
     alloc: Global,
@@ -50,7 +50,7 @@ fn put_ranges(
     Ok(are_put)
 }
 
-/// Adds what is told where ranges are put through a buffer, four bytes at a time, and what is sent of them if all are.
+/// Adds the answers if ranges are put through a buffer, four bytes at a time, and what is sent if all are put.
 pub(crate) fn tell_put_ranges(
     alloc: Global,
     case: &Case<'_>,

@@ -88,7 +88,7 @@ fn first_not_cut(alloc: Global, text: &[u8]) -> Option<usize> {
     None
 }
 
-/// Adds whether each text that another begins with is told as cut off there.
+/// Adds whether each front of a text is reported as cut off at its end.
 pub(crate) fn tell_cut(
     alloc: Global,
     answer: &mut Vec<u8>,

@@ -91,7 +91,7 @@ impl Attempt for Splitting<'_> {
     }
 }
 
-/// Adds whether each refused request of a split is told of, of which there are as many as the third word says, or more.
+/// Adds whether each refused request of a split is reported. There are as many as the third word says, or more.
 pub(crate) fn tell_split_without_memory(
     alloc: Global,
     case: &Case<'_>,

@@ -35,7 +35,7 @@ pub(crate) fn keeps_value<A: std::alloc::Allocator>(
     }
 }
 
-/// What is told by the test of a text and by what is kept of it, where both say the same.
+/// What the test of a text and what is kept of it say, if both say the same.
 fn agreed(is_one: bool, kept: Result<bool, TextFault>) -> Option<bool> {
     match kept {
         Ok(true) if is_one => Some(true),
@@ -63,7 +63,7 @@ impl Reading {
         }
     }
 
-    /// Whether a text is one; `None` where it is told in two ways, or something else is.
+    /// Whether a text is one; `None` if two ways answer differently, or something else is kept.
     pub(crate) fn is_of(self, alloc: Global, text: &[u8]) -> Option<bool> {
         match self {
             Reading::Name => agreed(is_name(text), keeps_name(alloc, text)),

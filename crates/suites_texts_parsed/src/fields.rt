@@ -26,7 +26,7 @@ fn tell_kept(
     tell_line(alloc, answer, &told)
 }
 
-/// Adds what is told of a text that is to be kept.
+/// Adds the answer if a text is to be kept.
 fn tell_once(
     alloc: Global,
     answer: &mut Vec<u8>,
@@ -39,7 +39,7 @@ fn tell_once(
     }
 }
 
-/// Adds what is told of a name where the first request for memory is refused, and of the same name then.
+/// Adds the answer for a name if the first request for memory is refused, and for the same name after that.
 fn tell_name_twice(alloc: Global, answer: &mut Vec<u8>, text: &[u8]) -> Result<(), AllocError> {
     let heap = RefusingAllocator::new(alloc, 1);
     let first = keeps_name(&heap, text);
@@ -298,7 +298,7 @@ impl Attempt for ReadingArea<'_> {
     }
 }
 
-/// Adds whether each refused request is told of where the fields of an area are read, or pushed.
+/// Adds whether each refused request is reported as the fields of an area are read, or pushed.
 fn tell_refused(
     alloc: Global,
     case: &Case<'_>,

@@ -45,7 +45,7 @@ fn tell_kept(
     }
 }
 
-/// Adds what is told of an id where the first request for memory is refused, and of the same id then.
+/// Adds the answer for an id if the first request for memory is refused, and for the same id after that.
 fn tell_kept_twice(alloc: Global, answer: &mut Vec<u8>, text: &[u8]) -> Result<(), AllocError> {
     let heap = RefusingAllocator::new(alloc, 1);
     let first = kept_of(&heap, text);
@@ -122,7 +122,7 @@ fn tell_findings(alloc: Global, answer: &mut Vec<u8>, found: &[Finding]) -> Resu
     Ok(())
 }
 
-/// Adds what is found in fields, over a block of as many bytes as the second word says, with what stands behind it
+/// Adds what is found in fields, over a block of as many bytes as the second word says. The words after it say what is
 /// known of the record.
 fn tell_found(
     alloc: Global,
@@ -186,7 +186,7 @@ fn want_of_area<A: Allocator + Copy>(ample: A, heap: A, area: &[u8]) -> Option<W
     }
 }
 
-/// Where they meet it if the request of that number is refused; `None` where that isn't told of.
+/// Where the refusal is met if the request with this number is refused; `None` if it isn't reported.
 fn want_at(alloc: Global, area: &[u8], number: u64) -> Option<Want> {
     let ample = RefusingAllocator::new(alloc, 0);
     let heap = RefusingAllocator::new(alloc, number);
@@ -194,7 +194,7 @@ fn want_at(alloc: Global, area: &[u8], number: u64) -> Option<Want> {
     ((met != Want::Nowhere) == heap.has_refused()).then_some(met)
 }
 
-/// How many requests are made for the head of an area, and how many for its findings, where each is told of.
+/// How many requests are made for the head of an area, and how many for its findings, if each refusal is reported.
 fn wants_of(alloc: Global, area: &[u8]) -> Option<(u64, u64)> {
     let (mut of_head, mut of_findings) = (0u64, 0u64);
     for number in 1..100u64 {

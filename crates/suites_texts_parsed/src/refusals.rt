@@ -9,7 +9,7 @@ pub trait Attempt {
     fn refused_at(&self, alloc: Global, number: u64) -> Option<bool>;
 }
 
-/// How many requests a call makes, and whether each is told where it is refused.
+/// How many requests a call makes, and whether each refusal is reported.
 fn count_of<T: Attempt>(alloc: Global, attempt: &T) -> (u64, bool) {
     for number in 0..100u64 {
         match attempt.refused_at(alloc, number.saturating_add(1)) {
@@ -21,7 +21,7 @@ fn count_of<T: Attempt>(alloc: Global, attempt: &T) -> (u64, bool) {
     (100, false)
 }
 
-/// Adds whether a call makes so many requests at least, and tells of each where it is refused.
+/// Adds whether a call makes `least` requests at least, and reports each refusal.
 pub fn tell_refusals<T: Attempt>(
     alloc: Global,
     answer: &mut Vec<u8>,

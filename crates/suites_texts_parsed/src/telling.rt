@@ -1,11 +1,11 @@
-//! How answers are told.
+//! How answers are written.
 
 use std::alloc::{AllocError, Allocator, Global};
 use std::fmt::Display;
 use suites_script::Case;
 use warc_field::Fields;
 
-/// A text that is longer is told by its length.
+/// Of a longer text its length is written.
 const LONG: usize = 4096;
 
 /// The text that a case gives, or the one that was kept where it gives none.
@@ -41,7 +41,7 @@ pub fn tell_line<T: Display>(
     tell_parts(answer, &[shown.as_bytes(), b"\n"])
 }
 
-/// Adds whether two things are the same; nothing is known of that where it is told in two ways.
+/// Adds whether two things are the same, or that two ways of comparing them differ.
 pub(crate) fn tell_sameness(
     alloc: Global,
     answer: &mut Vec<u8>,

@@ -95,7 +95,7 @@ fn tell_digest(answer: &mut Vec<u8>, block: &[u8]) -> Result<(), AllocError> {
     tell_parts(answer, &[&base32(&digest(block)), b"\n"])
 }
 
-/// The verdict on a block that comes in pieces of so many bytes.
+/// The verdict on a block that comes in pieces of `piece` bytes.
 fn verdict_in_pieces(block: &[u8], piece: usize, wanted: &Wanted) -> Verdict {
     let mut running = Running::new();
     for part in block.chunks(piece.max(1)) {

@@ -57,7 +57,7 @@ part_range : (part : Part) (bytes : List ℕ) (p : Placed) → IsPlacedIn bytes 
 part_range Head bytes p has short = (omega (arith, has.order, has.end, has.within), omega (arith, short))
 part_range Block bytes p has short = (omega (arith, has.end, has.within), omega (arith, short))
 
--- so many bytes at an offset
+-- a range within the bytes has its length
 range_len : (start len : ℕ) (bytes : List ℕ) → start + len ≤ length bytes → length (take len (drop start bytes)) ≡ len
 range_len start len bytes within = omega (arith, within, length-take len (drop start bytes), length-drop start bytes)
 

@@ -31,7 +31,7 @@ spells_there bytes text p row len has same end text_is =
     let is : text ≡ take has.len (drop p.offset bytes) = text_is ∙ ap (λ q. take len (drop q bytes)) at ∙ ap (λ k. take k (drop p.offset bytes)) n in
     subst (λ t. Spells p.content t) (sym is) has.spells
 
--- where a record is read, nothing but want of memory is told
+-- where a record is read, only lack of memory is a fault
 pub memory_told : (kind : FaultKind) (offset : ℕ) (P : Type 0) → (P → ⊥) → OrMemory kind offset P → kind ≡ NoMemory
 memory_told NoMemory offset P never is = refl
 memory_told kind offset P never is = absurd (never is)

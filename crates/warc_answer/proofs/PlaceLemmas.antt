@@ -148,7 +148,7 @@ len_more places i d lt = sum_by_more (λ (p : Place). p.len) places i d lt
 
 -- ---- a buffer that is filled with blocks
 
--- so many bytes of a block as there is room for
+-- as many bytes of a block as there is room for
 front_of_block : (bytes : List ℕ) (p : Place) (room : ℕ)
     → take room (bytes_at bytes p) ≡ take (min p.len room) (drop p.start bytes)
 front_of_block bytes p room = elim (cases_lt p.len room) [

@@ -27,7 +27,7 @@ is_bad_at bytes p = is_bad (verdict_of p.wanted (bytes_at bytes p))
 abbrev pub any_bad_at : List ℕ → List Place → Bool
 any_bad_at bytes places = list_any (is_bad_at bytes) places
 
--- a buffer begins with so many bytes, which are this text, and no block is bad; or none, and some block is
+-- a buffer begins with this many bytes, which are this text, and no block is bad; or none, and some block is
 abbrev pub IsFront : Bool → List ℕ → List ℕ → Option ℕ → Type 0
 IsFront bad text buf (Some n) = (bad ≡ false) × (take n buf ≡ text)
 IsFront bad text buf None = bad ≡ true

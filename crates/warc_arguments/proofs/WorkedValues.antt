@@ -20,7 +20,7 @@ list_takes : takes warc_app (codes "warc" ∷ codes "list" ∷ codes "a.warc" �
 unfolding clap_on_literals
 list_takes = refl
 
--- an empty word is a word, and a word with a minus stands behind `--`
+-- an empty word is a word, and a word with a minus comes after `--`
 empty_names : asked_of (codes "warc" ∷ codes "list" ∷ [] ∷ []) ≡ plainly (codes "list") ([] ∷ [])
 unfolding clap_on_literals
 empty_names = refl

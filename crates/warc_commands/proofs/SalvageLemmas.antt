@@ -12,7 +12,7 @@ use Rattle.warc_commands.specs.Program.{Tells, told_line}
 use Rattle.warc_commands.specs.Salvage.{IsSalvageCutOff, IsSalvaged, TellsAmount, salvage_status}
 use Rattle.warc_commands.proofs.ProgramLemmas.{may_have_failed}
 
--- what was told of the records that stay
+-- what was reported of the records that stay
 pub amount_as : (found given kept : Option Fault) (n : ℕ) (rows was : List Row) (bytes : ℕ) (err told : Seen) → found ≡ given → given ≡ kept → n ≡ length rows → rows ≡ was → TellsAmount found n bytes err told
     → TellsAmount kept (length was) bytes err told
 amount_as found given kept n rows was bytes err told a b size same tells =

@@ -10,7 +10,7 @@ set_field [] place field h is = h
 set_field (f ∷ fs) zero field h is = (is, h.1)
 set_field (f ∷ fs) (suc place) field h is = (h.0, set_field fs place field h.1 is)
 
--- what is put behind all fields stands behind those before its place, which are all
+-- what is put after all fields comes after those before its place, which are all
 pub put_behind : (fields : List Pair) (place : ℕ) (field : Pair) → length fields ≤ place → place ≤ length fields → take (place + 1) (fields ++ field ∷ []) ≡ take place fields ++ field ∷ []
 put_behind [] place field some few = let e : place ≡ 0 = omega arith in rw e refl
 put_behind (f ∷ fs) zero field some few = absurd (omega arith)

@@ -208,7 +208,7 @@ parts-trim (b ∷ c ∷ bs) = ⊎_elim
     (true_or_false (is_crlf b c)))
     (true_or_false (is_blank b))
 
--- what stands behind a CRLF is the parts after it, each continued
+-- what comes after a CRLF is the parts after it, each continued
 unfolded-part : (t part more : List ℕ) → parts t ≡ part ∷ parts more → unfolded t ≡ part ++ flat_map continued (parts more)
 unfolding unfolded
 unfolded-part t part more e = ap joined_parts e

@@ -54,7 +54,7 @@ has_judged judge q t (Some f) ok (some, g, fails, is) = (some, g, record_judged 
 accepts_rest : (judge : Judgement) (o : Option Unclosed) (t : List ℕ) → o ≡ unclosed_of t → AcceptsOpen judge o → AcceptsOpen judge (unclosed_of t)
 accepts_rest judge o t e ok = subst (AcceptsOpen judge) e ok
 
--- what refutes the text for framing refutes it for a judgement that accepts what was told
+-- what refutes the text for framing refutes it for a judgement that accepts what was reported
 pub judged_refuted : (judge : Judgement) (at : ℕ) (text : List ℕ) (told : Told) (f : Fault) → Refutes at text told f → AcceptsTold judge told → IsFirstFault judge at text f
 judged_refuted judge at text told f r (accepted, held) = record {
   records = told.records;
@@ -70,7 +70,7 @@ judged_refuted judge at text told f r (accepted, held) = record {
   is = r.limit;
 }
 
--- a text that ends in less than a record, and not with nothing, is truncated, where what was told is accepted
+-- a text that ends in less than a record, and not with nothing, is truncated, if what was reported is accepted
 pub truncated : (judge : Judgement) (at : ℕ) (text : List ℕ) (told : Told) → at + length text ≤ max_archive → AcceptsTold judge told → (l : Lies text told) → l.rest ≢ [] → IsFirstFault judge at text (fault Truncated (at + length text))
 truncated judge at text told low (accepted, held) l some =
     let offset : at + length l.front + length l.rest ≡ at + length text = omega (arith, ap length l.text_is, length-append l.front l.rest) in
@@ -97,7 +97,7 @@ all_open : (o : Option Unclosed) → AcceptsOpen any_fields o
 all_open None = tt
 all_open (Some u) = refl
 
--- framing accepts all that was told
+-- framing accepts all that was reported
 pub all_told : (told : Told) → AcceptsTold any_fields told
 all_told told = (all_accepted told.records, all_open told.unclosed)
 

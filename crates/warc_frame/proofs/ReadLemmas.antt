@@ -92,7 +92,7 @@ head-looks t v n h e =
 pub le_from : (m n : ℕ) → nat_lt m n ≡ false → n ≤ m
 le_from m n h = ⊎_elim (λ l. absurd (let no : false ≡ true = sym h ∙ lt-ltb m n l in cc)) (λ l. l) (cases_lt m n)
 
--- the block that stands at a place, and what stands behind it
+-- the block at a place, and what comes after it
 pub block-is : (place n : ℕ) (t block : List ℕ) → place ≤ length t → block_at place n t ≡ Ok block → (length block ≡ n) × (place + n + 4 ≤ length t) × (drop place t ≡ block ++ crlf ++ crlf ++ drop (place + n + 4) t)
 unfolding block_at
 block-is place n t block l e =

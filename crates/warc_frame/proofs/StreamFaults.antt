@@ -27,7 +27,7 @@ limited_kind true kinds.TooLong o h = refl
 limited_kind true kinds.Read o h = refl
 limited_kind true kinds.Memory o h = refl
 
--- a fault that stands behind the records that were told
+-- a fault after the records that were reported
 pub refutes : (at : ℕ) (text front rest : List ℕ) (told : Told) (g f : Fault) → within_limit at text ≡ front ++ rest → SpellsAll told.records front → rest ≢ [] → record_of any_fields rest ≡ Err g → g.kind ≢ kinds.Truncated → f ≡ behind (at + length front) g → told.unclosed ≡ unclosed_of rest → Refutes at text told f
 refutes at text front rest told g f e s some fails settled is held =
     let kind : f.kind ≡ g.kind = ap (λ (x : Fault). x.kind) is in

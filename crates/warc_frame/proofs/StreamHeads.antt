@@ -48,7 +48,7 @@ begins-across a b w line m h size l = ap (begins b) (l ∙ ap (λ k. drop k w) s
 begins-whole : (t x w : List ℕ) → length w ≤ length t → begins (t ++ x) w ≡ begins t w
 begins-whole t x w l = ap (λ s. starts_with nat_eq w s) (take-append-le (length w) t x l)
 
--- the version is told by the first ten bytes
+-- the first ten bytes say the version
 pub version-more : (t x : List ℕ) → 10 ≤ length t → version_of (t ++ x) ≡ version_of t
 unfolding version_of
 version-more t x l = rw (begins-whole t x (version_line V1_1) (omega arith), begins-whole t x (version_line V1_0) (omega arith)) refl
@@ -76,7 +76,7 @@ pub head_len-whole : (t : List ℕ) (p : ℕ) → empty_line t ≡ Some p → p 
 unfolding head_len head_front
 head_len-whole t p h e l = ap (λ s. behind_place (empty_line s)) (take_all max_head t l) ∙ ap behind_place h ∙ ap Some e
 
--- the rows of a head, told of its parts
+-- the rows of a head, by its parts
 pub no_version : (judge : Judgement) (t : List ℕ) → version_of t ≡ None → head_of judge t ≡ Err (fault kinds.Version 0)
 unfolding head_of
 no_version judge t h = rw h refl

@@ -59,7 +59,7 @@ pub whole_piece : (taken piece : List ℕ) (from : ℕ) → (taken ++ take from 
 whole_piece taken piece from =
     ap (λ x. (taken ++ take from piece) ++ x) (take_rest piece from) ∙ append_assoc taken (take from piece) (drop from piece) ∙ ap (λ x. taken ++ x) (take-append-drop from piece)
 
--- what stands behind records stays there
+-- what comes after records stays there
 pub stands_more : (at : ℕ) (text more : List ℕ) (records : List Record) (offset : ℕ) → StandsBehind at text records offset → StandsBehind at (text ++ more) records offset
 stands_more at text more records offset s = record {
   front = s.front;
@@ -72,7 +72,7 @@ stands_more at text more records offset s = record {
 pub memory_more : (at : ℕ) (text more : List ℕ) (f : Fault) → IsMemoryFault at text f → IsMemoryFault at (text ++ more) f
 memory_more at text more f h is = let x = h is in (x.0, stands_more at text more x.0 f.offset x.1)
 
--- memory was wanted for the record behind those that were told
+-- memory was wanted for the record after those that were reported
 wanted : (at : ℕ) (text : List ℕ) (told : Told) (f : Fault) → WantsMemory at text told f → StandsBehind at text told.records f.offset
 unfolding within_limit
 wanted at text told f w = record {

@@ -1,4 +1,4 @@
--- What was told is what lies in the bytes taken.
+-- What was reported is what lies in the bytes taken.
 use Rattle.std.proofs.Common.{◌≡◌, ℕ, zero, suc, ◌+◌, ◌-◌, ◌<◌, ◌≤◌, ◌^◌, true, false, List, [], ◌∷◌, ◌++◌, Option, Some, None, Ok, length, length-append, take, drop, refl, sym, ap, subst, ◌∙◌, arith}
 use Rattle.std.proofs.Math.Seq.{drop-append_seam, take-append_seam}
 use Rattle.std.proofs.lemmas.List.{append-nil, length-take-le, take_all, drop_all}
@@ -79,7 +79,7 @@ cut_at rest o d phases.Head s = cut_in_head rest o d.kept s
 cut_at rest o d phases.Block s = cut_in_block rest o d.left d.matched s.1
 cut_at rest o d (phases.Failed f) s = absurd s
 
--- what was told is what lies in the bytes taken
+-- what was reported is what lies in the bytes taken
 pub lies_there : (at : ℕ) (taken : List ℕ) (told : Told) (d : State) → IsAt at taken told d → Lies taken told
 lies_there at taken told d s =
     let cut = cut_at s.rest told.unclosed d d.phase s.phase_is in

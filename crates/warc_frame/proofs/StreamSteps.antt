@@ -81,7 +81,7 @@ lies_in_head at taken told d piece v s ph version none small =
     let cut = cut_in_head (d.kept ++ piece) told.unclosed (d.kept ++ piece) (record { told = h.told; kept_is = refl; version = v; version_is = version; unended = none; room = small }) in
     record { front = s.front; rest = d.kept ++ piece; text_is = head_text at taken told d piece s ph; spelled = s.spelled; cut = cut.0; unclosed_is = cut.1 }
 
--- a head was told
+-- a head was reported
 pub head_closed : (at : ℕ) (taken : List ℕ) (told : Told) (d e : State) (end : List ℕ) (v : Version) (fields : List Pair) → IsAt at taken told d → d.phase ≡ phases.Head
     → IsHeadOf (record { version = v; fields = fields; block_len = e.left; bytes = [] }) (d.kept ++ end)
     → e.kept ≡ [] → e.position ≡ d.position + length end → e.matched ≡ 0 → e.phase ≡ phases.Block
@@ -222,7 +222,7 @@ record_there u head h n =
     let P : List ℕ → Type 0 = λ x. Spells (record { version = u.version; fields = u.fields; block = u.bytes }) x in
     subst P (take_all (length t) t (omega arith)) found.1
 
--- a record's end was told
+-- a record's end was reported
 end_spelled : (at : ℕ) (taken : List ℕ) (told : Told) (d : State) (part : List ℕ) → (s : IsAt at taken told d) → d.phase ≡ phases.Block → d.left ≡ 0 → part ≡ take (length part) (drop d.matched closing) → d.matched + length part ≡ 4
     → SpellsAll (told.records ++ ended told.unclosed) (s.front ++ (s.rest ++ part))
 end_spelled at taken told d part s ph none same all =
@@ -261,7 +261,7 @@ end_exact at taken told d part s ph none same all = record {
   ends = refl;
 }
 
--- behind a block all of it was told
+-- after a block all of it was reported
 pub block_was_told : (at : ℕ) (taken : List ℕ) (told : Told) (d : State) → IsAt at taken told d → d.phase ≡ phases.Block → d.left ≡ 0 → IsWhole told.unclosed
 block_was_told at taken told d s ph none =
     let st = (in_block at taken told d s ph).1 in

@@ -34,7 +34,7 @@ pub none_at : {A : Type 0} (n : ℕ) (items : List A) (s : Sparse A) (i : ℕ) (
 none_at n items s i None e f le read = λ blank. item_at n items s i blank e f le ∙ sym (read (blank i))
 none_at n items s i (Some value) e f le read = tt
 
--- one more blank, where nothing stands behind
+-- one more blank, where nothing comes after it
 pub one_more : {A : Type 0} (n : ℕ) (items : List A) (value : A) (blank : ℕ → A) → length items ≡ 0 →
     value ≡ blank (length (map blank (range_with_len 0 n) ++ items)) →
     map blank (range_with_len 0 (n + 1)) ++ items ≡ (map blank (range_with_len 0 n) ++ items) ++ value ∷ []

@@ -580,7 +580,7 @@ no_entries es ss e f = rw (e, f) record { growing = λ i j d h k. absurd (omega 
 entry_more : (es : List Entry) (e : Entry) (q : ℕ) → q < length es → entry_at (es ++ e ∷ []) q ≡ entry_at es q
 entry_more es e q h = get_or_append_left es (e ∷ []) no_entry q h
 
--- the slots stay in order where one more entry stands behind
+-- the slots stay in order if one more entry comes after them
 pub order_kept : (es fs : List Entry) (ss ts : List Slot) (e : Entry) (n : ℕ) → IsOrdered es ss → fs ≡ es ++ e ∷ [] →
     ts ≡ ss → n ≡ length es → IsOrderOf fs n ts
 order_kept es fs ss ts e n it f t l = rw (f, t, l) (carried es (es ++ e ∷ []) (length es) ss (entry_more es e) it.order)

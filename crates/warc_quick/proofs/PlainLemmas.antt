@@ -1,4 +1,4 @@
--- A whole record, by its head and by what stands behind that.
+-- A whole record, by its head and by what comes after it.
 use Rattle.std.proofs.Common.{◌≡◌, ℕ, ◌+◌, ◌-◌, ◌≤◌, List, length, take, drop, slice_range, Ok, refl, sym, ap, ◌∙◌, arith}
 use Rattle.std.proofs.lemmas.List.{length-drop, length-take, take-append-drop}
 use Rattle.warc_frame.specs.Reading.{Head, any_fields, block_at, head_of, record_of}

@@ -343,7 +343,7 @@ module _ (start : ℕ) (old mid new : SeenSource) (taken : List ℕ) (has : HasG
         (λ all holds. ends all (bytes ++ taken) buf place n (there ∙ size bytes here) (given.part all holds) (gives all holds) room zero)
         (finished K is.listed.are.records (bytes ++ taken) s.told r result s.has (lies (bytes ++ taken) s.told s.is_at) (short_of bytes here) (ends_so 0 (bytes ++ taken) s.told s.is_at))
 
-    -- nothing stands behind the bytes
+    -- nothing comes after the bytes
     unchanged : (bytes held : List ℕ) (result : Result (Unit {0}) Fault) → ((at : ℕ) (text : List ℕ) (told : Told) → IsAt at text told d → Finishes at text told result)
         → IsKeptOf K bytes was → old.holds ≡ Some held → length held ≤ length bytes → MatchResult (grown result (r.rows, r.beside)) (IsKeptOf K bytes) IsDeviceFault
     unchanged bytes held (Ok u) ends_so is holds less =

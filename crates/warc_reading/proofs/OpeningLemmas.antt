@@ -40,7 +40,7 @@ cut_by text told r lies (b ∷ bs) some has short f is =
 pub only_cut : {A L : Type 0} {judges : Bool} {K : L → List Placed → Type 0} (text : List ℕ) (told : Told) (r : Reading A L) → Lies text told → HasRead judges K text told r → length text ≤ max_archive → IsOnlyCut text
 only_cut text told r lies has short = cut_by text told r lies lies.rest refl has short
 
--- what stands behind the records that were told is less than one
+-- what comes after the records that were reported is less than one
 rest_cut : {A L : Type 0} {judges : Bool} {K : L → List Placed → Type 0} (text : List ℕ) (told : Told) (r : Reading A L) → Lies text told → HasRead judges K text told r → IsCut (drop r.begin text)
 rest_cut text told r lies has =
     let (same, rest) = same_front text [] lies.front lies.rest told r has (append-nil text ∙ lies.text_is) lies.spelled in

@@ -68,7 +68,7 @@ none_open judges begin rest None None none m = refl
 none_open judges begin rest None (Some c) none m = absurd m
 none_open judges begin rest (Some u) c none m = cc none
 
--- where a record stands whose head has so many bytes
+-- where a record is whose head has this length
 abbrev placed_at : ℕ → ℕ → Record → Placed
 placed_at at head r = record { offset = at; block_start = at + head; content = r }
 

@@ -12,7 +12,7 @@ use Rattle.warc_reading.specs.Placing.{IsPlacedIn}
 front_len : (head block : List ℕ) → length (head ++ block ++ crlf ++ crlf) ≡ length head + length block + 4
 front_len head block = simp length-append (omega arith)
 
--- what stands behind a head is the block
+-- after a head comes the block
 block_behind : (before head block rest : List ℕ) (start : ℕ) → start ≡ length (before ++ head)
     → take (length block) (drop start (before ++ ((head ++ block ++ crlf ++ crlf) ++ rest))) ≡ block
 block_behind before head block rest start e =

@@ -33,7 +33,7 @@ err_then {X} {E} P r e p is = let Q : Result X E → Type 0 = λ x. IfErr x P in
 unclosed_as : {A L : Type 0} {judges : Bool} {K : L → List Placed → Type 0} (text : List ℕ) (told : Told) (o : Option Unclosed) (r : Reading A L) → told.unclosed ≡ o → HasRead judges K text told r → HasRead judges K text (record { records = told.records; unclosed = o }) r
 unclosed_as {A} {L} {judges} {K} text told o r is has = let P : Option Unclosed → Type 0 = λ x. HasRead judges K text (record { records = told.records; unclosed = x }) r in subst P is has
 
--- the end of a record was told
+-- the end of a record was reported
 abbrev pub AddsRow : {A L : Type 0} → Reading A L → List Row → Type 0
 AddsRow {A} old rows = (c : Current A) → old.current ≡ Some c → rows ≡ old.rows ++ row_by old.begin c ∷ []
 

@@ -78,7 +78,7 @@ record_len r t head s is =
     let read : record_of any_fields t ≡ Ok (r, length t) = ap (record_of any_fields) (sym (append-nil t)) ∙ reading_is_spelling-read any_fields r t [] s refl in
     by_head (head_of any_fields t) head t r (length t) is read
 
--- what is kept accepts every head that was told
+-- what is kept accepts every head that was reported
 pub accepts : {A : Type 0} (judges : Bool) (begin : ℕ) (rest : List ℕ) (o : Option Unclosed) (c : Option (Current A)) → Matches judges begin rest o c → AcceptsOpen head_fault o
 accepts judges begin rest None c m = tt
 accepts judges begin rest (Some u) None m = absurd m
@@ -87,7 +87,7 @@ accepts judges begin rest (Some u) (Some c) m = m.of.good
 pub accepts_told : {A L : Type 0} {judges : Bool} {K : L → List Placed → Type 0} (text : List ℕ) (told : Told) (r : Reading A L) → HasRead judges K text told r → AcceptsTold head_fault told
 accepts_told {A} {L} {judges} text told r has = (has.good, accepts judges (length has.front) has.rest told.unclosed r.current has.current)
 
--- bytes were taken, and nothing was told
+-- bytes were taken, and nothing was reported
 matches_more : {A : Type 0} (judges : Bool) (begin : ℕ) (rest more : List ℕ) (o : Option Unclosed) (c : Option (Current A)) → Matches judges begin rest o c → Matches judges begin (rest ++ more) o c
 matches_more judges begin rest more None None m = tt
 matches_more judges begin rest more None (Some c) m = absurd m
@@ -128,7 +128,7 @@ same_front text more front rest told r has is spelled =
     let same = fronts_are_same told.records has.front front (has.rest ++ more) rest all spelled whole in
     (same, append_cancel_left front (has.rest ++ more) rest (ap (λ f. f ++ (has.rest ++ more)) (sym same) ∙ whole))
 
--- a head was told, and it is good
+-- a head was reported, and it is good
 pub head_kept : {A L : Type 0} {judges : Bool} {K : L → List Placed → Type 0} (text more : List ℕ) (rs : List Record) (u : Unclosed) (old new : Reading A L) (c : Current A) → HasRead judges K text (record { records = rs; unclosed = None }) old
     → IsExact (text ++ more) (record { records = rs; unclosed = Some u }) → u.bytes ≡ [] → new.rows ≡ old.rows → new.beside ≡ old.beside → new.begin ≡ old.begin → new.current ≡ Some c
     → IsHead judges u.fields c → HasSeen c.digest [] → c.block_start ≡ length (text ++ more) → c.block_len ≡ u.block_len
@@ -217,7 +217,7 @@ row_is : {A : Type 0} {judges : Bool} (p : Placed) (begin : ℕ) (c : Current A)
 row_is p begin c offset start len of =
     rw (offset, start, len, of.fields_are) refl
 
--- the end of a record was told
+-- the end of a record was reported
 pub end_kept_by : {A L : Type 0} {judges : Bool} {K : L → List Placed → Type 0} (text more : List ℕ) (rs : List Record) (u : Unclosed) (old new : Reading A L) (c : Current A) (has : HasRead judges K text (record { records = rs; unclosed = Some u }) old)
     → IsCurrent judges (length has.front) has.rest u c → length u.bytes ≡ u.block_len → IsExact (text ++ more) (record { records = rs ++ record { version = u.version; fields = u.fields; block = u.bytes } ∷ []; unclosed = None })
     → new.begin ≡ length (text ++ more) → new.current ≡ None → new.rows ≡ old.rows ++ row_by old.begin c ∷ []
