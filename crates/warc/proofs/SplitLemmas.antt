@@ -128,7 +128,7 @@ segments_none {A} cut bytes text (r, is, text_is) = text_is
 -- ---- a row's record
 
 -- a short record stays whole, whatever its digest
-short_stays : (r : Record) (n : ℕ) → length r.block ≤ n → split_or_whole n r ≡ r ∷ []
+pub short_stays : (r : Record) (n : ℕ) → length r.block ≤ n → split_or_whole n r ≡ r ∷ []
 unfolding split_of
 short_stays r n short = by_uuid (splittable r.fields n)
   where

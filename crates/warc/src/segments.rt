@@ -131,7 +131,7 @@ fn has_bad_digest<S: Source, A: Allocator>(
 }
 
 /// How a row's record is cut, by its head and by whether its digest is bad: the bytes of its UUID, or `None` where it
-/// stays whole, since it is short or isn't split. Of a short record it doesn't matter whether the digest is bad.
+/// stays whole, since it is short or isn't split. Of a short record neither the head nor the digest matters.
 fn cut_or_whole<A: Allocator + Copy>(
     alloc: A,
     size: u64,
@@ -143,6 +143,9 @@ fn cut_or_whole<A: Allocator + Copy>(
         IfOk result (λ uuid. split_or_whole size r ≡ records_by r size uuid) }
     ensures long { IfOk result (λ uuid. IfSome uuid (λ _. (0 < size) × (size < row.now.block_len))) }
 {
+    if row.block_len <= size {
+        return Ok(None);
+    }
     match cut(alloc, head.version, &head.fields, size, row.block_len, bad) {
         Ok(uuid) => Ok(uuid),
         Err(SplitFault::Memory) => Err(AllocError),

@@ -1,9 +1,14 @@
-use Rattle.std.proofs.Common.{rules, ℕ, None, ap, subst, sym}
+use Rattle.std.proofs.Common.{rules, ℕ, None, ap, subst, sym, arith}
 use Rattle.warc_reading.specs.Row.{Row}
 use Rattle.warc_write.specs.Cutting.{or_whole}
 use Rattle.warc.specs.Segments.{IsCuttable}
-use Rattle.warc.proofs.SplitLemmas.{cut_by}
+use Rattle.warc.proofs.SplitLemmas.{cut_by, short_stays}
 use Rattle.warc.proofs.segments.cut_or_whole.Goals as goal
+
+pub returns-then-row-size-clause-cut : goal.returns-then-row-size-clause-cut
+returns-then-row-size-clause-cut g c = λ r is.
+    let len = ap (λ (r : Row). r.block_len) c.row.view_is in
+    short_stays r c.args.size (omega (arith, is.len_is, len, c.if-row-size.true))
 
 pub returns-in-Ok-clause-cut : goal.returns-in-Ok-clause-cut
 returns-in-Ok-clause-cut g c = λ r is.
