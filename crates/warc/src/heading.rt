@@ -10,7 +10,7 @@ ghost use Rattle.warc.specs.Taking.{take_result};
 use crate::fault::TakeFault;
 use std::alloc::Allocator;
 use warc_frame::{Head, Source};
-use warc_reading::{RereadFault, Row, head_buffer, reread_head};
+use warc_reading::{RereadFault, Row, buffer_for, reread_head};
 
 /// The head of the record of a row, read again.
 pub(crate) fn take_head<S: Source, A: Allocator + Copy>(
@@ -24,7 +24,7 @@ pub(crate) fn take_head<S: Source, A: Allocator + Copy>(
     ensures reads { ReadsHeads (row.now ∷ []) (S.seen source.old) (S.seen source.new) }
     ensures fails { FailsBy (HasHeadOf row.now) (take_result result) (S.seen source.old) (S.seen source.new) }
 {
-    let Ok(mut buf) = head_buffer(alloc) else {
+    let Ok(mut buf) = buffer_for(alloc, row) else {
         return Err(TakeFault::Memory);
     };
     match reread_head(alloc, source, row, &mut buf) {

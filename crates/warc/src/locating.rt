@@ -1,7 +1,7 @@
 //! Where a body lies in the source, for callers that hold its bytes.
-ghost use Rattle.std.specs.Prelude.{◌≡◌, ◌*◌, ◌≤◌, List, length, Result};
+ghost use Rattle.std.specs.Prelude.{◌≡◌, ◌*◌, List, Result};
 ghost use Rattle.warc_frame.specs.Effects.{FailsBy, Preserves, ReadsOnly};
-ghost use Rattle.warc_frame.specs.Record.{Record, max_head};
+ghost use Rattle.warc_frame.specs.Record.{Record};
 ghost use Rattle.warc_frame.specs.Seen.{IfHeld};
 ghost use Rattle.warc_record.specs.Seen.{said};
 ghost use Rattle.warc_answer.specs.Located.{IsLocatedOn};
@@ -10,6 +10,7 @@ ghost use Rattle.warc_reading.specs.Archive.{contents};
 ghost use Rattle.warc.specs.Locating.{Locates, LocatesAt, LocatesFor, LocatesOn};
 ghost use Rattle.warc.specs.Replaying.{IsJoinedTo, origin_joined};
 ghost use Rattle.warc.specs.Standing.{IsReached, IsRowReached, LeadsTo};
+ghost use Rattle.warc_reading.specs.Rereading.{HasRoomFor};
 
 use crate::bodies::{Found, find};
 use crate::fault::BodyFault;
@@ -22,7 +23,7 @@ use warc_answer::{Located, Path, Reason, ReplayFault, locate_joined};
 use warc_frame::laws::head_of_spelled;
 use warc_frame::{OutFault, Source};
 use warc_index::Unfound;
-use warc_reading::{Lookup, Row, Rows, head_buffer, read_again};
+use warc_reading::{Lookup, Row, Rows, buffer_for, read_again};
 use warc_record::Typed;
 use warc_segment::laws::places_are_of_records;
 use warc_segment::{JoinFault, Parts, Place};
@@ -70,7 +71,7 @@ fn locate_row<S: Source, A: Allocator + Copy>(
     row: &Row<'_>,
     buf: &mut [u8],
 ) -> Result<Located<A>, ReplayFault>
-    requires { max_head ≤ length buf.old }
+    requires { HasRoomFor row.now buf.old }
     ensures located { IfHeld (S.seen source.old).holds (λ bytes. (is : IsRowReached bytes path parts.now row.now) →
         Locates bytes is.at.records is.at.found (S.seen source.old) (S.seen source.new) result) }
     ensures keeps { Preserves (S.seen source.old) (S.seen source.new) }
@@ -104,11 +105,11 @@ fn locate_on<S: Source, A: Allocator + Copy>(
     head_of_spelled();
     fails_before_all();
     let alloc = rows.allocator();
-    let Ok(mut buf) = head_buffer(alloc) else {
-        return Err(ReplayFault::Out(OutFault::Memory(0)));
-    };
     let Some(row) = rows.get(path.given) else {
         return Err(ReplayFault::Out(OutFault::Read(0)));
+    };
+    let Ok(mut buf) = buffer_for(alloc, &row) else {
+        return Err(ReplayFault::Out(OutFault::Memory(0)));
     };
     locate_row(alloc, source, &lookup.parts, path, &row, &mut buf)
 }

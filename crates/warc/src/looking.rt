@@ -1,7 +1,6 @@
 //! What is stored of an origin, and where: its head is read again, and its segments are joined.
-ghost use Rattle.std.specs.Prelude.{◌≡◌, ◌*◌, ◌≤◌, ℕ, List, length, IfErr, IfOk, Some};
+ghost use Rattle.std.specs.Prelude.{◌≡◌, ◌*◌, ℕ, List, IfErr, IfOk, Some};
 ghost use Rattle.warc_frame.specs.Effects.{FailsBy, Preserves, ReadsOnly};
-ghost use Rattle.warc_frame.specs.Record.{max_head};
 ghost use Rattle.warc_frame.specs.Seen.{IfHeld};
 ghost use Rattle.warc_record.specs.Seen.{said};
 ghost use Rattle.warc_answer.specs.Replays.{out_result};
@@ -12,6 +11,7 @@ ghost use Rattle.warc_reading.specs.Archive.{contents};
 ghost use Rattle.warc.specs.Looking.{ArePlacesFor, IsLook, Judges, Looks, LooksInside, LooksOn, SendsStored};
 ghost use Rattle.warc.specs.Replaying.{IsJoinedTo, origin_joined};
 ghost use Rattle.warc.specs.Standing.{IsAtEnd, IsReached, IsRowAtEnd, IsRowReached};
+ghost use Rattle.warc_reading.specs.Rereading.{HasRoomFor};
 
 use std::alloc::Allocator;
 use warc_answer::laws::places_are_as_long;
@@ -19,7 +19,7 @@ use warc_answer::{Path, Reason, ReplayFault, Stored, judge_joined, send_blocks};
 use warc_field::Fields;
 use warc_frame::laws::head_of_spelled;
 use warc_frame::{OutFault, Sink, Source, names};
-use warc_reading::{Lookup, Reread, Row, Rows, head_buffer, read_again};
+use warc_reading::{Lookup, Reread, Row, Rows, buffer_for, read_again};
 use warc_segment::laws::places_are_of_records;
 use warc_segment::{JoinFault, Parts, Place};
 
@@ -87,7 +87,7 @@ fn look_row<S: Source, A: Allocator + Copy>(
     row: &Row<'_>,
     buf: &mut [u8],
 ) -> Result<Look<A>, ReplayFault>
-    requires { max_head ≤ length buf.old }
+    requires { HasRoomFor row.now buf.old }
     ensures told { IfHeld (S.seen source.old).holds (λ bytes. (path : GhostPath)
         (is : IsRowReached bytes path parts.now row.now) → IsLook bytes (contents is.at.records) path.given result) }
     ensures reads { IfHeld (S.seen source.old).holds (λ bytes. (path : GhostPath)
@@ -124,11 +124,11 @@ pub(crate) fn look_at<S: Source, A: Allocator + Copy>(
 {
     head_of_spelled();
     let alloc = rows.allocator();
-    let Ok(mut buf) = head_buffer(alloc) else {
-        return Err(ReplayFault::Out(OutFault::Memory(0)));
-    };
     let Some(row) = rows.get(position) else {
         return Err(ReplayFault::Out(OutFault::Read(0)));
+    };
+    let Ok(mut buf) = buffer_for(alloc, &row) else {
+        return Err(ReplayFault::Out(OutFault::Memory(0)));
     };
     look_row(alloc, source, &lookup.parts, &row, &mut buf)
 }

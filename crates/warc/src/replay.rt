@@ -1,7 +1,7 @@
 //! What an archive gives for a URI as of a moment.
-ghost use Rattle.std.specs.Prelude.{◌≡◌, ℕ, ◌*◌, ◌<◌, ◌≤◌, List, length, map, Some, Result};
+ghost use Rattle.std.specs.Prelude.{◌≡◌, ℕ, ◌*◌, ◌<◌, List, length, map, Some, Result};
 ghost use Rattle.warc_frame.specs.Effects.{FailsBy, Preserves, ReadsOnly};
-ghost use Rattle.warc_frame.specs.Record.{Record, max_head};
+ghost use Rattle.warc_frame.specs.Record.{Record};
 ghost use Rattle.warc_frame.specs.Seen.{AsksOnly, IfHeld};
 ghost use Rattle.warc_record.specs.Seen.{said};
 ghost use Rattle.warc_answer.specs.Answers.{path_from, path_of};
@@ -11,6 +11,7 @@ ghost use Rattle.warc_reading.specs.Indexed.{AreOf, indexed_record};
 ghost use Rattle.warc_reading.specs.Row.{Placed};
 ghost use Rattle.warc.specs.Replaying.{IsJoinedTo, IsOfOrigin, Replays, ReplaysOn, origin_joined, origin_reads};
 ghost use Rattle.warc.specs.Standing.{IsAtEnd, IsReached, IsRowAtEnd, IsRowReached, LeadsTo};
+ghost use Rattle.warc_reading.specs.Rereading.{HasRoomFor};
 
 use std::alloc::Allocator;
 use warc_answer::laws::{
@@ -20,7 +21,7 @@ use warc_answer::{Answer, Path, Reason, ReplayFault, replay_joined};
 use warc_frame::laws::head_of_spelled;
 use warc_frame::{OutFault, Sink, Source};
 use warc_index::Unfound;
-use warc_reading::{Lookup, Row, Rows, head_buffer, read_again};
+use warc_reading::{Lookup, Row, Rows, buffer_for, read_again};
 use warc_record::Typed;
 use warc_segment::laws::places_are_of_records;
 use warc_segment::{JoinFault, Parts, Place};
@@ -101,7 +102,7 @@ fn replay_row<S: Source, W: Sink, A: Allocator + Copy>(
     buf: &mut [u8],
     out: &mut W,
 ) -> Result<Answer, ReplayFault>
-    requires { max_head ≤ length buf.old }
+    requires { HasRoomFor row.now buf.old }
     ensures told { IfHeld (S.seen source.old).holds (λ bytes. (is : IsRowReached bytes path parts.now row.now) →
         IsReplayOn (contents is.at.records) is.at.found result (W.seen out.old).tells (W.seen out.new).tells) }
     ensures reads { IfHeld (S.seen source.old).holds (λ bytes. (is : IsRowReached bytes path parts.now row.now) →
@@ -143,11 +144,11 @@ pub(crate) fn replay_on<S: Source, W: Sink, A: Allocator + Copy>(
     head_of_spelled();
     fails_before_all();
     let alloc = rows.allocator();
-    let Ok(mut buf) = head_buffer(alloc) else {
-        return Err(ReplayFault::Out(OutFault::Memory(0)));
-    };
     let Some(row) = rows.get(path.given) else {
         return Err(ReplayFault::Out(OutFault::Read(0)));
+    };
+    let Ok(mut buf) = buffer_for(alloc, &row) else {
+        return Err(ReplayFault::Out(OutFault::Memory(0)));
     };
     replay_row(alloc, source, &lookup.parts, path, &row, &mut buf, out)
 }

@@ -6,7 +6,7 @@ use Rattle.warc_frame.specs.Effects.{FailsBy}
 use Rattle.warc_frame.specs.Failing.{HasFailedBy, MayHaveFailedBy}
 use Rattle.warc_frame.specs.Seen.{SeenSource}
 use Rattle.warc_frame.specs.declared.fault.OutFault.{OutFault}
-use Rattle.warc_reading.specs.Rereading.{HasHead, HasHeadOf, IsHeadBy, ended_by, reread_result}
+use Rattle.warc_reading.specs.Rereading.{HasHead, HasHeadOf, HasRoomFor, IsHeadBy, ended_by, reread_result}
 use Rattle.warc_field.specs.Area.{Pair}
 use Rattle.warc_frame.specs.declared.version.Version.{Version}
 use Rattle.warc_reading.specs.Row.{Placed, Row, row_of}
@@ -16,6 +16,11 @@ use Rattle.warc_reading.specs.declared.rereading.RereadFault.TheVariants.{Memory
 -- how long the head is, by the row
 pub len_by_row : (bytes : List ℕ) (p : Placed) (row : Row) (has : HasHead bytes p) → row ≡ row_of p → row.block_start ≡ row.offset + has.len
 len_by_row bytes p row has same = ap (λ (r : Row). r.block_start) same ∙ has.start ∙ ap (λ (r : Row). r.offset + has.len) (sym same)
+
+-- a buffer with room for the head of its row has room for it
+pub head_fits : (row : Row) (bytes : List ℕ) (p : Placed) (buf : List ℕ) (has : HasHead bytes p) → row ≡ row_of p → HasRoomFor row buf
+    → has.len ≤ length buf
+head_fits row bytes p buf has same room = omega (arith, has.short, len_by_row bytes p row has same, room)
 
 pub len_is : (o : Option ℕ) (len n : ℕ) → o ≡ Some n → o ≡ Some len → len ≡ n
 len_is o len n a b = cc

@@ -1,6 +1,6 @@
 -- What a record's head is when it is read again by its row, which bytes are read, and what ends it. This project's own
 -- notion.
-use Rattle.std.specs.Prelude.{◌≡◌, ℕ, ◌+◌, ◌-◌, ◌<◌, ◌≤◌, List, length, map, slice_get, slice_range, Result, Ok, Err, Some, None}
+use Rattle.std.specs.Prelude.{◌≡◌, ℕ, ◌+◌, ◌-◌, ◌<◌, ◌≤◌, List, length, map, min, slice_get, slice_range, Result, Ok, Err, Some, None}
 use Rattle.std.specs.List.{sum_by}
 use Rattle.warc_field.specs.Area.{Pair}
 use Rattle.warc_frame.specs.Effects.{ReadsOnly}
@@ -33,6 +33,10 @@ pub record HasHead (bytes : List ℕ) (p : Placed) : Type 0 where
         block_len = length p.content.block;
       })
   pub good : head_fault p.content.fields ≡ None
+
+-- a buffer has room for the head of a row's record, or for any head
+abbrev pub HasRoomFor : Row → List ℕ → Type 0
+HasRoomFor row buf = min max_head (row.block_start - row.offset) ≤ length buf
 
 -- the head of each of the records is in the bytes
 abbrev pub HaveHeads : List ℕ → List Placed → Type 0

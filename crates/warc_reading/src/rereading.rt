@@ -7,7 +7,7 @@ ghost use Rattle.warc_frame.specs.Seen.{IfHeld};
 ghost use Rattle.warc_record.specs.Heads.{head_fault};
 ghost use Rattle.warc_record.specs.Readings.{reading_of};
 ghost use Rattle.warc_record.specs.Seen.{said};
-ghost use Rattle.warc_reading.specs.Rereading.{HasHeadOf, IsHeadBy, IsHeadReadOf, ReadsHeads, ended_by, reread_fault_of, reread_result};
+ghost use Rattle.warc_reading.specs.Rereading.{HasHeadOf, HasRoomFor, IsHeadBy, IsHeadReadOf, ReadsHeads, ended_by, reread_fault_of, reread_result};
 
 use crate::rows::Row;
 use std::alloc::{AllocError, Allocator};
@@ -109,7 +109,15 @@ pub fn head_buffer<A: Allocator>(alloc: A) -> Result<Vec<u8, A>, AllocError>
     vec![in alloc; 0u8; MAX_HEAD]
 }
 
-/// Reads a record's head again, through a buffer that any head fits. If the source doesn't give what it gave before,
+/// A buffer that the head of a row's record fits, as long as that head.
+pub fn buffer_for<A: Allocator>(alloc: A, row: &Row<'_>) -> Result<Vec<u8, A>, AllocError>
+    ensures { IfOk result (λ v. HasRoomFor row.now v.items) }
+{
+    let len = row.block_start.saturating_sub(row.offset);
+    vec![in alloc; 0u8; len.min(MAX_HEAD as u64) as usize]
+}
+
+/// Reads a record's head again, through a buffer that it fits. If the source doesn't give what it gave before,
 /// the head is taken only if it is a whole head as long as the row says, with a block as long as the row says.
 pub fn reread_head<S: Source, A: Allocator + Copy>(
     alloc: A,
@@ -117,7 +125,7 @@ pub fn reread_head<S: Source, A: Allocator + Copy>(
     row: &Row<'_>,
     buf: &mut [u8],
 ) -> Result<Head<A>, RereadFault>
-    requires { max_head ≤ length buf.old }
+    requires { HasRoomFor row.now buf.old }
     ensures read { IfHeld (S.seen source.old).holds (λ bytes. (is : HasHeadOf row.now bytes) →
         IfOk result (IsHeadReadOf is.placed.content)) }
     ensures whole { IfOk result (λ h. IsHeadBy row.now h.fields) }
@@ -135,7 +143,7 @@ pub fn reread_head<S: Source, A: Allocator + Copy>(
     head_in(alloc, text, row.block_len)
 }
 
-/// Reads a record's head again, through a buffer that any head fits, and what it says. If the source doesn't give
+/// Reads a record's head again, through a buffer that it fits, and what it says. If the source doesn't give
 /// what it gave before, the head is taken as by `reread_head`.
 pub fn read_again<S: Source, A: Allocator + Copy>(
     alloc: A,
@@ -143,7 +151,7 @@ pub fn read_again<S: Source, A: Allocator + Copy>(
     row: &Row<'_>,
     buf: &mut [u8],
 ) -> Result<Reread<A>, RereadFault>
-    requires { max_head ≤ length buf.old }
+    requires { HasRoomFor row.now buf.old }
     ensures said { IfOk result (λ x. said x.typed ≡ reading_of x.fields) }
     ensures read { IfHeld (S.seen source.old).holds (λ bytes. (is : HasHeadOf row.now bytes) →
         IfOk result (λ x. x.fields ≡ is.placed.content.fields)) }

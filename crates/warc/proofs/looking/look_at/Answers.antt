@@ -13,8 +13,8 @@ use Rattle.warc_frame.proofs.EffectLemmas.{fails_more}
 use Rattle.warc.proofs.LookLemmas.{absent_after}
 use Rattle.warc.proofs.looking.look_at.Goals as goal
 
-pub returns-in_default : goal.returns-in_default
-returns-in_default g c = record {
+pub returns-in_default-buffer_for : goal.returns-in_default-buffer_for
+returns-in_default-buffer_for g c = record {
   told = λ bytes held is parts. tt;
   reads = λ bytes held is parts. record { reads = reads_nothing; places = tt };
   inside = λ bytes is parts. record { asks = λ off. refl; ends = tt };
@@ -23,8 +23,8 @@ returns-in_default g c = record {
   fails = record { may = refl; failed = λ bytes held is. refl };
 }
 
-pub returns-in_default-get : goal.returns-in_default-get
-returns-in_default-get g c = record {
+pub returns-in_default : goal.returns-in_default
+returns-in_default g c = record {
   told = λ bytes held is parts. tt;
   reads = λ bytes held is parts. record { reads = reads_nothing; places = tt };
   inside = λ bytes is parts. record { asks = λ off. refl; ends = tt };
@@ -33,7 +33,7 @@ returns-in_default-get g c = record {
   fails = record {
     may = inl refl;
     failed = λ bytes held (is, parts, within).
-        absurd (absent_after (contents is.are.records) c.args.position within (none_there bytes c.args.rows.now c.args.position is (sym c.get.ensures ∙ c.in_default-get.is)));
+        absurd (absent_after (contents is.are.records) c.args.position within (none_there bytes c.args.rows.now c.args.position is (sym c.get.ensures ∙ c.in_default.is)));
   };
 }
 

@@ -9,8 +9,8 @@ use Rattle.warc_frame.proofs.EffectLemmas.{fails_more}
 use Rattle.warc.proofs.ReplayLemmas.{reads_nothing, reads_on_path, row_missing}
 use Rattle.warc.proofs.replay.replay_on.Goals as goal
 
-pub returns-in_default : goal.returns-in_default
-returns-in_default g c = λ way leads. record {
+pub returns-in_default-buffer_for : goal.returns-in_default-buffer_for
+returns-in_default-buffer_for g c = λ way leads. record {
   told = λ bytes held is are. c.fails_before_all.ensures (contents is.are.records) (way (contents is.are.records)) ((g.W.Sink.seen c.args.out.now).tells) (outs.Memory 0) (leads.ends bytes is are) refl;
   reads = λ bytes held is are. reads_nothing;
   inside = λ bytes is off. refl;
@@ -19,8 +19,8 @@ returns-in_default g c = λ way leads. record {
   fails = record { may = refl; failed = λ bytes held is. refl };
 }
 
-pub returns-in_default-get : goal.returns-in_default-get
-returns-in_default-get g c = λ way leads. record {
+pub returns-in_default : goal.returns-in_default
+returns-in_default g c = λ way leads. record {
   told = λ bytes held is are. c.fails_before_all.ensures (contents is.are.records) (way (contents is.are.records)) ((g.W.Sink.seen c.args.out.now).tells) (outs.Read 0) (leads.ends bytes is are) refl;
   reads = λ bytes held is are. reads_nothing;
   inside = λ bytes is off. refl;
@@ -30,7 +30,7 @@ returns-in_default-get g c = λ way leads. record {
     may = inl refl;
     failed = λ bytes held is.
         absurd (row_missing is.0.are.records _ c.args.path (leads.is bytes is.0 is.1) (leads.ends bytes is.0 is.1)
-        (ap (λ l. slice_get l c.args.path.given) (sym is.0.are.rows_are) ∙ sym c.get.ensures ∙ c.in_default-get.is));
+        (ap (λ l. slice_get l c.args.path.given) (sym is.0.are.rows_are) ∙ sym c.get.ensures ∙ c.in_default.is));
   };
 }
 

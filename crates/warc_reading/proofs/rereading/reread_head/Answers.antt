@@ -1,8 +1,8 @@
-use Rattle.std.proofs.Common.{◌≡◌, inl, ◌≤◌, ◌∙◌, length, take, drop, refl, sym, ap, arith}
+use Rattle.std.proofs.Common.{◌≡◌, inl, ◌∙◌, length, take, drop, refl, sym, ap, arith}
 use Rattle.std.proofs.lemmas.List.{length-take-le}
 use Rattle.std.proofs.lemmas.Result.{IfOk-weaker}
 use Rattle.warc_frame.proofs.EffectLemmas.{fails_more, reads_none, reads_within}
-use Rattle.warc_reading.proofs.HeadLemmas.{head_by, head_reaches, len_by_row, len_is, len_is_there, may_be_sound, only_memory, read_or_memory, reads_head}
+use Rattle.warc_reading.proofs.HeadLemmas.{head_by, head_fits, head_reaches, len_by_row, len_is, len_is_there, may_be_sound, only_memory, read_or_memory, reads_head}
 use Rattle.warc_reading.proofs.ReadLemmas.{reads_one}
 use Rattle.warc_reading.specs.Row.{Row}
 use Rattle.warc_reading.proofs.rereading.reread_head.Goals as goal
@@ -14,14 +14,14 @@ pub returns-in_default-clause-fails : goal.returns-in_default-clause-fails
 returns-in_default-clause-fails g c = record {
   may = inl refl;
   failed = λ bytes held is.
-      let short : is.has.len ≤ length c.args.buf.now = omega (arith, is.has.short, c.requires) in
+      let short = head_fits c.args.row.now bytes is.placed c.args.buf.now is.has is.row_is c.requires in
       let there = c.head_len.ensures.only is.has.len (len_by_row bytes is.placed c.args.row.now is.has is.row_is) short in
       absurd (len_is_there c.head_len.result is.has.len there c.in_default.is);
 }
 
 pub returns-clause-read : goal.returns-clause-read
 returns-clause-read g c = λ bytes held is.
-    let short : is.has.len ≤ length c.args.buf.now = omega (arith, is.has.short, c.requires) in
+    let short = head_fits c.args.row.now bytes is.placed c.args.buf.now is.has is.row_is c.requires in
     let len = len_is c.head_len.result c.in-Some.len is.has.len (c.head_len.ensures.only is.has.len (len_by_row bytes is.placed c.args.row.now is.has is.row_is) short) c.in-Some.is in
     let part : length (take c.in-Some.len c.args.buf.now) ≡ c.in-Some.len = length-take-le c.in-Some.len c.args.buf.now (c.in-Some.ensures.within.0) in
     let text : c.read_range.new.buf ≡ take c.in-Some.len (drop c.row.inside.offset bytes) = c.in-Ok.ensures.bytes bytes held ∙ ap (λ n. take n (drop c.row.inside.offset bytes)) part in
@@ -32,7 +32,7 @@ pub returns-clause-fails : goal.returns-clause-fails
 returns-clause-fails g c = record {
   may = may_be_sound c.head_in.result _ _ c.in-Ok.ensures.fails.may;
   failed = λ bytes held is.
-      let short : is.has.len ≤ length c.args.buf.now = omega (arith, is.has.short, c.requires) in
+      let short = head_fits c.args.row.now bytes is.placed c.args.buf.now is.has is.row_is c.requires in
       let len = len_is c.head_len.result c.in-Some.len is.has.len (c.head_len.ensures.only is.has.len (len_by_row bytes is.placed c.args.row.now is.has is.row_is) short) c.in-Some.is in
       let part : length (take c.in-Some.len c.args.buf.now) ≡ c.in-Some.len = length-take-le c.in-Some.len c.args.buf.now (c.in-Some.ensures.within.0) in
       let text : c.read_range.new.buf ≡ take c.in-Some.len (drop c.row.inside.offset bytes) = c.in-Ok.ensures.bytes bytes held ∙ ap (λ n. take n (drop c.row.inside.offset bytes)) part in
