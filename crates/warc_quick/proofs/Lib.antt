@@ -3,3 +3,4 @@ mod NameLemmas
 mod ValueLemmas
 mod HeadLemmas
 mod PlainLemmas
+mod CanonicalLemmas

@@ -1,3 +1,4 @@
 pub mod Quick
 pub mod Names
 pub mod Fronts
+pub mod Canonical

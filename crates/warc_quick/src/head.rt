@@ -37,7 +37,7 @@ pub struct QuickHead<'a> {
 }
 
 /// What follows the version line at the front of a text.
-fn after_version(text: &[u8]) -> Option<&[u8]>
+pub(crate) fn after_version(text: &[u8]) -> Option<&[u8]>
     ensures { IfSome result (λ rest. (version : Version) × (text.now ≡ version_line version ++ rest.now)) }
 {
     match text.strip_prefix(Version::V1_1.line()) {

@@ -4,11 +4,13 @@
 //! standard and occurs at most once. These are read here. Any other head is left to `warc_frame` and `warc_record`.
 #![tactic(auto)]
 
+mod canonical;
 mod head;
 mod lines;
 mod names;
 mod plain;
 mod values;
 
+pub use canonical::is_canonical_head;
 pub use head::{QuickHead, quick_head};
 pub use plain::{QuickRecord, quick_record};

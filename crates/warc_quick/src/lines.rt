@@ -18,7 +18,7 @@ pub(crate) struct Line<'a> {
 }
 
 /// The bytes before the first CRLF, and those after it.
-fn split_crlf(text: &[u8]) -> Option<(&[u8], &[u8])>
+pub(crate) fn split_crlf(text: &[u8]) -> Option<(&[u8], &[u8])>
     ensures { IfSome result (λ parts. text.now ≡ parts.0.now ++ (crlf ++ parts.1.now)) }
 {
     let at = find_crlf(text, 0)?;
