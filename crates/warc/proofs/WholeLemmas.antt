@@ -1,5 +1,5 @@
 -- The records that bytes spell stand among them whole, and the texts that are written of them.
-use Rattle.std.proofs.Common.{◌≡◌, ℕ, ◌+◌, ◌^◌, ◌<◌, ◌≤◌, List, [], ◌∷◌, ◌++◌, length, map, take, drop, None, Some, Result, append_assoc, length-append, refl, sym, ap, subst, ◌∙◌, arith}
+use Rattle.std.proofs.Common.{◌≡◌, ℕ, ◌+◌, ◌^◌, ◌<◌, ◌≤◌, List, [], ◌∷◌, ◌++◌, length, map, take, drop, None, Some, Result, Ok, append_assoc, length-append, refl, sym, ap, subst, ◌∙◌, arith}
 use Rattle.std.proofs.Math.Seq.{drop-append_seam, take-append_seam}
 use Rattle.std.proofs.lemmas.List.{append-nil, take-append-drop}
 use Rattle.std.specs.List.{AllByRecursion, flat_map, slice_get}
@@ -7,14 +7,18 @@ use Rattle.warc_field.specs.Area.{Pair, canonical_fields}
 use Rattle.warc_field.specs.Lines.{crlf}
 use Rattle.warc_frame.specs.Effects.{HasRange}
 use Rattle.warc_frame.specs.Faults.{AllAccepted}
+use Rattle.warc_frame.specs.Reading.{Head}
 use Rattle.warc_frame.specs.Record.{Record, head_text}
 use Rattle.warc_frame.specs.Spelling.{Spells, canonical}
+use Rattle.warc_frame.specs.declared.fault.Fault.{Fault}
 use Rattle.warc_frame.specs.declared.version.Version.{Version}
+use Rattle.warc_quick.specs.Canonical.{IsCanonicalHead}
+use Rattle.warc_reading.specs.Rereading.{IsHeadText}
 use Rattle.warc_frame.specs.declared.version.Version.TheVariants.{V1_1}
 use Rattle.warc_record.specs.Heads.{head_fault}
 use Rattle.warc_write.specs.Conversion.{converted, converted_fields}
 use Rattle.warc_reading.specs.Archive.{IsArchiveOf, SpellsFrom, contents}
-use Rattle.warc.specs.Copied.{AreTextsOf, HasWhole, IsCopiedOf, IsCopy, IsTextOf}
+use Rattle.warc.specs.Copied.{AreTextsOf, HasWhole, IsClosedBlock, IsCopiedOf, IsCopy, IsSameText, IsTextOf}
 use Rattle.warc_frame.specs.Effects.{Sends}
 use Rattle.warc_frame.specs.Seen.{Seen}
 use Rattle.warc_frame.specs.declared.fault.OutFault.{OutFault}
@@ -164,30 +168,76 @@ pub copy_parts : {A : Type 0} (c : Copied A) (bytes text : List ℕ) → IsCopy 
     → (text ≡ head_text c.version (canonical_fields c.fields) ++ (take c.block_len (drop c.block_start bytes) ++ (crlf ++ crlf)))
 copy_parts {A} c bytes text copy = copy.is ∙ closed (head_text c.version (canonical_fields c.fields)) (take c.block_len (drop c.block_start bytes))
 
-abbrev pub IsHeadText : {A : Type 0} → Copied A → List ℕ → List ℕ → Type 0
-IsHeadText {A} c bytes text = text ≡ head_text c.version (canonical_fields c.fields)
+abbrev pub IsCopiedHead : {A : Type 0} → Copied A → List ℕ → List ℕ → Type 0
+IsCopiedHead {A} c bytes text = text ≡ head_text c.version (canonical_fields c.fields)
 
-abbrev pub IsBlock : {A : Type 0} → Copied A → List ℕ → List ℕ → Type 0
-IsBlock {A} c bytes text = HasRange c.block_start c.block_len bytes × (text ≡ take c.block_len (drop c.block_start bytes))
+pub copy_in_turn : {A : Type 0} (c : Copied A) (bytes text : List ℕ) → IsCopy c bytes text
+    → InTurn (IsCopiedHead c) (IsClosedBlock c.block_start c.block_len) bytes text
+copy_in_turn {A} c bytes text copy =
+    let rest = take c.block_len (drop c.block_start bytes) ++ (crlf ++ crlf) in
+    (head_text c.version (canonical_fields c.fields), rest, copy_parts c bytes text copy, refl, (copy.range, refl))
+
+pub copy_begins : {A : Type 0} (c : Copied A) (bytes text : List ℕ) → IsCopy c bytes text → Begins (IsCopiedHead c) bytes text
+copy_begins {A} c bytes text copy =
+    let rest = take c.block_len (drop c.block_start bytes) ++ (crlf ++ crlf) in
+    (head_text c.version (canonical_fields c.fields), rest, copy_parts c bytes text copy, refl)
+
+-- a block, and what closes its record
+abbrev pub IsBlock : ℕ → ℕ → List ℕ → List ℕ → Type 0
+IsBlock start len bytes text = HasRange start len bytes × (text ≡ take len (drop start bytes))
 
 abbrev pub IsClosing : List ℕ → List ℕ → Type 0
 IsClosing bytes text = text ≡ crlf ++ crlf
 
-pub copy_in_turn : {A : Type 0} (c : Copied A) (bytes text : List ℕ) → IsCopy c bytes text → InTurn (IsHeadText c) (InTurn (IsBlock c) IsClosing) bytes text
-copy_in_turn {A} c bytes text copy =
-    let head = head_text c.version (canonical_fields c.fields) in
-    let block = take c.block_len (drop c.block_start bytes) in
-    (head, block ++ (crlf ++ crlf), copy_parts c bytes text copy, refl, (block, crlf ++ crlf, refl, (copy.range, refl), refl))
+pub block_in_turn : (start len : ℕ) (bytes text : List ℕ) → IsClosedBlock start len bytes text
+    → InTurn (IsBlock start len) IsClosing bytes text
+block_in_turn start len bytes text (range, is) = (take len (drop start bytes), crlf ++ crlf, is, (range, refl), refl)
 
-pub copy_begins : {A : Type 0} (c : Copied A) (bytes text : List ℕ) → IsCopy c bytes text → Begins (IsHeadText c) bytes text
-copy_begins {A} c bytes text copy =
-    (head_text c.version (canonical_fields c.fields), take c.block_len (drop c.block_start bytes) ++ (crlf ++ crlf), copy_parts c bytes text copy, refl)
+pub block_begins : (start len : ℕ) (bytes text : List ℕ) → IsClosedBlock start len bytes text
+    → Begins (IsBlock start len) bytes text
+block_begins start len bytes text (range, is) = (take len (drop start bytes), crlf ++ crlf, is, (range, refl))
 
-pub copy_begins_block : {A : Type 0} (c : Copied A) (bytes text : List ℕ) → IsCopy c bytes text → Begins (InTurn (IsHeadText c) (IsBlock c)) bytes text
-copy_begins_block {A} c bytes text copy =
-    let head = head_text c.version (canonical_fields c.fields) in
-    let block = take c.block_len (drop c.block_start bytes) in
-    (head ++ block, crlf ++ crlf, copy_parts c bytes text copy ∙ sym (append_assoc head block (crlf ++ crlf)), (head, block, refl, refl, (copy.range, refl)))
+-- ---- a record that is copied as it is
+
+abbrev pub IsText : List ℕ → List ℕ → List ℕ → Type 0
+IsText head bytes text = text ≡ head
+
+pub same_begins : (head : List ℕ) (row : Row) (bytes text : List ℕ) → IsSameText head row bytes text
+    → Begins (IsText head) bytes text
+same_begins head row bytes text (rest, closed, is) = (head, rest, is, refl)
+
+same_head : {x y : Head} → ◌≡◌ {A = Result Head Fault} (Ok x) (Ok y) → x ≡ y
+same_head {x} {y} same = cc
+
+-- the text of a canonical head is what its record is written with
+head_is_written : (r : Record) (row : Row) (head : List ℕ) → IsHeadText r row head → IsCanonicalHead head row.block_len
+    → head ≡ head_text r.version (canonical_fields r.fields)
+head_is_written r row head is can =
+    let same = same_head (sym can.reads ∙ is) in
+    can.text_is
+    ∙ ap (λ v. head_text v (canonical_fields can.fields)) (ap (λ (h : Head). h.version) same)
+    ∙ ap (λ f. head_text r.version (canonical_fields f)) (ap (λ (h : Head). h.fields) same)
+
+written_parts : (r : Record) → canonical r ≡ head_text r.version (canonical_fields r.fields) ++ (r.block ++ (crlf ++ crlf))
+unfolding canonical
+written_parts r = closed (head_text r.version (canonical_fields r.fields)) r.block
+
+-- such a record is written as it is
+pub written_as_is : (text_of : Record → List ℕ) (row : Row) (head bytes text : List ℕ) (is : IsTextOf text_of row bytes text)
+    → text_of is.placed.content ≡ canonical is.placed.content → IsHeadText is.placed.content row head
+    → IsCanonicalHead head row.block_len → IsSameText head row bytes text
+written_as_is text_of row head bytes text is keeps reads can =
+    let p = is.placed in
+    let start = ap (λ (r : Row). r.block_start) is.row_is in
+    let len = ap (λ (r : Row). r.block_len) is.row_is in
+    let block : p.content.block ≡ take row.block_len (drop row.block_start bytes) =
+    sym is.whole.block ∙ ap (λ n. take n (drop p.block_start bytes)) (sym len) ∙ ap (λ n. take row.block_len (drop n bytes)) (sym start) in (
+      take row.block_len (drop row.block_start bytes) ++ (crlf ++ crlf),
+      ((omega (arith, is.whole.range.0, start, len), is.whole.range.1), refl),
+      is.is ∙ keeps ∙ written_parts p.content
+          ∙ ap (λ h. h ++ (p.content.block ++ (crlf ++ crlf))) (sym (head_is_written p.content row head reads can))
+          ∙ ap (λ b. head ++ (b ++ (crlf ++ crlf))) block,
+    )
 
 -- the copy that is written of a row's record
 pub copy_of : {A : Type 0} (text_of : Record → List ℕ) (row : Row) (c : Copied A) (bytes text : List ℕ) (is : IsTextOf text_of row bytes text) → IsCopiedOf text_of is.placed c → IsCopy c bytes text

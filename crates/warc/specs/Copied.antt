@@ -1,5 +1,5 @@
 -- The texts of records whose blocks are copied from a source. States of the code: no public clause cites them.
-use Rattle.std.specs.Prelude.{◌≡◌, ℕ, List, ◌++◌, length, map, take, drop}
+use Rattle.std.specs.Prelude.{◌≡◌, ℕ, ◌*◌, List, ◌++◌, length, map, take, drop}
 use Rattle.std.specs.List.{AllByRecursion, flat_map}
 use Rattle.warc_field.specs.Area.{canonical_fields}
 use Rattle.warc_field.specs.Lines.{crlf}
@@ -7,7 +7,7 @@ use Rattle.warc_frame.specs.Effects.{HasRange}
 use Rattle.warc_frame.specs.Record.{Record, head_text}
 use Rattle.warc_frame.specs.declared.reading.Head.{Head}
 use Rattle.warc_reading.specs.Archive.{contents}
-use Rattle.warc_reading.specs.Rereading.{HasHead, IsHeadReadOf}
+use Rattle.warc_reading.specs.Rereading.{HasHead, IsHeadReadOf, IsHeadText}
 use Rattle.warc.specs.Forms.{read_len, split_len, split_text, text_as}
 use Rattle.warc_reading.specs.Row.{Placed, Row, row_of}
 use Rattle.warc.specs.declared.copying.Copied.{Copied}
@@ -19,6 +19,16 @@ pub record IsCopy {A : Type 0} (c : Copied A) (bytes text : List ℕ) : Type 0 w
   pub range : HasRange c.block_start c.block_len bytes
   pub is : text ≡ head_text c.version (canonical_fields c.fields) ++ take c.block_len (drop c.block_start bytes)
       ++ crlf ++ crlf
+
+-- a block that the bytes have, and what closes its record
+abbrev pub IsClosedBlock : ℕ → ℕ → List ℕ → List ℕ → Type 0
+IsClosedBlock start len bytes text =
+    HasRange start len bytes × (text ≡ take len (drop start bytes) ++ (crlf ++ crlf))
+
+-- the text of a row's record whose head is this text, where the bytes have the block
+abbrev pub IsSameText : List ℕ → Row → List ℕ → List ℕ → Type 0
+IsSameText head row bytes text = (rest : List ℕ) × IsClosedBlock row.block_start row.block_len bytes rest
+    × (text ≡ head ++ rest)
 
 -- what is written of a record is this copy
 pub record IsCopiedOf {A : Type 0} (text_of : Record → List ℕ) (p : Placed) (c : Copied A) : Type 0 where
@@ -50,6 +60,11 @@ pub record AreTextsOf (text_of : Record → List ℕ) (rows : List Row) (bytes t
 abbrev pub IsTextWith : {A : Type 0} → (Record → List ℕ) → Row → Head A → List ℕ → List ℕ → Type 0
 IsTextWith text_of row head bytes text = (is : IsTextOf text_of row bytes text) × IsHeadReadOf is.placed.content head
 
+-- the same, of which this is the text of the head
+abbrev pub IsTextAfter : (Record → List ℕ) → Row → List ℕ → List ℕ → List ℕ → Type 0
+IsTextAfter text_of row head bytes text =
+    (is : IsTextOf text_of row bytes text) × IsHeadText is.placed.content row head
+
 -- what replaces a record, and how many bytes are read for it
 abbrev pub text_by : Replacement → Record → List ℕ
 text_by (As form) = text_as form
@@ -58,3 +73,8 @@ text_by (Split size) = split_text size
 abbrev pub len_by : Replacement → Row → ℕ
 len_by (As form) = read_len form
 len_by (Split size) = split_len
+
+-- how many bytes of its block are read
+abbrev pub block_by : Replacement → Row → ℕ
+block_by (As form) row = row.block_len
+block_by (Split size) row = 3 * row.block_len

@@ -1,7 +1,7 @@
 //! Records of an archive written in a form: each head from its fields, each block copied from the source.
-ghost use Rattle.std.specs.Prelude.{◌≡◌, ◌<◌, IfOk, length};
-ghost use Rattle.warc.specs.Copied.{IsCopiedOf, IsCopy, IsTextWith};
-ghost use Rattle.warc_frame.specs.Effects.{Emits};
+ghost use Rattle.std.specs.Prelude.{◌≡◌, ◌<◌, ◌≤◌, IfOk, length, take};
+ghost use Rattle.warc.specs.Copied.{IsClosedBlock, IsCopiedOf, IsCopy, IsSameText, IsTextWith};
+ghost use Rattle.warc_frame.specs.Effects.{Emits, ReadsRange};
 ghost use Rattle.warc_reading.specs.Rereading.{IsHeadReadOf};
 ghost use Rattle.warc_frame.specs.Effects.{ReadsOnly};
 ghost use Rattle.warc_frame.specs.Seen.{IsInRange};
@@ -10,7 +10,7 @@ ghost use Rattle.warc_reading.specs.Row.{Placed, row_of};
 
 use std::alloc::{AllocError, Allocator};
 use warc_field::Fields;
-use warc_frame::{Head, OutBuffer, OutFault, Sink, Source, Version, put_all, put_range};
+use warc_frame::{Head, OutBuffer, OutFault, Sink, Source, Version, put_range};
 use warc_reading::Row;
 use warc_write::{convert_fields, put_head};
 
@@ -33,6 +33,52 @@ pub(crate) struct Copied<A: Allocator> {
     pub(crate) block_len: u64,
 }
 
+/// Adds a block to the output, which is copied through the scratch, and what closes its record.
+fn put_block<S: Source, W: Sink>(
+    start: u64,
+    len: u64,
+    source: &mut S,
+    scratch: &mut [u8],
+    buffer: &mut OutBuffer,
+    out: &mut W,
+) -> Result<(), OutFault>
+    requires { 0 < length scratch.old }
+    ensures emits { Emits (IsClosedBlock start len) (S.seen source.old) (S.seen source.new) (W.seen out.old)
+        (W.seen out.new) buffer.old buffer.new result }
+    ensures reads { ReadsRange start len (S.seen source.old) (S.seen source.new) }
+{
+    match put_range(source, start, len, scratch, buffer, out) {
+        Ok(()) => {}
+        Err(fault) => return Err(fault),
+    }
+    match buffer.put(out, b"\r\n\r\n") {
+        Ok(()) => Ok(()),
+        Err(fault) => Err(OutFault::Write(fault.sent)),
+    }
+}
+
+/// Adds a row's record to the output as it is: its head, whose text is at the front of the scratch, its block, and what
+/// closes it.
+pub(crate) fn put_same<S: Source, W: Sink>(
+    len: usize,
+    row: &Row<'_>,
+    source: &mut S,
+    scratch: &mut [u8],
+    buffer: &mut OutBuffer,
+    out: &mut W,
+) -> Result<(), OutFault>
+    requires { (0 < length scratch.old) × (len ≤ length scratch.old) }
+    ensures emits { Emits (IsSameText (take len scratch.old) row.now) (S.seen source.old) (S.seen source.new)
+        (W.seen out.old) (W.seen out.new) buffer.old buffer.new result }
+    ensures reads { ReadsRange row.now.block_start row.now.block_len (S.seen source.old) (S.seen source.new) }
+{
+    match buffer.put(out, &scratch[..len]) {
+        Ok(()) => {}
+        Err(fault) => return Err(OutFault::Write(fault.sent)),
+    }
+    put_block(row.block_start, row.block_len, source, scratch, buffer, out)
+}
+
 /// Adds a record to the output: its canonical head, its block, which is copied through the scratch, and what closes it.
 pub(crate) fn put_copied<S: Source, A: Allocator, W: Sink>(
     copy: &Copied<A>,
@@ -52,14 +98,7 @@ pub(crate) fn put_copied<S: Source, A: Allocator, W: Sink>(
         Err(fault) => return Err(OutFault::Write(fault.sent)),
     }
     let (start, len) = (copy.block_start, copy.block_len);
-    match put_range(source, start, len, scratch, buffer, out) {
-        Ok(()) => {}
-        Err(fault) => return Err(fault),
-    }
-    match put_all(&[b"\r\n\r\n"], buffer, out) {
-        Ok(()) => Ok(()),
-        Err(fault) => Err(OutFault::Write(fault.sent)),
-    }
+    put_block(start, len, source, scratch, buffer, out)
 }
 
 /// What is written of a row's record, by its head.

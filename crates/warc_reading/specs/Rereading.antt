@@ -53,6 +53,11 @@ pub record HasRecordsOf (rows : List Row) (bytes : List ℕ) : Type 0 where
   pub records : List Placed
   pub can : AreCheckable bytes records rows
 
+-- a text is the whole head of this record, of a block as long as a row says
+abbrev pub IsHeadText : Record → Row → List ℕ → Type 0
+IsHeadText r row text = head_of any_fields text
+    ≡ Ok (record { version = r.version; fields = r.fields; len = length text; block_len = row.block_len })
+
 -- a head that was read is this record's
 pub record IsHeadReadOf {A : Type 0} (r : Record) (h : Head A) : Type 0 where
   pub version : h.version ≡ r.version

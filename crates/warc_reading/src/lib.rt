@@ -10,5 +10,7 @@ mod spare_fields;
 
 pub use keeping::{Keep, Lookup, RecordLookup, RowsAlone, UnorderedLookup};
 pub use reading::{read_front, read_on};
-pub use rereading::{Reread, RereadFault, buffer_for, head_buffer, read_again, reread_head};
+pub use rereading::{
+    Reread, RereadFault, buffer_for, head_buffer, head_in, read_again, reread_head, reread_text,
+};
 pub use rows::{Row, Rows, rows_fit};

@@ -1,5 +1,5 @@
 //! The heads of records, read again through the source.
-ghost use Rattle.std.specs.Prelude.{◌≡◌, ℕ, ◌+◌, ◌≤◌, [], ◌∷◌, length, Ok, Some, None, IfOk, IfSome, MatchResult};
+ghost use Rattle.std.specs.Prelude.{◌≡◌, ℕ, ◌+◌, ◌≤◌, [], ◌∷◌, length, take, Ok, Some, None, IfOk, IfSome, MatchResult};
 ghost use Rattle.warc_frame.specs.Effects.{FailsBy};
 ghost use Rattle.warc_frame.specs.Reading.{any_fields, head_of};
 ghost use Rattle.warc_frame.specs.Record.{Record, max_head};
@@ -7,7 +7,7 @@ ghost use Rattle.warc_frame.specs.Seen.{IfHeld};
 ghost use Rattle.warc_record.specs.Heads.{head_fault};
 ghost use Rattle.warc_record.specs.Readings.{reading_of};
 ghost use Rattle.warc_record.specs.Seen.{said};
-ghost use Rattle.warc_reading.specs.Rereading.{HasHeadOf, HasRoomFor, IsHeadBy, IsHeadReadOf, ReadsHeads, ended_by, reread_fault_of, reread_result};
+ghost use Rattle.warc_reading.specs.Rereading.{HasHeadOf, HasRoomFor, IsHeadBy, IsHeadReadOf, IsHeadText, ReadsHeads, ended_by, reread_fault_of, reread_result};
 
 use crate::rows::Row;
 use std::alloc::{AllocError, Allocator};
@@ -54,7 +54,7 @@ fn reread_fault_of(kind: FaultKind) -> RereadFault
 }
 
 /// The head that a text is, if it is a whole one with a block of this length.
-fn head_in<A: Allocator + Copy>(
+pub fn head_in<A: Allocator + Copy>(
     alloc: A,
     text: &[u8],
     block_len: u64,
@@ -117,6 +117,30 @@ pub fn buffer_for<A: Allocator>(alloc: A, row: &Row<'_>) -> Result<Vec<u8, A>, A
     vec![in alloc; 0u8; len.min(MAX_HEAD as u64) as usize]
 }
 
+/// Reads the text of a record's head again into the front of a buffer that it fits, and returns its length. If the
+/// source doesn't give what it gave before, the text may be anything.
+pub fn reread_text<S: Source>(
+    source: &mut S,
+    row: &Row<'_>,
+    buf: &mut [u8],
+) -> Result<usize, RereadFault>
+    requires { HasRoomFor row.now buf.old }
+    ensures text { IfHeld (S.seen source.old).holds (λ bytes. (is : HasHeadOf row.now bytes) →
+        IfOk result (λ len. IsHeadText is.placed.content row.now (take len buf.new))) }
+    ensures size { IfOk result (λ len. (len ≤ length buf.new) × (row.now.offset + len ≡ row.now.block_start)) }
+    ensures kept { length buf.new ≡ length buf.old }
+    ensures reads { ReadsHeads (row.now ∷ []) (S.seen source.old) (S.seen source.new) }
+    ensures fails { FailsBy (HasHeadOf row.now) (reread_result result) (S.seen source.old) (S.seen source.new) }
+{
+    let Some(len) = head_len(row, buf.len()) else {
+        return Err(RereadFault::Read);
+    };
+    match read_range(source, row.offset, &mut buf[..len]) {
+        Ok(()) => Ok(len),
+        Err(_) => Err(RereadFault::Read),
+    }
+}
+
 /// Reads a record's head again, through a buffer that it fits. If the source doesn't give what it gave before,
 /// the head is taken only if it is a whole head as long as the row says, with a block as long as the row says.
 pub fn reread_head<S: Source, A: Allocator + Copy>(
@@ -132,15 +156,11 @@ pub fn reread_head<S: Source, A: Allocator + Copy>(
     ensures reads { ReadsHeads (row.now ∷ []) (S.seen source.old) (S.seen source.new) }
     ensures fails { FailsBy (HasHeadOf row.now) (reread_result result) (S.seen source.old) (S.seen source.new) }
 {
-    let Some(len) = head_len(row, buf.len()) else {
-        return Err(RereadFault::Read);
+    let len = match reread_text(source, row, buf) {
+        Ok(len) => len,
+        Err(fault) => return Err(fault),
     };
-    let text = &mut buf[..len];
-    match read_range(source, row.offset, text) {
-        Ok(()) => {}
-        Err(_) => return Err(RereadFault::Read),
-    }
-    head_in(alloc, text, row.block_len)
+    head_in(alloc, &buf[..len], row.block_len)
 }
 
 /// Reads a record's head again, through a buffer that it fits, and what it says. If the source doesn't give

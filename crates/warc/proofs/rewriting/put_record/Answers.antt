@@ -1,19 +1,26 @@
-use Rattle.std.proofs.Common.{◌≡◌, ℕ, ◌-◌, ◌*◌, ◌≤◌, List, [], refl, ap, subst, arith}
-use Rattle.warc.specs.Copied.{IsTextOf, len_by, text_by}
+use Rattle.std.proofs.Common.{◌≡◌, ℕ, ◌+◌, ◌-◌, ◌≤◌, [], length, take, refl, ap, subst, sym, ◌∙◌, arith}
+use Rattle.warc.specs.Copied.{block_by, len_by, text_by}
 use Rattle.warc.specs.declared.rewriting.Replacement.{Replacement}
 use Rattle.warc.specs.declared.rewriting.Replacement.TheVariants.{As, Split}
+use Rattle.warc_quick.specs.Canonical.{IsCanonicalHead}
 use Rattle.warc_reading.specs.Row.{Row}
 use Rattle.warc.proofs.EmitLemmas.{both, of_fault, of_read}
+use Rattle.warc.proofs.WholeLemmas.{written_as_is}
 use Rattle.warc_frame.proofs.EffectLemmas.{reads_both, reads_within}
 use Rattle.warc_reading.proofs.ReadLemmas.{reads_block_of, reads_head_of}
 use Rattle.warc.proofs.rewriting.put_record.Goals as goal
 
-in_manner : {replacement other : Replacement} {row : Row} {bytes text : List ℕ} → replacement ≡ other → IsTextOf (text_by replacement) row bytes text → IsTextOf (text_by other) row bytes text
-in_manner {replacement} {other} {row} {bytes} {text} same is = let P : Replacement → Type 0 = λ m. IsTextOf (text_by m) row bytes text in subst P same is
-
 head_within : (replacement : Replacement) (row : Row) → row.block_start - row.offset ≤ len_by replacement row
 head_within (As form) row = omega arith
 head_within (Split size) row = omega arith
+
+once_within : (replacement : Replacement) (row : Row) → (row.block_start - row.offset) + row.block_len ≤ len_by replacement row
+once_within (As form) row = omega arith
+once_within (Split size) row = omega arith
+
+all_within : (replacement : Replacement) (row : Row) → (row.block_start - row.offset) + block_by replacement row ≤ len_by replacement row
+all_within (As form) row = omega arith
+all_within (Split size) row = omega arith
 
 pub returns-in-Err-clause-emits : goal.returns-in-Err-clause-emits
 returns-in-Err-clause-emits g c =
@@ -23,30 +30,43 @@ returns-in-Err-clause-emits g c =
 pub returns-in-Err-clause-reads : goal.returns-in-Err-clause-reads
 returns-in-Err-clause-reads g c = reads_within (λ at in_. in_) (head_within c.args.replacement c.args.row.now) (reads_head_of c.args.row.now c.in-Err.ensures.reads)
 
-pub returns-in-As-clause-emits : goal.returns-in-As-clause-emits
-returns-in-As-clause-emits g c =
-    both (of_read {x = tt {0}} c.in-Ok.ensures.reads.kept c.in-Ok.ensures.fails.may) c.put_as.ensures.emits
-    (λ bytes text held says.
-    let is = in_manner c.in-As.is says in
-    ([], text, refl, refl, (is, c.in-Ok.ensures.read bytes held (record { placed = is.placed; has = is.whole.head; row_is = is.row_is }))))
+pub returns-then-is_canonical_head-clause-emits : goal.returns-then-is_canonical_head-clause-emits
+returns-then-is_canonical_head-clause-emits g c =
+    let head = take c.in-Ok.len c.reread_text.new.buf in
+    let len = ap (λ (r : Row). r.block_len) c.row.view_is in
+    let P : ℕ → Type 0 = λ n. IsCanonicalHead head n in
+    both (of_read {x = tt {0}} c.in-Ok.ensures.reads.kept c.in-Ok.ensures.fails.may) c.put_same.ensures.emits
+    (λ bytes text held is.
+    let block : length is.placed.content.block ≡ c.row.inside.block_len = sym (len ∙ ap (λ (r : Row). r.block_len) is.row_is) in
+    let reads = c.in-Ok.ensures.text bytes held (record { placed = is.placed; has = is.whole.head; row_is = is.row_is }) in (
+      [],
+      text,
+      refl,
+      refl,
+      written_as_is (text_by c.args.replacement) c.args.row.now head bytes text is
+          (c.keeps.ensures c.if-keeps.true is.placed.content block) reads (subst P len (c.is_canonical_head.ensures c.if-is_canonical_head.true)),
+    ))
 
-pub returns-in-As-clause-reads : goal.returns-in-As-clause-reads
-returns-in-As-clause-reads g c =
+pub returns-then-is_canonical_head-clause-reads : goal.returns-then-is_canonical_head-clause-reads
+returns-then-is_canonical_head-clause-reads g c =
     let row = c.args.row.now in
-    let most = ap (λ m. len_by m row) c.in-As.is in
-    reads_within (λ at in_. in_) (omega (arith, most))
-    (reads_both (reads_head_of row c.in-Ok.ensures.reads) (reads_block_of row row.block_len (omega (arith, c.in-Ok.ensures.whole.size)) c.put_as.ensures.reads))
+    reads_within (λ at in_. in_) (once_within c.args.replacement row)
+    (reads_both (reads_head_of row c.in-Ok.ensures.reads) (reads_block_of row row.block_len (omega (arith, c.in-Ok.ensures.size.1)) c.put_same.ensures.reads))
 
-pub returns-in-Split-clause-emits : goal.returns-in-Split-clause-emits
-returns-in-Split-clause-emits g c =
-    both (of_read {x = tt {0}} c.in-Ok.ensures.reads.kept c.in-Ok.ensures.fails.may) c.put_split.ensures.emits
-    (λ bytes text held says.
-    let is = in_manner c.in-Split.is says in
-    ([], text, refl, refl, (is, c.in-Ok.ensures.read bytes held (record { placed = is.placed; has = is.whole.head; row_is = is.row_is }))))
+pub returns-clause-emits : goal.returns-clause-emits
+returns-clause-emits g c =
+    both (of_read {x = tt {0}} c.in-Ok.ensures.reads.kept c.in-Ok.ensures.fails.may) c.put_by_head.ensures.emits
+    (λ bytes text held is. (
+      [],
+      text,
+      refl,
+      refl,
+      (is, c.in-Ok.ensures.text bytes held (record { placed = is.placed; has = is.whole.head; row_is = is.row_is })),
+    ))
 
-pub returns-in-Split-clause-reads : goal.returns-in-Split-clause-reads
-returns-in-Split-clause-reads g c =
+pub returns-clause-reads : goal.returns-clause-reads
+returns-clause-reads g c =
     let row = c.args.row.now in
-    let most = ap (λ m. len_by m row) c.in-Split.is in
-    reads_within (λ at in_. in_) (omega (arith, most))
-    (reads_both (reads_head_of row c.in-Ok.ensures.reads) (reads_block_of row (3 * row.block_len) (omega (arith, c.in-Ok.ensures.whole.size)) c.put_split.ensures.reads))
+    reads_within (λ at in_. in_) (all_within c.args.replacement row)
+    (reads_both (reads_head_of row c.in-Ok.ensures.reads)
+    (reads_block_of row (block_by c.args.replacement row) (omega (arith, c.in-Ok.ensures.size.1)) c.put_by_head.ensures.reads))

@@ -1,0 +1,17 @@
+use Rattle.std.proofs.Common.{refl, ap, take}
+use Rattle.warc_reading.specs.Row.{Row}
+use Rattle.warc.proofs.EmitLemmas.{both, of_cut_put, of_put, short}
+use Rattle.warc.proofs.WholeLemmas.{same_begins}
+use Rattle.warc.proofs.copying.put_same.Goals as goal
+
+pub returns-in-Err-clause-emits : goal.returns-in-Err-clause-emits
+returns-in-Err-clause-emits g c =
+    short (of_cut_put {Y = Unit {0}} c.in-Err.ensures) (λ bytes text held is. same_begins (take c.args.len c.args.scratch.now) c.args.row.now bytes text is)
+
+pub returns-clause-emits : goal.returns-clause-emits
+returns-clause-emits g c =
+    both (of_put {y = tt {0}} c.in-Ok.ensures) c.put_block.ensures.emits
+    (λ bytes text held (rest, closed, is).
+    let start = ap (λ (r : Row). r.block_start) c.row.view_is in
+    let len = ap (λ (r : Row). r.block_len) c.row.view_is in
+    (take c.args.len c.args.scratch.now, rest, is, refl, rw (start, len) closed))
