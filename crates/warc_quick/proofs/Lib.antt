@@ -1,5 +1,7 @@
 mod LineLemmas
+mod IdLemmas
 mod NameLemmas
+mod RunLemmas
 mod ValueLemmas
 mod HeadLemmas
 mod PlainLemmas

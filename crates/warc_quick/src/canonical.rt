@@ -6,7 +6,7 @@ ghost use Rattle.warc_quick.specs.Canonical.{HasCanonicalLines, IsCanonicalHead}
 
 use crate::head::{after_version, quick_head};
 use crate::lines::split_crlf;
-use memchr::memchr;
+use crate::runs::find_colon;
 use warc_field::{is_name, is_value};
 
 /// The empty line that ends a head.
@@ -27,7 +27,7 @@ fn after_space(text: &[u8]) -> Option<&[u8]>
 fn after_line(text: &[u8]) -> Option<&[u8]>
     ensures { IfSome result (λ more. (field : Pair) × IsField field × (text.now ≡ canonical_line field ++ more.now)) }
 {
-    let colon = memchr(b':', text)?;
+    let colon = find_colon(text)?;
     let rest = after_space(&text[colon + 1..])?;
     let (value, more) = split_crlf(rest)?;
     if is_name(&text[..colon]) && is_value(value) {

@@ -1,5 +1,5 @@
 //! A plain head.
-ghost use Rattle.std.specs.Prelude.{◌≡◌, ◌<◌, ◌≤◌, ◌++◌, List, IfSome, Some};
+ghost use Rattle.std.specs.Prelude.{◌≡◌, ◌<◌, ◌≤◌, ◌++◌, List, IfSome, Some, true};
 ghost use Rattle.warc_field.specs.Area.{Pair};
 ghost use Rattle.warc_field.specs.Lines.{crlf};
 ghost use Rattle.warc_frame.specs.declared.version.Version.{Version};
@@ -11,6 +11,7 @@ ghost use Rattle.warc_quick.specs.Quick.{Says, IsQuickHead, max_quick_head};
 
 use crate::lines::first_line;
 use crate::names::QuickName;
+use crate::runs::{LANES, holds_no_id_end};
 use crate::values::Values;
 use warc_field::{decimal, is_name};
 use warc_frame::{MAX_BLOCK, MAX_HEAD, Version};
@@ -62,11 +63,24 @@ fn read_lines(text: &[u8]) -> Option<(Values<'_>, &[u8])>
     Some((values, &rest[2..]))
 }
 
+/// Whether a value is an id in brackets, as most are: `<`, at least sixteen bytes, none of which is a bracket, a space
+/// or a tab, and `>`.
+#[inline(always)]
+fn is_plain_id(value: &[u8]) -> bool
+    ensures { result ≡ true → is_id value.now ≡ true }
+{
+    let len = value.len();
+    if len < LANES + 2 || value[0] != b'<' || value[len - 1] != b'>' {
+        return false;
+    }
+    holds_no_id_end(&value[1..len - 1])
+}
+
 /// Whether a value holds an id.
 fn holds_id(value: &[u8]) -> bool
     ensures { result ≡ is_id value.now }
 {
-    is_bare_id(bare(value))
+    is_plain_id(value) || is_bare_id(bare(value))
 }
 
 /// The length of the block that a `Content-Length` states, if a block may be so long.

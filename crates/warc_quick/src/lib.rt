@@ -9,6 +9,7 @@ mod head;
 mod lines;
 mod names;
 mod plain;
+mod runs;
 mod values;
 
 pub use canonical::is_canonical_head;

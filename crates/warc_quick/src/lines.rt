@@ -1,12 +1,14 @@
 //! Fields that are each on a line of their own.
-ghost use Rattle.std.specs.Prelude.{◌≡◌, ◌++◌, IfSome};
+ghost use Rattle.std.specs.Prelude.{◌≡◌, ◌++◌, IfSome, true};
+ghost use Rattle.std.specs.List.{list_all};
 ghost use Rattle.warc_field.specs.Area.{MeansValue};
 ghost use Rattle.warc_field.specs.Lines.{crlf};
+ghost use Rattle.warc_field.specs.Text.{is_value_byte};
 ghost use Rattle.warc_quick.specs.Fronts.{BeginsWithLine};
 
 use crate::names::{Naming, judge_name};
-use memchr::memchr;
-use warc_field::{find_crlf, is_value, trim};
+use crate::runs::{find_colon, value_len};
+use warc_field::trim;
 
 /// A field that is on one line: its name, which of the names it is, its value, and what follows its line.
 #[derive(Clone, Copy)]
@@ -17,35 +19,38 @@ pub(crate) struct Line<'a> {
     pub(crate) more: &'a [u8],
 }
 
-/// The bytes before the first CRLF, and those after it.
+/// The bytes before the first control character other than a tab, and those after it, if it begins a CRLF.
+#[inline(always)]
 pub(crate) fn split_crlf(text: &[u8]) -> Option<(&[u8], &[u8])>
-    ensures { IfSome result (λ parts. text.now ≡ parts.0.now ++ (crlf ++ parts.1.now)) }
+    ensures text { IfSome result (λ parts. text.now ≡ parts.0.now ++ (crlf ++ parts.1.now)) }
+    ensures clean { IfSome result (λ parts. list_all is_value_byte parts.0.now ≡ true) }
 {
-    let at = find_crlf(text, 0)?;
-    Some((&text[..at], &text[at + 2..]))
+    let len = value_len(text);
+    let more = text[len..].strip_prefix(b"\r\n")?;
+    Some((&text[..len], more))
 }
 
-/// The value that the rest of a line means, unless a control character other than a tab is in it, as in each fold.
-fn plain_value(rest: &[u8]) -> Option<&[u8]>
-    ensures { IfSome result (λ value. MeansValue rest.now value.now) }
+/// The value that the rest of a line means, in which no control character but tabs is, and so no fold.
+#[inline(always)]
+fn plain_value(rest: &[u8]) -> &[u8]
+    requires { list_all is_value_byte rest.now ≡ true }
+    ensures { MeansValue rest.now result.now }
 {
-    let value = trim(rest);
-    if is_value(value) { Some(value) } else { None }
+    trim(rest)
 }
 
 /// The field whose line a text begins with, if that is one line and its name isn't one of the names in another case.
 pub(crate) fn first_line(text: &[u8]) -> Option<Line<'_>>
     ensures { IfSome result (BeginsWithLine text.now) }
 {
-    let colon = memchr(b':', text)?;
+    let colon = find_colon(text)?;
     let name = &text[..colon];
     let naming = judge_name(name)?;
     let (rest, more) = split_crlf(&text[colon + 1..])?;
-    let value = plain_value(rest)?;
     Some(Line {
         name,
         naming,
-        value,
+        value: plain_value(rest),
         more,
     })
 }

@@ -1,5 +1,5 @@
 //! The names by which a head is read in place.
-ghost use Rattle.std.specs.Prelude.{◌≡◌, ◌<◌, IfSome, false, slice_index};
+ghost use Rattle.std.specs.Prelude.{◌≡◌, ◌↔◌, ◌<◌, IfSome, IsTrue, false, slice_index};
 ghost use Rattle.warc_field.specs.Text.{same};
 ghost use Rattle.std.specs.Char.{to_ascii_lowercase};
 ghost use Rattle.warc_quick.specs.Names.{quick_name, quick_place, quick_by, IsNaming};
@@ -56,6 +56,14 @@ fn eighth(text: &[u8]) -> u8
     }
 }
 
+/// Whether a text is this one. Where the second is a constant, it is a comparison or two, and `==` would be a call.
+#[inline(always)]
+fn is_same(text: &[u8], name: &[u8]) -> bool
+    ensures { IsTrue result ↔ (text.now ≡ name.now) }
+{
+    text.len() == name.len() && text.starts_with(name)
+}
+
 impl QuickName {
     /// The name, as the standard writes it.
     fn text(self) -> &'static str
@@ -69,6 +77,22 @@ impl QuickName {
             QuickName::TargetUri => names::WARC_TARGET_URI,
             QuickName::BlockDigest => names::WARC_BLOCK_DIGEST,
             QuickName::Truncated => names::WARC_TRUNCATED,
+        }
+    }
+
+    /// Whether a text is this name, as the standard writes it.
+    #[inline(always)]
+    fn is(self, text: &[u8]) -> bool
+        ensures { IsTrue result ↔ (text.now ≡ quick_name self) }
+    {
+        match self {
+            QuickName::Type => is_same(text, names::WARC_TYPE.as_bytes()),
+            QuickName::RecordId => is_same(text, names::WARC_RECORD_ID.as_bytes()),
+            QuickName::Date => is_same(text, names::WARC_DATE.as_bytes()),
+            QuickName::ContentLength => is_same(text, names::CONTENT_LENGTH.as_bytes()),
+            QuickName::TargetUri => is_same(text, names::WARC_TARGET_URI.as_bytes()),
+            QuickName::BlockDigest => is_same(text, names::WARC_BLOCK_DIGEST.as_bytes()),
+            QuickName::Truncated => is_same(text, names::WARC_TRUNCATED.as_bytes()),
         }
     }
 
@@ -100,11 +124,10 @@ pub(crate) fn judge_name(text: &[u8]) -> Option<Naming>
     let Some(known) = candidate(text.len(), eighth(text)) else {
         return other_name(text);
     };
-    let name = known.text().as_bytes();
-    if text == name {
+    if known.is(text) {
         return Some(Naming::Known(known));
     }
-    if text.eq_ignore_ascii_case(name) {
+    if text.eq_ignore_ascii_case(known.text().as_bytes()) {
         return None;
     }
     other_name(text)

@@ -11,4 +11,4 @@ other_name-requires c =
 pub other_name-requires-2 : goal.other_name-requires-2
 other_name-requires-2 c =
     not_this c.args.text.now c.in-Some.known (sym (ap (quick_by (length c.args.text.now)) c.eighth.ensures) ∙ sym c.candidate.ensures ∙ c.in-Some.is)
-    (λ same. let hit = c.eq_ignore_ascii_case.ensures.test.1 (same ∙ ap lower (sym (c.as_bytes-name.ensures.value ∙ c.text.ensures))) in cc (hit, c.if-eq_ignore_ascii_case.false))
+    (λ same. let hit = c.eq_ignore_ascii_case.ensures.test.1 (same ∙ ap lower (sym (c.as_bytes.ensures.value ∙ c.text.ensures))) in cc (hit, c.if-eq_ignore_ascii_case.false))
