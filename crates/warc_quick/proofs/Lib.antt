@@ -1,4 +1,5 @@
 mod LineLemmas
+mod DateLemmas
 mod IdLemmas
 mod NameLemmas
 mod RunLemmas

@@ -4,11 +4,13 @@ ghost use Rattle.warc_field.specs.Area.{Pair};
 ghost use Rattle.warc_field.specs.Lines.{crlf};
 ghost use Rattle.warc_frame.specs.declared.version.Version.{Version};
 ghost use Rattle.warc_frame.specs.VersionLine.{version_line};
+ghost use Rattle.warc_record.specs.Heads.{is_date};
 ghost use Rattle.warc_record.specs.Ids.{is_id};
 ghost use Rattle.warc_frame.specs.Record.{block_number, max_block};
 ghost use Rattle.warc_quick.specs.Fronts.{AreOnlyValues, BeginsWithFields};
 ghost use Rattle.warc_quick.specs.Quick.{Says, IsQuickHead, max_quick_head};
 
+use crate::dates::is_plain_date;
 use crate::lines::first_line;
 use crate::names::QuickName;
 use crate::runs::{LANES, holds_no_id_end};
@@ -83,6 +85,13 @@ fn holds_id(value: &[u8]) -> bool
     is_plain_id(value) || is_bare_id(bare(value))
 }
 
+/// Whether a value is a date.
+fn holds_date(value: &[u8]) -> bool
+    ensures { result ≡ is_date value.now }
+{
+    is_plain_date(value) || read_date(value).is_some()
+}
+
 /// The length of the block that a `Content-Length` states, if a block may be so long.
 fn block_len(value: &[u8]) -> Option<u64>
     ensures value { result ≡ block_number (Some value.now) }
@@ -109,7 +118,9 @@ fn good_head<'a>(len: usize, values: &Values<'a>) -> Option<QuickHead<'a>>
         return None;
     }
     let date = values.only(QuickName::Date)?;
-    read_date(date)?;
+    if !holds_date(date) {
+        return None;
+    }
     Some(QuickHead {
         len,
         block_len,

@@ -5,6 +5,7 @@
 #![tactic(auto)]
 
 mod canonical;
+mod dates;
 mod head;
 mod lines;
 mod names;
