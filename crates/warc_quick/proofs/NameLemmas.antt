@@ -1,7 +1,8 @@
 -- The names by which a head is read in place, told apart.
-use Rattle.std.proofs.Common.{◌≡◌, ℕ, true, false, List, length, ◌==◌, if◌then◌else◌, slice_index, Some, None, refl, sym, ap, ◌∙◌}
+use Rattle.std.proofs.Common.{◌≡◌, ℕ, ◌+◌, ◌-◌, ◌<◌, ◌≤◌, min, take, drop, get_or, get_or-take, get_or-drop, ext_get_or, arith, inl, inr, true, false, List, length, ◌==◌, if◌then◌else◌, slice_index, Some, None, refl, sym, ap, ◌∙◌}
 use Rattle.std.specs.Char.{to_ascii_lowercase}
 use Rattle.std.proofs.Math.ListN.{get_or-map}
+use Rattle.std.proofs.lemmas.Bool.{cases_lt}
 use Rattle.std.proofs.lemmas.List.{length-map}
 use Rattle.std.proofs.lemmas.Slice.Eq.{bytes_eq-Decides}
 use Rattle.warc_field.proofs.LineLemmas.{not_true}
@@ -96,3 +97,24 @@ same_as_itself ContentLength = refl
 same_as_itself TargetUri = refl
 same_as_itself BlockDigest = refl
 same_as_itself Truncated = refl
+
+same_part : (text name : List ℕ) (at : ℕ) → take 8 (drop at text) ≡ take 8 (drop at name)
+    → (k : ℕ) → at ≤ k → k < at + 8 → get_or text k 0 ≡ get_or name k 0
+same_part text name at same k from to =
+    let back : at + (k - at) ≡ k = omega arith in
+    let inside : k - at < 8 = omega arith in
+    let there = λ (xs : List ℕ). get_or-take 8 (drop at xs) (k - at) 0 inside ∙ get_or-drop at xs (k - at) 0 ∙ ap (λ i. get_or xs i 0) back in
+    sym (there text) ∙ ap (λ xs. get_or xs (k - at) 0) same ∙ there name
+
+-- three times eight bytes cover a text
+pub same_parts : (text name : List ℕ) (middle last : ℕ) → length text ≡ length name → length name ≤ 24 → length name ≡ last + 8
+    → middle ≡ min last 8 → take 8 (drop 0 text) ≡ take 8 (drop 0 name) → take 8 (drop middle text) ≡ take 8 (drop middle name)
+    → take 8 (drop last text) ≡ take 8 (drop last name) → text ≡ name
+same_parts text name middle last long few ends is front between back =
+    ext_get_or 0 text name long (λ k inside. elim (cases_lt k 8) [
+      | inl early ↦ same_part text name 0 front k (omega arith) (omega arith)
+      | inr late ↦ elim (cases_lt k last) [
+        | inl before ↦ same_part text name middle between k (omega (arith, is)) (omega (arith, is))
+        | inr after ↦ same_part text name last back k after (omega arith)
+      ]
+    ])

@@ -1,5 +1,5 @@
 //! The names by which a head is read in place.
-ghost use Rattle.std.specs.Prelude.{◌≡◌, ◌↔◌, ◌<◌, IfSome, IsTrue, false, slice_index};
+ghost use Rattle.std.specs.Prelude.{◌≡◌, ◌↔◌, ◌+◌, ◌*◌, ◌<◌, ◌≤◌, IfSome, IsTrue, drop, false, length, slice_index, take};
 ghost use Rattle.warc_field.specs.Text.{same};
 ghost use Rattle.std.specs.Char.{to_ascii_lowercase};
 ghost use Rattle.warc_quick.specs.Names.{quick_name, quick_place, quick_by, IsNaming};
@@ -56,12 +56,33 @@ fn eighth(text: &[u8]) -> u8
     }
 }
 
-/// Whether a text is this one. Where the second is a constant, it is a comparison or two, and `==` would be a call.
+/// How many bytes of a name are compared together.
+const PART: usize = 8;
+
+/// Whether the next bytes of two texts from a place on are the same.
+#[inline(always)]
+fn have_same_part(text: &[u8], name: &[u8], at: usize) -> bool
+    requires text { at + PART ≤ length text.now }
+    requires name { at + PART ≤ length name.now }
+    ensures { IsTrue result ↔ (take PART (drop at text.now) ≡ take PART (drop at name.now)) }
+{
+    text[at..].starts_with(&name[at..at + PART])
+}
+
+/// Whether a text is this one, which has 8 to 24 bytes. Three parts cover it, which may overlap. Where it is a
+/// constant, that takes a few comparisons and no call.
 #[inline(always)]
 fn is_same(text: &[u8], name: &[u8]) -> bool
+    requires { (PART ≤ length name.now) × (length name.now ≤ 3 * PART) }
     ensures { IsTrue result ↔ (text.now ≡ name.now) }
 {
-    text.len() == name.len() && text.starts_with(name)
+    if text.len() != name.len() {
+        return false;
+    }
+    let last = name.len() - PART;
+    have_same_part(text, name, 0)
+        & have_same_part(text, name, last.min(PART))
+        & have_same_part(text, name, last)
 }
 
 impl QuickName {

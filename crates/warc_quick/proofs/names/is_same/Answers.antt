@@ -1,13 +1,17 @@
-use Rattle.std.proofs.Common.{[], ◌++◌, append-nil, length, sym, ap, ◌∙◌, arith}
-use Rattle.std.proofs.lemmas.Bool.Decides.{Decides-eqb}
-use Rattle.std.proofs.lemmas.List.{drop_all}
-use Rattle.std.proofs.lemmas.Slice.Eq.{starts_is}
+use Rattle.std.proofs.Common.{ℕ, ◌-◌, length, take, drop, ap, arith}
+use Rattle.std.proofs.lemmas.Bool.{and_from, and_parts}
+use Rattle.warc_quick.proofs.NameLemmas.{same_parts}
 use Rattle.warc_quick.proofs.names.is_same.Goals as goal
 
-pub returns-then-text-name : goal.returns-then-text-name
-returns-then-text-name c =
-    let name = c.args.name.now in
-    let is = starts_is Decides-eqb c.args.text.now name _ c.starts_with.ensures.value in (
-      λ begins. is.0 begins ∙ ap (λ xs. name ++ xs) (drop_all (length name) c.args.text.now (omega (arith, c.if-text-name.true))) ∙ append-nil name,
-      λ same. is.1 [] (same ∙ sym (append-nil name)),
-    )
+pub returns : goal.returns
+returns c = (
+  λ all.
+      let both = and_parts _ _ all in
+      let front = and_parts _ _ both.0 in
+      same_parts c.args.text.now c.args.name.now c.min.result (length c.args.name.now - 8) (omega (arith, c.if-text-name.false)) c.requires.1
+      (omega (arith, c.requires.0)) c.min.ensures (c.have_same_part.ensures.0 front.0) (c.have_same_part-2.ensures.0 front.1) (c.have_same_part-3.ensures.0 both.1),
+  λ same.
+      let part = λ (at : ℕ). ap (λ xs. take 8 (drop at xs)) same in
+      and_from _ _ (and_from _ _ (c.have_same_part.ensures.1 (part 0)) (c.have_same_part-2.ensures.1 (part c.min.result)))
+      (c.have_same_part-3.ensures.1 (part (length c.args.name.now - 8))),
+)
