@@ -4,6 +4,9 @@
 //! that the four take one after another, and the same time where fewer lanes are in use. So a single long message is
 //! better given to `sha1::Sha1`.
 //!
+//! [`digest_each`] gives the digests of many messages that are in memory. A caller whose messages come in pieces uses
+//! [`FourDigests`].
+//!
 //! Each lane takes the blocks of a message, 64 bytes each. [`FourDigests::update`] is given a piece of each message,
 //! and takes as many blocks of each as the shortest piece has. The last blocks of a message hold its last bytes and its
 //! padding, which [`pad`] writes after them. Then [`FourDigests::finish`] gives the digest, and the lane begins another
@@ -15,10 +18,12 @@ ghost use Rattle.std.specs.Prelude.{◌≡◌, ℕ, ◌+◌, ◌*◌, ◌/◌, �
 ghost use Rattle.sha1.specs.Sha1.{digest_bytes, initial_hash, padded_message, padding, sha1};
 ghost use Rattle.warc_lanes.specs.Lanes.{InEachLane, lane_of, bytes_in, shortest};
 
+mod each;
 mod kernel;
 #[cfg(test)]
 mod tests;
 
+pub use each::digest_each;
 use kernel::{STATE_LEN, State, WORD_LEN};
 use std::simd::u32x4;
 

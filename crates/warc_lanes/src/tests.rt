@@ -1,7 +1,8 @@
-ghost use Rattle.std.specs.Prelude.{◌≡◌, ◌+◌, ◌<◌, ◌≤◌, ◌++◌, length, take};
-ghost use Rattle.sha1.specs.Sha1.{padding, sha1};
+ghost use Rattle.std.specs.Prelude.{◌≡◌, ◌<◌};
+ghost use Rattle.sha1.specs.Sha1.{sha1};
 
-use crate::{BLOCK_LEN, DIGEST_LEN, FourDigests, LANES, MAX_PADDING, pad};
+use crate::each::put_last;
+use crate::{BLOCK_LEN, DIGEST_LEN, FourDigests, LANES, MAX_PADDING, digest_each, pad};
 use std::alloc::{AllocError, Global};
 use std::test::Fail;
 
@@ -62,17 +63,6 @@ const DIGESTS: [[u8; DIGEST_LEN]; COUNT] = [
     ],
 ];
 
-// The last bytes of a message of `len` bytes with their padding, at the front of a buffer. Returns where they end.
-fn put_last(buffer: &mut [u8], tail: &[u8], len: u64) -> usize
-    requires { length tail.now + MAX_PADDING ≤ length buffer.old }
-    ensures len { length buffer.new ≡ length buffer.old }
-    ensures last { take result buffer.new ≡ tail.now ++ padding len }
-    ensures end { result ≤ length buffer.new }
-{
-    buffer[..tail.len()].copy_from_slice(tail);
-    pad(buffer, tail.len(), len)
-}
-
 // The digest of a message, computed in one lane: the calls in the order in which a caller makes them.
 fn digest_in_lane(message: &[u8], lane: usize) -> [u8; DIGEST_LEN]
     requires { lane < LANES }
@@ -104,6 +94,20 @@ fn abc_in_each_lane(rt: HostRuntime) {
     }
 }
 
+// The text whose fronts are hashed.
+fn counted(alloc: Global) -> Result<Vec<u8>, AllocError> {
+    let mut text = Vec::new(alloc);
+    for i in 0..1000000usize {
+        text.push((i % 251) as u8)?;
+    }
+    Ok(text)
+}
+
+// The message of a number: a front of the text.
+fn message_of(text: &[u8], number: usize) -> &[u8] {
+    &text[..LENGTHS[number % COUNT].min(text.len())]
+}
+
 // A message with its padding, and how much of it is hashed.
 #[derive(Drop)]
 struct Cursor {
@@ -114,7 +118,7 @@ struct Cursor {
 
 impl Cursor {
     fn new(alloc: Global, text: &[u8], number: usize) -> Result<Cursor, AllocError> {
-        let message = &text[..LENGTHS[number % COUNT].min(text.len())];
+        let message = message_of(text, number);
         let mut padded = message.to_vec(alloc)?;
         padded.extend_from_slice(&[0; MAX_PADDING])?;
         let end = pad(&mut padded, message.len(), message.len() as u64);
@@ -139,10 +143,7 @@ impl Cursor {
 // of different lengths are side by side. In the end each lane has a long one.
 #[test]
 fn known_digests(rt: HostRuntime) -> Result<(), Fail> {
-    let mut text = Vec::new(rt.alloc());
-    for i in 0..1000000usize {
-        text.push((i % 251) as u8)?;
-    }
+    let text = counted(rt.alloc())?;
     let mut digests = FourDigests::new();
     let mut cursors = [
         Cursor::new(rt.alloc(), &text, 0)?,
@@ -177,5 +178,27 @@ fn known_digests(rt: HostRuntime) -> Result<(), Fail> {
         }
     }
     assert!(rt; false, "a lane doesn't end");
+    Ok(())
+}
+
+// All messages by one call, of different lengths: none, fewer than there are lanes, and more.
+#[test]
+fn each_digest(rt: HostRuntime) -> Result<(), Fail> {
+    let text = counted(rt.alloc())?;
+    for count in [0usize, 1, 2, 3, 4, 5, COUNT, 3 * COUNT] {
+        let mut messages = Vec::new(rt.alloc());
+        for number in 0..count {
+            messages.push(message_of(&text, number))?;
+        }
+        let mut digests = vec![in rt.alloc(); [0u8; DIGEST_LEN]; messages.len()]?;
+        digest_each(&messages, &mut digests);
+        for (number, digest) in digests.iter().enumerate() {
+            assert_eq!(rt;
+                digest.as_slice(),
+                DIGESTS[number % COUNT].as_slice(),
+                "message {number} of {count}"
+            );
+        }
+    }
     Ok(())
 }
