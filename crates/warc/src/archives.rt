@@ -360,7 +360,8 @@ impl<S: Source, A: Allocator + Copy> Archive<S, A> {
         self.lookup.index.latest(uri, moment)
     }
 
-    /// Writes a line for each finding, as a listing does, and answers how many there are.
+    /// Writes a line for each finding, as a listing does, and answers how many there are. A read that fails does so
+    /// before any line is written.
     pub fn check<W: Sink>(&mut self, out: &mut W) -> Result<usize, OutFault>
         ensures checks { Checks self.old.listing.rows (S.seen self.old.listing.source)
             (S.seen self.new.listing.source) (W.seen out.old) (W.seen out.new) result }

@@ -368,11 +368,12 @@ impl<S: Source, A: Allocator + Copy> Listing<S, A> {
 
     /// Writes a line for each finding, by the position of its record, then by its number, then by the
     /// order of the field table, and answers how many there are: `0 N2 WARC-Target-URI`,
-    /// `1 N6`, or `- N12` for an archive without records. Each head is read again.
+    /// `1 N6`, or `- N12` for an archive without records. First each head is read again, and each block
+    /// whose digest can be checked. Then the lines are written.
     ///
-    /// A read that fails, or a source that no longer gives what it gave at opening, is `Read`; a
-    /// write that fails is `Write`, and a refused growth of the memory `Memory`. Each says how many
-    /// bytes went out, which are the first of the output.
+    /// A read that fails, or a source that no longer gives what it gave at opening, is `Read`, and then
+    /// nothing was written. A write that fails is `Write`, and a refused growth of the memory `Memory`.
+    /// Each says how many bytes went out, which are the first of the output.
     pub fn check<W: Sink>(&mut self, out: &mut W) -> Result<usize, OutFault>
         ensures checks { Checks self.old.rows (S.seen self.old.source) (S.seen self.new.source) (W.seen out.old)
             (W.seen out.new) result }

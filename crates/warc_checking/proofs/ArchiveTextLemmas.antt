@@ -8,7 +8,7 @@ use Rattle.warc_frame.specs.declared.fault.OutFault.{OutFault}
 use Rattle.warc_reading.specs.Archive.{contents}
 use Rattle.warc_checking.specs.Checking.{check_text, findings_of_archive, findings_of_records, line_text, no_records}
 use Rattle.warc_reading.specs.Rereading.{AreCheckable}
-use Rattle.warc_checking.specs.Examining.{PutsCheck, PutsFindingsOf, PutsLines, records_text}
+use Rattle.warc_checking.specs.Lines.{PutsCheck, PutsFindingsOf, PutsLines, records_text}
 use Rattle.warc_reading.specs.Row.{Placed, Row, row_of}
 
 none_line : line_text no_records ≡ codes "- N12\n"

@@ -1,7 +1,7 @@
 -- The lines of findings, and what a record's row tells of it.
-use Rattle.std.proofs.Common.{◌≡◌, ℕ, ◌++◌, List, [], ◌∷◌, codes, decimal, unwrap_or, append_assoc, ◌+◌, ◌<◌, length, map, take, drop, get_or, refl, sym, ap, ◌∙◌, subst, Result}
+use Rattle.std.proofs.Common.{◌≡◌, ℕ, ◌++◌, List, [], ◌∷◌, map, codes, decimal, unwrap_or, append_assoc, sym, ap, ◌∙◌, refl, subst, Result}
 use Rattle.std.proofs.lemmas.Grind.{flat_map-append}
-use Rattle.std.proofs.lemmas.List.{append-nil, map-append, take-append-drop, take_more}
+use Rattle.std.proofs.lemmas.List.{append-nil, map-append}
 use Rattle.std.specs.List.{concat, flat_map}
 use Rattle.warc_frame.specs.Device.{Staged}
 use Rattle.warc_frame.specs.Effects.{Puts}
@@ -13,7 +13,7 @@ use Rattle.warc_record.specs.Ids.{id_key}
 use Rattle.warc_record.specs.Readings.{reading_of}
 use Rattle.warc_reading.specs.Row.{Placed, Row, row_of}
 use Rattle.warc_checking.specs.Checking.{about_record, record_key, line_text, numbered_line}
-use Rattle.warc_checking.specs.Examining.{record_lines}
+use Rattle.warc_checking.specs.Lines.{record_lines}
 
 -- the same text
 pub puts_same : {X : Type 0} {old new : Seen} {waits waiting : Staged} {answer : Result X SendFault} {a b : List ℕ} → a ≡ b → Puts old new waits waiting answer a
@@ -35,22 +35,3 @@ finding_line position number a c d e is_a is_c = six a (codes " N") c d e (codes
 
 pub text_append : (position : ℕ) (xs ys : List SeenFinding) → record_lines position (xs ++ ys) ≡ record_lines position xs ++ record_lines position ys
 text_append position xs ys = ap (flat_map line_text) (map-append (about_record position) xs ys) ∙ flat_map-append line_text (map (about_record position) xs) (map (about_record position) ys)
-
-module _ {X : Type 0} (seen : X → SeenFinding) where
-  -- one more finding
-  pub findings_more : (position : ℕ) (xs : List X) (i : ℕ) (d : X) (output : List ℕ) → i < length xs
-      → (output ++ record_lines position (map seen (take i xs))) ++ line_text (about_record position (seen (get_or xs i d))) ≡ output ++ record_lines position (map seen (take (i + 1) xs))
-  findings_more position xs i d output lt =
-      let item = seen (get_or xs i d) in
-      let more : map seen (take (i + 1) xs) ≡ map seen (take i xs) ++ item ∷ [] = ap (map seen) (take_more xs i d lt) ∙ map-append seen (take i xs) (get_or xs i d ∷ []) in
-      let line : record_lines position (item ∷ []) ≡ line_text (about_record position item) = append-nil (line_text (about_record position item)) in
-      append_assoc output (record_lines position (map seen (take i xs))) (line_text (about_record position item))
-      ∙ ap (λ l. output ++ l) (ap (λ l. record_lines position (map seen (take i xs)) ++ l) (sym line) ∙ sym (text_append position (map seen (take i xs)) (item ∷ [])) ∙ ap (record_lines position) (sym more))
-
-  -- the findings so far, and the others
-  pub findings_rest : (position : ℕ) (xs : List X) (i : ℕ) (output : List ℕ)
-      → (output ++ record_lines position (map seen (take i xs))) ++ record_lines position (map seen (drop i xs)) ≡ output ++ record_lines position (map seen xs)
-  findings_rest position xs i output =
-      append_assoc output (record_lines position (map seen (take i xs))) (record_lines position (map seen (drop i xs)))
-      ∙ ap (λ l. output ++ l) (sym (text_append position (map seen (take i xs)) (map seen (drop i xs)))
-      ∙ ap (record_lines position) (sym (map-append seen (take i xs) (drop i xs)) ∙ ap (map seen) (take-append-drop i xs)))

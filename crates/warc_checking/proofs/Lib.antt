@@ -2,11 +2,11 @@ pub mod AmongLemmas
 pub mod ArchiveTextLemmas
 pub mod CheckLemmas
 pub mod CountLemmas
-pub mod UsedIdLemmas
+pub mod JudgeLemmas
 pub mod NextLemmas
 pub mod OwnFindingLemmas
 pub mod RecordsLemmas
 pub mod SizeLemmas
 pub mod TallyLemmas
+pub mod UsedIdLemmas
 mod WorkedValues
-pub mod ExamineLemmas

@@ -1,9 +1,8 @@
 -- The next record of those whose findings are told.
-use Rattle.std.proofs.Common.{◌≡◌, ℕ, ◌+◌, ◌-◌, ◌^◌, ◌++◌, min, Bool, List, [], length, map, take, Some, if◌then◌else◌, unwrap_or, refl, sym, ap, ◌∙◌, arith}
+use Rattle.std.proofs.Common.{◌≡◌, ℕ, ◌+◌, Bool, List, [], length, map, take, Some, if◌then◌else◌, unwrap_or, sym, ap, ◌∙◌}
 use Rattle.std.proofs.lemmas.Option.{slice_get-map}
 use Rattle.std.specs.List.{slice_get}
 use Rattle.std.specs.Prelude.{option_map}
-use Rattle.warc_frame.specs.Count.{capped}
 use Rattle.warc_frame.specs.Record.{Record}
 use Rattle.warc_reading.specs.Archive.{contents}
 use Rattle.warc_reading.specs.Row.{Placed, Row}
@@ -11,9 +10,7 @@ use Rattle.warc_record.specs.Blocks.{has_bad_digest}
 use Rattle.warc_record.specs.Findings.{SeenFinding, findings_of}
 use Rattle.warc_record.specs.Good.{GoodHeadsRead}
 use Rattle.warc_record.specs.Ids.{id_key}
-use Rattle.warc_record.specs.declared.checks.ArchiveFacts.{ArchiveFacts}
 use Rattle.warc_checking.specs.Checking.{findings_behind, is_used, record_key}
-use Rattle.warc_checking.specs.Examining.{findings_of_first, first_text, record_lines}
 use Rattle.warc_checking.specs.Judged.{IsJudgedOf, Judged, own_findings}
 use Rattle.warc_checking.specs.OwnFindings.{AreJudged, IsDue, found_at, with_used}
 use Rattle.warc_checking.specs.UsedIds.{HoldsIdsOf, Ids, IsTally}
@@ -21,7 +18,6 @@ use Rattle.warc_checking.proofs.AmongLemmas.{used_among, used_count}
 use Rattle.warc_checking.proofs.CheckLemmas.{key_by_row}
 use Rattle.warc_reading.proofs.PlaceLemmas.{HeadsAreRead, checkable_archive}
 use Rattle.warc_reading.proofs.PlacedLemmas.{content_at, record_at}
-use Rattle.warc_checking.proofs.RecordsLemmas.{number_more, text_more}
 use Rattle.warc_checking.proofs.TallyLemmas.{alone}
 
 found_there : (records : List Placed) (i : ℕ) (p : Placed) → slice_get records i ≡ Some p → found_at (map own_findings (contents records)) i ≡ own_findings p.content
@@ -62,26 +58,6 @@ module _ (law : GoodHeadsRead) (before : List Record) (p : Placed) (row : Row) (
       let r = p.content in
       ap (λ f. length f + (if used then 1 else 0)) next.found_is ∙ used_count r.fields (length r.block) (has_bad_digest r) used
       ∙ ap (λ b. length (findings_of r.fields (length r.block) (has_bad_digest r) b)) used_is
-
-abbrev facts_of : List Record → Record → ArchiveFacts
-facts_of before r = record { bad_digest = has_bad_digest r; used_id = is_used before (record_key r) }
-
--- the lines of one more record, and their number
-pub next_text : (records : List Placed) (i : ℕ) (p : Placed) (output : List ℕ) → slice_get records i ≡ Some p
-    → (output ++ first_text i (contents records)) ++ record_lines i (findings_behind (take i (contents records)) p.content) ≡ output ++ first_text (i + 1) (contents records)
-next_text records i p output at =
-    let before = take i (contents records) in
-    text_more records i p p.content.fields (length p.content.block) (facts_of before p.content) output at (record { fields_are = refl; bad_digest = refl; used_id = refl }) refl
-
-capped_more : (a b m : ℕ) → min (a + min b m) m ≡ min (a + b) m
-capped_more a b m = omega arith
-
-pub next_number : (records : List Placed) (i : ℕ) (p : Placed) → slice_get records i ≡ Some p
-    → capped (capped (length (findings_of_first i (contents records))) + capped (length (findings_behind (take i (contents records)) p.content))) ≡ capped (length (findings_of_first (i + 1) (contents records)))
-next_number records i p at =
-    let before = take i (contents records) in
-    capped_more (capped (length (findings_of_first i (contents records)))) (length (findings_behind before p.content)) (2 ^ 64 - 1)
-    ∙ number_more records i p p.content.fields (length p.content.block) (facts_of before p.content) at (record { fields_are = refl; bad_digest = refl; used_id = refl }) refl
 
 -- what is kept of an archive, whatever it is called
 pub judged_by : {S : Type 0} → HeadsAreRead → (bytes : List ℕ) (judged : Judged S) (is : IsJudgedOf bytes judged) (rows : List Row) (found : List (List SeenFinding)) → rows ≡ judged.listing.rows → found ≡ judged.findings

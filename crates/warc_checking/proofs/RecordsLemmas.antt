@@ -1,25 +1,27 @@
 -- The findings of the first records, and one more.
-use Rattle.std.proofs.Common.{◌≡◌, ℕ, ◌+◌, ◌-◌, ◌^◌, ◌≤◌, false, min, List, [], ◌∷◌, ◌++◌, length, map, take, drop, Some, Result, Ok, Err, append_assoc, length-append, take_all, refl, sym, ap, subst, ◌∙◌, arith}
+use Rattle.std.proofs.Common.{◌≡◌, ℕ, ◌+◌, ◌-◌, ◌^◌, ◌≤◌, false, min, List, [], ◌∷◌, ◌++◌, length, take, drop, Option, Some, None, Result, Ok, Err, append_assoc, length-append, take_all, refl, sym, ap, subst, ◌∙◌, arith}
 use Rattle.std.proofs.lemmas.Grind.{flat_map-append}
 use Rattle.std.proofs.lemmas.List.{append-nil, length-map, length-take-le, take-append-drop}
-use Rattle.std.specs.Result.{IsErrAnd}
+use Rattle.std.specs.Io.KnownBytes.{append_known}
 use Rattle.std.specs.List.{enumerate_from, flat_map, slice_get}
-use Rattle.warc_field.specs.Area.{Pair}
+use Rattle.std.specs.Prelude.{IfErr}
 use Rattle.warc_frame.specs.Count.{capped}
-use Rattle.warc_frame.specs.Send.{sent_of}
+use Rattle.warc_frame.specs.Effects.{FailsBy}
+use Rattle.warc_frame.specs.Failing.{HasFailedBy, MayHaveFailedBy, failed_with, is_read}
+use Rattle.warc_frame.specs.Record.{Record}
+use Rattle.warc_frame.specs.Seen.{SeenSource}
+use Rattle.warc_frame.specs.Send.{WentOut, sent_of}
 use Rattle.warc_frame.specs.declared.fault.OutFault.{OutFault}
 use Rattle.warc_frame.specs.declared.fault.OutFault.TheVariants.{Read as ReadFailed, Write as WriteFailed, Memory as OutOfMemory}
-use Rattle.warc_frame.specs.Record.{Record}
-use Rattle.warc_record.specs.declared.checks.ArchiveFacts.{ArchiveFacts}
+use Rattle.warc_frame.proofs.EffectLemmas.{fails_never}
 use Rattle.warc_reading.specs.Archive.{contents}
-use Rattle.warc_checking.specs.Checking.{Line, findings_at, findings_behind, findings_of_records, line_text}
 use Rattle.warc_reading.specs.Rereading.{AreCheckable, ended_by}
-use Rattle.warc_checking.specs.Examining.{IsExamined, findings_of_first, first_text, findings_by_facts, record_lines, records_text}
-use Rattle.warc_frame.specs.Failing.{HasFailedBy, MayHaveFailedBy, is_read}
+use Rattle.warc_reading.specs.Row.{Placed, Row, row_of}
 use Rattle.warc_reading.specs.declared.rereading.RereadFault.{RereadFault}
 use Rattle.warc_reading.specs.declared.rereading.RereadFault.TheVariants.{Read, Memory}
 use Rattle.warc_reading.proofs.PlacedLemmas.{below, content_at, take_one}
-use Rattle.warc_reading.specs.Row.{Placed, Row, row_of}
+use Rattle.warc_checking.specs.Checking.{Line, about_record, findings_at, findings_behind, findings_of_records, line_text}
+use Rattle.warc_checking.specs.Lines.{findings_of_first, first_text, record_lines, records_text}
 use Rattle.warc_checking.specs.UsedIds.{HoldsIdsOf, Ids}
 
 enumerate_from-append : {X : Type 0} (n : ℕ) (xs ys : List X) → enumerate_from n (xs ++ ys) ≡ enumerate_from n xs ++ enumerate_from (n + length xs) ys
@@ -39,34 +41,26 @@ first_more rs i r is =
     let f : ℕ × Record → List Line = λ p. findings_at rs p.0 p.1 in
     ap (flat_map f) (enumerate_one rs i r is) ∙ flat_map-append f (enumerate_from 0 (take i rs)) ((i, r) ∷ []) ∙ ap (λ l. findings_of_first i rs ++ l) (append-nil (findings_at rs i r))
 
--- what was found of an examined record
-found_is : (before : List Record) (r : Record) (fields : List Pair) (block_len : ℕ) (facts : ArchiveFacts) → IsExamined before r fields facts → block_len ≡ length r.block
-    → findings_by_facts fields block_len facts ≡ findings_behind before r
-found_is before r fields block_len facts is len = rw (is.fields_are, len, is.bad_digest, is.used_id) refl
-
-pub text_more : (records : List Placed) (i : ℕ) (p : Placed) (fields : List Pair) (block_len : ℕ) (facts : ArchiveFacts) (output : List ℕ) → slice_get records i ≡ Some p
-    → IsExamined (take i (contents records)) p.content fields facts → block_len ≡ length p.content.block
-    → (output ++ first_text i (contents records)) ++ record_lines i (findings_by_facts fields block_len facts) ≡ output ++ first_text (i + 1) (contents records)
-text_more records i p fields block_len facts output at is len =
+-- the lines of one more record, and their number
+pub text_more : (records : List Placed) (i : ℕ) (p : Placed) (output : List ℕ) → slice_get records i ≡ Some p
+    → (output ++ first_text i (contents records)) ++ record_lines i (findings_behind (take i (contents records)) p.content) ≡ output ++ first_text (i + 1) (contents records)
+text_more records i p output at =
     let rs = contents records in
-    let found = found_is (take i rs) p.content fields block_len facts is len in
     let more = ap (flat_map line_text) (first_more rs i p.content (content_at records i p at)) ∙ flat_map-append line_text (findings_of_first i rs) (findings_at rs i p.content) in
-    append_assoc output (first_text i rs) (record_lines i (findings_by_facts fields block_len facts))
-    ∙ ap (λ l. output ++ l) (ap (λ l. first_text i rs ++ record_lines i l) found ∙ sym more)
+    append_assoc output (first_text i rs) (record_lines i (findings_behind (take i rs) p.content)) ∙ ap (λ l. output ++ l) (sym more)
 
-saturated : (a b m : ℕ) → min (min a m + b) m ≡ min (a + b) m
+saturated : (a b m : ℕ) → min (min a m + min b m) m ≡ min (a + b) m
 saturated a b m = omega arith
 
-pub number_more : (records : List Placed) (i : ℕ) (p : Placed) (fields : List Pair) (block_len : ℕ) (facts : ArchiveFacts) → slice_get records i ≡ Some p
-    → IsExamined (take i (contents records)) p.content fields facts → block_len ≡ length p.content.block
-    → capped (capped (length (findings_of_first i (contents records))) + length (findings_by_facts fields block_len facts)) ≡ capped (length (findings_of_first (i + 1) (contents records)))
-number_more records i p fields block_len facts at is len =
+pub number_more : (records : List Placed) (i : ℕ) (p : Placed) → slice_get records i ≡ Some p
+    → capped (capped (length (findings_of_first i (contents records))) + capped (length (findings_behind (take i (contents records)) p.content))) ≡ capped (length (findings_of_first (i + 1) (contents records)))
+number_more records i p at =
     let rs = contents records in
-    let found = found_is (take i rs) p.content fields block_len facts is len in
-    let size : length (findings_at rs i p.content) ≡ length (findings_by_facts fields block_len facts) = length-map (findings_behind (take i rs) p.content) _ ∙ ap length (sym found) in
-    let more : length (findings_of_first (i + 1) rs) ≡ length (findings_of_first i rs) + length (findings_by_facts fields block_len facts) =
+    let found = findings_behind (take i rs) p.content in
+    let size : length (findings_at rs i p.content) ≡ length found = length-map (findings_behind (take i rs) p.content) (about_record i) in
+    let more : length (findings_of_first (i + 1) rs) ≡ length (findings_of_first i rs) + length found =
     ap length (first_more rs i p.content (content_at records i p at)) ∙ length-append (findings_of_first i rs) (findings_at rs i p.content) ∙ ap (λ n. length (findings_of_first i rs) + n) size in
-    saturated (length (findings_of_first i rs)) (length (findings_by_facts fields block_len facts)) (2 ^ 64 - 1) ∙ ap capped (sym more)
+    saturated (length (findings_of_first i rs)) (length found) (2 ^ 64 - 1) ∙ ap capped (sym more)
 
 -- the ids of one more record
 pub ids_one : (records : List Placed) (i : ℕ) (p : Placed) (ids : Ids) → slice_get records i ≡ Some p → HoldsIdsOf (take i (contents records) ++ p.content ∷ []) ids
@@ -96,18 +90,36 @@ first_all bytes records rows n can past =
     omega (arith, past, ap length can.rows_are, length-map records row_of, length-map records (λ (p : Placed). p.content)) in
     ap (λ l. flat_map (λ p. findings_at (contents records) p.0 p.1) (enumerate_from 0 l)) (take_all n (contents records) size)
 
--- an output that ends at a record, after so many bytes
-pub sent_ended : (fault : RereadFault) (e : OutFault) (n m : ℕ) → e ≡ ended_by fault n → n ≡ m → m ≡ sent_of e
-sent_ended Read e n m is same = sym (ap sent_of is ∙ same)
-sent_ended Memory e n m is same = sym (ap sent_of is ∙ same)
-
--- an output that ended by no read over a source that hasn't failed
--- the source has failed as often as before by an end that tells no read
+-- the source has failed as often as before by an end that is no failed read
 pub unread : (X : Type 0) (e : OutFault) (old new : ℕ) → is_read e ≡ false → new ≡ old → MayHaveFailedBy {X = X} (Err e) old new × HasFailedBy {X = X} (Err e) old new
 unread X (ReadFailed sent) old new none same = absurd (cc none)
 unread X (WriteFailed sent) old new none same = (same, same)
 unread X (OutOfMemory sent) old new none same = (same, same)
 
-pub unread_sound : {X : Type 0} (r : Result X OutFault) (e : OutFault) (old new : ℕ) → IsErrAnd r (λ f. f ≡ e) → is_read e ≡ false → new ≡ old → MayHaveFailedBy r old new × HasFailedBy r old new
-unread_sound (Ok x) e old new is none same = absurd is
-unread_sound {X} (Err f) e old new is none same = unread X f old new (ap is_read is ∙ none) same
+pub fails_unread : {X : Type 0} {Expected : List ℕ → Type 0} (answer : Result X OutFault) {old new : SeenSource} → IfErr answer (λ e. is_read e ≡ false) → new.faults ≡ old.faults → FailsBy Expected answer old new
+fails_unread {X} {Expected} (Ok x) {old} {new} none same = fails_never same
+fails_unread {X} {Expected} (Err e) {old} {new} none same =
+    record { may = (unread X e old.faults new.faults none same).0; failed = λ bytes held is. (unread X e old.faults new.faults none same).1 }
+
+unsent : (fault : RereadFault) → sent_of (ended_by fault 0) ≡ 0
+unsent Read = refl
+unsent Memory = refl
+
+silent : (fault : RereadFault) (n : ℕ) → failed_with (ended_by fault 0) n ≡ n
+silent Read n = refl
+silent Memory n = refl
+
+append_none : (start : Option (List ℕ)) → append_known start [] ≡ start
+append_none None = refl
+append_none (Some text) = ap (λ l. Some l) (append-nil text)
+
+-- an output that ends before it begins
+module _ (fault : RereadFault) (e : OutFault) (is : e ≡ ended_by fault 0) where
+  pub none_sent : sent_of e ≡ 0
+  none_sent = ap sent_of is ∙ unsent fault
+
+  pub none_out : (start : Option (List ℕ)) (output : List ℕ) → WentOut start output start (sent_of e)
+  none_out start output = record { count = 0; within = omega arith; told = sym (append_none start); number = none_sent }
+
+  pub none_failed : (n : ℕ) → n ≡ failed_with e n
+  none_failed n = sym (ap (λ f. failed_with f n) is ∙ silent fault n)

@@ -1,5 +1,5 @@
 -- How the check of an archive ends: what it writes, what it reads, and what it returns.
-use Rattle.std.specs.Prelude.{◌≡◌, ℕ, ◌^◌, ◌<◌, List, length, Result, IfErr, IfOk, OnOk}
+use Rattle.std.specs.Prelude.{◌≡◌, ℕ, ◌^◌, ◌<◌, true, List, length, Result, IfErr, IfOk, OnOk}
 use Rattle.std.specs.Io.KnownBytes.{append_known}
 use Rattle.warc_frame.specs.Send.{WentOut, sent_of}
 use Rattle.warc_frame.specs.Record.{Record}
@@ -7,7 +7,7 @@ use Rattle.warc_frame.specs.declared.fault.OutFault.{OutFault}
 use Rattle.warc_reading.specs.Archive.{IsArchiveOf, contents}
 use Rattle.warc_checking.specs.Checking.{check_text, findings_of_archive}
 use Rattle.warc_frame.specs.Effects.{FailsBy}
-use Rattle.warc_frame.specs.Failing.{failed_by}
+use Rattle.warc_frame.specs.Failing.{failed_by, is_read}
 use Rattle.warc_reading.specs.Rereading.{ReadsRows}
 use Rattle.warc_reading.specs.Row.{Row}
 use Rattle.warc_frame.specs.Seen.{IfHeld, Seen, SeenSource}
@@ -37,6 +37,8 @@ pub record Checks (rows : List Row) (old new : SeenSource) (before after : Seen)
   pub reads : ReadsRows rows old new
   pub fails : FailsBy (λ bytes. IsArchiveOf bytes rows) answer old new
   pub cause : after.faults ≡ failed_by answer before.faults
+  -- a read that fails does so before anything is written
+  pub unsent : IfErr answer (λ e. is_read e ≡ true → (sent_of e ≡ 0) × (after ≡ before))
 
 -- writing what was found of records as they were read: a line is written for each finding, and counted, or a front of
 -- the lines is

@@ -1,6 +1,6 @@
 pub mod Checking
 pub mod Checks
-pub mod Examining
 pub mod Judged
+pub mod Lines
 pub mod OwnFindings
 pub mod UsedIds

@@ -1,148 +1,19 @@
 //! An archive whose records are judged as they are read: the findings of each are kept with its row, so that they are
 //! reported without reading anything again.
-ghost use Rattle.std.specs.Prelude.{◌≡◌, ℕ, ◌++◌, List, [], ◌∷◌, Option, false, IfErr, IfOk, OnOk, length};
-ghost use Rattle.warc_frame.specs.Count.{capped};
+ghost use Rattle.std.specs.Prelude.{◌≡◌, ℕ, List, false, IfErr, length};
 ghost use Rattle.warc_frame.specs.Failing.{failed_by, is_read};
-ghost use Rattle.warc_frame.specs.Record.{Record};
-ghost use Rattle.warc_frame.specs.Send.{IsStaged, WentOut, sent_of};
 ghost use Rattle.warc_reading.specs.Archive.{contents};
 ghost use Rattle.warc_reading.specs.Opening.{Opens};
-ghost use Rattle.warc_reading.specs.Row.{Placed};
-ghost use Rattle.warc_checking.specs.Checking.{findings_behind, findings_of_archive};
-ghost use Rattle.warc_checking.specs.Checks.{AreCutOff, AreTold, WritesFindings};
-ghost use Rattle.warc_checking.specs.Examining.{PutsCheck, PutsFindingsOf, record_lines};
+ghost use Rattle.warc_checking.specs.Checks.{WritesFindings};
 ghost use Rattle.warc_checking.specs.Judged.{IsJudgedOf, judged_of, source_judged};
-ghost use Rattle.warc_checking.specs.OwnFindings.{AreJudged, IsDue, found_at};
-ghost use Rattle.warc_checking.specs.UsedIds.{HoldsIdsOf, IsTally};
 
-use crate::check::put_none;
 use crate::own_findings::OwnFindings;
-use crate::used_ids::UsedIds;
+use crate::writing::tell_rows;
 use std::alloc::{Allocator, Global};
 use std::marker::Model;
-use warc_frame::laws::{head_of_spelled, staged_went_out, went_out_of_longer};
-use warc_frame::{Fault, OutBuffer, OutFault, Sink, Source};
-use warc_reading::{Row, Rows, read_on};
-use warc_record::laws::good_heads_read;
-
-/// Adds the lines of a record's findings to the output, and returns their number, up to 2^64 - 1. Its id is added to
-/// the ids of the records before it.
-fn put_next<A: Allocator + Copy, W: Sink>(
-    alloc: A,
-    position: usize,
-    row: &Row<'_>,
-    findings: &OwnFindings<A>,
-    ids: &mut UsedIds<A>,
-    buffer: &mut OutBuffer,
-    out: &mut W,
-) -> Result<usize, OutFault>
-    ensures out { (before : List Record) (p : Placed) (start : Option (List ℕ)) (output : List ℕ) →
-        IsDue before p row.now (found_at findings.now position) ids.old → IsStaged start output (W.seen out.old).tells
-        buffer.old → OnOk result (IsStaged start (output ++ record_lines position (findings_behind before p.content))
-        (W.seen out.new).tells buffer.new) }
-    ensures cut { (before : List Record) (p : Placed) (start : Option (List ℕ)) (output : List ℕ) →
-        IsDue before p row.now (found_at findings.now position) ids.old → IsStaged start output (W.seen out.old).tells
-        buffer.old → IfErr result (λ e. WentOut start (output ++ record_lines position
-        (findings_behind before p.content)) (W.seen out.new).tells (sent_of e)) }
-    ensures number { (before : List Record) (p : Placed) →
-        IsDue before p row.now (found_at findings.now position) ids.old →
-        IfOk result (λ n. n ≡ capped (length (findings_behind before p.content))) }
-    ensures ids { (before : List Record) (p : Placed) →
-        IsDue before p row.now (found_at findings.now position) ids.old →
-        OnOk result (HoldsIdsOf (before ++ p.content ∷ []) ids.new) }
-    ensures counts { ids.new.counts ≡ ids.old.counts }
-    ensures cause { (W.seen out.new).faults ≡ failed_by result (W.seen out.old).faults }
-    ensures unread { IfErr result (λ e. is_read e ≡ false) }
-{
-    good_heads_read();
-    staged_went_out();
-    went_out_of_longer();
-    let Ok(used) = ids.add(alloc, row.id) else {
-        return Err(OutFault::Memory(buffer.sent()));
-    };
-    match findings.put(position, used, buffer, out) {
-        Ok(number) => Ok(number),
-        Err(fault) => Err(OutFault::Write(fault.sent)),
-    }
-}
-
-/// Adds the lines of all records' findings to the output, and returns their number, up to 2^64 - 1.
-fn put_each<A: Allocator + Copy, W: Sink>(
-    alloc: A,
-    rows: &Rows<A>,
-    findings: &OwnFindings<A>,
-    ids: &mut UsedIds<A>,
-    buffer: &mut OutBuffer,
-    out: &mut W,
-) -> Result<usize, OutFault>
-    requires tally { IsTally (length rows.now) rows.now ids.old.counts }
-    requires ids { HoldsIdsOf [] ids.old }
-    ensures puts { (bytes : List ℕ) (records : List Placed) → AreJudged bytes records rows.now findings.now →
-        PutsFindingsOf (contents records) (W.seen out.old) (W.seen out.new) buffer.old buffer.new result }
-    ensures cause { (W.seen out.new).faults ≡ failed_by result (W.seen out.old).faults }
-    ensures unread { IfErr result (λ e. is_read e ≡ false) }
-{
-    went_out_of_longer();
-    good_heads_read();
-    let mut count = 0usize;
-    'telling: for position in 0..rows.len() {
-        let Some(row) = rows.get(position) else {
-            unreachable!()
-        };
-        let number = put_next(alloc, position, &row, findings, ids, buffer, out)?;
-        count = count.saturating_add(number);
-    }
-    Ok(count)
-}
-
-/// Adds the lines of all findings to the output, or that there is no record.
-fn put_rows<A: Allocator + Copy, W: Sink>(
-    alloc: A,
-    rows: &Rows<A>,
-    findings: &OwnFindings<A>,
-    buffer: &mut OutBuffer,
-    out: &mut W,
-) -> Result<usize, OutFault>
-    ensures puts { (bytes : List ℕ) (records : List Placed) → AreJudged bytes records rows.now findings.now →
-        PutsCheck (contents records) (W.seen out.old) (W.seen out.new) buffer.old buffer.new result }
-    ensures cause { (W.seen out.new).faults ≡ failed_by result (W.seen out.old).faults }
-    ensures unread { IfErr result (λ e. is_read e ≡ false) }
-{
-    staged_went_out();
-    went_out_of_longer();
-    if rows.len() == 0 {
-        return put_none(buffer, out);
-    }
-    let Ok(mut ids) = UsedIds::new(alloc, rows) else {
-        return Err(OutFault::Memory(buffer.sent()));
-    };
-    put_each(alloc, rows, findings, &mut ids, buffer, out)
-}
-
-/// Writes a line for each finding of the records, in their order, or that there is no record. The result is the number
-/// of lines, up to 2^64 - 1.
-fn tell_rows<A: Allocator + Copy, W: Sink>(
-    alloc: A,
-    rows: &Rows<A>,
-    findings: &OwnFindings<A>,
-    out: &mut W,
-) -> Result<usize, OutFault>
-    ensures told { (bytes : List ℕ) (records : List Placed) → AreJudged bytes records rows.now findings.now →
-        AreTold (contents records) result (W.seen out.old) (W.seen out.new) }
-    ensures number { (bytes : List ℕ) (records : List Placed) → AreJudged bytes records rows.now findings.now →
-        IfOk result (λ n. n ≡ capped (length (findings_of_archive (contents records)))) }
-    ensures cut { (bytes : List ℕ) (records : List Placed) → AreJudged bytes records rows.now findings.now →
-        AreCutOff (contents records) result (W.seen out.old) (W.seen out.new) }
-    ensures cause { (W.seen out.new).faults ≡ failed_by result (W.seen out.old).faults }
-    ensures unread { IfErr result (λ e. is_read e ≡ false) }
-{
-    let mut buffer = OutBuffer::new();
-    let number = put_rows(alloc, rows, findings, &mut buffer, out)?;
-    match buffer.flush(out) {
-        Ok(()) => Ok(number),
-        Err(fault) => Err(OutFault::Write(fault.sent)),
-    }
-}
+use warc_frame::laws::head_of_spelled;
+use warc_frame::{Fault, OutFault, Sink, Source};
+use warc_reading::{Rows, read_on};
 
 /// An archive, whose records are listed and were judged as they were read. Contracts see its listing, and the findings
 /// that each record alone shows.

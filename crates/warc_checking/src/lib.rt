@@ -4,8 +4,10 @@
 mod check;
 mod checking;
 pub mod laws;
+mod lines;
 mod own_findings;
 mod used_ids;
+mod writing;
 
 pub use check::{Rejudged, check_rows, judge_again};
 pub use checking::Checked;

@@ -5,12 +5,12 @@ ghost use Rattle.warc_frame.specs.Count.{capped};
 ghost use Rattle.warc_frame.specs.Effects.{Puts};
 ghost use Rattle.warc_reading.specs.Archive.{contents};
 ghost use Rattle.warc_record.specs.Findings.{SeenFinding, IdUsed, finding_seen, findings_of, once};
-ghost use Rattle.warc_checking.specs.Examining.{record_lines};
+ghost use Rattle.warc_checking.specs.Lines.{record_lines};
 ghost use Rattle.warc_checking.specs.Judged.{own_findings};
 ghost use Rattle.warc_checking.specs.OwnFindings.{AreNamed, AreParts, IsNamed, IsPart, all_found, found_at, found_by_part, finding_in, is_late, findings_of_part, finding_by_number, with_used};
 ghost use Rattle.warc_value.specs.Digests.{is_bad};
 
-use crate::check::put_finding;
+use crate::lines::put_finding;
 use std::alloc::{AllocError, Allocator};
 use std::marker::Model;
 use warc_field::Fields;
@@ -405,6 +405,29 @@ impl<A: Allocator + Copy> OwnFindings<A> {
         }
     }
 
+    /// Adds the findings of the next record, by the fields of its head, the length of its block and the verdict on its
+    /// digest. If memory is refused, none is added.
+    pub(crate) fn add(
+        &mut self,
+        alloc: A,
+        fields: &Fields<A>,
+        block_len: u64,
+        verdict: Verdict,
+    ) -> Result<(), AllocError>
+        ensures ok { OnOk result (self.new ≡ self.old
+            ++ findings_of fields.now block_len (is_bad verdict) false ∷ []) }
+        ensures err { OnErr result (self.new ≡ self.old) }
+    {
+        add_part(
+            alloc,
+            &mut self.findings,
+            &mut self.parts,
+            fields,
+            block_len,
+            verdict,
+        )
+    }
+
     /// Adds the lines of the findings of the record at a position to the output, and of N6 among them, if it holds.
     /// The result is their number, up to 2^64 - 1.
     pub(crate) fn put<W: Sink>(
@@ -451,14 +474,7 @@ impl<A: Allocator + Copy> Keep<A> for OwnFindings<A> {
         block_len: u64,
         verdict: Verdict,
     ) -> Result<(), AllocError> {
-        add_part(
-            alloc,
-            &mut self.findings,
-            &mut self.parts,
-            fields,
-            block_len,
-            verdict,
-        )
+        self.add(alloc, fields, block_len, verdict)
     }
 
     fn truncate(&mut self, count: usize) {

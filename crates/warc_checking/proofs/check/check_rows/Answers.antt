@@ -1,21 +1,41 @@
-use Rattle.std.proofs.lemmas.Result.{IfOk-weaker}
-use Rattle.std.proofs.Common.{refl, ◌∙◌}
+use Rattle.std.proofs.Common.{rules, ℕ, List, Some, false, true, ◌≡◌, refl, sym, ◌∙◌}
+use Rattle.std.proofs.lemmas.Result.{IfErr-weaker, IfOk-weaker}
 use Rattle.warc_frame.proofs.EffectLemmas.{fails_more}
-use Rattle.warc_checking.proofs.CountLemmas.{counted}
+use Rattle.warc_reading.specs.Archive.{IsArchiveOf}
+use Rattle.warc_reading.proofs.HeadLemmas.{fails_ended}
 use Rattle.warc_reading.proofs.PlaceLemmas.{checkable_archive}
+use Rattle.warc_checking.specs.OwnFindings.{AreJudged}
+use Rattle.warc_checking.proofs.CountLemmas.{counted}
+use Rattle.warc_checking.proofs.RecordsLemmas.{fails_unread, none_failed, none_out, none_sent}
 use Rattle.warc_checking.proofs.check.check_rows.Goals as goal
 
-pub returns : goal.returns
-returns g c = record {
-  told = λ bytes held is.
-      c.tell_reread.ensures.told bytes is.are.records held (checkable_archive c.head_of_spelled.ensures bytes _ is _ refl);
-  number = λ bytes held is.
-      IfOk-weaker c.tell_reread.result _ _ (λ n e. e ∙ counted bytes _ is)
-      (c.tell_reread.ensures.number bytes is.are.records held (checkable_archive c.head_of_spelled.ensures bytes _ is _ refl));
-  cut = λ bytes held is.
-      c.tell_reread.ensures.cut bytes is.are.records held (checkable_archive c.head_of_spelled.ensures bytes _ is _ refl);
-  reads = c.tell_reread.ensures.reads;
-  fails = fails_more (λ bytes held is. record { records = is.are.records; can = checkable_archive c.head_of_spelled.ensures bytes _ is _ refl })
-      c.tell_reread.ensures.fails;
-  cause = c.tell_reread.ensures.cause;
+pub returns-in-Err : goal.returns-in-Err
+returns-in-Err g c = record {
+  told = λ bytes held is. search rules;
+  number = λ bytes held is. search rules;
+  cut = λ bytes held is. none_out c.in-Err.fault c.after.result c.after.ensures _ _;
+  reads = c.judge_rows.ensures.reads;
+  fails = fails_ended c.in-Err.fault c.after.result 0 c.after.ensures
+      (fails_more (λ bytes held is. record { records = is.are.records; can = checkable_archive c.head_of_spelled.ensures bytes _ is _ refl })
+      c.in-Err.ensures.fails);
+  cause = none_failed c.in-Err.fault c.after.result c.after.ensures _;
+  unsent = λ read. (none_sent c.in-Err.fault c.after.result c.after.ensures, refl);
 }
+
+pub returns : goal.returns
+returns g c =
+    let found : (bytes : List ℕ) → (g.S.Source.seen c.args.source.now).holds ≡ Some bytes → (is : IsArchiveOf bytes c.args.rows.now)
+    → AreJudged bytes is.are.records c.args.rows.now c.in-Ok.findings =
+    λ bytes held is.
+    let can = checkable_archive c.head_of_spelled.ensures bytes _ is _ refl in
+    record { can = can; found_is = c.in-Ok.ensures.judged bytes held is.are.records can } in
+    record {
+      told = λ bytes held is. c.tell_rows.ensures.told bytes is.are.records (found bytes held is);
+      number = λ bytes held is.
+          IfOk-weaker c.tell_rows.result _ _ (λ n e. e ∙ counted bytes _ is) (c.tell_rows.ensures.number bytes is.are.records (found bytes held is));
+      cut = λ bytes held is. c.tell_rows.ensures.cut bytes is.are.records (found bytes held is);
+      reads = c.judge_rows.ensures.reads;
+      fails = fails_unread c.tell_rows.result c.tell_rows.ensures.unread c.in-Ok.ensures.fails.may;
+      cause = c.tell_rows.ensures.cause;
+      unsent = IfErr-weaker c.tell_rows.result _ _ (λ e none is. let no : false ≡ true = sym none ∙ is in absurd (cc no)) c.tell_rows.ensures.unread;
+    }

@@ -1,8 +1,7 @@
 use Rattle.std.proofs.Common.{ap, arith, ◌∙◌}
 use Rattle.warc_frame.proofs.EffectLemmas.{fails_after, fails_more}
-use Rattle.warc_record.specs.Readings.{digest_wanted}
 use Rattle.warc_reading.specs.Row.{Row}
-use Rattle.warc_checking.proofs.ExamineLemmas.{block_judged, block_there, head_there, reads_examined}
+use Rattle.warc_checking.proofs.JudgeLemmas.{block_judged, block_there, head_there, reads_again}
 use Rattle.warc_checking.proofs.check.judge_again.Goals as goal
 
 pub returns-in-Err-clause-fails : goal.returns-in-Err-clause-fails
@@ -21,13 +20,13 @@ returns-in-Ok-judge_range-clause-judged g c = λ bytes held is.
 pub returns-in-Ok-judge_range-clause-reads : goal.returns-in-Ok-judge_range-clause-reads
 returns-in-Ok-judge_range-clause-reads g c =
     let whole = c.in-Ok.ensures.whole in
-    reads_examined c.args.row.now _ _ c.wanted-wanted.result (ap (λ (r : Row). r.block_start) c.row.view_is)
+    reads_again c.args.row.now _ _ c.wanted-wanted.result (ap (λ (r : Row). r.block_start) c.row.view_is)
     (ap (λ (r : Row). r.block_len) c.row.view_is) (omega (arith, whole.size)) c.in-Ok.ensures.reads c.judge_range.ensures.reads
 
 pub returns-in-Err-judge_range-clause-reads : goal.returns-in-Err-judge_range-clause-reads
 returns-in-Err-judge_range-clause-reads g c =
     let whole = c.in-Ok.ensures.whole in
-    reads_examined c.args.row.now _ _ c.wanted-wanted.result (ap (λ (r : Row). r.block_start) c.row.view_is)
+    reads_again c.args.row.now _ _ c.wanted-wanted.result (ap (λ (r : Row). r.block_start) c.row.view_is)
     (ap (λ (r : Row). r.block_len) c.row.view_is) (omega (arith, whole.size)) c.in-Ok.ensures.reads c.judge_range.ensures.reads
 
 pub returns-in-Err-judge_range-clause-fails : goal.returns-in-Err-judge_range-clause-fails

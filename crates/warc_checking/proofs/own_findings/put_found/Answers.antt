@@ -3,7 +3,7 @@ use Rattle.std.proofs.lemmas.Result.{IfErr-weaker, on_ok_weaker}
 use Rattle.std.specs.List.{filter}
 use Rattle.warc_frame.proofs.LawLemmas.{same_out, same_staged}
 use Rattle.warc_record.specs.Findings.{IdUsed, once}
-use Rattle.warc_checking.specs.Examining.{record_lines}
+use Rattle.warc_checking.specs.Lines.{record_lines}
 use Rattle.warc_checking.specs.OwnFindings.{all_found, is_late}
 use Rattle.warc_checking.proofs.OwnFindingLemmas.{last_texts, three_texts}
 use Rattle.warc_checking.proofs.own_findings.put_found.Goals as goal

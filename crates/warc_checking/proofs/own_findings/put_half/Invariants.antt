@@ -1,7 +1,7 @@
 use Rattle.std.proofs.Common.{◌≡◌, ◌++◌, ℕ, List, Option, map, take}
 use Rattle.std.specs.List.{filter}
 use Rattle.warc_frame.specs.Send.{IsStaged}
-use Rattle.warc_checking.specs.Examining.{record_lines}
+use Rattle.warc_checking.specs.Lines.{record_lines}
 use Rattle.warc_checking.specs.OwnFindings.{finding_in, is_late}
 use Rattle.warc_checking.proofs.own_findings.put_half.Given as goal
 

@@ -1,5 +1,5 @@
 use Rattle.std.proofs.Common.{ap}
-use Rattle.warc_checking.specs.Examining.{record_lines}
+use Rattle.warc_checking.specs.Lines.{record_lines}
 use Rattle.warc_checking.specs.OwnFindings.{with_used}
 use Rattle.warc_checking.proofs.CheckLemmas.{puts_same}
 use Rattle.warc_checking.proofs.OwnFindingLemmas.{part_found}

@@ -1,5 +1,5 @@
 use Rattle.std.proofs.Common.{rules, []}
-use Rattle.warc_checking.proofs.checking.tell_rows.Goals as goal
+use Rattle.warc_checking.proofs.writing.tell_rows.Goals as goal
 
 pub returns-in_err-number-clause-cut : goal.returns-in_err-number-clause-cut
 returns-in_err-number-clause-cut g c = λ bytes records findings.

@@ -1,7 +1,9 @@
--- A record that is examined: its head is read again, and its block.
-use Rattle.std.proofs.Common.{◌≡◌, ◌≤◌, ℕ, List, [], ◌∷◌, length, take, drop, ap, ◌∙◌, arith}
+-- A record that is judged again: its head is read, and its block.
+use Rattle.std.proofs.Common.{◌≡◌, ◌≤◌, ℕ, false, List, [], ◌∷◌, length, map, take, drop, take_all, refl, ap, ◌∙◌, arith}
+use Rattle.std.proofs.lemmas.List.{length-map}
 use Rattle.warc_field.specs.Area.{Pair}
-use Rattle.warc_value.specs.Digests.{verdict_of}
+use Rattle.warc_value.specs.Digests.{is_bad, verdict_of}
+use Rattle.warc_value.specs.declared.hash.Verdict.{Verdict}
 use Rattle.warc_value.specs.declared.hash.Wanted.{Wanted}
 use Rattle.warc_frame.specs.Effects.{HasRange, ReadsOnly, ReadsRange}
 use Rattle.warc_frame.specs.Seen.{IsInRange, SeenSource}
@@ -9,11 +11,14 @@ use Rattle.warc_frame.proofs.EffectLemmas.{reads_both, reads_within}
 use Rattle.warc_record.specs.Readings.{digest_wanted}
 use Rattle.warc_digest.specs.Judging.{judged_len}
 use Rattle.warc_digest.proofs.RangeLemmas.{reads_judged}
+use Rattle.warc_reading.specs.Archive.{contents}
 use Rattle.warc_reading.specs.Judging.{verdict_on}
 use Rattle.warc_reading.specs.Placing.{IsInRow}
-use Rattle.warc_reading.specs.Rereading.{HasHeadOf, HasTextOf, ReadsHeads, row_len}
-use Rattle.warc_reading.specs.Row.{Row}
+use Rattle.warc_reading.specs.Rereading.{AreCheckable, HasHeadOf, HasTextOf, ReadsHeads, row_len}
+use Rattle.warc_reading.specs.Row.{Placed, Row, row_of}
 use Rattle.warc_reading.proofs.ReadLemmas.{reads_block_of, reads_head_of}
+use Rattle.warc_record.specs.Findings.{findings_of}
+use Rattle.warc_checking.specs.Judged.{own_findings}
 
 abbrev pub head_there : (row : Row) (bytes : List ℕ) → HasTextOf row bytes → HasHeadOf row bytes
 head_there row bytes is = record { placed = is.placed; has = is.has; row_is = is.row_is }
@@ -40,11 +45,25 @@ block_judged row bytes is start len wanted fields start_is len_is wanted_is fiel
     ∙ ap (λ w. verdict_of w is.placed.content.block) (wanted_is ∙ ap digest_wanted fields_are)
 
 -- no other byte is read
-pub reads_examined : (row : Row) (start len : ℕ) (wanted : Wanted) {old mid new : SeenSource} → start ≡ row.block_start
+pub reads_again : (row : Row) (start len : ℕ) (wanted : Wanted) {old mid new : SeenSource} → start ≡ row.block_start
     → len ≡ row.block_len → row.offset ≤ row.block_start → ReadsHeads (row ∷ []) old mid
     → ReadsRange start (judged_len wanted len) mid new → ReadsOnly (IsInRow row) (row_len row) old new
-reads_examined row start len wanted {old} {mid} {new} start_is len_is order head block =
+reads_again row start len wanted {old} {mid} {new} start_is len_is order head block =
     let here : ReadsOnly (IsInRange row.block_start row.block_len) row.block_len mid new =
     reads_within (λ q in_. (omega (arith, in_.0, start_is), omega (arith, in_.1, start_is, len_is))) (omega (arith, len_is))
     (reads_judged wanted start len block) in
     reads_both (reads_head_of row head) (reads_block_of row row.block_len order here)
+
+-- the findings that it alone shows
+pub own_judged : (p : Placed) (row : Row) (fields : List Pair) (len : ℕ) (verdict : Verdict) → row ≡ row_of p
+    → fields ≡ p.content.fields → len ≡ row.block_len → verdict ≡ verdict_on p
+    → findings_of fields len (is_bad verdict) false ≡ own_findings p.content
+own_judged p row fields len verdict row_is fields_are len_is verdict_is =
+    rw (fields_are, len_is ∙ ap (λ (r : Row). r.block_len) row_is, verdict_is) refl
+
+-- the findings of the first records are those of all where they are so many
+pub all_judged : (bytes : List ℕ) (records : List Placed) (rows : List Row) (n : ℕ) → AreCheckable bytes records rows
+    → length rows ≤ n → map own_findings (contents (take n records)) ≡ map own_findings (contents records)
+all_judged bytes records rows n can past =
+    let size : length records ≤ n = omega (arith, past, ap length can.rows_are, length-map records row_of) in
+    ap (λ l. map own_findings (contents l)) (take_all n records size)

@@ -3,10 +3,10 @@ use Rattle.warc_frame.specs.Count.{capped}
 use Rattle.warc_frame.specs.Send.{IsStaged}
 use Rattle.warc_reading.specs.Archive.{contents}
 use Rattle.warc_reading.specs.Row.{Placed}
-use Rattle.warc_checking.specs.Examining.{findings_of_first, first_text}
+use Rattle.warc_checking.specs.Lines.{findings_of_first, first_text}
 use Rattle.warc_checking.specs.OwnFindings.{AreJudged}
 use Rattle.warc_checking.specs.UsedIds.{HoldsIdsOf, IsTally}
-use Rattle.warc_checking.proofs.checking.put_each.Given as goal
+use Rattle.warc_checking.proofs.writing.put_each.Given as goal
 
 -- the lines of the records so far are staged, their ids are held, and nothing has failed
 abbrev pub invariant-telling : goal.invariant-telling

@@ -4,9 +4,9 @@ use Rattle.warc_frame.specs.Count.{capped}
 use Rattle.warc_reading.specs.Row.{Row}
 use Rattle.warc_record.specs.Ids.{id_key}
 use Rattle.warc_checking.specs.Checking.{is_used}
-use Rattle.warc_checking.specs.Examining.{record_lines}
+use Rattle.warc_checking.specs.Lines.{record_lines}
 use Rattle.warc_checking.proofs.NextLemmas.{next_count, next_found}
-use Rattle.warc_checking.proofs.checking.put_next.Goals as goal
+use Rattle.warc_checking.proofs.writing.put_next.Goals as goal
 
 pub returns-in-Ok-put-clause-out : goal.returns-in-Ok-put-clause-out
 returns-in-Ok-put-clause-out g c = λ before p start output next is.

@@ -1,6 +1,5 @@
--- What an examined record gives, and how lines of findings are put to an output. States of the code: no public clause
--- cites them.
-use Rattle.std.specs.Prelude.{◌≡◌, ℕ, ◌+◌, ◌++◌, List, length, map, take, Result, Option, IfErr, IfOk, OnOk}
+-- How lines of findings are put to an output. States of the code: no public clause cites them.
+use Rattle.std.specs.Prelude.{◌≡◌, ℕ, ◌++◌, List, length, map, take, Result, Option, IfErr, IfOk, OnOk}
 use Rattle.std.specs.List.{enumerate_from, flat_map}
 use Rattle.warc_frame.specs.Count.{capped}
 use Rattle.warc_frame.specs.Device.{Staged}
@@ -8,21 +7,8 @@ use Rattle.warc_frame.specs.Seen.{Seen}
 use Rattle.warc_frame.specs.Send.{IsStaged, WentOut, sent_of}
 use Rattle.warc_frame.specs.Record.{Record}
 use Rattle.warc_frame.specs.declared.fault.OutFault.{OutFault}
-use Rattle.warc_record.specs.Blocks.{has_bad_digest}
-use Rattle.warc_record.specs.Findings.{SeenFinding, findings_of}
-use Rattle.warc_record.specs.declared.checks.ArchiveFacts.{ArchiveFacts}
-use Rattle.warc_field.specs.Area.{Pair}
-use Rattle.warc_checking.specs.Checking.{Line, about_record, check_text, findings_at, findings_of_archive, findings_of_records, is_used, record_key, line_text}
-
--- what an examined record gives: its fields, and what the archive says of it
-pub record IsExamined (before : List Record) (r : Record) (fields : List Pair) (facts : ArchiveFacts) : Type 0 where
-  pub fields_are : fields ≡ r.fields
-  pub bad_digest : facts.bad_digest ≡ has_bad_digest r
-  pub used_id : facts.used_id ≡ is_used before (record_key r)
-
--- the findings of a record of these fields, by the length of its block and what the archive says of it
-abbrev pub findings_by_facts : List Pair → ℕ → ArchiveFacts → List SeenFinding
-findings_by_facts fields block_len facts = findings_of fields block_len facts.bad_digest facts.used_id
+use Rattle.warc_record.specs.Findings.{SeenFinding}
+use Rattle.warc_checking.specs.Checking.{Line, about_record, check_text, findings_at, findings_of_archive, findings_of_records, line_text}
 
 -- the lines of the findings of the record at a position
 abbrev pub record_lines : ℕ → List SeenFinding → List ℕ

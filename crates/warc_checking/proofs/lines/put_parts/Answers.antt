@@ -1,7 +1,7 @@
 use Rattle.std.proofs.Common.{◌∙◌}
 use Rattle.warc_checking.proofs.CheckLemmas.{finding_line}
 use Rattle.warc_checking.proofs.CheckLemmas.{puts_same}
-use Rattle.warc_checking.proofs.check.put_parts.Goals as goal
+use Rattle.warc_checking.proofs.lines.put_parts.Goals as goal
 
 pub returns : goal.returns
 returns g c =

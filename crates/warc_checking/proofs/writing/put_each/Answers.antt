@@ -3,12 +3,12 @@ use Rattle.std.specs.List.{flat_map, slice_get}
 use Rattle.warc_frame.specs.Count.{capped}
 use Rattle.warc_reading.specs.Archive.{contents}
 use Rattle.warc_checking.specs.Checking.{line_text}
-use Rattle.warc_checking.specs.Examining.{findings_of_first, first_text}
+use Rattle.warc_checking.specs.Lines.{findings_of_first, first_text}
 use Rattle.warc_checking.specs.UsedIds.{IsTally}
 use Rattle.warc_frame.proofs.LawLemmas.{same_out, same_staged}
-use Rattle.warc_checking.proofs.NextLemmas.{next_at, next_number, next_text}
-use Rattle.warc_checking.proofs.RecordsLemmas.{first_all, ids_one, rest_text, text_rest}
-use Rattle.warc_checking.proofs.checking.put_each.Goals as goal
+use Rattle.warc_checking.proofs.NextLemmas.{next_at}
+use Rattle.warc_checking.proofs.RecordsLemmas.{first_all, ids_one, number_more, rest_text, text_more, text_rest}
+use Rattle.warc_checking.proofs.writing.put_each.Goals as goal
 
 pub returns-clause-puts : goal.returns-clause-puts
 returns-clause-puts g c = λ bytes records findings.
@@ -31,7 +31,7 @@ returns-in_err-number-clause-puts g c = λ bytes records findings.
       cut = λ start output is.
           let cut = c.in_err-number.ensures.cut (take i rs) p start (output ++ first_text i rs) next (c.telling.invariant.staged bytes records start output findings is) in
           let longer = c.went_out_of_longer.ensures start _ _ (rest_text (i + 1) rs) _ cut in
-          let whole = same_out (ap (λ l. l ++ rest_text (i + 1) rs) (next_text records i p output at) ∙ text_rest rs (i + 1) output) longer in
+          let whole = same_out (ap (λ l. l ++ rest_text (i + 1) rs) (text_more records i p output at) ∙ text_rest rs (i + 1) output) longer in
           search rules;
       number = search rules;
     }
@@ -46,7 +46,7 @@ telling-preserved g c =
       staged = λ bytes records start output findings is.
           let rs = contents records in
           let (p, at, next) = next_at bytes records _ _ i _ _ c.good_heads_read.ensures findings c.telling.invariant.tally row_is (c.telling.invariant.ids bytes records findings) in
-          same_staged (next_text records i p output at)
+          same_staged (text_more records i p output at)
           (c.in_ok-number.ensures.out (take i rs) p start (output ++ first_text i rs) next (c.telling.invariant.staged bytes records start output findings is));
       ids = λ bytes records findings.
           let rs = contents records in
@@ -57,6 +57,6 @@ telling-preserved g c =
           let (p, at, next) = next_at bytes records _ _ i _ _ c.good_heads_read.ensures findings c.telling.invariant.tally row_is (c.telling.invariant.ids bytes records findings) in
           c.saturating_add-count.ensures ∙ ap (λ n. capped (n + c.in_ok-number.number)) (c.telling.invariant.number bytes records findings)
           ∙ ap (λ n. capped (capped (length (findings_of_first i rs)) + n)) (c.in_ok-number.ensures.number (take i rs) p next)
-          ∙ next_number records i p at;
+          ∙ number_more records i p at;
       silent = search rules;
     }
