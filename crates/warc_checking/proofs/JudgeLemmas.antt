@@ -1,6 +1,7 @@
 -- A record that is judged again: its head is read, and its block.
-use Rattle.std.proofs.Common.{◌≡◌, ◌≤◌, ℕ, false, List, [], ◌∷◌, length, map, take, drop, take_all, refl, ap, ◌∙◌, arith}
+use Rattle.std.proofs.Common.{◌≡◌, ◌+◌, ◌≤◌, ℕ, false, List, [], ◌∷◌, ◌++◌, Some, length, map, take, drop, take_all, refl, sym, ap, ◌∙◌, arith}
 use Rattle.std.proofs.lemmas.List.{length-map}
+use Rattle.std.specs.List.{slice_get}
 use Rattle.warc_field.specs.Area.{Pair}
 use Rattle.warc_value.specs.Digests.{is_bad, verdict_of}
 use Rattle.warc_value.specs.declared.hash.Verdict.{Verdict}
@@ -17,8 +18,10 @@ use Rattle.warc_reading.specs.Placing.{IsInRow}
 use Rattle.warc_reading.specs.Rereading.{AreCheckable, HasHeadOf, HasTextOf, ReadsHeads, row_len}
 use Rattle.warc_reading.specs.Row.{Placed, Row, row_of}
 use Rattle.warc_reading.proofs.ReadLemmas.{reads_block_of, reads_head_of}
-use Rattle.warc_record.specs.Findings.{findings_of}
+use Rattle.warc_reading.proofs.PlacedLemmas.{take_one}
+use Rattle.warc_record.specs.Findings.{SeenFinding, findings_of}
 use Rattle.warc_checking.specs.Judged.{own_findings}
+use Rattle.warc_checking.proofs.OwnFindingLemmas.{own_more}
 
 abbrev pub head_there : (row : Row) (bytes : List ℕ) → HasTextOf row bytes → HasHeadOf row bytes
 head_there row bytes is = record { placed = is.placed; has = is.has; row_is = is.row_is }
@@ -67,3 +70,11 @@ pub all_judged : (bytes : List ℕ) (records : List Placed) (rows : List Row) (n
 all_judged bytes records rows n can past =
     let size : length records ≤ n = omega (arith, past, ap length can.rows_are, length-map records row_of) in
     ap (λ l. map own_findings (contents l)) (take_all n records size)
+
+-- the findings of one more record
+pub judged_more : (records : List Placed) (i : ℕ) (p : Placed) (old new : List (List SeenFinding)) → slice_get records i ≡ Some p
+    → new ≡ old ++ own_findings p.content ∷ [] → old ≡ map own_findings (contents (take i records))
+    → new ≡ map own_findings (contents (take (i + 1) records))
+judged_more records i p old new at more is =
+    more ∙ ap (λ l. l ++ own_findings p.content ∷ []) is ∙ own_more (take i records) p
+    ∙ ap (λ l. map own_findings (contents l)) (sym (take_one records i p at))

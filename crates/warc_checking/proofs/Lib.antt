@@ -1,5 +1,6 @@
 pub mod AmongLemmas
 pub mod ArchiveTextLemmas
+pub mod BatchLemmas
 pub mod CheckLemmas
 pub mod CountLemmas
 pub mod JudgeLemmas

@@ -16,13 +16,13 @@ use Rattle.warc_checking.specs.declared.own_findings.Part.{Part}
 use Rattle.warc_checking.proofs.CheckLemmas.{text_append}
 
 -- a part of a list stays when more follow
-slice_front : {X : Type 0} (a b : ℕ) (xs more : List X) → a ≤ b → b ≤ length xs → slice_range (xs ++ more) a b ≡ slice_range xs a b
+pub slice_front : {X : Type 0} (a b : ℕ) (xs more : List X) → a ≤ b → b ≤ length xs → slice_range (xs ++ more) a b ≡ slice_range xs a b
 slice_front a b xs more order le =
     ap (take (b - a)) (drop-append-le a xs more (omega (arith, order, le)))
     ∙ take-append-le (b - a) (drop a xs) more (omega (arith, length-drop a xs, order, le))
 
 -- what stands behind a list
-slice_behind : {X : Type 0} (a b : ℕ) (xs ys : List X) → a ≡ length xs → b ≡ length (xs ++ ys) → slice_range (xs ++ ys) a b ≡ ys
+pub slice_behind : {X : Type 0} (a b : ℕ) (xs ys : List X) → a ≡ length xs → b ≡ length (xs ++ ys) → slice_range (xs ++ ys) a b ≡ ys
 slice_behind a b xs ys start end =
     ap (λ n. take (b - n) (drop n (xs ++ ys))) start ∙ ap (take (b - length xs)) (drop-append_seam xs ys)
     ∙ take_all (b - length xs) ys (omega (arith, end, length-append xs ys))

@@ -98,6 +98,6 @@ ids_alone before r key ids has key_is low = λ q shared.
     ∙ sym (used_more before r (Some q))
 
 -- what a call leaves in the whole of a vector
-pub whole_back : (len : ℕ) (new old : List ℕ) → len ≡ length old → length new ≡ length old → take len (new ++ drop (length new) old) ≡ new
-whole_back len new old len_is same =
+pub whole_back : {X : Type 0} (len : ℕ) (new old : List X) → len ≡ length old → length new ≡ length old → take len (new ++ drop (length new) old) ≡ new
+whole_back {X} len new old len_is same =
     ap (λ n. take n (new ++ drop (length new) old)) (len_is ∙ sym same) ∙ take-append_seam new (drop (length new) old)

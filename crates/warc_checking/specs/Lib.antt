@@ -1,3 +1,4 @@
+pub mod Batch
 pub mod Checking
 pub mod Checks
 pub mod Judged

@@ -1,6 +1,6 @@
 //! What is wrong with records that can be read: each is read and judged again, and then a line is written for each
 //! finding.
-ghost use Rattle.std.specs.Prelude.{◌≡◌, ℕ, ◌++◌, ◌≤◌, List, [], ◌∷◌, IfOk, OnOk, length, map};
+ghost use Rattle.std.specs.Prelude.{◌≡◌, ◌++◌, ◌≤◌, List, [], IfOk, OnOk, length, map};
 ghost use Rattle.warc_frame.specs.Effects.{FailsBy, ReadsOnly};
 ghost use Rattle.warc_frame.specs.Record.{max_head};
 ghost use Rattle.warc_frame.specs.Seen.{IfHeld};
@@ -12,6 +12,7 @@ ghost use Rattle.warc_reading.specs.Row.{Placed};
 ghost use Rattle.warc_checking.specs.Checks.{Checks};
 ghost use Rattle.warc_checking.specs.Judged.{own_findings};
 
+use crate::batch::Batch;
 use crate::own_findings::OwnFindings;
 use crate::writing::tell_rows;
 use std::alloc::Allocator;
@@ -59,40 +60,18 @@ pub fn judge_again<S: Source, A: Allocator + Copy>(
     }
 }
 
-/// Reads and judges a record again, and adds the findings that it alone shows to those of the records before it.
-fn judge_row<S: Source, A: Allocator + Copy>(
-    alloc: A,
-    source: &mut S,
-    row: &Row<'_>,
-    findings: &mut OwnFindings<A>,
-    buf: &mut [u8],
-) -> Result<(), RereadFault>
-    requires { max_head ≤ length buf.old }
-    ensures added { IfHeld (S.seen source.old).holds (λ bytes. (is : HasTextOf row.now bytes) → OnOk result
-        (findings.new ≡ findings.old ++ own_findings is.placed.content ∷ [])) }
-    ensures reads { ReadsOnly (IsInRow row.now) (row_len row.now) (S.seen source.old) (S.seen source.new) }
-    ensures fails { FailsBy (HasTextOf row.now) (reread_result result) (S.seen source.old) (S.seen source.new) }
-{
-    let judged = match judge_again(alloc, source, row, buf) {
-        Ok(judged) => judged,
-        Err(fault) => return Err(fault),
-    };
-    match findings.add(alloc, &judged.fields, row.block_len, judged.verdict) {
-        Ok(()) => Ok(()),
-        Err(_) => Err(RereadFault::Memory),
-    }
-}
-
-/// Reads and judges each record again, in order, through a buffer that any head fits, and adds its findings.
+/// Reads and judges each record again, in order, and adds its findings. Heads are read through a buffer that any head
+/// fits, and blocks are judged several at a time.
 fn judge_each<S: Source, A: Allocator + Copy>(
     alloc: A,
     source: &mut S,
     rows: &Rows<A>,
     findings: &mut OwnFindings<A>,
+    batch: &mut Batch<A>,
     head: &mut [u8],
 ) -> Result<(), RereadFault>
     requires head { max_head ≤ length head.old }
-    requires none { findings.old ≡ [] }
+    requires none { findings.old ++ batch.old ≡ [] }
     ensures judged { IfHeld (S.seen source.old).holds (λ bytes. (records : List Placed)
         → AreCheckable bytes records rows.now
         → OnOk result (findings.new ≡ map own_findings (contents records))) }
@@ -103,12 +82,15 @@ fn judge_each<S: Source, A: Allocator + Copy>(
         let Some(row) = rows.get(position) else {
             unreachable!()
         };
-        match judge_row(alloc, source, &row, findings, head) {
+        match batch.add(alloc, source, &row, findings, head) {
             Ok(()) => {}
             Err(fault) => return Err(fault),
         }
     }
-    Ok(())
+    match batch.judge(alloc, findings) {
+        Ok(()) => Ok(()),
+        Err(_) => Err(RereadFault::Memory),
+    }
 }
 
 /// The findings that each record alone shows. Each head is read again, and each block whose digest can be checked.
@@ -126,8 +108,9 @@ fn judge_rows<S: Source, A: Allocator + Copy>(
     let Ok(mut head) = head_buffer(alloc) else {
         return Err(RereadFault::Memory);
     };
+    let mut batch = Batch::new(alloc);
     let mut findings = OwnFindings::new(alloc);
-    match judge_each(alloc, source, rows, &mut findings, &mut head) {
+    match judge_each(alloc, source, rows, &mut findings, &mut batch, &mut head) {
         Ok(()) => Ok(findings),
         Err(fault) => Err(fault),
     }

@@ -1,6 +1,7 @@
 //! What is wrong with the records of an archive that can be read.
 #![tactic(auto)]
 
+mod batch;
 mod check;
 mod checking;
 pub mod laws;

@@ -1,26 +1,27 @@
-use Rattle.std.proofs.Common.{rules, ◌≡◌, ◌+◌, ◌∷◌, [], ◌++◌, Some, map, take, arith, sym, ap, ◌∙◌}
+use Rattle.std.proofs.Common.{rules, ◌≡◌, ◌+◌, Some, arith, sym, ◌∙◌}
 use Rattle.std.specs.List.{slice_get}
 use Rattle.warc_frame.proofs.EffectLemmas.{fails_after, fails_more}
-use Rattle.warc_reading.specs.Archive.{contents}
 use Rattle.warc_reading.specs.Rereading.{HasTextOf, row_len}
-use Rattle.warc_reading.proofs.PlacedLemmas.{record_at, row_has, take_one}
+use Rattle.warc_reading.proofs.PlacedLemmas.{record_at, row_has}
 use Rattle.warc_reading.proofs.ReadLemmas.{reads_row, reads_rows}
-use Rattle.warc_checking.specs.Judged.{own_findings}
-use Rattle.warc_checking.proofs.JudgeLemmas.{all_judged}
-use Rattle.warc_checking.proofs.OwnFindingLemmas.{own_more}
+use Rattle.warc_checking.proofs.JudgeLemmas.{all_judged, judged_more}
 use Rattle.warc_checking.proofs.check.judge_each.Goals as goal
 
-pub returns-clause-judged : goal.returns-clause-judged
-returns-clause-judged g c = λ bytes held records can.
-    c.judging.invariant.found bytes records held can ∙ all_judged bytes records c.args.rows.now c.judging.position can (search rules)
+pub returns-in-Ok-judge-clause-judged : goal.returns-in-Ok-judge-clause-judged
+returns-in-Ok-judge-clause-judged g c = λ bytes held records can.
+    c.in-Ok-judge.ensures.0 ∙ c.judging.invariant.found bytes records held can
+    ∙ all_judged bytes records c.args.rows.now c.judging.position can (search rules)
 
-pub returns-clause-reads : goal.returns-clause-reads
-returns-clause-reads g c = reads_rows row_len c.args.rows.now c.judging.position c.judging.invariant.texts
+pub returns-in-Ok-judge-clause-reads : goal.returns-in-Ok-judge-clause-reads
+returns-in-Ok-judge-clause-reads g c = reads_rows row_len c.args.rows.now c.judging.position c.judging.invariant.texts
+
+pub returns-in-Err-judge-clause-reads : goal.returns-in-Err-judge-clause-reads
+returns-in-Err-judge-clause-reads g c = reads_rows row_len c.args.rows.now c.judging.position c.judging.invariant.texts
 
 pub returns-in-Err-clause-reads : goal.returns-in-Err-clause-reads
 returns-in-Err-clause-reads g c =
     let row_is : slice_get c.args.rows.now c.judging.position ≡ Some c.in-Some.row = sym c.get.ensures ∙ c.in-Some.is in
-    let more = reads_row row_len c.args.rows.now c.judging.position c.in-Some.row row_is c.judging.invariant.texts c.judge_row.ensures.reads in
+    let more = reads_row row_len c.args.rows.now c.judging.position c.in-Some.row row_is c.judging.invariant.texts c.add.ensures.reads in
     reads_rows row_len c.args.rows.now (c.judging.position + 1) more
 
 pub returns-in-Err-clause-fails : goal.returns-in-Err-clause-fails
@@ -34,14 +35,12 @@ judging-preserved g c =
     let i = c.judging.position in
     let row_is : slice_get c.args.rows.now i ≡ Some c.in-Some.row = sym c.get.ensures ∙ c.in-Some.is in
     record {
-      room = omega (arith, c.judging.invariant.room, c.judge_row.auto.buf);
+      room = omega (arith, c.judging.invariant.room, c.add.auto.buf);
       found = λ bytes records held can.
           let at = record_at bytes records c.args.rows.now i c.in-Some.row can row_is in
           let is : HasTextOf c.in-Some.row bytes = record { placed = at.0; short = can.placed.short; has = at.3; written = can.placed.each i at.0 at.1; row_is = at.2 } in
-          c.in-Ok.ensures.added bytes (c.judging.invariant.texts.kept ∙ held) is
-          ∙ ap (λ l. l ++ own_findings at.0.content ∷ []) (c.judging.invariant.found bytes records held can)
-          ∙ own_more (take i records) at.0
-          ∙ ap (λ l. map own_findings (contents l)) (sym (take_one records i at.0 at.1));
-      texts = reads_row row_len c.args.rows.now i c.in-Some.row row_is c.judging.invariant.texts c.judge_row.ensures.reads;
+          judged_more records i at.0 _ _ at.1 (c.in-Ok.ensures.added bytes (c.judging.invariant.texts.kept ∙ held) is)
+          (c.judging.invariant.found bytes records held can);
+      texts = reads_row row_len c.args.rows.now i c.in-Some.row row_is c.judging.invariant.texts c.add.ensures.reads;
       sound = search rules;
     }

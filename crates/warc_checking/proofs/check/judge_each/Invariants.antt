@@ -1,4 +1,4 @@
-use Rattle.std.proofs.Common.{◌≡◌, ◌≤◌, ℕ, List, Some, length, map, take}
+use Rattle.std.proofs.Common.{◌≡◌, ◌≤◌, ◌++◌, ℕ, List, Some, length, map, take}
 use Rattle.std.specs.List.{sum_by}
 use Rattle.warc_frame.specs.Effects.{ReadsOnly}
 use Rattle.warc_frame.specs.Record.{max_head}
@@ -14,7 +14,7 @@ abbrev pub invariant-judging : goal.invariant-judging
 invariant-judging g l = record {
   room : max_head ≤ length l.head;
   found : (bytes : List ℕ) (records : List Placed) → (g.S.Source.seen l.fn.source).holds ≡ Some bytes → AreCheckable bytes records l.rows
-      → l.findings ≡ map own_findings (contents (take l.position records));
+      → l.findings ++ l.batch ≡ map own_findings (contents (take l.position records));
   texts : ReadsOnly (IsInAnyRow l.rows) (sum_by row_len (take l.position l.rows))
       (g.S.Source.seen l.fn.source)
       (g.S.Source.seen l.source);
