@@ -1,5 +1,5 @@
-//! Records whose heads were read again, until their blocks are judged. Several wait at a time, so that their blocks can
-//! be hashed side by side.
+//! Records whose heads were read again, until their blocks are judged. Several wait at a time, so that their blocks are
+//! hashed side by side.
 ghost use Rattle.std.specs.Prelude.{◌≡◌, ◌↔◌, ℕ, ◌+◌, ◌++◌, ◌^◌, ◌<◌, ◌≤◌, true, false, List, [], ◌∷◌, IfOk, OnOk, OnErr, length, map, take, drop};
 ghost use Rattle.sha1.specs.Sha1.{sha1};
 ghost use Rattle.warc_value.specs.Digests.{verdict_of};
@@ -18,9 +18,10 @@ use std::marker::Model;
 use warc_digest::judge_range;
 use warc_field::Fields;
 use warc_frame::{Source, read_range};
+use warc_lanes::{DIGEST_LEN, digest_each};
 use warc_reading::{RereadFault, Row, read_again};
 use warc_record::wanted;
-use warc_value::{Verdict, Wanted, digest};
+use warc_value::{Verdict, Wanted};
 
 /// How many records wait at most.
 const MAX_WAITING: usize = 64;
@@ -30,19 +31,6 @@ const MAX_KEPT: usize = 1_048_576;
 
 /// The longest block that is kept, 256 KiB. A longer one is judged as it is read.
 const MAX_KEPT_BLOCK: u64 = 262_144;
-
-/// The length of a digest in bytes.
-const DIGEST_LEN: usize = 20;
-
-/// The SHA-1 (FIPS 180-4) of each message.
-fn digest_each(messages: &[&[u8]], digests: &mut [[u8; DIGEST_LEN]])
-    requires { length digests.old ≡ length messages.now }
-    ensures { digests.new ≡ map (λ message. sha1 message.now) messages.now }
-{
-    'hashing: for i in 0..messages.len() {
-        digests[i] = digest(messages[i]);
-    }
-}
 
 /// Makes a buffer at least as long as this. If memory is refused, it stays.
 fn lengthen<A: Allocator>(bytes: &mut Vec<u8, A>, len: usize) -> Result<(), AllocError>
