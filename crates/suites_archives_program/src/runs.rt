@@ -2,8 +2,9 @@
 
 use crate::endless::EndlessSource;
 use std::alloc::{AllocError, Allocator, Global};
-use warc_commands::{Command, perform};
+use warc_commands::{Access, Command, perform};
 use warc_frame::{MemSink, MemSource, Sink, Source};
+use warc_stream::StreamSource;
 use warc_vectors::{Break, BrokenSource, BrokenWriter, ChangingSource, RefusingAllocator};
 
 /// What a run wrote to its two outputs, and its status.
@@ -25,11 +26,12 @@ impl Ended {
     }
 }
 
-/// A command, and the archive that it is run over.
+/// A command, the archive that it is run over, and how that may be read.
 #[derive(Clone, Copy)]
 pub(crate) struct Asked<'a> {
     pub(crate) command: &'a Command<'a>,
     pub(crate) archive: &'a [u8],
+    pub(crate) access: Access,
 }
 
 /// The line, the status and the source of a run whose output goes to a sink. What the program keeps is taken from
@@ -37,12 +39,12 @@ pub(crate) struct Asked<'a> {
 fn told<S: Source + Drop, A: Allocator + Copy, W: Sink>(
     heap: A,
     alloc: Global,
-    command: &Command<'_>,
+    asked: Asked<'_>,
     source: S,
     out: &mut W,
 ) -> (Vec<u8>, u8, S) {
     let mut err = MemSink::new(Vec::new(alloc));
-    let (status, source) = perform(heap, command, source, out, &mut err);
+    let (status, source) = perform(heap, asked.command, asked.access, source, out, &mut err);
     (err.into_inner(), status, source)
 }
 
@@ -50,11 +52,11 @@ fn told<S: Source + Drop, A: Allocator + Copy, W: Sink>(
 fn run<S: Source + Drop, A: Allocator + Copy>(
     heap: A,
     alloc: Global,
-    command: &Command<'_>,
+    asked: Asked<'_>,
     source: S,
 ) -> (Ended, S) {
     let mut out = MemSink::new(Vec::new(alloc));
-    let (err, status, source) = told(heap, alloc, command, source, &mut out);
+    let (err, status, source) = told(heap, alloc, asked, source, &mut out);
     let ended = Ended {
         out: out.into_inner(),
         err,
@@ -70,11 +72,22 @@ pub(crate) fn run_in_pieces(
     most: usize,
 ) -> Result<Ended, AllocError> {
     let source = MemSource::new(asked.archive.to_vec(alloc)?, most.max(1));
-    let (ended, _) = run(alloc, alloc, asked.command, source);
+    let (ended, _) = run(alloc, alloc, asked, source);
     Ok(ended)
 }
 
-/// The same where the read of a number fails, counted from 1; and the run after it, over the source that came back.
+/// The same where its bytes come once, in order.
+pub(crate) fn run_streamed(alloc: Global, asked: Asked<'_>) -> Ended {
+    let streamed = Asked {
+        access: Access::Sequential,
+        ..asked
+    };
+    let (ended, _) = run(alloc, alloc, streamed, StreamSource::new(asked.archive));
+    ended
+}
+
+/// The run of a command over its archive where the read of a number fails, counted from 1; and the run after it, over
+/// the source that came back.
 pub(crate) fn run_broken(
     alloc: Global,
     asked: Asked<'_>,
@@ -82,8 +95,8 @@ pub(crate) fn run_broken(
     number: u64,
 ) -> Result<(Ended, Ended), AllocError> {
     let source = BrokenSource::new(asked.archive.to_vec(alloc)?, most.max(1), number);
-    let (ended, source) = run(alloc, alloc, asked.command, source);
-    let (again, _) = run(alloc, alloc, asked.command, source);
+    let (ended, source) = run(alloc, alloc, asked, source);
+    let (again, _) = run(alloc, alloc, asked, source);
     Ok((ended, again))
 }
 
@@ -95,13 +108,13 @@ pub(crate) fn run_changing(
     number: u64,
 ) -> Result<Ended, AllocError> {
     let source = ChangingSource::new(asked.archive.to_vec(alloc)?, other.to_vec(alloc)?, number);
-    let (ended, _) = run(alloc, alloc, asked.command, source);
+    let (ended, _) = run(alloc, alloc, asked, source);
     Ok(ended)
 }
 
 /// The run of a command over a source without an end; how often it was read, and the offset that was asked for last.
-pub(crate) fn run_endless(alloc: Global, command: &Command<'_>) -> (Ended, (u64, u64)) {
-    let (ended, source) = run(alloc, alloc, command, EndlessSource::new());
+pub(crate) fn run_endless(alloc: Global, asked: Asked<'_>) -> (Ended, (u64, u64)) {
+    let (ended, source) = run(alloc, alloc, asked, EndlessSource::new());
     (ended, source.reads())
 }
 
@@ -122,9 +135,9 @@ pub(crate) fn run_refused(
 ) -> Result<Refused, AllocError> {
     let heap = RefusingAllocator::new(alloc, number);
     let source = MemSource::new(asked.archive.to_vec(alloc)?, usize::MAX);
-    let (ended, source) = run(&heap, alloc, asked.command, source);
+    let (ended, source) = run(&heap, alloc, asked, source);
     let has_refused = heap.has_refused();
-    let (again, _) = run(&heap, alloc, asked.command, source);
+    let (again, _) = run(&heap, alloc, asked, source);
     Ok(Refused {
         ended,
         has_refused,
@@ -142,8 +155,8 @@ pub(crate) fn run_cut(
 ) -> Result<(Ended, Ended), AllocError> {
     let source = MemSource::new(asked.archive.to_vec(alloc)?, usize::MAX);
     let mut sink = BrokenWriter::new(alloc, number, how).taking(most);
-    let (err, status, source) = told(alloc, alloc, asked.command, source, &mut sink);
+    let (err, status, source) = told(alloc, alloc, asked, source, &mut sink);
     let out = sink.bytes().to_vec(alloc)?;
-    let (again, _) = run(alloc, alloc, asked.command, source);
+    let (again, _) = run(alloc, alloc, asked, source);
     Ok((Ended { out, err, status }, again))
 }

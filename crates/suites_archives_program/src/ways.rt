@@ -3,14 +3,15 @@
 use crate::archives::PIECES;
 use crate::fronts::tell_salvaged;
 use crate::lines::{tell, tell_count, tell_end};
-use crate::runs::{Asked, Ended, run_broken, run_changing, run_cut, run_endless, run_in_pieces};
+use crate::runs::{
+    Asked, Ended, run_broken, run_changing, run_cut, run_endless, run_in_pieces, run_streamed,
+};
 use crate::salvaging::answer_salvaging;
 use crate::turns::{tell_as_alone, tell_reads, tell_requests, tell_writes};
 use crate::usage::answer_usage;
-use crate::words::{command_of, is_command, words_from};
+use crate::words::{access_of, command_of, is_command, words_from};
 use std::alloc::{AllocError, Global};
 use suites_script::Case;
-use warc_commands::Command;
 use warc_vectors::Break;
 
 /// How many words of a case stand before those of its command.
@@ -55,6 +56,7 @@ pub fn answer(
             let asked = Asked {
                 command: &command,
                 archive,
+                access: access_of(&words),
             };
             answer_run(alloc, case, asked, answer)?;
             Ok(true)
@@ -89,7 +91,7 @@ fn answer_run(
             let ended = run_changing(alloc, asked, case.given(), case.number(1))?;
             tell(alloc, &ended, asked.archive, answer)
         }
-        "endless" => tell_endless(alloc, asked.command, answer),
+        "endless" => tell_endless(alloc, asked, answer),
         "each-read" => tell_reads(alloc, asked, most_of(case, 1), answer),
         "each-write" => tell_writes(alloc, asked, most_of(case, 1), answer),
         "each-request" => tell_requests(alloc, asked, answer),
@@ -98,7 +100,8 @@ fn answer_run(
     }
 }
 
-/// Tells a run with reads of all bytes, and which others end otherwise.
+/// Tells a run with reads of all bytes, and which others end otherwise: with shorter reads, or, where the command can,
+/// over bytes that come once, in order.
 fn tell_pieces(alloc: Global, asked: Asked<'_>, answer: &mut Vec<u8>) -> Result<(), AllocError> {
     let whole = run_in_pieces(alloc, asked, usize::MAX)?;
     tell(alloc, &whole, asked.archive, answer)?;
@@ -111,6 +114,9 @@ fn tell_pieces(alloc: Global, asked: Asked<'_>, answer: &mut Vec<u8>) -> Result<
                 answer,
             )?;
         }
+    }
+    if asked.command.reads_once() && !run_streamed(alloc, asked).is_like(&whole) {
+        answer.extend_from_slice(b"as it comes: it ends otherwise\n")?;
     }
     Ok(())
 }
@@ -155,12 +161,8 @@ fn tell_cut(
 }
 
 /// Tells a run over a source without an end, how often it was read, and where last.
-fn tell_endless(
-    alloc: Global,
-    command: &Command<'_>,
-    answer: &mut Vec<u8>,
-) -> Result<(), AllocError> {
-    let (ended, (reads, last)) = run_endless(alloc, command);
+fn tell_endless(alloc: Global, asked: Asked<'_>, answer: &mut Vec<u8>) -> Result<(), AllocError> {
+    let (ended, (reads, last)) = run_endless(alloc, asked);
     tell(alloc, &ended, b"", answer)?;
     let line = format!(in alloc; "{reads} reads, the last at {last}\n")?;
     answer.extend_from_slice(line.as_bytes())

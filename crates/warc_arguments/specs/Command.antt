@@ -66,7 +66,7 @@ path_word (command.Salvage archive) = archive.now
 path_word (command.Summary archive) = archive.now
 path_word (command.Explain number) = []
 
--- whether it asks for each offset once, in order
+-- whether it can ask for each offset once, in order
 abbrev pub reads_once : Command → Bool
 reads_once (command.List archive) = true
 reads_once (command.Check archive) = true

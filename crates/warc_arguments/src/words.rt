@@ -158,7 +158,7 @@ impl<'a> Command<'a> {
         }
     }
 
-    /// Whether the command asks for each offset once, in order, so that it can read a pipe as it comes.
+    /// Whether the command can ask for each offset once, in order, so that it reads a pipe as it comes.
     pub fn reads_once(&self) -> bool
         ensures { result ≡ reads_once self.now }
     {

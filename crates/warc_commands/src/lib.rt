@@ -1,8 +1,10 @@
 //! The commands of the program `warc`: what each does with a source and two sinks.
 #![tactic(auto)]
 
+mod access;
 mod bodies;
 mod captures;
+mod checking;
 mod explaining;
 mod extracting;
 mod fixity;
@@ -16,6 +18,7 @@ mod stored;
 mod summary;
 mod uris;
 
+pub use access::Access;
 pub use program::{perform, refuse};
 pub use running::{System, run};
 

@@ -1,15 +1,17 @@
 //! What the program does with a command, a source and two sinks.
-ghost use Rattle.std.specs.Prelude.{◌≡◌, ◌≤◌, ◌⊎◌, ◌++◌, decimal, false, length, min};
+ghost use Rattle.std.specs.Prelude.{◌≡◌, ◌≤◌, ◌++◌, decimal, false, length};
 ghost use Rattle.warc_frame.specs.FaultText.{out_fault_text};
 ghost use Rattle.warc_frame.specs.Send.{sent_of};
 ghost use Rattle.warc_commands.specs.Ends.{Ends, IsStatusOf, writes_front};
-ghost use Rattle.warc_commands.specs.Program.{CheckEnds, FaultEnds, IsShown, ListEnds, Tells, WriteEnds, fault_line, status_of_kind, told_line};
+ghost use Rattle.warc_commands.specs.Program.{FaultEnds, IsShown, ListEnds, Tells, WriteEnds, fault_line, status_of_kind, told_line};
 ghost use Rattle.warc_commands.specs.Devices.{devices};
 ghost use Rattle.warc_commands.specs.Reads.{CommandReads, ReadsTimes};
 ghost use Rattle.warc.specs.Forms.{texts_as};
 
+use crate::access::Access;
 use crate::bodies::body;
 use crate::captures::captures;
+use crate::checking::check;
 use crate::explaining::explain;
 use crate::extracting::extract;
 use crate::fixity::fixity;
@@ -23,7 +25,7 @@ use crate::uris::replay_named;
 use arrayvec::ArrayString;
 use itoa::Buffer;
 use std::alloc::Allocator;
-use warc::{Checked, Form, Listing, Part};
+use warc::{Form, Listing, Part};
 use warc_arguments::{Command, CommandFault};
 use warc_frame::{Fault, FaultKind, OutFault, Sink, Source, send_all};
 
@@ -47,9 +49,13 @@ pub(crate) const LINE: usize = 128;
 /// isn't there; 2 the archive is refused; 3 a bad date, size, position or number, a record that isn't made, or a read,
 /// a write or a growth of the memory failed; 4 some block can't be checked. A date, a size and a position are judged
 /// before the source is read, and a number is explained without it.
+///
+/// `access` says how the source may be read. `check` reads an archive twice where it may, and else once; no other
+/// command asks. Where `Command::reads_once` is false, the command needs random access.
 pub fn perform<A, S, W, E>(
     alloc: A,
     command: &Command<'_>,
+    access: Access,
     source: S,
     out: &mut W,
     err: &mut E,
@@ -59,14 +65,14 @@ where
     S: Source + Drop,
     W: Sink,
     E: Sink,
-    ensures ends { Ends command.now (devices (S.seen source) (W.seen out.old) (E.seen err.old)) (devices
+    ensures ends { Ends access command.now (devices (S.seen source) (W.seen out.old) (E.seen err.old)) (devices
         (S.seen result.1) (W.seen out.new) (E.seen err.new)) result.0 }
 
     // The source still holds what it held.
     ensures kept { (S.seen result.1).holds ≡ (S.seen source).holds }
 
     // What it asks of the source.
-    ensures reads { CommandReads command.now (S.seen source) (S.seen result.1) }
+    ensures reads { CommandReads access command.now (S.seen source) (S.seen result.1) }
 
     // Nothing is written where the archive is refused, whatever the source holds, but by `salvage`.
     ensures refused { writes_front command.now ≡ false → result.0 ≡ 2 → ((W.seen out.new).tells ≡
@@ -75,7 +81,7 @@ where
 {
     match command {
         Command::List { archive: _ } => list(alloc, source, out, err),
-        Command::Check { archive: _ } => check(alloc, source, out, err),
+        Command::Check { archive: _ } => check(alloc, access, source, out, err),
         Command::Extract { archive: _, id } => extract(alloc, id, source, out, err),
         Command::Replay {
             archive: _,
@@ -140,29 +146,6 @@ where
     }
 }
 
-fn check<A, S, W, E>(alloc: A, source: S, out: &mut W, err: &mut E) -> (u8, S)
-where
-    A: Allocator + Copy,
-    S: Source + Drop,
-    W: Sink,
-    E: Sink,
-    ensures ends { CheckEnds (devices (S.seen source) (W.seen out.old) (E.seen err.old)) (devices (S.seen result.1)
-        (W.seen out.new) (E.seen err.new)) result.0 }
-
-    // The source still holds what it held.
-    ensures kept { (S.seen result.1).holds ≡ (S.seen source).holds }
-    ensures reads { ReadsTimes 1 (S.seen source) (S.seen result.1) }
-{
-    let checked = match Checked::open(alloc, source) {
-        Ok(checked) => checked,
-        Err((fault, source)) => return (tell_refusal(fault, err), source),
-    };
-    match checked.check(out) {
-        Ok(count) => (status_of_count(count), checked.into_source()),
-        Err(fault) => (tell_cut(fault, err), checked.into_source()),
-    }
-}
-
 /// Writes an archive anew in a form.
 fn write_anew<A, S, W, E>(alloc: A, form: Form, source: S, out: &mut W, err: &mut E) -> (u8, S)
 where
@@ -185,14 +168,6 @@ where
         Ok(()) => (DONE, archive.into_source()),
         Err(fault) => (tell_cut(fault, err), archive.into_source()),
     }
-}
-
-/// The status where an archive was checked and `count` things were found.
-fn status_of_count(count: usize) -> u8
-    ensures value { result ≡ min count 1 }
-    ensures cases { (result ≡ 0) ⊎ (result ≡ 1) }
-{
-    if count == 0 { DONE } else { FOUND }
 }
 
 /// Reports why an archive isn't opened, and answers the exit status.

@@ -8,6 +8,7 @@ ghost use Rattle.warc_commands.specs.Running.{Offer, IsRunOver, MemoryEnds, Pipe
 ghost use Rattle.warc_commands.specs.Running.{command_place, in_memory, max_input, opened, outputs, place_at, redirected, stop_text, streamed};
 ghost use Rattle.warc_arguments.specs.Command.{reads_once};
 
+use crate::access::Access;
 use crate::making::read_front;
 use crate::program::{FAILED, line_of, perform, refuse, tell, tell_cut};
 use std::alloc::Global;
@@ -59,9 +60,9 @@ enum Place {
 
 /// Does what words say, of which the first is the program's name: all of `main` but opening. The answer is the exit
 /// status. Words that aren't text and a file that doesn't open are reported on `err`, with status 3. The path `-` is
-/// standard input: at any offset where it is a file, as it comes where the command asks for each offset once, in order,
-/// and else read into memory, at most 2^30 bytes of it. The path `/dev/stdin` is always read into memory. A command
-/// that reads nothing opens nothing.
+/// standard input: at any offset where it is a file, as it comes where the command can ask for each offset once, in
+/// order, and else read into memory, at most 2^30 bytes of it. The path `/dev/stdin` is always read into memory. A
+/// command that reads nothing opens nothing.
 pub fn run<Y, W, E>(
     alloc: Global,
     system: &Y,
@@ -138,12 +139,13 @@ fn run_over_nothing<W: Sink, E: Sink>(
     out: &mut W,
     err: &mut E,
 ) -> u8
-    ensures { IsRunOver command.now (in_memory []) (outputs (W.seen out.old) (E.seen err.old)) (outputs
+    ensures { IsRunOver Access.Random command.now (in_memory []) (outputs (W.seen out.old) (E.seen err.old)) (outputs
         (W.seen out.new) (E.seen err.new)) result }
 {
     run_over(
         alloc,
         command,
+        Access::Random,
         MemSource::new(Vec::new(alloc), usize::MAX),
         out,
         err,
@@ -177,7 +179,7 @@ where
         (W.seen out.new) (E.seen err.new)) result }
 {
     match system.open(command.path()) {
-        Ok(file) => run_over(alloc, command, file, out, err),
+        Ok(file) => run_over(alloc, command, Access::Random, file, out, err),
         Err(error) => stop(&error, "open failed", err),
     }
 }
@@ -198,7 +200,7 @@ where
         (W.seen out.new) (E.seen err.new)) result }
 {
     match system.redirected() {
-        Some(file) => run_over(alloc, command, file, out, err),
+        Some(file) => run_over(alloc, command, Access::Random, file, out, err),
         None => run_pipe(alloc, system, command, out, err),
     }
 }
@@ -219,7 +221,14 @@ where
         (E.seen err.old)) (outputs (W.seen out.new) (E.seen err.new)) result }
 {
     if command.reads_once() {
-        run_over(alloc, command, system.stream(), out, err)
+        run_over(
+            alloc,
+            command,
+            Access::Sequential,
+            system.stream(),
+            out,
+            err,
+        )
     } else {
         run_memory(alloc, system, command, TOO_LONG, out, err)
     }
@@ -264,16 +273,24 @@ fn run_bytes<W: Sink, E: Sink>(
         (W.seen out.old) (E.seen err.old)) (outputs (W.seen out.new) (E.seen err.new)) result }
 {
     if bytes.len() as u64 <= MOST_INPUT {
-        run_over(alloc, command, MemSource::new(bytes, usize::MAX), out, err)
+        run_over(
+            alloc,
+            command,
+            Access::Random,
+            MemSource::new(bytes, usize::MAX),
+            out,
+            err,
+        )
     } else {
         tell_stop(long, err)
     }
 }
 
-/// Does what a command says, over a source.
+/// Does what a command says, over a source that may be read so.
 fn run_over<S, W, E>(
     alloc: Global,
     command: &Command<'_>,
+    access: Access,
     source: S,
     out: &mut W,
     err: &mut E,
@@ -282,10 +299,10 @@ where
     S: Source + Drop,
     W: Sink,
     E: Sink,
-    ensures { IsRunOver command.now (S.seen source) (outputs (W.seen out.old) (E.seen err.old)) (outputs
+    ensures { IsRunOver access command.now (S.seen source) (outputs (W.seen out.old) (E.seen err.old)) (outputs
         (W.seen out.new) (E.seen err.new)) result }
 {
-    let (status, _) = perform(alloc, command, source, out, err);
+    let (status, _) = perform(alloc, command, access, source, out, err);
     status
 }
 
