@@ -19,8 +19,7 @@ use warc_digest::judge_range;
 use warc_field::Fields;
 use warc_frame::{Source, read_range};
 use warc_lanes::{DIGEST_LEN, digest_each};
-use warc_reading::{RereadFault, Row, read_again};
-use warc_record::wanted;
+use warc_reading::{RereadFault, Row, reread_good};
 use warc_value::{Verdict, Wanted};
 
 /// How many records wait at most.
@@ -213,14 +212,14 @@ fn read_waiting<S: Source, A: Allocator + Copy>(
     ensures fails { FailsBy (HasTextOf row.now) (reread_result result) (S.seen source.old) (S.seen source.new) }
 {
     let start = blocks.len();
-    let reread = match read_again(alloc, source, row, buf) {
-        Ok(reread) => reread,
+    let head = match reread_good(alloc, source, row, buf) {
+        Ok(head) => head,
         Err(fault) => return Err(fault),
     };
-    let wanted = wanted(&reread.fields);
+    let wanted = head.wanted();
     match read_block(source, row.block_start, row.block_len, &wanted, blocks, buf) {
         Ok(check) => Ok(Waiting {
-            fields: reread.fields,
+            fields: head.into_fields(),
             block_len: row.block_len,
             check,
             start,

@@ -20,8 +20,7 @@ use warc_digest::judge_range;
 use warc_field::Fields;
 use warc_frame::laws::head_of_spelled;
 use warc_frame::{OutFault, Sink, Source};
-use warc_reading::{RereadFault, Row, Rows, head_buffer, read_again};
-use warc_record::wanted;
+use warc_reading::{RereadFault, Row, Rows, head_buffer, reread_good};
 use warc_value::Verdict;
 
 /// A record's fields, read again, and how its block compares with the digest that they ask for.
@@ -33,7 +32,7 @@ pub struct Rejudged<A: Allocator> {
 
 /// Reads the head of a record again, through a buffer that any head fits, and its block too if a digest of it can be
 /// checked. Each byte is read at most once, and no other. If the source doesn't give what it gave before, the head is
-/// taken as by `read_again`.
+/// taken as by `reread_good`.
 pub fn judge_again<S: Source, A: Allocator + Copy>(
     alloc: A,
     source: &mut S,
@@ -46,14 +45,14 @@ pub fn judge_again<S: Source, A: Allocator + Copy>(
     ensures reads { ReadsOnly (IsInRow row.now) (row_len row.now) (S.seen source.old) (S.seen source.new) }
     ensures fails { FailsBy (HasTextOf row.now) (reread_result result) (S.seen source.old) (S.seen source.new) }
 {
-    let reread = match read_again(alloc, source, row, buf) {
-        Ok(reread) => reread,
+    let head = match reread_good(alloc, source, row, buf) {
+        Ok(head) => head,
         Err(fault) => return Err(fault),
     };
-    let wanted = wanted(&reread.fields);
+    let wanted = head.wanted();
     match judge_range(source, row.block_start, row.block_len, &wanted, buf) {
         Ok(verdict) => Ok(Rejudged {
-            fields: reread.fields,
+            fields: head.into_fields(),
             verdict,
         }),
         Err(_) => Err(RereadFault::Read),

@@ -13,7 +13,7 @@ use crate::rows::Row;
 use std::alloc::{AllocError, Allocator};
 use warc_field::Fields;
 use warc_frame::{FaultKind, Head, MAX_HEAD, OutFault, Source, read_head, read_range};
-use warc_record::{Typed, type_head};
+use warc_record::{GoodHead, Typed, judge_head, type_head};
 
 /// Why a head isn't read again.
 #[derive(Clone, Copy, PartialEq, Eq, Debug)]
@@ -87,6 +87,18 @@ fn typed<A: Allocator + Copy>(alloc: A, head: Head<A>) -> Result<Reread<A>, Rere
             fields: head.fields,
             typed,
         }),
+        Err(kind) => Err(reread_fault_of(kind)),
+    }
+}
+
+/// The good head of these fields.
+fn judged<A: Allocator>(fields: Fields<A>) -> Result<GoodHead<A>, RereadFault>
+    ensures fields { IfOk result (λ head. head ≡ fields) }
+    ensures read { head_fault fields ≡ None →
+        MatchResult result (λ head. head ≡ fields) (λ e. e ≡ RereadFault.Memory) }
+{
+    match judge_head(fields) {
+        Ok(head) => Ok(head),
         Err(kind) => Err(reread_fault_of(kind)),
     }
 }
@@ -184,4 +196,26 @@ pub fn read_again<S: Source, A: Allocator + Copy>(
         Err(fault) => return Err(fault),
     };
     typed(alloc, head)
+}
+
+/// Reads a record's good head again, through a buffer that it fits, and doesn't type it. If the source doesn't give what
+/// it gave before, the head is taken as by `reread_head`.
+pub fn reread_good<S: Source, A: Allocator + Copy>(
+    alloc: A,
+    source: &mut S,
+    row: &Row<'_>,
+    buf: &mut [u8],
+) -> Result<GoodHead<A>, RereadFault>
+    requires { HasRoomFor row.now buf.old }
+    ensures read { IfHeld (S.seen source.old).holds (λ bytes. (is : HasHeadOf row.now bytes) →
+        IfOk result (λ head. head ≡ is.placed.content.fields)) }
+    ensures whole { IfOk result (λ head. IsHeadBy row.now head) }
+    ensures reads { ReadsHeads (row.now ∷ []) (S.seen source.old) (S.seen source.new) }
+    ensures fails { FailsBy (HasHeadOf row.now) (reread_result result) (S.seen source.old) (S.seen source.new) }
+{
+    let head = match reread_head(alloc, source, row, buf) {
+        Ok(head) => head,
+        Err(fault) => return Err(fault),
+    };
+    judged(head.fields)
 }

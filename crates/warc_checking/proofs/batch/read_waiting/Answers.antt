@@ -12,9 +12,9 @@ pub returns-in-Ok-read_block-clause-found : goal.returns-in-Ok-read_block-clause
 returns-in-Ok-read_block-clause-found g c = λ bytes held is.
     let same = c.in-Ok.ensures.read bytes held (head_there c.args.row.now bytes is) in
     let verdict = c.in-Ok-read_block.ensures.verdict bytes (c.in-Ok.ensures.reads.kept ∙ held)
-    ∙ block_judged c.args.row.now bytes is _ _ c.wanted-wanted.result c.in-Ok.reread.fields
+    ∙ block_judged c.args.row.now bytes is _ _ c.wanted-wanted.result c.in-Ok.head
     (ap (λ (r : Row). r.block_start) c.row.view_is) (ap (λ (r : Row). r.block_len) c.row.view_is) c.wanted-wanted.ensures same in
-    own_judged is.placed c.args.row.now _ _ _ is.row_is same (ap (λ (r : Row). r.block_len) c.row.view_is) verdict
+    own_judged is.placed c.args.row.now _ _ _ is.row_is (c.into_fields.ensures ∙ same) (ap (λ (r : Row). r.block_len) c.row.view_is) verdict
 
 pub returns-in-Ok-read_block-clause-reads : goal.returns-in-Ok-read_block-clause-reads
 returns-in-Ok-read_block-clause-reads g c =

@@ -11,9 +11,9 @@ returns-in-Err-clause-fails g c =
 pub returns-in-Ok-judge_range-clause-judged : goal.returns-in-Ok-judge_range-clause-judged
 returns-in-Ok-judge_range-clause-judged g c = λ bytes held is.
     let same = c.in-Ok.ensures.read bytes held (head_there c.args.row.now bytes is) in (
-      same,
+      c.into_fields.ensures ∙ same,
       c.in-Ok-judge_range.ensures.verdict bytes (c.in-Ok.ensures.reads.kept ∙ held)
-          ∙ block_judged c.args.row.now bytes is _ _ c.wanted-wanted.result c.in-Ok.reread.fields
+          ∙ block_judged c.args.row.now bytes is _ _ c.wanted-wanted.result c.in-Ok.head
           (ap (λ (r : Row). r.block_start) c.row.view_is) (ap (λ (r : Row). r.block_len) c.row.view_is) c.wanted-wanted.ensures same,
     )
 
