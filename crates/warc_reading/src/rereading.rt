@@ -198,8 +198,8 @@ pub fn read_again<S: Source, A: Allocator + Copy>(
     typed(alloc, head)
 }
 
-/// Reads a record's good head again, through a buffer that it fits, and doesn't type it. If the source doesn't give what
-/// it gave before, the head is taken as by `reread_head`.
+/// Reads a record's head again, through a buffer that it fits. It must be good, and isn't typed. If the source doesn't
+/// give what it gave before, the head is taken as by `reread_head`.
 pub fn reread_good<S: Source, A: Allocator + Copy>(
     alloc: A,
     source: &mut S,
