@@ -286,7 +286,7 @@ of 2010. With --uri-hex the URI is written as hexadecimal digits, as for one tha
 tells the positions of the chosen record and of the one whose body is given, the status of the HTTP response
 or '-', whether a record is marked as truncated, and the length of the body in bytes.
 
-Exit status: 0 written; 1 there is no body, for the reason P1 to P10 that is told, and nothing was written;
+Exit status: 0 written; 1 there is no body, for one of the reasons P1 to P10, and nothing was written;
 2 the archive is refused, and nothing was written; 3 the date isn't one, or see 'warc --help'.
 
 Example: warc replay examples/abc.warc http://a.example/x 2021";
@@ -334,7 +334,7 @@ Exit status: 0 written; 2 the archive is refused, and nothing was written; 3 see
 Example: warc convert examples/abc.warc";
 
 const SPLIT_NOTES: &str =
-    "A record whose block has more bytes than the size is written as its segments, each of so many bytes, the
+    "A record whose block has more bytes than the size is written as its segments, each of the size, the
 last one shorter or equal, with the digest of its bytes. Any other record is written as by 'warc rewrite': a
 short one, and one that can't be split, as a record of another kind, one without a target, one that is a
 segment, one whose id is no UUID, or one whose digest is wrong.
@@ -346,7 +346,7 @@ Example: warc split examples/abc.warc 2";
 
 const WRITE_NOTES: &str =
     "The record is one of WARC/1.1 with the digest of its block, which is all of the file. A record that can't be
-made is told by M1 to M5 (docs/FORMAT.md), and nothing is written.
+made is refused for one of the reasons M1 to M5 (docs/FORMAT.md), and nothing is written.
 
 Exit status: 0 written; 3 the record isn't made, or see 'warc --help'.
 

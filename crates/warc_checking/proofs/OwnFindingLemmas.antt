@@ -147,7 +147,7 @@ pub own_first : (n : ℕ) (records : List Placed) → take n (map own_findings (
 own_first n records = take-map own_findings n (contents records) ∙ ap (map own_findings) (take-map (λ (q : Placed). q.content) n records)
 
 module _ {X : Type 0} (seen : X → SeenFinding) (test : SeenFinding → Bool) where
-  -- the lines of one more finding, if it is told
+  -- the lines of one more finding, if it passes
   pub told_more : (position : ℕ) (xs : List X) (i : ℕ) (d : X) (output : List ℕ) → i < length xs
       → (output ++ record_lines position (filter test (map seen (take i xs)))) ++ record_lines position (filter test (seen (get_or xs i d) ∷ []))
       ≡ output ++ record_lines position (filter test (map seen (take (i + 1) xs)))

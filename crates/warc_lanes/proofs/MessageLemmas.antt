@@ -71,7 +71,7 @@ step_less messages old stepped new same next less =
 
 -- ---- a step of all lanes
 
--- a lane whose message stays, with so many bytes less
+-- a lane whose message stays, and of which n bytes fewer are left
 lane_along : (messages : List (Bor (List ℕ))) (old new : Hashing) (j n : ℕ) → IsLane messages old j → padded_in new j ≡ padded_in old j
     → slice_index new.left j ≡ slice_index old.left j - n → n % 64 ≡ 0 → IsLane messages new j
 lane_along messages old new j n held same left blocks =

@@ -31,7 +31,7 @@ coded_by_spans block headers count fields same =
     ∙ ap (list_any names_coding) same
     ∙ any_of_map name_and_value names_coding fields
 
--- what is told of the head that the spans cover
+-- what is known of the head that the spans cover
 pub info_of : (text : List ℕ) (headers : List HeaderSpan) (r : ResponseSpans) (coded : Bool)
     → length headers ≡ 256 → length text ≤ 65536 → r.len ≤ length text → IsResponseOf text headers r
     → coded ≡ list_any (λ s. names_coding (header_bytes text s)) (take r.headers headers)

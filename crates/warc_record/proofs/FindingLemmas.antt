@@ -19,7 +19,7 @@ false_unless false not = refl
 pub utf8_is_not : (bytes : List ℕ) → ¬ (IsUtf8 bytes) → false ≡ is_utf8 bytes
 utf8_is_not bytes not = false_unless _ (λ is. not (IsUtf8-from_is_utf8 bytes is))
 
--- what is told of one item, where it passes
+-- what one item gives, where it passes
 abbrev pub told_if : {X Y : Type 0} → (X → Bool) → (X → Y) → X → List Y
 told_if test told x = if test x then told x ∷ [] else []
 

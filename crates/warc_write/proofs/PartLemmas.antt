@@ -37,7 +37,7 @@ same_framed r f is = by_room (nat_lt max_head (canonical_len r.version r.fields)
     by_room true e = absurd (cc)
     by_room false e = by_len r f (block_len r.fields) e
 
--- where the length is told, a record is refused for its head alone
+-- where the length is given, a record is refused for its head alone
 pub refused_room : (r : Record) (kind : FaultKind) → block_len r.fields ≡ Ok (length r.block) → framed_of r ≡ Err kind
     → nat_le (canonical_len r.version r.fields) max_head ≡ false
 unfolding framed_of

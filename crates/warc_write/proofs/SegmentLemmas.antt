@@ -54,7 +54,7 @@ abbrev length_by : ℕ → Option (List ℕ) → Result ℕ FaultKind
 length_by count first =
     if count == 0 then Err (Missing ContentLength) else if nat_le 2 count then Err (Repeated ContentLength) else or_length (block_number first)
 
--- where one length is told, another may stand in its place
+-- where one length is given, another may stand in its place
 another : (count n m : ℕ) (first : Option (List ℕ)) → m ≤ max_block → length_by count first ≡ Ok n
     → length_by count (option_map (λ value. decimal m) first) ≡ Ok m
 another count n m first small told = by_count (count == 0) (nat_le 2 count) first told
@@ -154,7 +154,7 @@ segment_from r uuid n at version fields block piece part version_is fields_is pa
     let bytes : block ≡ piece_at n r.block at = block_is ∙ piece_is in
     λ i. record { version = version_is i; fields = told i; block = bytes i }
 
--- its length is told
+-- its length is given
 pub segment_told : (r : Record) (uuid : List ℕ) (n at : ℕ) → IsFramed r → length r.block ≤ max_block
     → block_len (segment_of r uuid n at).fields ≡ Ok (length (segment_of r uuid n at).block)
 segment_told r uuid n at framed small =
