@@ -77,7 +77,7 @@ pub(crate) fn tell_wanted(
 /// What a text asks for, where it is a value.
 fn wanted_of(alloc: Global, text: &[u8]) -> Option<Wanted> {
     match Value::new(alloc, text) {
-        Ok(value) => Some(Wanted::of(&value)),
+        Ok(value) => Some(Wanted::of(value.bytes())),
         Err(_) => None,
     }
 }

@@ -153,7 +153,7 @@ fn wanted_in<A: Allocator>(fields: &ByName<'_, A>) -> Wanted
     ensures { result ≡ digest_wanted fields.now }
 {
     match present(fields, Known::BlockDigest) {
-        Some(value) => Wanted::of(value),
+        Some(value) => Wanted::of(value.bytes()),
         None => Wanted::Unchecked,
     }
 }
@@ -373,7 +373,7 @@ impl<A: Allocator> GoodHead<A> {
         ensures { result ≡ digest_wanted self.now }
     {
         match present_at(&self.fields, self.places.digest) {
-            Some(value) => Wanted::of(value),
+            Some(value) => Wanted::of(value.bytes()),
             None => Wanted::Unchecked,
         }
     }

@@ -4,8 +4,6 @@ ghost use Rattle.warc_value.specs.Digests.{is_bad, wanted_digest, verdict_of};
 
 use crate::symbols::unbase32;
 use sha1::Sha1;
-use std::alloc::Allocator;
-use warc_field::Value;
 
 /// The digest that a record's block should have.
 #[derive(Clone, Copy, PartialEq, Eq, Debug)]
@@ -42,10 +40,9 @@ impl Verdict {
 impl Wanted {
     /// The digest that a value of `WARC-Block-Digest` asks for: SHA-1 in base32, `sha1:` and 32 characters, all in any
     /// case. Any other value asks for none (ISO 28500:2017, 5.8 leaves the algorithm and the encoding open).
-    pub fn of<A: Allocator>(value: &Value<A>) -> Wanted
+    pub fn of(value: &[u8]) -> Wanted
         ensures { result ≡ wanted_digest value.now }
     {
-        let value = value.bytes();
         if value.len() < 5 || !value[..5].eq_ignore_ascii_case(b"sha1:") {
             return Wanted::Unchecked;
         }
