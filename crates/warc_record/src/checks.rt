@@ -289,7 +289,7 @@ fn lacks_origin<A: Allocator + Copy>(
 }
 
 /// Whether the text begins with `<` and ends with `>`.
-fn stands_in_brackets(text: &[u8]) -> bool
+pub fn stands_in_brackets(text: &[u8]) -> bool
     ensures { result ≡ stands_in_brackets text.now }
 {
     !text.is_empty() && text[0] == b'<' && text[text.len() - 1] == b'>'

@@ -209,7 +209,7 @@ fn place(kind: Kind) -> u8
 }
 
 /// Whether the kind is one of these.
-pub(crate) fn is_among(kind: Kind, kinds: &[Kind]) -> bool
+pub fn is_among(kind: Kind, kinds: &[Kind]) -> bool
     ensures { result ≡ is_among kind kinds.now }
 {
     kinds.iter().any(|other| place(*other) == place(kind))
