@@ -8,14 +8,14 @@ use Rattle.std.proofs.lemmas.List.{length-replicate, take_all}
 use Rattle.std.proofs.lemmas.Bool.{ltb-true}
 use Rattle.warc_field.specs.Area.{Pair, SpellsFields, area_of, count_of, first_value}
 use Rattle.warc_field.specs.Lines.{crlf}
-use Rattle.warc_field.specs.Text.{is_name, trimmed}
+use Rattle.warc_field.specs.Text.{AreFields, is_name, trimmed}
 use Rattle.warc_field.proofs.LineLemmas.{append_nil}
 use Rattle.warc_field.proofs.LawLemmas.{spelled_are_fields, spelling_is_read}
 use Rattle.warc_value.specs.Digests.{wanted_digest}
 use Rattle.warc_value.specs.declared.hash.Wanted.TheVariants.{Unchecked}
 use Rattle.warc_frame.specs.declared.version.Version.{Version}
 use Rattle.warc_frame.specs.declared.version.Version.TheVariants.{V1_0, V1_1}
-use Rattle.warc_frame.specs.Names.{content_length, warc_type, warc_record_id, warc_date, warc_target_uri, warc_block_digest, warc_truncated}
+use Rattle.warc_frame.specs.Names.{content_length, warc_target_uri, warc_block_digest, warc_payload_digest, warc_truncated, warc_refers_to, warc_refers_to_target_uri, warc_profile, warc_segment_number, warc_segment_origin_id, warc_segment_total_length}
 use Rattle.warc_frame.specs.Record.{Record, block_len, block_number, canonical_len, head_text, max_head}
 use Rattle.warc_frame.specs.Reading.{any_fields, head_of}
 use Rattle.warc_frame.specs.VersionLine.{version_line}
@@ -25,28 +25,31 @@ use Rattle.warc_frame.proofs.ReadLemmas.{head-from}
 use Rattle.warc_frame.proofs.SpellLemmas.{head-spelled}
 use Rattle.warc_record.specs.Heads.{is_date}
 use Rattle.warc_record.specs.Ids.{bare_text, is_id}
-use Rattle.warc_record.specs.Readings.{bare_present, unless_empty}
+use Rattle.warc_record.specs.Readings.{bare_present, reference_of, segment_reading, unless_empty}
 use Rattle.warc_record.proofs.GoodLemmas.{good_heads_have_no_fault}
 use Rattle.warc_quick.specs.declared.head.QuickHead.{QuickHead}
-use Rattle.warc_quick.specs.Fronts.{BeginsWithFields, IsOnlyValue}
-use Rattle.warc_quick.specs.Quick.{IsQuickHead, Says, max_quick_head}
+use Rattle.warc_quick.specs.declared.names.QuickName.{QuickName}
+use Rattle.warc_quick.specs.declared.names.QuickName.TheVariants.{«Type», RecordId, Date, ContentLength}
+use Rattle.warc_quick.specs.Names.{quick_name}
+use Rattle.warc_quick.specs.Fronts.{BeginsWithFields, IsValueOf}
+use Rattle.warc_quick.specs.Quick.{AreAlone, IsQuickHead, Says, max_quick_head, no_segment, nothing_named}
 use Rattle.warc_quick.proofs.ValueLemmas.{some_counts}
 
 -- the number of the only `Content-Length`
-block_is : (fields : List Pair) (value : Bor (List ℕ)) (n : ℕ) → IsOnlyValue content_length fields (Some value)
+block_is : (fields : List Pair) (value : Bor (List ℕ)) (n : ℕ) → IsValueOf ContentLength fields (Some value)
     → block_number (Some value.now) ≡ Some n → block_len fields ≡ Ok n
 unfolding block_len
 block_is fields value n is number =
     let some : 0 < count_of content_length fields =
     ltb-true 0 (count_of content_length fields) (sym (some_counts content_length fields) ∙ ap is_some (sym is.first)) in
-    let one : count_of content_length fields ≡ 1 = omega (arith, some, is.alone) in
+    let one : count_of content_length fields ≡ 1 = omega (arith, some, is.alone refl) in
     rw (one, sym is.first, number) refl
 
 nothing_bare : bare_text [] ≡ []
 unfolding bare_text trimmed
 nothing_bare = refl
 
-some_bytes : (b : ℕ) (bs : List ℕ) → (length (b ∷ bs) == 0) ≡ false
+pub some_bytes : (b : ℕ) (bs : List ℕ) → (length (b ∷ bs) == 0) ≡ false
 some_bytes b bs = grind arith
 
 -- an empty text counts as none
@@ -54,7 +57,7 @@ or_nothing : (text : List ℕ) → unwrap_or (unless_empty text) [] ≡ text
 or_nothing [] = refl
 or_nothing (b ∷ bs) = rw (some_bytes b bs) refl
 
-target_is : (value : Option (List ℕ)) → unwrap_or (bare_present value) [] ≡ bare_text (unwrap_or value [])
+pub target_is : (value : Option (List ℕ)) → unwrap_or (bare_present value) [] ≡ bare_text (unwrap_or value [])
 target_is None = sym nothing_bare
 target_is (Some []) = sym nothing_bare
 target_is (Some (b ∷ bs)) = rw (some_bytes b bs) (or_nothing (bare_text (b ∷ bs)))
@@ -69,34 +72,53 @@ mark_is None = refl
 mark_is (Some []) = refl
 mark_is (Some (b ∷ bs)) = rw (some_bytes b bs) refl
 
-listed : (name : List ℕ) (fields : List Pair) (value : Bor (List ℕ)) → IsOnlyValue name fields (Some value)
-    → value.now ≡ unwrap_or (first_value name fields) []
+payload_is : (value : Option (List ℕ)) → option_and_then unless_empty value ≡ unless_empty (unwrap_or value [])
+payload_is None = refl
+payload_is (Some text) = refl
+
+-- what fields say where those of a few names are absent
+pub nothing_is_named : (fields : List Pair) → first_value warc_refers_to fields ≡ None → first_value warc_refers_to_target_uri fields ≡ None
+    → first_value warc_profile fields ≡ None → reference_of fields ≡ nothing_named
+nothing_is_named fields id target profile = rw (id, target, profile) refl
+
+pub nothing_of_segments : (fields : List Pair) → first_value warc_segment_number fields ≡ None
+    → first_value warc_segment_origin_id fields ≡ None → first_value warc_segment_total_length fields ≡ None
+    → segment_reading fields ≡ no_segment
+nothing_of_segments fields number origin total = rw (number, origin, total) refl
+
+listed : (name : QuickName) (fields : List Pair) (value : Bor (List ℕ)) → IsValueOf name fields (Some value)
+    → value.now ≡ unwrap_or (first_value (quick_name name) fields) []
 listed name fields value is = ap (λ o. unwrap_or o []) is.first
 
--- the values of the only fields of a head say this
-module _ (fields : List Pair) (found : QuickHead) (size : Bor (List ℕ))
-    (of_size : IsOnlyValue content_length fields (Some size)) (number : block_number (Some size.now) ≡ Some found.block_len)
-    (of_type : IsOnlyValue warc_type fields (Some found.texts.kind)) (token : is_name found.texts.kind.now ≡ true)
-    (of_id : IsOnlyValue warc_record_id fields (Some found.texts.id)) (id : is_id found.texts.id.now ≡ true)
-    (of_date : IsOnlyValue warc_date fields (Some found.texts.date)) (date : is_date found.texts.date.now ≡ true) where
+-- the values of the fields of a head say this
+module _ (fields : List Pair) (found : QuickHead) (size : Bor (List ℕ)) (are : AreFields fields)
+    (of_size : IsValueOf ContentLength fields (Some size)) (number : block_number (Some size.now) ≡ Some found.block_len)
+    (of_type : IsValueOf «Type» fields (Some found.texts.kind)) (token : is_name found.texts.kind.now ≡ true)
+    (of_id : IsValueOf RecordId fields (Some found.texts.id)) (id : is_id found.texts.id.now ≡ true)
+    (of_date : IsValueOf Date fields (Some found.texts.date)) (date : is_date found.texts.date.now ≡ true) where
   pub says : found.texts.target.now ≡ bare_text (unwrap_or (first_value warc_target_uri fields) [])
       → found.digest.now ≡ unwrap_or (first_value warc_block_digest fields) []
-      → found.texts.is_truncated ≡ not (length (unwrap_or (first_value warc_truncated fields) []) == 0) → Says fields found
-  says target digest mark = record {
+      → found.texts.is_truncated ≡ not (length (unwrap_or (first_value warc_truncated fields) []) == 0)
+      → found.payload_digest.now ≡ unwrap_or (first_value warc_payload_digest fields) []
+      → (found.is_alone ≡ true → AreAlone fields) → Says fields found
+  says target digest mark payload alone = record {
+    values = are;
     good = (good_heads_have_no_fault fields).0 (record {
-      type_is = record { value = found.texts.kind.now; stands = sym of_type.first; alone = of_type.alone; reads = token };
-      id_is = record { value = found.texts.id.now; stands = sym of_id.first; alone = of_id.alone; reads = id };
-      date_is = record { value = found.texts.date.now; stands = sym of_date.first; alone = of_date.alone; reads = date };
+      type_is = record { value = found.texts.kind.now; stands = sym of_type.first; alone = of_type.alone refl; reads = token };
+      id_is = record { value = found.texts.id.now; stands = sym of_id.first; alone = of_id.alone refl; reads = id };
+      date_is = record { value = found.texts.date.now; stands = sym of_date.first; alone = of_date.alone refl; reads = date };
     });
     block = block_is fields size found.block_len of_size number;
     texts = record {
-      kind = listed warc_type fields found.texts.kind of_type;
-      date = listed warc_date fields found.texts.date of_date;
-      id = listed warc_record_id fields found.texts.id of_id;
+      kind = listed «Type» fields found.texts.kind of_type;
+      date = listed Date fields found.texts.date of_date;
+      id = listed RecordId fields found.texts.id of_id;
       target = target ∙ sym (target_is (first_value warc_target_uri fields));
       truncated = mark ∙ sym (mark_is (first_value warc_truncated fields));
     };
     wanted = digest_is (first_value warc_block_digest fields) ∙ ap wanted_digest (sym digest);
+    payload = payload_is (first_value warc_payload_digest fields) ∙ ap unless_empty (sym payload);
+    alone = alone;
   }
 
 area_at : (version : Version) (area : List ℕ) → drop 10 (version_line version ++ area) ≡ area

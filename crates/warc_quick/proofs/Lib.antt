@@ -6,4 +6,5 @@ mod RunLemmas
 mod ValueLemmas
 mod HeadLemmas
 mod PlainLemmas
+mod AloneLemmas
 mod CanonicalLemmas

@@ -1,19 +1,18 @@
--- The only value of each name, after one more field.
+-- The value of the first field of each name, after one more field.
 use Rattle.std.proofs.Common.{◌≡◌, ◌≢◌, ℕ, ◌+◌, ◌<◌, ◌≤◌, Bool, true, false, List, [], ◌∷◌, ◌++◌, length, length-append, append_assoc, nat_lt, cond, find, get_or, set, Option, Some, None, is_some, option_map, refl, sym, ap, ◌∙◌, arith}
 use Rattle.std.specs.Borrow.{Bor}
 use Rattle.std.proofs.lemmas.List.{get_or-set_same, get_or-set_other}
 use Rattle.std.proofs.Math.ListN.{length-set}
-use Rattle.warc_quick.specs.declared.names.QuickName.TheVariants.{«Type», RecordId, Date, ContentLength, TargetUri, BlockDigest, Truncated}
 use Rattle.std.proofs.lemmas.List.Sums.{sum_by-append, sum_by-cons}
 use Rattle.std.proofs.lemmas.Bool.{lt-ltb, ltb-false}
 use Rattle.warc_field.specs.Area.{Pair, first_value, count_of}
 use Rattle.warc_field.specs.Text.{same}
 use Rattle.warc_quick.specs.declared.names.QuickName.{QuickName}
-use Rattle.warc_quick.specs.Names.{quick_count, quick_name, quick_place}
-use Rattle.warc_quick.specs.Fronts.{AreOnlyValues, BeginsWithFields, BeginsWithLine, IsOnlyValue}
+use Rattle.warc_quick.specs.Names.{may_repeat, quick_name, quick_place}
+use Rattle.warc_quick.specs.Fronts.{AreValues, BeginsWithFields, BeginsWithLine, IsValueOf}
 use Rattle.warc_quick.specs.declared.lines.Line.{Line}
 use Rattle.warc_quick.proofs.LineLemmas.{some_bytes, spells_more}
-use Rattle.warc_quick.proofs.NameLemmas.{names_apart, of_place, same_as_itself}
+use Rattle.warc_quick.proofs.NameLemmas.{names_apart, of_place, place_within, same_as_itself}
 
 -- the value of the first field of a name, where one more field has another name, or is the first of the name
 first_past : (name : List ℕ) (fields : List Pair) (field : Pair) → same field.0 name ≡ false
@@ -43,6 +42,22 @@ first_new name (f ∷ fs) field hit none = by (same f.0 name) (first_new name fs
     by true is none = absurd (cc)
     by false is none = is none
 
+-- one more field doesn't change the first of a name that has one
+first_stays : (name : List ℕ) (fields : List Pair) (field : Pair) → is_some (first_value name fields) ≡ true
+    → first_value name (fields ++ field ∷ []) ≡ first_value name fields
+first_stays name [] field some = absurd (cc)
+first_stays name (f ∷ fs) field some = by (same f.0 name) (first_stays name fs field) some
+  where
+    rest : List Pair → Option Pair
+    rest xs = find (λ (x : Pair). same x.0 name) xs
+
+    by : (b : Bool) → (is_some (option_map (λ (x : Pair). x.1) (rest fs)) ≡ true
+        → option_map (λ (x : Pair). x.1) (rest (fs ++ field ∷ [])) ≡ option_map (λ (x : Pair). x.1) (rest fs))
+        → is_some (option_map (λ (x : Pair). x.1) (cond b (Some f) (rest fs))) ≡ true
+        → option_map (λ (x : Pair). x.1) (cond b (Some f) (rest (fs ++ field ∷ []))) ≡ option_map (λ (x : Pair). x.1) (cond b (Some f) (rest fs))
+    by true is some = refl
+    by false is some = is some
+
 abbrev tally : Bool → ℕ
 tally b = cond b 1 0
 
@@ -70,56 +85,80 @@ some_counts name (f ∷ fs) = more (same f.0 name) refl (some_counts name fs)
         is ∙ ap (nat_lt 0) same_count
 
 -- a field of another name changes nothing
-past : (name : List ℕ) (fields : List Pair) (field : Pair) (found : Option (Bor (List ℕ))) → same field.0 name ≡ false
-    → IsOnlyValue name fields found → IsOnlyValue name (fields ++ field ∷ []) found
+past : (name : QuickName) (fields : List Pair) (field : Pair) (found : Option (Bor (List ℕ))) → same field.0 (quick_name name) ≡ false
+    → IsValueOf name fields found → IsValueOf name (fields ++ field ∷ []) found
 past name fields field found other is = record {
-  first = is.first ∙ sym (first_past name fields field other);
-  alone = omega (arith, is.alone, count_push name fields field, tally_miss (same field.0 name) other);
+  first = is.first ∙ sym (first_past (quick_name name) fields field other);
+  alone = λ once.
+      omega (arith, is.alone once, count_push (quick_name name) fields field, tally_miss (same field.0 (quick_name name)) other);
 }
 
--- the first field of a name is the only one
-new : (name : List ℕ) (fields : List Pair) (text : List ℕ) (found : Bor (List ℕ)) → same text name ≡ true
-    → IsOnlyValue name fields None → IsOnlyValue name (fields ++ (text, found.now) ∷ []) (Some found)
+-- the first field of a name is the only one so far
+new : (name : QuickName) (fields : List Pair) (text : List ℕ) (found : Bor (List ℕ)) → same text (quick_name name) ≡ true
+    → IsValueOf name fields None → IsValueOf name (fields ++ (text, found.now) ∷ []) (Some found)
 new name fields text found hit is =
-    let none : count_of name fields ≤ 0 = ltb-false 0 (count_of name fields) (sym (some_counts name fields) ∙ ap is_some (sym is.first)) in
+    let word = quick_name name in
+    let none : count_of word fields ≤ 0 = ltb-false 0 (count_of word fields) (sym (some_counts word fields) ∙ ap is_some (sym is.first)) in
     record {
-      first = sym (first_new name fields (text, found.now) hit is.first);
-      alone = omega (arith, none, count_push name fields (text, found.now), tally_hit (same text name) hit);
+      first = sym (first_new word fields (text, found.now) hit is.first);
+      alone = λ once. omega (arith, none, count_push word fields (text, found.now), tally_hit (same text word) hit);
     }
+
+-- of a name that may repeat the first value stays
+again : (name : QuickName) (fields : List Pair) (field : Pair) (found : Option (Bor (List ℕ))) → may_repeat name ≡ true
+    → is_some found ≡ true → IsValueOf name fields found → IsValueOf name (fields ++ field ∷ []) found
+again name fields field found may some is =
+    let stays = first_stays (quick_name name) fields field (ap is_some (sym is.first) ∙ mapped found some) in
+    record { first = is.first ∙ sym stays; alone = λ once. absurd (cc (may, once)) }
+  where
+    mapped : (value : Option (Bor (List ℕ))) → is_some value ≡ true → is_some (option_map (λ (text : Bor (List ℕ)). text.now) value) ≡ true
+    mapped None is = absurd (cc)
+    mapped (Some text) is = refl
 
 -- a field of none of the names
 pub other_added : (fields : List Pair) (text found : List ℕ) (values : List (Option (Bor (List ℕ))))
-    → ((name : QuickName) → same text (quick_name name) ≡ false) → AreOnlyValues fields values
-    → AreOnlyValues (fields ++ (text, found) ∷ []) values
+    → ((name : QuickName) → same text (quick_name name) ≡ false) → AreValues fields values
+    → AreValues (fields ++ (text, found) ∷ []) values
 other_added fields text found values other are = record {
   room = are.room;
-  each = λ name. past (quick_name name) fields (text, found) (get_or values (quick_place name) None) (other name) (are.each name);
+  each = λ name. past name fields (text, found) (get_or values (quick_place name) None) (other name) (are.each name);
 }
+
+-- one more field of a name that may repeat
+pub repeat_added : (fields : List Pair) (text found : List ℕ) (values : List (Option (Bor (List ℕ)))) (known : QuickName)
+    → text ≡ quick_name known → is_some (get_or values (quick_place known) None) ≡ true → may_repeat known ≡ true
+    → AreValues fields values → AreValues (fields ++ (text, found) ∷ []) values
+repeat_added fields text found values known is some may are = record {
+  room = are.room;
+  each = λ name. by name (same text (quick_name name)) refl;
+}
+  where
+    itself : same text (quick_name known) ≡ true
+    itself = ap (λ t. same t (quick_name known)) is ∙ same_as_itself known
+
+    by : (name : QuickName) (b : Bool) → same text (quick_name name) ≡ b
+        → IsValueOf name (fields ++ (text, found) ∷ []) (get_or values (quick_place name) None)
+    by name true hit =
+        let eq : known ≡ name = names_apart text known name itself hit in
+        again name fields (text, found) (get_or values (quick_place name) None) (ap may_repeat (sym eq) ∙ may)
+        (ap (λ n. is_some (get_or values (quick_place n) None)) (sym eq) ∙ some) (are.each name)
+    by name false miss = past name fields (text, found) (get_or values (quick_place name) None) miss (are.each name)
 
 absent : (found : Option (Bor (List ℕ))) → is_some found ≡ false → found ≡ None
 absent None none = refl
 absent (Some text) none = absurd (cc)
 
-place_within : (name : QuickName) → quick_place name < quick_count
-place_within «Type» = omega arith
-place_within RecordId = omega arith
-place_within Date = omega arith
-place_within ContentLength = omega arith
-place_within TargetUri = omega arith
-place_within BlockDigest = omega arith
-place_within Truncated = omega arith
-
 -- the first field of one of them
 module _ (fields : List Pair) (text : List ℕ) (found : Bor (List ℕ)) (values : List (Option (Bor (List ℕ)))) (known : QuickName)
-    (is : text ≡ quick_name known) (none : is_some (get_or values (quick_place known) None) ≡ false) (are : AreOnlyValues fields values) where
+    (is : text ≡ quick_name known) (none : is_some (get_or values (quick_place known) None) ≡ false) (are : AreValues fields values) where
   itself : same text (quick_name known) ≡ true
   itself = ap (λ t. same t (quick_name known)) is ∙ same_as_itself known
 
-  each_added : (name : QuickName) → IsOnlyValue (quick_name name) (fields ++ (text, found.now) ∷ []) (get_or (set values (quick_place known) (Some found)) (quick_place name) None)
+  each_added : (name : QuickName) → IsValueOf name (fields ++ (text, found.now) ∷ []) (get_or (set values (quick_place known) (Some found)) (quick_place name) None)
   each_added name = by (same text (quick_name name)) refl
     where
       Goal : Type 0
-      Goal = IsOnlyValue (quick_name name) (fields ++ (text, found.now) ∷ []) (get_or (set values (quick_place known) (Some found)) (quick_place name) None)
+      Goal = IsValueOf name (fields ++ (text, found.now) ∷ []) (get_or (set values (quick_place known) (Some found)) (quick_place name) None)
 
       by : (b : Bool) → same text (quick_name name) ≡ b → Goal
       by true hit =
@@ -130,24 +169,24 @@ module _ (fields : List Pair) (text : List ℕ) (found : Bor (List ℕ)) (values
           ∙ get_or-set_same values (quick_place known) (Some found) None within in
           let before : get_or values (quick_place name) None ≡ None =
           ap (λ n. get_or values (quick_place n) None) (sym eq) ∙ absent _ none in
-          rw there (new (quick_name name) fields text found hit (rw before at (are.each name)))
+          rw there (new name fields text found hit (rw before at (are.each name)))
       by false miss =
           let apart : quick_place name ≢ quick_place known = λ e. cc (miss, itself, of_place name known e) in
           rw (get_or-set_other values (quick_place known) (quick_place name) (Some found) None apart)
-          (past (quick_name name) fields (text, found.now) (get_or values (quick_place name) None) miss (are.each name))
+          (past name fields (text, found.now) (get_or values (quick_place name) None) miss (are.each name))
 
-  pub known_added : AreOnlyValues (fields ++ (text, found.now) ∷ []) (set values (quick_place known) (Some found))
+  pub known_added : AreValues (fields ++ (text, found.now) ∷ []) (set values (quick_place known) (Some found))
   known_added = record { room = length-set values (quick_place known) (Some found) ∙ are.room; each = each_added }
 
 -- the fields so far, and one more
 pub fields_more : (text rest : List ℕ) (values : List (Option (Bor (List ℕ)))) (line : Line) (so_far : BeginsWithFields text values rest)
     → BeginsWithLine rest line → (now : List (Option (Bor (List ℕ))))
-    → AreOnlyValues (so_far.fields ++ (line.name.now, line.value.now) ∷ []) now → BeginsWithFields text now line.more.now
-fields_more text rest values line so_far is now only = record {
+    → AreValues (so_far.fields ++ (line.name.now, line.value.now) ∷ []) now → BeginsWithFields text now line.more.now
+fields_more text rest values line so_far is now are = record {
   fields = so_far.fields ++ (line.name.now, line.value.now) ∷ [];
   area = so_far.area ++ is.bytes;
   spelled = spells_more so_far.fields so_far.area (line.name.now, line.value.now) is.bytes so_far.spelled is.is;
-  only = only;
+  are = are;
   text_is = so_far.text_is ∙ ap (λ xs. so_far.area ++ xs) is.text_is ∙ sym (append_assoc so_far.area is.bytes line.more.now);
 }
 

@@ -1,10 +1,10 @@
 -- What is known of a head that is read in place as far as the reading has come: states of the code.
-use Rattle.std.specs.Prelude.{◌≡◌, ℕ, ◌≤◌, List, ◌++◌, length, get_or, Option, None, option_map}
+use Rattle.std.specs.Prelude.{◌≡◌, ℕ, ◌≤◌, false, List, ◌++◌, length, get_or, Option, None, option_map}
 use Rattle.std.specs.Borrow.{Bor}
 use Rattle.warc_field.specs.Area.{Pair, IsFieldLine, SpellsFields, count_of, first_value}
 use Rattle.warc_quick.specs.declared.lines.Line.{Line}
 use Rattle.warc_quick.specs.declared.names.QuickName.{QuickName}
-use Rattle.warc_quick.specs.Names.{IsNaming, quick_count, quick_name, quick_place}
+use Rattle.warc_quick.specs.Names.{IsNaming, may_repeat, quick_count, quick_name, quick_place}
 
 -- a text begins with the line of a field, which has such a name, and this follows
 pub record BeginsWithLine (text : List ℕ) (line : Line) : Type 0 where
@@ -13,20 +13,20 @@ pub record BeginsWithLine (text : List ℕ) (line : Line) : Type 0 where
   pub named : IsNaming line.name.now line.naming
   pub text_is : text ≡ bytes ++ line.more.now
 
--- the value of the only field of a name, or none where no field has the name
-pub record IsOnlyValue (name : List ℕ) (fields : List Pair) (value : Option (Bor (List ℕ))) : Type 0 where
-  pub first : option_map (λ (text : Bor (List ℕ)). text.now) value ≡ first_value name fields
-  pub alone : count_of name fields ≤ 1
+-- the value of the first field of a name, or none where no field has the name; only a name that may repeat has another
+pub record IsValueOf (name : QuickName) (fields : List Pair) (value : Option (Bor (List ℕ))) : Type 0 where
+  pub first : option_map (λ (text : Bor (List ℕ)). text.now) value ≡ first_value (quick_name name) fields
+  pub alone : may_repeat name ≡ false → count_of (quick_name name) fields ≤ 1
 
--- each name has at its place the value of its only field
-pub record AreOnlyValues (fields : List Pair) (values : List (Option (Bor (List ℕ)))) : Type 0 where
+-- each name has at its place the value of its first field
+pub record AreValues (fields : List Pair) (values : List (Option (Bor (List ℕ)))) : Type 0 where
   pub room : length values ≡ quick_count
-  pub each : (name : QuickName) → IsOnlyValue (quick_name name) fields (get_or values (quick_place name) None)
+  pub each : (name : QuickName) → IsValueOf name fields (get_or values (quick_place name) None)
 
 -- a text begins with the lines of fields that have these values, and this follows
 pub record BeginsWithFields (text : List ℕ) (values : List (Option (Bor (List ℕ)))) (more : List ℕ) : Type 0 where
   pub fields : List Pair
   pub area : List ℕ
   pub spelled : SpellsFields fields area
-  pub only : AreOnlyValues fields values
+  pub are : AreValues fields values
   pub text_is : text ≡ area ++ more

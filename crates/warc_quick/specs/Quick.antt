@@ -1,14 +1,17 @@
 -- A head that is read in place: the good head at the front of a text, and what it says (ISO 28500:2017, 4 and 5). Which
 -- heads are read so is this project's own choice.
-use Rattle.std.specs.Prelude.{◌≡◌, ℕ, ◌+◌, ◌≤◌, List, [], length, take, None, Ok, unwrap_or}
+use Rattle.std.specs.Prelude.{◌≡◌, ℕ, ◌+◌, ◌≤◌, true, false, List, [], length, take, None, Ok, unwrap_or}
 use Rattle.warc_field.specs.Area.{Pair}
+use Rattle.warc_field.specs.Text.{AreFields}
 use Rattle.warc_value.specs.Digests.{wanted_digest}
 use Rattle.warc_frame.specs.declared.version.Version.{Version}
+use Rattle.warc_frame.specs.Names.{warc_payload_digest}
 use Rattle.warc_frame.specs.Reading.{any_fields, head_of}
 use Rattle.warc_frame.specs.Record.{Record, block_len}
 use Rattle.warc_frame.specs.Spelling.{Spells}
 use Rattle.warc_record.specs.Heads.{head_fault}
-use Rattle.warc_record.specs.Readings.{Reading, digest_wanted, reading_of}
+use Rattle.warc_record.specs.Readings.{Reading, ReferenceReading, SegmentReading, digest_wanted, present_value, reading_of, reference_of, segment_reading, unless_empty}
+use Rattle.warc_record.specs.declared.readings.SegmentNumber.TheVariants.{Absent}
 use Rattle.warc_record.specs.declared.head.HeadTexts.{HeadTexts}
 use Rattle.warc_quick.specs.declared.head.QuickHead.{QuickHead}
 use Rattle.warc_quick.specs.declared.plain.QuickRecord.{QuickRecord}
@@ -25,12 +28,27 @@ pub record AreTexts (head : Reading) (texts : HeadTexts) : Type 0 where
   pub target : texts.target.now ≡ unwrap_or head.target []
   pub truncated : texts.is_truncated ≡ head.truncated
 
+-- no other record is named, and nothing is said of segments
+abbrev pub nothing_named : ReferenceReading
+nothing_named = record { known_profile = false; named_id = None; named_pair = None }
+
+abbrev pub no_segment : SegmentReading
+no_segment = record { number = Absent; origin = None; total = None }
+
+-- fields that name no other record and say nothing of segments
+pub record AreAlone (fields : List Pair) : Type 0 where
+  pub reference : reference_of fields ≡ nothing_named
+  pub segment : segment_reading fields ≡ no_segment
+
 -- these are the fields of a good head, which says this
 pub record Says (fields : List Pair) (found : QuickHead) : Type 0 where
+  pub values : AreFields fields
   pub good : head_fault fields ≡ None
   pub block : block_len fields ≡ Ok found.block_len
   pub texts : AreTexts (reading_of fields) found.texts
   pub wanted : digest_wanted fields ≡ wanted_digest found.digest.now
+  pub payload : present_value warc_payload_digest fields ≡ unless_empty found.payload_digest.now
+  pub alone : found.is_alone ≡ true → AreAlone fields
 
 -- the first bytes of a text are a whole, good head, which says this
 pub record IsQuickHead (text : List ℕ) (found : QuickHead) : Type 0 where

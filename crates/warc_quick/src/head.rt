@@ -2,13 +2,16 @@
 ghost use Rattle.std.specs.Prelude.{◌≡◌, ◌<◌, ◌≤◌, ◌++◌, List, IfSome, Some, true};
 ghost use Rattle.warc_field.specs.Area.{Pair};
 ghost use Rattle.warc_field.specs.Lines.{crlf};
+ghost use Rattle.warc_field.specs.Text.{AreFields};
+ghost use Rattle.warc_value.specs.Digests.{wanted_digest};
 ghost use Rattle.warc_frame.specs.declared.version.Version.{Version};
 ghost use Rattle.warc_frame.specs.VersionLine.{version_line};
 ghost use Rattle.warc_record.specs.Heads.{is_date};
 ghost use Rattle.warc_record.specs.Ids.{is_id};
+ghost use Rattle.warc_record.specs.Readings.{reference_of, segment_reading};
 ghost use Rattle.warc_frame.specs.Record.{block_number, max_block};
-ghost use Rattle.warc_quick.specs.Fronts.{AreOnlyValues, BeginsWithFields};
-ghost use Rattle.warc_quick.specs.Quick.{Says, IsQuickHead, max_quick_head};
+ghost use Rattle.warc_quick.specs.Fronts.{AreValues, BeginsWithFields};
+ghost use Rattle.warc_quick.specs.Quick.{Says, IsQuickHead, max_quick_head, no_segment, nothing_named};
 
 use crate::dates::is_plain_date;
 use crate::lines::first_line;
@@ -18,7 +21,7 @@ use crate::values::Values;
 use warc_field::{decimal, is_name};
 use warc_frame::{MAX_BLOCK, MAX_HEAD, Version};
 use warc_record::{HeadTexts, bare, is_bare_id};
-use warc_value::read_date;
+use warc_value::{Wanted, read_date};
 
 /// A head of at most this many bytes is within the limit when it is written canonically, too.
 const MAX_QUICK_HEAD: usize = MAX_HEAD / 2;
@@ -37,6 +40,21 @@ pub struct QuickHead<'a> {
 
     /// The value of `WARC-Block-Digest`, empty if it is absent.
     pub digest: &'a [u8],
+
+    /// The value of `WARC-Payload-Digest`, empty if it is absent.
+    pub payload_digest: &'a [u8],
+
+    /// Whether it is known that the head names no other record and says nothing of segments.
+    pub is_alone: bool,
+}
+
+impl QuickHead<'_> {
+    /// The digest that it asks for of its block.
+    pub fn wanted(&self) -> Wanted
+        ensures { result ≡ wanted_digest self.now.digest.now }
+    {
+        Wanted::of(self.digest)
+    }
 }
 
 /// What follows the version line at the front of a text.
@@ -103,21 +121,42 @@ fn block_len(value: &[u8]) -> Option<u64>
     }
 }
 
+/// Whether no other record is named. A date alone names none.
+fn names_nothing(values: &Values<'_>) -> bool
+    ensures { (fields : List Pair) → AreValues fields values.now.values → result ≡ true
+        → reference_of fields ≡ nothing_named }
+{
+    values.is_absent(QuickName::RefersTo)
+        & values.is_absent(QuickName::RefersToTargetUri)
+        & values.is_absent(QuickName::Profile)
+}
+
+/// Whether nothing is said of segments.
+fn has_no_segment(values: &Values<'_>) -> bool
+    ensures { (fields : List Pair) → AreValues fields values.now.values → result ≡ true
+        → segment_reading fields ≡ no_segment }
+{
+    values.is_absent(QuickName::SegmentNumber)
+        & values.is_absent(QuickName::SegmentOriginId)
+        & values.is_absent(QuickName::SegmentTotalLength)
+}
+
 /// What the fields of these values say, if their head is good.
 fn good_head<'a>(len: usize, values: &Values<'a>) -> Option<QuickHead<'a>>
     ensures lengths { IfSome result (λ head. (head.len ≡ len) × (head.block_len ≤ max_block)) }
-    ensures says { (fields : List Pair) → AreOnlyValues fields values.now.values → IfSome result (Says fields) }
+    ensures says { (fields : List Pair) → AreFields fields → AreValues fields values.now.values
+        → IfSome result (Says fields) }
 {
-    let block_len = block_len(values.only(QuickName::ContentLength)?)?;
-    let kind = values.only(QuickName::Type)?;
+    let block_len = block_len(values.first(QuickName::ContentLength)?)?;
+    let kind = values.first(QuickName::Type)?;
     if !is_name(kind) {
         return None;
     }
-    let id = values.only(QuickName::RecordId)?;
+    let id = values.first(QuickName::RecordId)?;
     if !holds_id(id) {
         return None;
     }
-    let date = values.only(QuickName::Date)?;
+    let date = values.first(QuickName::Date)?;
     if !holds_date(date) {
         return None;
     }
@@ -132,13 +171,15 @@ fn good_head<'a>(len: usize, values: &Values<'a>) -> Option<QuickHead<'a>>
             is_truncated: !values.or_empty(QuickName::Truncated).is_empty(),
         },
         digest: values.or_empty(QuickName::BlockDigest),
+        payload_digest: values.or_empty(QuickName::PayloadDigest),
+        is_alone: names_nothing(values) & has_no_segment(values),
     })
 }
 
 /// Reads the good head at the front of a text, if it is plain and there whole. `None` says nothing of the text.
 ///
-/// A head is plain if each field is on one line, no value has a control character other than tabs, the names that are
-/// looked for are spelled as in the standard and occur at most once, and it has at most 32,768 bytes.
+/// A head is plain if each field is on one line, no value has a control character other than tabs, the names of the
+/// standard are spelled as there and occur at most once, but for `WARC-Concurrent-To`, and it has at most 32,768 bytes.
 pub fn quick_head(text: &[u8]) -> Option<QuickHead<'_>>
     ensures head { IfSome result (IsQuickHead text.now) }
     ensures bounds { IfSome result (λ head. (0 < head.len) × (head.len ≤ max_quick_head)

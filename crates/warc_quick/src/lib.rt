@@ -1,9 +1,11 @@
 //! The head of a WARC record, read in place, line by line. It takes no memory, and copies no name and no value.
 //!
-//! Most heads are plain: each field is on a line of its own, and each name that is looked for is spelled as in the
-//! standard and occurs at most once. These are read here. Any other head is left to `warc_frame` and `warc_record`.
+//! Most heads are plain: each field is on a line of its own, and each name of the standard is spelled as there and
+//! occurs at most once, if it may not repeat. These are read here. Any other head is left to `warc_frame` and
+//! `warc_record`.
 #![tactic(auto)]
 
+mod alone;
 mod canonical;
 mod dates;
 mod head;
@@ -13,6 +15,7 @@ mod plain;
 mod runs;
 mod values;
 
+pub use alone::type_alone;
 pub use canonical::is_canonical_head;
 pub use head::{QuickHead, quick_head};
 pub use plain::{QuickRecord, quick_record};

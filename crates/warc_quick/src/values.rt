@@ -1,13 +1,13 @@
 //! The values of the fields by which a head is read in place.
-ghost use Rattle.std.specs.Prelude.{◌≡◌, ◌∷◌, ◌++◌, [], true, List, unwrap_or};
+ghost use Rattle.std.specs.Prelude.{◌≡◌, ◌∷◌, ◌++◌, [], true, List, None, unwrap_or};
 ghost use Rattle.warc_field.specs.Area.{Pair, first_value};
 ghost use Rattle.warc_quick.specs.Names.{IsNaming, quick_name};
-ghost use Rattle.warc_quick.specs.Fronts.{AreOnlyValues, IsOnlyValue};
+ghost use Rattle.warc_quick.specs.Fronts.{AreValues, IsValueOf};
 
 use crate::lines::Line;
 use crate::names::{COUNT, Naming, QuickName};
 
-/// The value of the only field of each name.
+/// The value of the first field of each name. Of a name that may not repeat it is the only one.
 #[derive(Clone, Copy)]
 pub(crate) struct Values<'a> {
     values: [Option<&'a [u8]>; COUNT],
@@ -16,18 +16,18 @@ pub(crate) struct Values<'a> {
 impl<'a> Values<'a> {
     /// No field yet.
     pub(crate) fn none() -> Values<'a>
-        ensures { AreOnlyValues [] result.values }
+        ensures { AreValues [] result.values }
     {
         Values {
             values: [None; COUNT],
         }
     }
 
-    /// Adds the field of a line. False if it repeats one of the names.
+    /// Adds the field of a line. False if it repeats one of the names that may not repeat.
     pub(crate) fn add(&mut self, line: &Line<'a>) -> bool
         requires { IsNaming line.now.name.now line.now.naming }
-        ensures { (fields : List Pair) → AreOnlyValues fields self.old.values → result ≡ true
-            → AreOnlyValues (fields ++ (line.now.name.now, line.now.value.now) ∷ []) self.new.values }
+        ensures { (fields : List Pair) → AreValues fields self.old.values → result ≡ true
+            → AreValues (fields ++ (line.now.name.now, line.now.value.now) ∷ []) self.new.values }
     {
         let name = match line.naming {
             Naming::Known(name) => name,
@@ -35,26 +35,33 @@ impl<'a> Values<'a> {
         };
         let place = name.place();
         if self.values[place].is_some() {
-            return false;
+            return name.may_repeat();
         }
         self.values[place] = Some(line.value);
         true
     }
 
-    /// The value of the only field of a name.
-    pub(crate) fn only(&self, name: QuickName) -> Option<&'a [u8]>
-        ensures { (fields : List Pair) → AreOnlyValues fields self.now.values
-            → IsOnlyValue (quick_name name) fields result }
+    /// The value of the first field of a name.
+    pub(crate) fn first(&self, name: QuickName) -> Option<&'a [u8]>
+        ensures { (fields : List Pair) → AreValues fields self.now.values → IsValueOf name fields result }
     {
         self.values[name.place()]
     }
 
-    /// The value of the only field of a name, empty if there is none.
+    /// Whether no field has a name.
+    pub(crate) fn is_absent(&self, name: QuickName) -> bool
+        ensures { (fields : List Pair) → AreValues fields self.now.values → result ≡ true
+            → first_value (quick_name name) fields ≡ None }
+    {
+        self.first(name).is_none()
+    }
+
+    /// The value of the first field of a name, empty if there is none.
     pub(crate) fn or_empty(&self, name: QuickName) -> &'a [u8]
-        ensures { (fields : List Pair) → AreOnlyValues fields self.now.values
+        ensures { (fields : List Pair) → AreValues fields self.now.values
             → result.now ≡ unwrap_or (first_value (quick_name name) fields) [] }
     {
-        match self.only(name) {
+        match self.first(name) {
             Some(value) => value,
             None => b"",
         }

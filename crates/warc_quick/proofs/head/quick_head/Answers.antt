@@ -1,5 +1,6 @@
 use Rattle.std.proofs.Common.{Option, Some, None, arith}
 use Rattle.std.specs.Option.{IfSome}
+use Rattle.warc_field.proofs.LawLemmas.{spelled_are_fields}
 use Rattle.warc_quick.proofs.HeadLemmas.{is_quick}
 use Rattle.warc_quick.proofs.head.quick_head.Goals as goal
 
@@ -11,5 +12,5 @@ pub returns-clause-head : goal.returns-clause-head
 returns-clause-head c =
     let read = c.in_ok-values.ensures in
     let begins = c.in_ok-after_version.ensures in
-    both _ c.good_head.ensures.lengths (c.good_head.ensures.says read.fields read.only)
+    both _ c.good_head.ensures.lengths (c.good_head.ensures.says read.fields (spelled_are_fields read.fields read.area read.spelled) read.are)
     (λ head lengths said. is_quick _ _ _ begins.0 _ head begins.1 read lengths.0 (omega (arith, lengths.0)) said)
