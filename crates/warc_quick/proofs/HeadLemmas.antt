@@ -31,8 +31,8 @@ use Rattle.warc_quick.specs.declared.head.QuickHead.{QuickHead}
 use Rattle.warc_quick.specs.declared.names.QuickName.{QuickName}
 use Rattle.warc_quick.specs.declared.names.QuickName.TheVariants.{«Type», RecordId, Date, ContentLength}
 use Rattle.warc_quick.specs.Names.{quick_name}
-use Rattle.warc_quick.specs.Fronts.{BeginsWithFields, IsValueOf}
-use Rattle.warc_quick.specs.Quick.{AreAlone, IsQuickHead, Says, max_quick_head, no_segment, nothing_named}
+use Rattle.warc_quick.specs.Fronts.{BeginsWithFields, IsHeadWith, IsValueOf}
+use Rattle.warc_quick.specs.Quick.{AreAlone, Says, max_quick_head, no_segment, nothing_named}
 use Rattle.warc_quick.proofs.ValueLemmas.{some_counts}
 
 -- the number of the only `Content-Length`
@@ -148,11 +148,11 @@ whole_head version fields area n spelled small number =
     ap (head_of any_fields) (sym (append_nil (head_text version area))) ∙ read
     ∙ ap (λ k. Ok (record { version = version; fields = fields; len = length area + 12; block_len = k })) size
 
--- the head at the front of a text
-pub is_quick : (text after rest : List ℕ) (version : Version) (values : List (Option (Bor (List ℕ)))) (found : QuickHead)
+-- the head at the front of a text, and the values of its fields
+pub is_head_with : (text after rest : List ℕ) (version : Version) (values : List (Option (Bor (List ℕ)))) (found : QuickHead)
     → text ≡ version_line version ++ after → (read : BeginsWithFields after values (crlf ++ rest))
-    → found.len ≡ length text - length rest → found.len ≤ max_quick_head → Says read.fields found → IsQuickHead text found
-is_quick text after rest version values found begins read len small said =
+    → found.len ≡ length text - length rest → found.len ≤ max_quick_head → Says read.fields found → IsHeadWith text found values
+is_head_with text after rest version values found begins read len small said =
     let area = read.area in
     let head = head_text version area in
     let whole : text ≡ head ++ rest =
@@ -162,11 +162,17 @@ is_quick text after rest version values found begins read len small said =
     let n : length area + 12 ≡ found.len = omega (arith, size, head_size version area) in
     let front : take found.len text ≡ head = ap (take found.len) whole ∙ ap (λ k. take k (head ++ rest)) size ∙ take-append_seam head rest in
     record {
-      version = version;
-      fields = read.fields;
-      within = omega (arith, size, ap length whole, length-append head rest);
-      whole =
-          ap (head_of any_fields) front ∙ whole_head version read.fields area found.block_len read.spelled (omega (arith, n, small)) said.block
-          ∙ ap (λ k. Ok (record { version = version; fields = read.fields; len = k; block_len = found.block_len })) n;
-      says = said;
+      head = record {
+        version = version;
+        fields = read.fields;
+        within = omega (arith, size, ap length whole, length-append head rest);
+        whole =
+            ap (head_of any_fields) front ∙ whole_head version read.fields area found.block_len read.spelled (omega (arith, n, small)) said.block
+            ∙ ap (λ k. Ok (record { version = version; fields = read.fields; len = k; block_len = found.block_len })) n;
+        says = said;
+      };
+      area = area;
+      spelled = read.spelled;
+      are = read.are;
+      text_is = front;
     }

@@ -7,4 +7,7 @@ mod ValueLemmas
 mod HeadLemmas
 mod PlainLemmas
 mod AloneLemmas
+mod AsciiLemmas
+mod RuledLemmas
+mod FaultlessLemmas
 mod CanonicalLemmas

@@ -1,7 +1,10 @@
 -- What is known of a head that is read in place as far as the reading has come: states of the code.
-use Rattle.std.specs.Prelude.{◌≡◌, ℕ, ◌≤◌, false, List, ◌++◌, length, get_or, Option, None, option_map}
+use Rattle.std.specs.Prelude.{◌≡◌, ℕ, ◌≤◌, false, List, ◌++◌, length, take, get_or, Option, None, option_map}
 use Rattle.std.specs.Borrow.{Bor}
 use Rattle.warc_field.specs.Area.{Pair, IsFieldLine, SpellsFields, count_of, first_value}
+use Rattle.warc_frame.specs.Record.{head_text}
+use Rattle.warc_quick.specs.Quick.{IsQuickHead}
+use Rattle.warc_quick.specs.declared.head.QuickHead.{QuickHead}
 use Rattle.warc_quick.specs.declared.lines.Line.{Line}
 use Rattle.warc_quick.specs.declared.names.QuickName.{QuickName}
 use Rattle.warc_quick.specs.Names.{IsNaming, may_repeat, quick_count, quick_name, quick_place}
@@ -30,3 +33,11 @@ pub record BeginsWithFields (text : List ℕ) (values : List (Option (Bor (List 
   pub spelled : SpellsFields fields area
   pub are : AreValues fields values
   pub text_is : text ≡ area ++ more
+
+-- the first bytes of a text are a whole, good head, which says this, and whose fields have these values
+pub record IsHeadWith (text : List ℕ) (found : QuickHead) (values : List (Option (Bor (List ℕ)))) : Type 0 where
+  pub head : IsQuickHead text found
+  pub area : List ℕ
+  pub spelled : SpellsFields head.fields area
+  pub are : AreValues head.fields values
+  pub text_is : take found.len text ≡ head_text head.version area

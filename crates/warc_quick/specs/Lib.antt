@@ -2,4 +2,6 @@ pub mod Quick
 pub mod Names
 pub mod Places
 pub mod Fronts
+pub mod Ruled
 pub mod Canonical
+pub mod Faultless

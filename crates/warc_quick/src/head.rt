@@ -10,7 +10,7 @@ ghost use Rattle.warc_record.specs.Heads.{is_date};
 ghost use Rattle.warc_record.specs.Ids.{is_id};
 ghost use Rattle.warc_record.specs.Readings.{reference_of, segment_reading};
 ghost use Rattle.warc_frame.specs.Record.{block_number, max_block};
-ghost use Rattle.warc_quick.specs.Fronts.{AreValues, BeginsWithFields};
+ghost use Rattle.warc_quick.specs.Fronts.{AreValues, BeginsWithFields, IsHeadWith};
 ghost use Rattle.warc_quick.specs.Quick.{Says, IsQuickHead, max_quick_head, no_segment, nothing_named};
 
 use crate::dates::is_plain_date;
@@ -176,6 +176,21 @@ fn good_head<'a>(len: usize, values: &Values<'a>) -> Option<QuickHead<'a>>
     })
 }
 
+/// Reads the good head at the front of a text, if it is plain and there whole, and the values of its fields.
+#[inline(always)]
+pub(crate) fn head_with_values(text: &[u8]) -> Option<(QuickHead<'_>, Values<'_>)>
+    ensures head { IfSome result (λ read. IsHeadWith text.now read.0 read.1.values) }
+    ensures bounds { IfSome result (λ read. (0 < read.0.len) × (read.0.len ≤ max_quick_head)
+        × (read.0.block_len ≤ max_block)) }
+{
+    let (values, rest) = read_lines(after_version(text)?)?;
+    let len = text.len() - rest.len();
+    if len > MAX_QUICK_HEAD {
+        return None;
+    }
+    Some((good_head(len, &values)?, values))
+}
+
 /// Reads the good head at the front of a text, if it is plain and there whole. `None` says nothing of the text.
 ///
 /// A head is plain if each field is on one line, no value has a control character other than tabs, the names of the
@@ -185,10 +200,6 @@ pub fn quick_head(text: &[u8]) -> Option<QuickHead<'_>>
     ensures bounds { IfSome result (λ head. (0 < head.len) × (head.len ≤ max_quick_head)
         × (head.block_len ≤ max_block)) }
 {
-    let (values, rest) = read_lines(after_version(text)?)?;
-    let len = text.len() - rest.len();
-    if len > MAX_QUICK_HEAD {
-        return None;
-    }
-    good_head(len, &values)
+    let (head, _) = head_with_values(text)?;
+    Some(head)
 }

@@ -8,6 +8,7 @@
 mod alone;
 mod canonical;
 mod dates;
+mod faultless;
 mod head;
 mod lines;
 mod names;
@@ -17,5 +18,6 @@ mod values;
 
 pub use alone::type_alone;
 pub use canonical::is_canonical_head;
+pub use faultless::faultless_head;
 pub use head::{QuickHead, quick_head};
 pub use plain::{QuickRecord, quick_record};

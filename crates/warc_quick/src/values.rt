@@ -1,5 +1,5 @@
 //! The values of the fields by which a head is read in place.
-ghost use Rattle.std.specs.Prelude.{◌≡◌, ◌∷◌, ◌++◌, [], true, List, None, unwrap_or};
+ghost use Rattle.std.specs.Prelude.{◌≡◌, ◌∷◌, ◌++◌, [], ◌<◌, true, List, None, get_or, unwrap_or};
 ghost use Rattle.warc_field.specs.Area.{Pair, first_value};
 ghost use Rattle.warc_quick.specs.Names.{IsNaming, quick_name};
 ghost use Rattle.warc_quick.specs.Fronts.{AreValues, IsValueOf};
@@ -39,6 +39,14 @@ impl<'a> Values<'a> {
         }
         self.values[place] = Some(line.value);
         true
+    }
+
+    /// The value of the first field of the name that has this place.
+    pub(crate) fn at(&self, place: usize) -> Option<&'a [u8]>
+        requires { place < COUNT }
+        ensures { result ≡ get_or self.now.values place None }
+    {
+        self.values[place]
     }
 
     /// The value of the first field of a name.

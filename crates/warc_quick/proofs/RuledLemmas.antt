@@ -1,0 +1,125 @@
+-- The values of a plain head, held against the field table.
+use Rattle.std.proofs.Common.{◌≡◌, ℕ, ◌+◌, ◌<◌, ◌==◌, Bool, true, false, not, if◌then◌else◌, List, [], ◌∷◌, length, map, get_or, Option, Some, None, is_some, refl, sym, ap, ◌∙◌, subst, arith}
+use Rattle.std.specs.Prelude.{option_and_then}
+use Rattle.std.specs.Borrow.{Bor}
+use Rattle.std.specs.Str.{str_eq_ignore_ascii_case}
+use Rattle.std.proofs.Math.Dec.{eqb}
+use Rattle.std.proofs.lemmas.Bool.{agree_below_at, eq-eqb, eqb-true}
+use Rattle.std.proofs.lemmas.List.{get_or-map, length-map}
+use Rattle.warc_field.specs.Area.{Pair, first_value}
+use Rattle.warc_frame.specs.Names.{warc_target_uri}
+use Rattle.warc_record.specs.declared.table.FieldRule.{FieldRule}
+use Rattle.warc_record.specs.Findings.{stands}
+use Rattle.warc_record.specs.Ids.{bare_text}
+use Rattle.warc_record.specs.Readings.{bare_present, unless_empty}
+use Rattle.warc_record.specs.Table.{Rule, rule, rules, rule_seen}
+use Rattle.warc_field.specs.Text.{trimmed}
+use Rattle.warc_quick.specs.declared.names.QuickName.{QuickName}
+use Rattle.warc_quick.specs.declared.names.QuickName.TheVariants.{«Type», RecordId, Date, ContentLength, TargetUri, ConcurrentTo, IpAddress, RefersTo, RefersToTargetUri, RefersToDate, Filename, Profile, WarcinfoId, SegmentNumber, SegmentOriginId, SegmentTotalLength, BlockDigest, PayloadDigest, Truncated, IdentifiedPayloadType, ContentType}
+use Rattle.warc_quick.specs.Fronts.{AreValues, IsValueOf}
+use Rattle.warc_quick.specs.Names.{may_repeat, quick_name, quick_place}
+use Rattle.warc_quick.specs.Ruled.{IsRuleOf}
+
+-- the only name that is the target's is at its place
+is_target : (name : QuickName) → str_eq_ignore_ascii_case (quick_name name) warc_target_uri ≡ eqb (quick_place name) 4
+is_target «Type» = refl
+is_target RecordId = refl
+is_target Date = refl
+is_target ContentLength = refl
+is_target TargetUri = refl
+is_target ConcurrentTo = refl
+is_target IpAddress = refl
+is_target RefersTo = refl
+is_target RefersToTargetUri = refl
+is_target RefersToDate = refl
+is_target Filename = refl
+is_target Profile = refl
+is_target WarcinfoId = refl
+is_target SegmentNumber = refl
+is_target SegmentOriginId = refl
+is_target SegmentTotalLength = refl
+is_target BlockDigest = refl
+is_target PayloadDigest = refl
+is_target Truncated = refl
+is_target IdentifiedPayloadType = refl
+is_target ContentType = refl
+
+-- a target's value stands if its bare text isn't empty, another's if it isn't empty itself
+abbrev value_stands : Bool → Option (List ℕ) → Bool
+value_stands target value = if target then is_some (bare_present value) else is_some (option_and_then unless_empty value)
+
+nothing_bare : bare_text [] ≡ []
+unfolding bare_text trimmed
+nothing_bare = refl
+
+some_bytes : (b : ℕ) (bs : List ℕ) → (length (b ∷ bs) == 0) ≡ false
+some_bytes b bs = grind arith
+
+some_text : (text : List ℕ) → is_some (unless_empty text) ≡ not (length text == 0)
+some_text [] = refl
+some_text (b ∷ bs) = rw (some_bytes b bs) refl
+
+some_bare : (text : List ℕ) → is_some (bare_present (Some text)) ≡ not (length (bare_text text) == 0)
+some_bare [] = ap (λ (t : List ℕ). not (length t == 0)) (sym nothing_bare)
+some_bare (b ∷ bs) = rw (some_bytes b bs) (some_text (bare_text (b ∷ bs)))
+
+-- a target whose bare text isn't empty
+pub target_stands : (fields : List Pair) (values : List (Option (Bor (List ℕ)))) (name : QuickName) (place : ℕ) → AreValues fields values
+    → quick_place name ≡ place → place ≡ 4 → (value : Bor (List ℕ)) → Some value ≡ get_or values place None
+    → not (length (bare_text value.now) == 0) ≡ stands (quick_name name) fields
+target_stands fields values name place are at four value is =
+    let of : IsValueOf name fields (Some value) =
+    subst (λ found. IsValueOf name fields found) (ap (λ k. get_or values k None) at ∙ sym is) (are.each name) in
+    sym (some_bare value.now) ∙ ap (λ found. is_some (bare_present found)) of.first
+    ∙ ap (λ b. value_stands b (first_value (quick_name name) fields)) (sym (is_target name ∙ eq-eqb _ _ (at ∙ four)))
+
+-- the names of the field table, in its order
+abbrev pub ruled_names : List QuickName
+ruled_names =
+    TargetUri ∷ ConcurrentTo ∷ IpAddress ∷ RefersTo ∷ RefersToTargetUri ∷ RefersToDate ∷ Filename ∷ Profile ∷ WarcinfoId
+    ∷ SegmentNumber ∷ SegmentOriginId ∷ SegmentTotalLength ∷ BlockDigest ∷ PayloadDigest ∷ Truncated ∷ IdentifiedPayloadType
+    ∷ ContentType ∷ []
+
+abbrev no_rule : Rule
+no_rule = rule [] [] []
+
+names_are : map (λ (row : Rule). row.name) rules ≡ map quick_name ruled_names
+unfolding rules
+names_are = refl
+
+repeats_are : map (λ (row : Rule). row.repeats) rules ≡ map may_repeat ruled_names
+unfolding rules
+repeats_are = refl
+
+pub rule_count : length rules ≡ 17
+unfolding rules
+rule_count = refl
+
+abbrev pub ruled_name : ℕ → QuickName
+ruled_name k = get_or ruled_names k TargetUri
+
+pub places_are : (k : ℕ) → k < 17 → quick_place (ruled_name k) ≡ 4 + k
+places_are k inside =
+    eqb-true _ _ (agree_below_at (λ k. eqb (quick_place (ruled_name k)) (4 + k)) (λ k. true) 17 k refl inside)
+
+rule_is : (k : ℕ) → k < 17 → IsRuleOf (ruled_name k) (get_or rules k no_rule)
+rule_is k inside =
+    let room : k < length rules = omega (arith, inside, rule_count) in
+    record {
+      name_is =
+          sym (get_or-map (λ (row : Rule). row.name) rules k no_rule [] room) ∙ ap (λ xs. get_or xs k []) names_are
+          ∙ get_or-map quick_name ruled_names k TargetUri [] inside;
+      repeats_is =
+          sym (get_or-map (λ (row : Rule). row.repeats) rules k no_rule false room) ∙ ap (λ xs. get_or xs k false) repeats_are
+          ∙ get_or-map may_repeat ruled_names k TargetUri false inside;
+    }
+
+-- the rows of the code's table
+module _ (rows : List FieldRule) (are : map rule_seen rows ≡ rules) where
+  pub row_count : length rows ≡ 17
+  row_count = sym (length-map rows rule_seen) ∙ ap length are ∙ rule_count
+
+  pub row_is : (k : ℕ) (d : FieldRule) → k < 17 → IsRuleOf (ruled_name k) (rule_seen (get_or rows k d))
+  row_is k d inside =
+      subst (λ row. IsRuleOf (ruled_name k) row)
+      (ap (λ xs. get_or xs k no_rule) (sym are) ∙ get_or-map rule_seen rows k d no_rule (omega (arith, inside, row_count))) (rule_is k inside)
