@@ -7,7 +7,7 @@ use std::io::{self, Read, Write};
 use std::process::ExitCode;
 use suites_script::{Case, Trial, try_script};
 use warc_frame::read_head;
-use warc_quick::{QuickHead, quick_head};
+use warc_quick::{QuickHead, quick_head, type_alone};
 use warc_record::{HeadTexts, judge_head};
 
 /// The text that cases speak of which give none.
@@ -70,6 +70,24 @@ fn tell_head(alloc: Global, answer: &mut Vec<u8>, text: &[u8]) -> Result<(), All
     }
 }
 
+/// Adds whether the head at the front of a text is alone, if it is read in place. Such a head is typed.
+fn tell_alone(alloc: Global, answer: &mut Vec<u8>, text: &[u8]) -> Result<(), AllocError> {
+    let Some(quick) = quick_head(text) else {
+        return answer.extend_from_slice(b"not read in place\n");
+    };
+    if !quick.is_alone {
+        return answer.extend_from_slice(b"not alone\n");
+    }
+    let typed = type_alone(alloc, &quick)?;
+    answer.extend_from_slice(b"alone")?;
+    if let Some(digest) = &typed.payload_digest {
+        answer.push(b' ')?;
+        answer.extend_from_slice(digest.bytes())?;
+    }
+    answer.push(b'\n')?;
+    Ok(())
+}
+
 /// The text that a case gives or else the one that was kept, changed by the words of the case if it has some.
 fn text_of(alloc: Global, case: &Case<'_>, kept: &[u8]) -> Result<Vec<u8>, AllocError> {
     let text = if case.gives() { case.given() } else { kept };
@@ -95,6 +113,7 @@ impl Trial for Trials {
                 Ok(())
             }
             "quick" => tell_head(alloc, answer, &text_of(alloc, case, &self.text)?),
+            "alone" => tell_alone(alloc, answer, &text_of(alloc, case, &self.text)?),
             _ => answer.extend_from_slice(b"no such case\n"),
         }
     }
