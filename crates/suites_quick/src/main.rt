@@ -6,9 +6,10 @@ use std::alloc::{AllocError, Global};
 use std::io::{self, Read, Write};
 use std::process::ExitCode;
 use suites_script::{Case, Trial, try_script};
-use warc_frame::read_head;
-use warc_quick::{QuickHead, quick_head, type_alone};
-use warc_record::{HeadTexts, judge_head};
+use warc_frame::{Head, read_head};
+use warc_quick::{QuickHead, faultless_head, quick_head, type_alone};
+use warc_record::{HeadTexts, findings, judge_head};
+use warc_value::Wanted;
 
 /// The text that cases speak of which give none.
 #[derive(Drop)]
@@ -88,6 +89,34 @@ fn tell_alone(alloc: Global, answer: &mut Vec<u8>, text: &[u8]) -> Result<(), Al
     Ok(())
 }
 
+/// Whether the reading that keeps the fields finds nothing, and the same digest.
+fn has_no_finding(alloc: Global, head: Head<Global>, wanted: Wanted) -> Result<bool, AllocError> {
+    if !findings(alloc, &head.fields, head.block_len)?.is_empty() {
+        return Ok(false);
+    }
+    match judge_head(head.fields) {
+        Ok(good) => Ok(good.wanted() == wanted),
+        Err(_) => Ok(false),
+    }
+}
+
+/// Adds whether it is found in place that nothing is wrong with the record whose head a text begins with.
+fn tell_faultless(alloc: Global, answer: &mut Vec<u8>, text: &[u8]) -> Result<(), AllocError> {
+    let Ok(head) = read_head(alloc, text) else {
+        return answer.extend_from_slice(b"no head\n");
+    };
+    let Some(wanted) = faultless_head(&text[..head.len], head.block_len) else {
+        return answer.extend_from_slice(b"not known in place\n");
+    };
+    if !has_no_finding(alloc, head, wanted)? {
+        return answer.extend_from_slice(b"read in two ways\n");
+    }
+    match wanted {
+        Wanted::Sha1(_) => answer.extend_from_slice(b"faultless, with a digest\n"),
+        Wanted::Unchecked => answer.extend_from_slice(b"faultless\n"),
+    }
+}
+
 /// The text that a case gives or else the one that was kept, changed by the words of the case if it has some.
 fn text_of(alloc: Global, case: &Case<'_>, kept: &[u8]) -> Result<Vec<u8>, AllocError> {
     let text = if case.gives() { case.given() } else { kept };
@@ -114,6 +143,7 @@ impl Trial for Trials {
             }
             "quick" => tell_head(alloc, answer, &text_of(alloc, case, &self.text)?),
             "alone" => tell_alone(alloc, answer, &text_of(alloc, case, &self.text)?),
+            "faultless" => tell_faultless(alloc, answer, &text_of(alloc, case, &self.text)?),
             _ => answer.extend_from_slice(b"no such case\n"),
         }
     }
