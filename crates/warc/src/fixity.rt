@@ -1,5 +1,5 @@
 //! How the blocks of an archive compare with the digests that their heads state.
-ghost use Rattle.std.specs.Prelude.{◌≡◌, true, [], codes, OnErr, map};
+ghost use Rattle.std.specs.Prelude.{◌≡◌, true, false, [], codes, OnErr, map};
 ghost use Rattle.warc_frame.specs.Effects.{Puts, SendsText};
 ghost use Rattle.warc_reading.specs.Judging.{verdict_on};
 ghost use Rattle.warc_reading.specs.Opening.{Opens};
@@ -14,6 +14,7 @@ use std::alloc::{AllocError, Allocator, Global};
 use std::marker::Model;
 use warc_field::Fields;
 use warc_frame::{Fault, OutBuffer, OutFault, SendFault, Sink, Source, names, put_columns};
+use warc_quick::QuickHead;
 use warc_reading::{Keep, Row, Rows, read_on};
 use warc_record::bare;
 use warc_value::Verdict;
@@ -113,17 +114,15 @@ impl<A: Allocator + Copy> Keep<A> for Digests<A> {
 
     ghost judges = { true };
 
-    ghost needs_fields = { true };
+    ghost takes = { λ _. false };
 
     fn judges() -> bool {
         true
     }
 
-    fn needs_fields() -> bool {
-        true
+    fn takes(_head: &QuickHead<'_>) -> bool {
+        false
     }
-
-    fn pass(&self) {}
 
     fn keep(
         &mut self,
@@ -138,6 +137,17 @@ impl<A: Allocator + Copy> Keep<A> for Digests<A> {
         let value = unless_good(verdict, digest_value(fields)).to_vec(alloc)?;
         self.verdicts.push(verdict)?;
         self.values.push_reserved(value);
+        Ok(())
+    }
+
+    fn keep_plain(
+        &mut self,
+        _alloc: A,
+        _position: usize,
+        _head: &QuickHead<'_>,
+        _block_start: u64,
+    ) -> Result<(), AllocError> {
+        // None is taken: blocks are judged.
         Ok(())
     }
 

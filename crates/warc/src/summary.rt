@@ -1,5 +1,5 @@
 //! What an archive holds: how many records of which kind, how many bytes, and from when to when.
-ghost use Rattle.std.specs.Prelude.{◌≡◌, true, [], OnErr, map, option_map, if◌then◌else◌};
+ghost use Rattle.std.specs.Prelude.{◌≡◌, true, false, [], OnErr, map, option_map, if◌then◌else◌};
 ghost use Rattle.std.specs.List.{concat};
 ghost use Rattle.warc_frame.specs.Effects.{Puts, SendsText};
 ghost use Rattle.warc_index.specs.Captures.{is_earlier};
@@ -14,6 +14,7 @@ use std::alloc::{AllocError, Allocator, Global};
 use std::marker::Model;
 use warc_field::Fields;
 use warc_frame::{Fault, OutBuffer, OutFault, SendFault, Sink, Source, names, put_columns};
+use warc_quick::QuickHead;
 use warc_reading::{Keep, Rows, read_on};
 use warc_record::Kind;
 use warc_value::{Moment, Verdict, read_date};
@@ -100,17 +101,15 @@ impl<A: Allocator + Copy> Keep<A> for RecordFlags<A> {
 
     ghost judges = { true };
 
-    ghost needs_fields = { true };
+    ghost takes = { λ _. false };
 
     fn judges() -> bool {
         true
     }
 
-    fn needs_fields() -> bool {
-        true
+    fn takes(_head: &QuickHead<'_>) -> bool {
+        false
     }
-
-    fn pass(&self) {}
 
     fn keep(
         &mut self,
@@ -124,6 +123,17 @@ impl<A: Allocator + Copy> Keep<A> for RecordFlags<A> {
         self.segmented.reserve(1)?;
         self.verdicts.push(verdict)?;
         self.segmented.push_reserved(has_segment_number(fields));
+        Ok(())
+    }
+
+    fn keep_plain(
+        &mut self,
+        _alloc: A,
+        _position: usize,
+        _head: &QuickHead<'_>,
+        _block_start: u64,
+    ) -> Result<(), AllocError> {
+        // None is taken: blocks are judged.
         Ok(())
     }
 

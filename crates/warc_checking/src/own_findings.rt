@@ -16,6 +16,7 @@ use std::marker::Model;
 use warc_field::Fields;
 use warc_frame::laws::went_out_of_longer;
 use warc_frame::{OutBuffer, SendFault, Sink};
+use warc_quick::QuickHead;
 use warc_reading::Keep;
 use warc_record::{ArchiveFacts, Finding, all_findings};
 use warc_value::Verdict;
@@ -453,17 +454,15 @@ impl<A: Allocator + Copy> Keep<A> for OwnFindings<A> {
 
     ghost judges = { true };
 
-    ghost needs_fields = { true };
+    ghost takes = { λ _. false };
 
     fn judges() -> bool {
         true
     }
 
-    fn needs_fields() -> bool {
-        true
+    fn takes(_head: &QuickHead<'_>) -> bool {
+        false
     }
-
-    fn pass(&self) {}
 
     fn keep(
         &mut self,
@@ -475,6 +474,17 @@ impl<A: Allocator + Copy> Keep<A> for OwnFindings<A> {
         verdict: Verdict,
     ) -> Result<(), AllocError> {
         self.add(alloc, fields, block_len, verdict)
+    }
+
+    fn keep_plain(
+        &mut self,
+        _alloc: A,
+        _position: usize,
+        _head: &QuickHead<'_>,
+        _block_start: u64,
+    ) -> Result<(), AllocError> {
+        // None is taken: blocks are judged.
+        Ok(())
     }
 
     fn truncate(&mut self, count: usize) {

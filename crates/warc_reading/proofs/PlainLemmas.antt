@@ -1,7 +1,7 @@
 -- A record that is read in place, and what is kept of it.
 use Rattle.std.proofs.Common.{◌≡◌, ℕ, ◌+◌, ◌≤◌, Bool, true, false, List, [], ◌∷◌, ◌++◌, length, take, Option, Some, None, Result, Ok, Err, OnErr, OnOk, is_err, refl, sym, ap, subst, ◌∙◌, arith, length-append}
 use Rattle.std.specs.Prelude.{unwrap_or}
-use Rattle.std.proofs.lemmas.List.{append_assoc, append-nil, length-take-le, map-append}
+use Rattle.std.proofs.lemmas.List.{append_assoc, append-nil, length-map, length-take-le, map-append}
 use Rattle.warc_frame.specs.Decoding.{Finishes, IsAt, State}
 use Rattle.warc_frame.specs.Faults.{AllAccepted}
 use Rattle.warc_frame.specs.Record.{Record, max_archive}
@@ -14,7 +14,8 @@ use Rattle.warc_quick.specs.Quick.{IsQuickRecord}
 use Rattle.warc_quick.specs.declared.plain.QuickRecord.{QuickRecord}
 use Rattle.warc_reading.specs.Archive.{SpellsFrom, contents}
 use Rattle.warc_reading.specs.Row.{Placed, Row, row_of}
-use Rattle.warc_reading.specs.Stream.{IsBetween, IsKeptOf, Matches, Stands}
+use Rattle.warc_reading.specs.Judging.{IsNextPlain}
+use Rattle.warc_reading.specs.Stream.{IsBetween, IsKeptOf, Matches, Stands, plain_row}
 use Rattle.warc_reading.specs.declared.reading.Current.{Current}
 use Rattle.warc_reading.specs.declared.reading.Reading.{Reading}
 use Rattle.warc_reading.proofs.GoodLemmas.{accepted, are_good}
@@ -72,19 +73,6 @@ none_open judges begin rest (Some u) c none m = cc none
 abbrev placed_at : ℕ → ℕ → Record → Placed
 placed_at at head r = record { offset = at; block_start = at + head; content = r }
 
--- the row that is kept of it
-abbrev pub plain_row : ℕ → QuickRecord → Row
-plain_row at found = record {
-  offset = at;
-  block_start = at + found.head.len;
-  block_len = found.head.block_len;
-  is_truncated = found.head.texts.is_truncated;
-  kind = found.head.texts.kind.now;
-  date = found.head.texts.date.now;
-  id = found.head.texts.id.now;
-  target = found.head.texts.target.now;
-}
-
 row_by_texts : (at start len : ℕ) (mark : Bool) (kind date id target : List ℕ) (r : Record) → kind ≡ unwrap_or (reading_of r.fields).type_text []
     → date ≡ unwrap_or (reading_of r.fields).date_text [] → id ≡ unwrap_or (reading_of r.fields).id_text [] → target ≡ unwrap_or (reading_of r.fields).target []
     → mark ≡ (reading_of r.fields).truncated → len ≡ length r.block
@@ -93,7 +81,7 @@ row_by_texts : (at start len : ℕ) (mark : Bool) (kind date id target : List �
 row_by_texts at start len mark kind date id target r kind_is date_is id_is target_is mark_is len_is =
     rw (kind_is, date_is, id_is, target_is, mark_is, len_is) refl
 
-row_is : (at : ℕ) (piece : List ℕ) (found : QuickRecord) (is : IsQuickRecord piece found) → plain_row at found ≡ row_of (placed_at at found.head.len is.content)
+row_is : (at : ℕ) (piece : List ℕ) (found : QuickRecord) (is : IsQuickRecord piece found) → plain_row at (at + found.head.len) found.head ≡ row_of (placed_at at found.head.len is.content)
 row_is at piece found is =
     let t = found.head.texts in
     let texts = is.says.texts in
@@ -119,18 +107,20 @@ module _ {A L : Type 0} {judges : Bool} (K : L → List Placed → Type 0) (text
   pub plain_alone : old.current ≡ None
   plain_alone = none_open judges (length stands.has.front) stands.has.rest stands.told.unclosed old.current (between 0 text stands.told stands.is_at).0 stands.has.current
 
-  pub plain_stands : new.rows ≡ old.rows ++ plain_row d.position found ∷ [] → new.begin ≡ d.position + found.len → new.current ≡ old.current
-      → ((records : List Placed) (p : Placed) → K old.beside records → K new.beside (records ++ p ∷ []))
+  pub plain_stands : (start : ℕ) → start ≡ d.position + found.head.len → new.rows ≡ old.rows ++ plain_row d.position start found.head ∷ [] → new.begin ≡ d.position + found.len → new.current ≡ old.current
+      → ((records : List Placed) (p : Placed) → K old.beside records → length old.rows ≡ length records → IsNextPlain p found.head start → K new.beside (records ++ p ∷ []))
       → IsAt (d.position + found.len) [] nothing after → Stands judges K (text ++ take found.len piece) after new
-  plain_stands rows begin current keeps start =
+  plain_stands start start_is rows begin current keeps anew =
       let p : Placed = placed_at d.position found.head.len is.content in
+      let next : IsNextPlain p found.head start = record { says = is.says; start_is = start_is; len_is = is.block } in
+      let count : length old.rows ≡ length kept.listed.are.records = ap length kept.listed.are.rows_are ∙ length-map kept.listed.are.records row_of in
       let more = kept_more K text (take found.len piece) old.rows old.beside new.beside p kept is.spelled is.says.good here
-      (omega (arith, here, size, is.end)) (omega (arith, here, size, limit, length-append text (take found.len piece))) (keeps kept.listed.are.records p kept.beside) in
-      let row : old.rows ++ row_of p ∷ [] ≡ new.rows = sym (rows ∙ ap (λ (x : Row). old.rows ++ x ∷ []) (row_is d.position piece found is)) in
+      (omega (arith, here, size, is.end)) (omega (arith, here, size, limit, length-append text (take found.len piece))) (keeps kept.listed.are.records p kept.beside count next) in
+      let row : old.rows ++ row_of p ∷ [] ≡ new.rows = sym (rows ∙ ap (λ n. old.rows ++ plain_row d.position n found.head ∷ []) start_is ∙ ap (λ (x : Row). old.rows ++ x ∷ []) (row_is d.position piece found is)) in
       let P : List Row → Type 0 = λ l. IsKeptOf K (text ++ take found.len piece) (l, new.beside) in
       let Q : ℕ → Type 0 = λ n. IsAt n [] nothing after in
       kept_stands K (text ++ take found.len piece) after new (subst P row more)
-      (omega (arith, begin, here, size, length-append text (take found.len piece))) (current ∙ plain_alone) (subst Q (sym begin) start)
+      (omega (arith, begin, here, size, length-append text (take found.len piece))) (current ∙ plain_alone) (subst Q (sym begin) anew)
 
 -- what `finish` says where it is no error
 pub finished : (answer : Result (Unit {0}) Fault) → is_err answer ≡ false → (at : ℕ) (taken : List ℕ) (told : Told) → Finishes at taken told answer → Finishes at taken told (Ok tt)

@@ -7,6 +7,8 @@ use Rattle.warc_value.specs.declared.hash.Wanted.{Wanted}
 use Rattle.warc_value.specs.declared.hash.Wanted.TheVariants.{Unchecked}
 use Rattle.warc_record.specs.Heads.{head_fault}
 use Rattle.warc_record.specs.Readings.{digest_wanted}
+use Rattle.warc_quick.specs.Quick.{Says}
+use Rattle.warc_quick.specs.declared.head.QuickHead.{QuickHead}
 use Rattle.warc_reading.specs.Row.{Placed}
 
 -- the digest that a block is judged by where blocks are judged, and none where they aren't
@@ -26,6 +28,12 @@ pub record IsNextOf (judges : Bool) (p : Placed) (fields : List Pair) (start len
   pub start_is : start ≡ p.block_start
   pub len_is : len ≡ length p.content.block
   pub verdict_is : verdict ≡ verdict_by judges p
+
+-- a plain head says what the fields of a record's head say, which is good; the offset and the length of its block
+pub record IsNextPlain (p : Placed) (head : QuickHead) (start : ℕ) : Type 0 where
+  pub says : Says p.content.fields head
+  pub start_is : start ≡ p.block_start
+  pub len_is : head.block_len ≡ length p.content.block
 
 -- how a record's block compares with the digest that its head asks for
 abbrev pub verdict_on : Placed → Verdict

@@ -14,6 +14,7 @@ use Rattle.warc_frame.specs.declared.fault.FaultKind.{FaultKind}
 use Rattle.warc_frame.specs.declared.fault.FaultKind.TheVariants.{Memory, Read, Truncated}
 use Rattle.warc_record.specs.Heads.{head_fault}
 use Rattle.warc_record.specs.Readings.{digest_wanted, reading_of}
+use Rattle.warc_quick.specs.declared.head.QuickHead.{QuickHead}
 use Rattle.warc_reading.specs.Archive.{IsArchiveOf, SpellsFrom, contents, IsFaultOf, IsRecordEnd}
 use Rattle.warc_reading.specs.Fronts.{IsLongestFront, reach_of}
 use Rattle.warc_reading.specs.Judging.{judged_by}
@@ -101,6 +102,19 @@ row_by begin c = record {
   date = unwrap_or (reading_of c.head).date_text [];
   id = unwrap_or (reading_of c.head).id_text [];
   target = unwrap_or (reading_of c.head).target [];
+}
+
+-- the row of the record at this offset whose head is plain
+abbrev pub plain_row : ℕ → ℕ → QuickHead → Row
+plain_row offset start head = record {
+  offset = offset;
+  block_start = start;
+  block_len = head.block_len;
+  is_truncated = head.texts.is_truncated;
+  kind = head.texts.kind.now;
+  date = head.texts.date.now;
+  id = head.texts.id.now;
+  target = head.texts.target.now;
 }
 
 -- these are the rows of the records that bytes spell, and what else is needed of them is kept

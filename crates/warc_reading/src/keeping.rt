@@ -1,16 +1,20 @@
 //! What is kept of records besides their rows: nothing in a listing; in an archive, what finds them and joins them.
 ghost use Rattle.std.specs.Prelude.{◌≡◌, Bool, true, false, None, List, [], ◌∷◌, ◌++◌, length, take, OnErr, OnOk};
+ghost use Rattle.warc_field.specs.Area.{Pair};
+ghost use Rattle.warc_quick.specs.Quick.{Says};
+ghost use Rattle.warc_quick.specs.declared.head.QuickHead.{QuickHead};
 ghost use Rattle.warc_record.specs.Heads.{head_fault};
 ghost use Rattle.warc_record.specs.Readings.{reading_of};
 ghost use Rattle.warc_record.specs.Seen.{said};
 ghost use Rattle.warc_reading.specs.Indexed.{AreOf, place_of};
-ghost use Rattle.warc_reading.specs.Judging.{IsNextOf};
+ghost use Rattle.warc_reading.specs.Judging.{IsNextOf, IsNextPlain};
 ghost use Rattle.warc_reading.specs.Row.{Placed};
 
 use std::alloc::{AllocError, Allocator};
 use warc_field::Fields;
 use warc_index::{Index, RecordIndex, UnorderedIndex};
 use warc_order::{EntryList, HasEntries, Order, Unordered};
+use warc_quick::{QuickHead, type_alone};
 use warc_record::{Typed, type_head};
 use warc_segment::{Parts, Place};
 use warc_value::Verdict;
@@ -27,17 +31,12 @@ pub trait Keep<A: Allocator> {
     fn judges() -> bool
         ensures { result ≡ judges };
 
-    /// The fields of each record's head are needed.
-    ghost needs_fields: { Bool };
+    /// A record with such a plain head is kept without its fields.
+    ghost takes: { QuickHead → Bool };
 
-    /// Whether the fields of each record's head are needed. If they aren't, a row is all that is kept of a record.
-    fn needs_fields() -> bool
-        ensures { result ≡ needs_fields };
-
-    /// Passes over the next record, of which a row is all that is kept. It does nothing.
-    fn pass(&self)
-        ensures { (records : List Placed) (p : Placed) → needs_fields ≡ false → keeps self.now records →
-            keeps self.now (records ++ p ∷ []) };
+    /// Whether a record with such a plain head is kept without its fields.
+    fn takes(head: &QuickHead<'_>) -> bool
+        ensures { result ≡ takes head.now };
 
     /// Keeps what is needed of the next record, by its position, the fields of its good head, where its block begins,
     /// how long it is, and what was found of it: `Unchecked` where blocks aren't judged. If memory is refused, it keeps
@@ -57,6 +56,22 @@ pub trait Keep<A: Allocator> {
         ensures err { (records : List Placed) → keeps self.old records → position ≡ length records →
             OnErr result (keeps self.new records) };
 
+    /// Keeps what is needed of the next record, by its position, its plain head, which is one that it takes, and where
+    /// its block begins. If memory is refused, it keeps what it kept of the records before.
+    fn keep_plain(
+        &mut self,
+        alloc: A,
+        position: usize,
+        head: &QuickHead<'_>,
+        block_start: u64,
+    ) -> Result<(), AllocError>
+        requires { (fields : List Pair) × Says fields head.now }
+        ensures ok { (records : List Placed) (p : Placed) → takes head.now ≡ true → keeps self.old records →
+            position ≡ length records → IsNextPlain p head.now block_start →
+            OnOk result (keeps self.new (records ++ p ∷ [])) }
+        ensures err { (records : List Placed) → keeps self.old records → position ≡ length records →
+            OnErr result (keeps self.new records) };
+
     /// Forgets all but the first `count` records. It takes no memory.
     fn truncate(&mut self, count: usize)
         ensures { (records : List Placed) → keeps self.old records → keeps self.new (take count records) };
@@ -71,17 +86,15 @@ impl<A: Allocator> Keep<A> for RowsAlone {
 
     ghost judges = { false };
 
-    ghost needs_fields = { false };
+    ghost takes = { λ _. true };
 
     fn judges() -> bool {
         false
     }
 
-    fn needs_fields() -> bool {
-        false
+    fn takes(_head: &QuickHead<'_>) -> bool {
+        true
     }
-
-    fn pass(&self) {}
 
     fn keep(
         &mut self,
@@ -95,7 +108,30 @@ impl<A: Allocator> Keep<A> for RowsAlone {
         Ok(())
     }
 
+    fn keep_plain(
+        &mut self,
+        _alloc: A,
+        _position: usize,
+        _head: &QuickHead<'_>,
+        _block_start: u64,
+    ) -> Result<(), AllocError> {
+        Ok(())
+    }
+
     fn truncate(&mut self, _count: usize) {}
+}
+
+/// The place of a block whose record's head says this.
+fn place_of<A: Allocator>(typed: &Typed<A>, block_start: u64, block_len: u64) -> Place
+    ensures { (p : Placed) → said typed.now ≡ reading_of p.content.fields → block_start ≡ p.block_start →
+        block_len ≡ length p.content.block → result ≡ place_of p }
+{
+    Place {
+        start: block_start,
+        len: block_len,
+        wanted: typed.wanted,
+        truncated: typed.truncated,
+    }
 }
 
 /// Keeps the next record, by its position, what its head says and the place of its block.
@@ -143,12 +179,28 @@ fn add_head<O: EntryList, A: Allocator + Copy>(
     let Ok(typed) = type_head(alloc, fields) else {
         return Err(AllocError);
     };
-    let place = Place {
-        start: block_start,
-        len: block_len,
-        wanted: typed.wanted,
-        truncated: typed.truncated,
-    };
+    let place = place_of(&typed, block_start, block_len);
+    add(index, parts, position, &typed, place)
+}
+
+/// Keeps the next record, by its position, its plain head that is alone and where its block begins.
+fn add_plain<O: EntryList, A: Allocator + Copy>(
+    alloc: A,
+    index: &mut RecordIndex<O, A>,
+    parts: &mut Parts<A>,
+    position: usize,
+    head: &QuickHead<'_>,
+    block_start: u64,
+) -> Result<(), AllocError>
+    requires alone { head.now.is_alone ≡ true }
+    requires says { (fields : List Pair) × Says fields head.now }
+    ensures ok { (records : List Placed) (p : Placed) → AreOf records index.old parts.old →
+        IsNextPlain p head.now block_start → OnOk result (AreOf (records ++ p ∷ []) index.new parts.new) }
+    ensures err { (records : List Placed) → AreOf records index.old parts.old →
+        position ≡ length records → OnErr result (AreOf records index.new parts.new) }
+{
+    let typed = type_alone(alloc, head)?;
+    let place = place_of(&typed, block_start, head.block_len);
     add(index, parts, position, &typed, place)
 }
 
@@ -218,17 +270,15 @@ impl<O: EntryList, A: Allocator + Copy> Keep<A> for RecordLookup<O, A> {
 
     ghost judges = { false };
 
-    ghost needs_fields = { true };
+    ghost takes = { λ head. head.is_alone };
 
     fn judges() -> bool {
         false
     }
 
-    fn needs_fields() -> bool {
-        true
+    fn takes(head: &QuickHead<'_>) -> bool {
+        head.is_alone
     }
-
-    fn pass(&self) {}
 
     fn keep(
         &mut self,
@@ -247,6 +297,26 @@ impl<O: EntryList, A: Allocator + Copy> Keep<A> for RecordLookup<O, A> {
             fields,
             block_start,
             block_len,
+        )
+    }
+
+    fn keep_plain(
+        &mut self,
+        alloc: A,
+        position: usize,
+        head: &QuickHead<'_>,
+        block_start: u64,
+    ) -> Result<(), AllocError> {
+        if !head.is_alone {
+            return Ok(());
+        }
+        add_plain(
+            alloc,
+            &mut self.index,
+            &mut self.parts,
+            position,
+            head,
+            block_start,
         )
     }
 

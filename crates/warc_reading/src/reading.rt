@@ -1,11 +1,11 @@
 //! Reads the good records of a source as a stream, and keeps a row of each, and what else is needed.
-ghost use Rattle.std.specs.Prelude.{◌≡◌, ◌≢◌, ℕ, ◌+◌, ◌-◌, ◌<◌, ◌≤◌, ◌^◌, List, [], ◌∷◌, ◌++◌, length, min, take, Some, None, IfOk, IfErr, OnErr, OnOk, MatchResult, is_err, IfSome, false};
+ghost use Rattle.std.specs.Prelude.{◌≡◌, ◌≢◌, ℕ, ◌+◌, ◌-◌, ◌<◌, ◌≤◌, ◌^◌, List, [], ◌∷◌, ◌++◌, length, min, take, Some, None, IfOk, IfErr, OnErr, OnOk, MatchResult, is_err, IfSome, true};
 ghost use Rattle.warc_value.specs.Digests.{verdict_of};
 ghost use Rattle.warc_record.specs.Heads.{head_fault};
 ghost use Rattle.warc_record.specs.Readings.{digest_wanted};
 ghost use Rattle.warc_reading.specs.Archive.{IsArchiveOf};
 ghost use Rattle.warc_reading.specs.Fronts.{AreFrontRows, IsLongestFront, reach_of};
-ghost use Rattle.warc_reading.specs.Judging.{IsNextOf, judged_by};
+ghost use Rattle.warc_reading.specs.Judging.{IsNextOf, IsNextPlain, judged_by};
 ghost use Rattle.warc_reading.specs.Growing.{Grows, grown};
 ghost use Rattle.warc_reading.specs.Opening.{Opens};
 ghost use Rattle.warc_reading.specs.Row.{Placed};
@@ -15,8 +15,9 @@ ghost use Rattle.warc_frame.specs.Ranges.{IsReadAt};
 ghost use Rattle.warc_frame.specs.Record.{max_archive};
 ghost use Rattle.warc_frame.specs.Seen.{GoesOn, IfHeld, InOrder};
 ghost use Rattle.warc_frame.specs.Told.{Told};
-ghost use Rattle.warc_quick.specs.Quick.{IsQuickRecord};
-ghost use Rattle.warc_reading.specs.Stream.{Extends, HasSeen, IsBetween, WantsSince, IsHead, IsKeptOf, IsLeft, Since, Stands, StaysRefused, Stops, TakesFront, row_by};
+ghost use Rattle.warc_field.specs.Area.{Pair};
+ghost use Rattle.warc_quick.specs.Quick.{IsQuickRecord, Says};
+ghost use Rattle.warc_reading.specs.Stream.{Extends, HasSeen, IsBetween, WantsSince, IsHead, IsKeptOf, IsLeft, Since, Stands, StaysRefused, Stops, TakesFront, plain_row, row_by};
 ghost use Rattle.warc_reading.specs.declared.reading.Current.{Current as Kept};
 
 use crate::keeping::{Keep, RowsAlone};
@@ -25,7 +26,7 @@ use crate::spare_fields::SpareFields;
 use std::alloc::{AllocError, Allocator};
 use warc_field::Fields;
 use warc_frame::{Decoder, Event, Fault, FaultKind, MAX_ARCHIVE, ReadFault, Source};
-use warc_quick::{QuickRecord, quick_record};
+use warc_quick::{QuickHead, QuickRecord, quick_record};
 use warc_record::{GoodHead, judge_head};
 use warc_value::{Running, Verdict, Wanted};
 
@@ -227,6 +228,48 @@ impl<A: Allocator + Copy, L: Keep<A> + Drop> Reading<A, L> {
         self.begin = end;
         Ok(())
     }
+
+    /// Keeps a row of the record at an offset that has a plain head, and what else is needed of it.
+    fn keep_plain(
+        &mut self,
+        alloc: A,
+        offset: u64,
+        head: &QuickHead<'_>,
+        block_start: u64,
+    ) -> Result<(), AllocError>
+        requires taken { L.takes head.now ≡ true }
+        requires says { (fields : List Pair) × Says fields head.now }
+        ensures begin { self.new.begin ≡ self.old.begin }
+        ensures current { self.new.current ≡ self.old.current }
+        ensures row { OnOk result (self.new.rows ≡ self.old.rows ++ plain_row offset block_start head.now ∷ []) }
+        ensures untouched { OnErr result (self.new.rows ≡ self.old.rows) }
+        ensures beside { (records : List Placed) (p : Placed) → L.keeps self.old.beside records →
+            length self.old.rows ≡ length records → IsNextPlain p head.now block_start →
+            OnOk result (L.keeps self.new.beside (records ++ p ∷ [])) }
+        ensures left { (records : List Placed) → L.keeps self.old.beside records →
+            length self.old.rows ≡ length records → OnErr result (L.keeps self.new.beside records) }
+    {
+        let texts = &head.texts;
+        let position = self.rows.len();
+        self.rows.push(&Row {
+            offset,
+            block_start,
+            block_len: head.block_len,
+            is_truncated: texts.is_truncated,
+            kind: texts.kind,
+            date: texts.date,
+            id: texts.id,
+            target: texts.target,
+        })?;
+        match self.beside.keep_plain(alloc, position, head, block_start) {
+            Ok(()) => Ok(()),
+            Err(refused) => {
+                // The row is taken back, which takes no memory.
+                self.rows.truncate(position);
+                Err(refused)
+            }
+        }
+    }
 }
 
 /// The record that a piece begins with, if it can be read in place: the decoder stands between records, the head is
@@ -258,7 +301,7 @@ fn take_plain<A: Allocator + Copy, L: Keep<A> + Drop>(
     found: &QuickRecord<'_>,
     piece: &[u8],
 ) -> Result<usize, Fault>
-    requires fields { L.needs_fields ≡ false }
+    requires taken { L.takes found.now.head ≡ true }
     requires found { IsQuickRecord piece.now found.now }
     requires between { IsBetween decoder.old }
     requires limit { decoder.old.position + found.now.len ≤ max_archive }
@@ -266,21 +309,11 @@ fn take_plain<A: Allocator + Copy, L: Keep<A> + Drop>(
 {
     let begin = decoder.position();
     let end = begin + found.len as u64;
-    let texts = &found.head.texts;
-    let kept = reading.rows.push(&Row {
-        offset: begin,
-        block_start: begin + found.head.len as u64,
-        block_len: found.head.block_len,
-        is_truncated: texts.is_truncated,
-        kind: texts.kind,
-        date: texts.date,
-        id: texts.id,
-        target: texts.target,
-    });
+    let block_start = begin + found.head.len as u64;
+    let kept = reading.keep_plain(alloc, begin, &found.head, block_start);
     if kept.is_err() {
         return Err(FaultKind::Memory.at(reading.begin));
     }
-    reading.beside.pass();
     reading.begin = end;
     *decoder = Decoder::new(alloc, end);
     Ok(found.len)
@@ -318,7 +351,7 @@ fn take_event<A: Allocator + Copy, L: Keep<A> + Drop>(
     }
 }
 
-/// The same. If rows are all that is kept, a plain record that the piece begins with is read in place.
+/// The same. A plain record that the piece begins with is read in place, if it is kept without its fields.
 fn take_front<A: Allocator + Copy, L: Keep<A> + Drop>(
     alloc: A,
     decoder: &mut Decoder<A>,
@@ -328,9 +361,11 @@ fn take_front<A: Allocator + Copy, L: Keep<A> + Drop>(
     requires { 0 < length piece.now }
     ensures { TakesFront L.judges L.keeps piece.now decoder.old reading.old decoder.new reading.new result }
 {
-    if !L::needs_fields() {
+    if !L::judges() {
         if let Some(found) = plain_record(decoder, piece) {
-            return take_plain(alloc, decoder, reading, &found, piece);
+            if L::takes(&found.head) {
+                return take_plain(alloc, decoder, reading, &found, piece);
+            }
         }
     }
     take_event(alloc, decoder, reading, piece)
