@@ -368,6 +368,7 @@ fn take_front<A: Allocator + Copy, L: Keep<A> + Drop>(
             }
         }
     }
+    reading.spare.hand_on(decoder);
     take_event(alloc, decoder, reading, piece)
 }
 
@@ -398,7 +399,6 @@ fn take_piece<A: Allocator + Copy, L: Keep<A> + Drop>(
     let mut from = 0;
     'taking: while from < piece.len() {
         from += take_front(alloc, decoder, reading, &piece[from..])?;
-        reading.spare.hand_on(decoder);
     }
     Ok(())
 }

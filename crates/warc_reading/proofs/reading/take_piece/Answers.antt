@@ -84,7 +84,7 @@ taking-preserved g c =
       within = omega (arith, size, c.in_ok-from.ensures.within, c.taking-test.true, c.taking.invariant.within);
       stands = λ was text is.
           let P : List ℕ → Type 0 = λ t. Stands g.L.Keep.judges (Since g.L.Keep.keeps was) t c.take_front.new.decoder c.take_front.new.reading in
-          rw c.hand_on.ensures (subst P (behind text piece from took) (c.in_ok-from.ensures.history was (text ++ take from piece) (c.taking.invariant.stands was text is)));
+          subst P (behind text piece from took) (c.in_ok-from.ensures.history was (text ++ take from piece) (c.taking.invariant.stands was text is));
       begins = λ was text is.
           begins_behind text (take from piece) _ _ _ (c.taking.invariant.begins was text is) (c.in_ok-from.ensures.begins was (text ++ take from piece) (c.taking.invariant.stands was text is));
       rows = extends_more _ _ _ c.taking.invariant.rows c.take_front.ensures.rows;
@@ -92,7 +92,7 @@ taking-preserved g c =
           let (now, here) = c.taking.invariant.taken at taken told is in
           let (next, there) = c.in_ok-from.ensures.taken at (taken ++ take from piece) now here in
           let P : List ℕ → Type 0 = λ t. IsAt at t next c.take_front.new.decoder in
-          (next, rw c.hand_on.ensures (subst P (behind taken piece from took) there));
+          (next, subst P (behind taken piece from took) there);
     }
 
 pub returns-clause-history : goal.returns-clause-history
