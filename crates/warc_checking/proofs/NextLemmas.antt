@@ -26,7 +26,7 @@ found_there records i p at =
 
 -- the record at a place, where the ids of those before it are held
 pub next_at : (bytes : List ℕ) (records : List Placed) (rows : List Row) (found : List (List SeenFinding)) (i : ℕ) (row : Row) (ids : Ids) → GoodHeadsRead → AreJudged bytes records rows found
-    → IsTally (length rows) rows ids.counts → slice_get rows i ≡ Some row → HoldsIdsOf (take i (contents records)) ids
+    → IsTally (length rows) rows ids.counts ids.buckets → slice_get rows i ≡ Some row → HoldsIdsOf (take i (contents records)) ids
     → (p : Placed) × (slice_get records i ≡ Some p) × IsDue (take i (contents records)) p row (found_at found i) ids
 next_at bytes records rows found i row ids law findings tally is has =
     let (p, at, row_is, head) = record_at bytes records rows i row findings.can is in (

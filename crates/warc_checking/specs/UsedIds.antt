@@ -1,6 +1,6 @@
 -- Which ids of an archive may occur in it more than once. Each id's key has a bucket, and for each bucket it is counted
--- how many of the archive's ids it has: an id that is alone in its bucket occurs once. States of the code: no public
--- clause cites them.
+-- how many of the archive's ids it has: an id that is alone in its bucket occurs once. The bucket of each id is kept.
+-- States of the code: no public clause cites them.
 use Rattle.std.specs.Prelude.{◌≡◌, ℕ, ◌<◌, ◌≤◌, ◌%◌, false, List, length, Option, Some, slice_index}
 use Rattle.std.specs.BTreeSet.{BTreeSet, contains}
 use Rattle.std.specs.Cmp.Lexicographic.{slice_cmp}
@@ -20,17 +20,21 @@ bucket_of count key = finish (write initial key) % count
 abbrev pub level : List ℕ → List ℕ → ℕ
 level counts key = slice_index counts (bucket_of (length counts) key)
 
--- the ids of the first n of these rows were counted
-pub record IsTally (n : ℕ) (rows : List Row) (counts : List ℕ) : Type 0 where
+-- the ids of the first n of these rows were counted, and their buckets were kept
+pub record IsTally (n : ℕ) (rows : List Row) (counts buckets : List ℕ) : Type 0 where
   pub some : 0 < length counts
   pub once : (i : ℕ) (row : Row) (key : List ℕ) → i < n → slice_get rows i ≡ Some row → id_key row.id ≡ Some key
       → 0 < level counts key
   pub twice : (i j : ℕ) (a b : Row) (key : List ℕ) → i < j → j < n → slice_get rows i ≡ Some a
       → slice_get rows j ≡ Some b → id_key a.id ≡ Some key → id_key b.id ≡ Some key → 1 < level counts key
+  pub kept : (i : ℕ) (row : Row) (key : List ℕ) → i < n → slice_get rows i ≡ Some row → id_key row.id ≡ Some key
+      → slice_get buckets i ≡ Some (bucket_of (length counts) key)
 
--- how many ids the buckets have, and the keys of the ids in buckets of several that earlier records use
+-- how many ids the buckets have, the bucket of each row's id, and the keys of the ids in buckets of several that
+-- earlier records use
 pub record Ids : Type 0 where
   pub counts : List ℕ
+  pub buckets : List ℕ
   pub keys : BTreeSet (List ℕ)
 
 -- of the keys in buckets of several, the set holds those of the ids of these records, and no others
@@ -42,3 +46,7 @@ HoldsIdsOf records ids = (key : List ℕ) → 1 < level ids.counts key
 abbrev pub IsAlone : List Record → Ids → Option (List ℕ) → Type 0
 IsAlone records ids wanted = (key : List ℕ) → wanted ≡ Some key → level ids.counts key ≤ 1
     → is_used records (Some key) ≡ false
+
+-- the bucket at a position is that of a key
+abbrev pub IsBucketAt : Ids → ℕ → List ℕ → Type 0
+IsBucketAt ids position key = slice_get ids.buckets position ≡ Some (bucket_of (length ids.counts) key)

@@ -1,9 +1,9 @@
 //! The ids of the records so far.
-ghost use Rattle.std.specs.Prelude.{◌≡◌, ℕ, ◌<◌, ◌≤◌, List, [], ◌∷◌, ◌++◌, length, nat_lt, IfOk, OnOk, Some};
+ghost use Rattle.std.specs.Prelude.{◌≡◌, ℕ, ◌<◌, ◌≤◌, ◌^◌, List, [], ◌∷◌, ◌++◌, length, nat_lt, IfOk, OnOk, Some};
 ghost use Rattle.warc_frame.specs.Record.{Record};
 ghost use Rattle.warc_record.specs.Ids.{id_key};
 ghost use Rattle.warc_checking.specs.Checking.{is_used, record_key};
-ghost use Rattle.warc_checking.specs.UsedIds.{HoldsIdsOf, IsAlone, IsTally, bucket_of, level};
+ghost use Rattle.warc_checking.specs.UsedIds.{HoldsIdsOf, IsAlone, IsBucketAt, IsTally, bucket_of, level};
 
 use std::alloc::{AllocError, Allocator};
 use std::collections::BTreeSet;
@@ -14,6 +14,9 @@ use warc_record::{IdKey, id_key};
 
 /// How many buckets there are for each id.
 const BUCKETS: usize = 8;
+
+/// How many buckets there are at most, so that each has a number of 32 bits.
+const MAX_BUCKETS: usize = 0xffff_ffff;
 
 /// The bucket of a key, of n buckets. Keys that differ mostly have buckets that differ.
 #[tactic(auto, unfolding(crate::specs::UsedIds::bucket_of))]
@@ -27,50 +30,66 @@ fn bucket(key: &[u8], count: usize) -> usize
     (hasher.finish() % count as u64) as usize
 }
 
-/// Counts a key in its bucket.
-fn count_key(key: &[u8], counts: &mut [u8])
-    requires { 0 < length counts.old }
+/// Counts a key in its bucket, and returns the bucket.
+fn count_key(key: &[u8], counts: &mut [u8]) -> u32
+    requires some { 0 < length counts.old }
+    requires few { length counts.old ≤ 2 ^ 32 }
     ensures more { (other : List ℕ) → level counts.old other ≤ level counts.new other }
     ensures once { 0 < level counts.new key.now }
     ensures twice { 0 < level counts.old key.now → 1 < level counts.new key.now }
+    ensures bucket { result ≡ bucket_of (length counts.old) key.now }
 {
     let at = bucket(key, counts.len());
     counts[at] = counts[at].saturating_add(1);
+    at as u32
 }
 
-/// Counts the id that a text holds, if it holds one.
-fn count_id<A: Allocator>(alloc: A, text: &[u8], counts: &mut [u8]) -> Result<(), AllocError>
-    requires { 0 < length counts.old }
+/// Counts the id that a text holds, and returns its bucket. If it holds none, the bucket is 0.
+fn count_id<A: Allocator>(alloc: A, text: &[u8], counts: &mut [u8]) -> Result<u32, AllocError>
+    requires some { 0 < length counts.old }
+    requires few { length counts.old ≤ 2 ^ 32 }
     ensures more { (other : List ℕ) → level counts.old other ≤ level counts.new other }
     ensures once { (key : List ℕ) → id_key text.now ≡ Some key → OnOk result (0 < level counts.new key) }
     ensures twice { (key : List ℕ) → id_key text.now ≡ Some key → 0 < level counts.old key →
         OnOk result (1 < level counts.new key) }
+    ensures bucket { (key : List ℕ) → id_key text.now ≡ Some key →
+        IfOk result (λ bucket. bucket ≡ bucket_of (length counts.old) key) }
 {
-    if let Some(key) = id_key(alloc, text)? {
-        count_key(key.bytes(), counts);
+    match id_key(alloc, text)? {
+        Some(key) => Ok(count_key(key.bytes(), counts)),
+        None => Ok(0),
     }
-    Ok(())
 }
 
-/// How many ids of the rows each bucket has.
-fn tally<A: Allocator + Copy>(alloc: A, rows: &Rows<A>) -> Result<Vec<u8, A>, AllocError>
-    ensures { IfOk result (λ counts. IsTally (length rows.now) rows.now counts.items) }
+/// How many ids of the rows each bucket has, and the bucket of each row's id.
+#[derive(Drop)]
+struct Tally<A: Allocator> {
+    counts: Vec<u8, A>,
+    buckets: Vec<u32, A>,
+}
+
+/// Counts the ids of the rows.
+fn tally_rows<A: Allocator + Copy>(alloc: A, rows: &Rows<A>) -> Result<Tally<A>, AllocError>
+    ensures { IfOk result (λ t. IsTally (length rows.now) rows.now t.counts.items t.buckets.items) }
 {
-    let count = rows.len().saturating_mul(BUCKETS).max(1);
+    let count = rows.len().saturating_mul(BUCKETS).max(1).min(MAX_BUCKETS);
     let mut counts = vec![in alloc; 0u8; count]?;
+    let mut buckets = Vec::with_capacity(alloc, rows.len())?;
     'counting: for position in 0..rows.len() {
         let Some(row) = rows.get(position) else {
             unreachable!()
         };
-        count_id(alloc, row.id, &mut counts)?;
+        let bucket = count_id(alloc, row.id, &mut counts)?;
+        buckets.push(bucket)?;
     }
-    Ok(counts)
+    Ok(Tally { counts, buckets })
 }
 
 /// The ids that earlier records use. Only those that may occur in the archive more than once are kept.
 #[derive(Drop)]
 pub(crate) struct UsedIds<A: Allocator> {
     counts: Vec<u8, A>,
+    buckets: Vec<u32, A>,
     keys: BTreeSet<IdKey<A>, A>,
 }
 
@@ -80,7 +99,7 @@ impl<A: Allocator> Model for UsedIds<A> {
 
     ghost Value = { Ids };
 
-    ghost view = { λ m. record { counts = m.counts.items; keys = m.keys } };
+    ghost view = { λ m. record { counts = m.counts.items; buckets = m.buckets.items; keys = m.keys } };
 
     ghost invariant = { λ m. 0 < length m.counts.items };
 }
@@ -88,38 +107,48 @@ impl<A: Allocator> Model for UsedIds<A> {
 impl<A: Allocator + Copy> UsedIds<A> {
     /// None of the ids of these rows.
     pub(crate) fn new(alloc: A, rows: &Rows<A>) -> Result<UsedIds<A>, AllocError>
-        ensures tally { IfOk result (λ ids. IsTally (length rows.now) rows.now ids.counts) }
+        ensures tally { IfOk result (λ ids. IsTally (length rows.now) rows.now ids.counts ids.buckets) }
         ensures ids { IfOk result (HoldsIdsOf []) }
     {
-        let counts = tally(alloc, rows)?;
+        let Tally { counts, buckets } = tally_rows(alloc, rows)?;
         Ok(UsedIds {
             counts,
+            buckets,
             keys: BTreeSet::new(alloc),
         })
     }
 
-    /// Whether the bucket of a key has more than one id.
-    fn is_shared(&self, key: &[u8]) -> bool
-        ensures shared { result ≡ nat_lt 1 (level self.now.counts key.now) }
+    /// Whether the bucket at a position has more than one id.
+    fn is_shared(&self, position: usize) -> bool
+        ensures shared { (key : List ℕ) → IsBucketAt self.now position key →
+            result ≡ nat_lt 1 (level self.now.counts key) }
     {
-        self.counts[bucket(key, self.counts.len())] > 1
+        let Some(bucket) = self.buckets.get(position) else {
+            return true;
+        };
+        match self.counts.get(*bucket as usize) {
+            Some(count) => *count > 1,
+            None => true,
+        }
     }
 
-    /// Adds the id that a text holds, and returns whether it is used already. It takes about as many
-    /// steps as the number of ids has digits.
-    pub(crate) fn add(&mut self, alloc: A, text: &[u8]) -> Result<bool, AllocError>
+    /// Adds the id that the text of the row at a position holds, and returns whether it is used already. It takes
+    /// about as many steps as the number of ids has digits. An id that is alone in its bucket isn't parsed.
+    pub(crate) fn add(&mut self, alloc: A, position: usize, text: &[u8]) -> Result<bool, AllocError>
+        requires bucket { (key : List ℕ) → id_key text.now ≡ Some key → IsBucketAt self.old position key }
         ensures used { (before : List Record) → HoldsIdsOf before self.old →
             IsAlone before self.old (id_key text.now) → IfOk result (λ used. used ≡ is_used before (id_key text.now)) }
         ensures ids { (before : List Record) (r : Record) → HoldsIdsOf before self.old →
             record_key r ≡ id_key text.now → OnOk result (HoldsIdsOf (before ++ r ∷ []) self.new) }
         ensures counts { self.new.counts ≡ self.old.counts }
+        ensures buckets { self.new.buckets ≡ self.old.buckets }
     {
+        if !self.is_shared(position) {
+            return Ok(false);
+        }
         let Some(key) = id_key(alloc, text)? else {
             return Ok(false);
         };
-        if !self.is_shared(key.bytes()) {
-            return Ok(false);
-        }
         let Ok(added) = self.keys.insert(key) else {
             return Err(AllocError);
         };

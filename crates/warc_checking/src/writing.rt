@@ -1,16 +1,17 @@
 //! The lines of findings that are known, of all records of an archive.
-ghost use Rattle.std.specs.Prelude.{◌≡◌, ℕ, ◌++◌, List, [], ◌∷◌, Option, false, IfErr, IfOk, OnOk, length};
+ghost use Rattle.std.specs.Prelude.{◌≡◌, ℕ, ◌++◌, List, [], ◌∷◌, Option, Some, false, IfErr, IfOk, OnOk, length};
 ghost use Rattle.warc_frame.specs.Count.{capped};
 ghost use Rattle.warc_frame.specs.Failing.{failed_by, is_read};
 ghost use Rattle.warc_frame.specs.Record.{Record};
 ghost use Rattle.warc_frame.specs.Send.{IsStaged, WentOut, sent_of};
+ghost use Rattle.warc_record.specs.Ids.{id_key};
 ghost use Rattle.warc_reading.specs.Archive.{contents};
 ghost use Rattle.warc_reading.specs.Row.{Placed};
 ghost use Rattle.warc_checking.specs.Checking.{findings_behind, findings_of_archive};
 ghost use Rattle.warc_checking.specs.Checks.{AreCutOff, AreTold};
 ghost use Rattle.warc_checking.specs.Lines.{PutsCheck, PutsFindingsOf, record_lines};
 ghost use Rattle.warc_checking.specs.OwnFindings.{AreJudged, IsDue, found_at};
-ghost use Rattle.warc_checking.specs.UsedIds.{HoldsIdsOf, IsTally};
+ghost use Rattle.warc_checking.specs.UsedIds.{HoldsIdsOf, IsBucketAt, IsTally};
 
 use crate::lines::put_none;
 use crate::own_findings::OwnFindings;
@@ -32,6 +33,7 @@ fn put_next<A: Allocator + Copy, W: Sink>(
     buffer: &mut OutBuffer,
     out: &mut W,
 ) -> Result<usize, OutFault>
+    requires bucket { (key : List ℕ) → id_key row.now.id ≡ Some key → IsBucketAt ids.old position key }
     ensures out { (before : List Record) (p : Placed) (start : Option (List ℕ)) (output : List ℕ) →
         IsDue before p row.now (found_at findings.now position) ids.old → IsStaged start output (W.seen out.old).tells
         buffer.old → OnOk result (IsStaged start (output ++ record_lines position (findings_behind before p.content))
@@ -47,13 +49,14 @@ fn put_next<A: Allocator + Copy, W: Sink>(
         IsDue before p row.now (found_at findings.now position) ids.old →
         OnOk result (HoldsIdsOf (before ++ p.content ∷ []) ids.new) }
     ensures counts { ids.new.counts ≡ ids.old.counts }
+    ensures buckets { ids.new.buckets ≡ ids.old.buckets }
     ensures cause { (W.seen out.new).faults ≡ failed_by result (W.seen out.old).faults }
     ensures unread { IfErr result (λ e. is_read e ≡ false) }
 {
     good_heads_read();
     staged_went_out();
     went_out_of_longer();
-    let Ok(used) = ids.add(alloc, row.id) else {
+    let Ok(used) = ids.add(alloc, position, row.id) else {
         return Err(OutFault::Memory(buffer.sent()));
     };
     match findings.put(position, used, buffer, out) {
@@ -71,7 +74,7 @@ fn put_each<A: Allocator + Copy, W: Sink>(
     buffer: &mut OutBuffer,
     out: &mut W,
 ) -> Result<usize, OutFault>
-    requires tally { IsTally (length rows.now) rows.now ids.old.counts }
+    requires tally { IsTally (length rows.now) rows.now ids.old.counts ids.old.buckets }
     requires ids { HoldsIdsOf [] ids.old }
     ensures puts { (bytes : List ℕ) (records : List Placed) → AreJudged bytes records rows.now findings.now →
         PutsFindingsOf (contents records) (W.seen out.old) (W.seen out.new) buffer.old buffer.new result }

@@ -1,4 +1,5 @@
 use Rattle.std.proofs.Common.{rules, List, subst, ◌≡◌, ◌+◌, ◌++◌, ℕ, Some, length, take, sym, ap, ◌∙◌}
+use Rattle.std.proofs.lemmas.Option.{slice_get_within}
 use Rattle.std.specs.List.{flat_map, slice_get}
 use Rattle.warc_frame.specs.Count.{capped}
 use Rattle.warc_reading.specs.Archive.{contents}
@@ -36,13 +37,21 @@ returns-in_err-number-clause-puts g c = λ bytes records findings.
       number = search rules;
     }
 
+pub put_next-requires : goal.put_next-requires
+put_next-requires g c =
+    let row_is : slice_get c.args.rows.now c.telling.position ≡ Some c.in-Some.row = sym c.get.ensures ∙ c.in-Some.is in
+    record {
+      bucket = λ key is. c.telling.invariant.tally.kept c.telling.position c.in-Some.row key (slice_get_within _ _ _ row_is) row_is is;
+    }
+
 pub telling-preserved : goal.telling-preserved
 telling-preserved g c =
     let i = c.telling.position in
     let row_is : slice_get c.args.rows.now i ≡ Some c.in-Some.row = sym c.get.ensures ∙ c.in-Some.is in
-    let P : List ℕ → Type 0 = λ l. IsTally (length c.args.rows.now) c.args.rows.now l in
+    let P : List ℕ → Type 0 = λ l. IsTally (length c.args.rows.now) c.args.rows.now l c.put_next.new.ids.buckets in
+    let Q : List ℕ → Type 0 = λ l. IsTally (length c.args.rows.now) c.args.rows.now c.telling.ids.counts l in
     record {
-      tally = subst P (sym c.put_next.ensures.counts) c.telling.invariant.tally;
+      tally = subst P (sym c.put_next.ensures.counts) (subst Q (sym c.put_next.ensures.buckets) c.telling.invariant.tally);
       staged = λ bytes records start output findings is.
           let rs = contents records in
           let (p, at, next) = next_at bytes records _ _ i _ _ c.good_heads_read.ensures findings c.telling.invariant.tally row_is (c.telling.invariant.ids bytes records findings) in

@@ -11,7 +11,7 @@ use Rattle.warc_checking.proofs.writing.put_each.Given as goal
 -- the lines of the records so far are staged, their ids are held, and nothing has failed
 abbrev pub invariant-telling : goal.invariant-telling
 invariant-telling g l = record {
-  tally : IsTally (length l.rows) l.rows l.ids.counts;
+  tally : IsTally (length l.rows) l.rows l.ids.counts l.ids.buckets;
   staged : (bytes : List ℕ) (records : List Placed) (start : Option (List ℕ)) (output : List ℕ) → AreJudged bytes records l.rows l.findings
       → IsStaged start output ((g.W.Sink.seen l.fn.out).tells) l.fn.buffer
       → IsStaged start (output ++ first_text l.position (contents records)) ((g.W.Sink.seen l.out).tells) l.buffer;

@@ -1,4 +1,4 @@
-use Rattle.std.proofs.Common.{ap, ◌++◌, ◌∙◌}
+use Rattle.std.proofs.Common.{ap, sym, ◌++◌, ◌∙◌}
 use Rattle.warc_frame.proofs.LawLemmas.{same_out, same_staged}
 use Rattle.warc_frame.specs.Count.{capped}
 use Rattle.warc_reading.specs.Row.{Row}
@@ -7,6 +7,11 @@ use Rattle.warc_checking.specs.Checking.{is_used}
 use Rattle.warc_checking.specs.Lines.{record_lines}
 use Rattle.warc_checking.proofs.NextLemmas.{next_count, next_found}
 use Rattle.warc_checking.proofs.writing.put_next.Goals as goal
+
+pub add-requires : goal.add-requires
+add-requires g c = record {
+  bucket = λ key is. c.requires.bucket key (sym (ap (λ (r : Row). id_key r.id) c.row.view_is) ∙ is);
+}
 
 pub returns-in-Ok-put-clause-out : goal.returns-in-Ok-put-clause-out
 returns-in-Ok-put-clause-out g c = λ before p start output next is.
