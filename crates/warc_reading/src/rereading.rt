@@ -4,6 +4,7 @@ ghost use Rattle.warc_frame.specs.Effects.{FailsBy};
 ghost use Rattle.warc_frame.specs.Reading.{any_fields, head_of};
 ghost use Rattle.warc_frame.specs.Record.{Record, max_head};
 ghost use Rattle.warc_frame.specs.Seen.{IfHeld};
+ghost use Rattle.warc_frame.specs.declared.version.Version.{Version};
 ghost use Rattle.warc_record.specs.Heads.{head_fault};
 ghost use Rattle.warc_record.specs.Readings.{reading_of};
 ghost use Rattle.warc_record.specs.Seen.{said};
@@ -101,6 +102,25 @@ fn judged<A: Allocator>(fields: Fields<A>) -> Result<GoodHead<A>, RereadFault>
         Ok(head) => Ok(head),
         Err(kind) => Err(reread_fault_of(kind)),
     }
+}
+
+/// The good head that a text is, if it is a whole one with a block of this length.
+pub fn good_head_in<A: Allocator + Copy>(
+    alloc: A,
+    text: &[u8],
+    block_len: u64,
+) -> Result<GoodHead<A>, RereadFault>
+    ensures is { (r : Record) → head_of any_fields text.now
+        ≡ Ok (record { version = r.version; fields = r.fields; len = length text.now; block_len = block_len })
+        → head_fault r.fields ≡ None → MatchResult result (λ head. head ≡ r.fields) (λ e. e ≡ RereadFault.Memory) }
+    ensures whole { IfOk result (λ head. (version : Version) × (head_of any_fields text.now
+        ≡ Ok (record { version = version; fields = head; len = length text.now; block_len = block_len }))) }
+{
+    let head = match head_in(alloc, text, block_len) {
+        Ok(head) => head,
+        Err(fault) => return Err(fault),
+    };
+    judged(head.fields)
 }
 
 /// The length of a record's head, if it is at most this.
@@ -213,9 +233,9 @@ pub fn reread_good<S: Source, A: Allocator + Copy>(
     ensures reads { ReadsHeads (row.now ∷ []) (S.seen source.old) (S.seen source.new) }
     ensures fails { FailsBy (HasHeadOf row.now) (reread_result result) (S.seen source.old) (S.seen source.new) }
 {
-    let head = match reread_head(alloc, source, row, buf) {
-        Ok(head) => head,
+    let len = match reread_text(source, row, buf) {
+        Ok(len) => len,
         Err(fault) => return Err(fault),
     };
-    judged(head.fields)
+    good_head_in(alloc, &buf[..len], row.block_len)
 }

@@ -1,27 +1,30 @@
-use Rattle.std.proofs.Common.{◌≡◌, None, List, ap, subst, sym, ◌∙◌}
+use Rattle.std.proofs.Common.{◌≡◌, length, sym, subst, take, arith}
+use Rattle.std.proofs.lemmas.List.{length-take-le}
 use Rattle.std.proofs.lemmas.Result.{IfOk-weaker}
-use Rattle.warc_field.specs.Area.{Pair}
-use Rattle.warc_record.specs.Heads.{head_fault}
-use Rattle.warc_reading.specs.Rereading.{IsHeadBy}
-use Rattle.warc_reading.proofs.HeadLemmas.{may_be_sound, only_memory, read_or_memory}
+use Rattle.warc_reading.proofs.HeadLemmas.{head_by, may_be_sound, only_memory, read_or_memory}
+use Rattle.warc_reading.specs.Rereading.{IsHeadText}
+use Rattle.warc_reading.specs.Row.{Row}
 use Rattle.warc_reading.proofs.rereading.reread_good.Goals as goal
 
 pub returns-clause-read : goal.returns-clause-read
 returns-clause-read g c = λ bytes held is.
-    let head = c.in-Ok.ensures.read bytes held is in
-    let good : head_fault c.in-Ok.head.fields ≡ None = ap head_fault head.fields ∙ is.has.good in
-    IfOk-weaker c.judged.result _ _ (λ x e. e ∙ head.fields) (read_or_memory c.judged.result _ (c.judged.ensures.read good))
-
-pub returns-clause-fails : goal.returns-clause-fails
-returns-clause-fails g c = record {
-  may = may_be_sound c.judged.result _ _ c.in-Ok.ensures.fails.may;
-  failed = λ bytes held is.
-      let head = c.in-Ok.ensures.read bytes held is in
-      let good : head_fault c.in-Ok.head.fields ≡ None = ap head_fault head.fields ∙ is.has.good in
-      only_memory c.judged.result _ _ _ (c.judged.ensures.read good) c.in-Ok.ensures.fails.may;
-}
+    let P : Row → Type 0 = λ r. IsHeadText is.placed.content r (take c.in-Ok.len c.reread_text.new.buf) in
+    let text = subst P (sym c.row.view_is) (c.in-Ok.ensures.text bytes held is) in
+    read_or_memory c.good_head_in.result _ (c.good_head_in.ensures.is is.placed.content text is.has.good)
 
 pub returns-clause-whole : goal.returns-clause-whole
 returns-clause-whole g c =
-    let P : List Pair → Type 0 = λ fields. IsHeadBy c.args.row.now fields in
-    IfOk-weaker c.judged.result _ _ (λ x e. subst P (sym e) c.in-Ok.ensures.whole) c.judged.ensures.fields
+    let text = take c.in-Ok.len c.reread_text.new.buf in
+    let size : length text ≡ c.in-Ok.len = length-take-le c.in-Ok.len c.reread_text.new.buf (c.in-Ok.ensures.size.0) in
+    IfOk-weaker c.good_head_in.result _ _
+    (λ x is. head_by _ c.args.row.now is.0 x text c.row.view_is (omega (arith, size, c.in-Ok.ensures.size.1)) is.1)
+    c.good_head_in.ensures.whole
+
+pub returns-clause-fails : goal.returns-clause-fails
+returns-clause-fails g c = record {
+  may = may_be_sound c.good_head_in.result _ _ c.in-Ok.ensures.fails.may;
+  failed = λ bytes held is.
+      let P : Row → Type 0 = λ r. IsHeadText is.placed.content r (take c.in-Ok.len c.reread_text.new.buf) in
+      let text = subst P (sym c.row.view_is) (c.in-Ok.ensures.text bytes held is) in
+      only_memory c.good_head_in.result _ _ _ (c.good_head_in.ensures.is is.placed.content text is.has.good) c.in-Ok.ensures.fails.may;
+}
