@@ -1,16 +1,18 @@
 -- Findings in flat lists, and the lines of those that are told.
 use Rattle.std.proofs.Common.{◌≡◌, ℕ, zero, suc, ◌+◌, ◌-◌, ◌<◌, ◌≤◌, Bool, List, [], ◌∷◌, ◌++◌, Some, None, length, map, take, drop, slice_range, get_or, true, false, append_assoc, length-append, refl, sym, ap, subst, ◌∙◌, arith}
-use Rattle.std.proofs.Math.Seq.{drop-append_seam}
+use Rattle.std.proofs.Math.Seq.{drop-append_seam, take-length}
 use Rattle.std.proofs.lemmas.List.{append-nil, drop-append-le, drop-map, length-drop, length-take-le, map-append, map_more, take-append-drop, take-append-le, take-map, take_all}
 use Rattle.std.proofs.lemmas.List.Elements.{filter-append}
-use Rattle.std.specs.List.{AllByRecursion, filter}
+use Rattle.std.proofs.lemmas.Option.{slice_get_past}
+use Rattle.std.specs.List.{AllByRecursion, filter, slice_get}
+use Rattle.std.specs.Option.{unwrap_or}
 use Rattle.warc_reading.specs.Archive.{contents}
 use Rattle.warc_reading.specs.Row.{Placed}
 use Rattle.warc_record.specs.Findings.{SeenFinding, Absent, Forbidden, Repeated, Digest, SegmentNumber, IdUsed, NoContentType, Profile, NotUtf8, BareId, NoOrigin, Empty, finding_field, finding_number, once}
 use Rattle.warc_checking.specs.Checking.{about_record, line_text}
 use Rattle.warc_checking.specs.Lines.{record_lines}
 use Rattle.warc_checking.specs.Judged.{own_findings}
-use Rattle.warc_checking.specs.OwnFindings.{AreNamed, AreParts, IsNamed, IsPart, all_found, found_by_part, finding_in, findings_of_part, finding_by_number}
+use Rattle.warc_checking.specs.OwnFindings.{AreEnds, AreEndsFrom, AreNamed, IsNamed, IsPart, all_found, found_at, found_by_part, found_from, finding_in, findings_of_part, finding_by_number, last_end}
 use Rattle.warc_checking.specs.declared.own_findings.PackedFinding.{PackedFinding}
 use Rattle.warc_checking.specs.declared.own_findings.Part.{Part}
 use Rattle.warc_checking.proofs.CheckLemmas.{text_append}
@@ -110,34 +112,153 @@ module _ (names new name : List ℕ) (ns : List PackedFinding) (n : PackedFindin
       ∙ ap (λ l. l ++ finding_in new n ∷ []) (ap (λ l. all_found l ns) names_is ∙ found_stays names name ns named)
       ∙ ap (λ g. all_found names ns ++ g ∷ []) is
 
--- parts
-part_stays : (findings more : List SeenFinding) (ps : List Part) → AreParts (length findings) ps → found_by_part (findings ++ more) ps ≡ found_by_part findings ps
-part_stays findings more [] all = refl
-part_stays findings more (p ∷ ps) (here, all) =
-    ap (λ f. f ∷ found_by_part (findings ++ more) ps) (slice_front p.start p.end findings more here.order here.end)
-    ∙ ap (λ l. findings_of_part findings p ∷ l) (part_stays findings more ps all)
+-- the last part begins after the start, and is within the findings
+ends_within : (count start : ℕ) (ends : List ℕ) → AreEndsFrom count start ends → (start ≤ last_end start ends) × (last_end start ends ≤ count)
+ends_within count start [] all = (omega arith, all)
+ends_within count start (e ∷ es) (here, all) =
+    let (order, end) = ends_within count e es all in (omega (arith, here, order), end)
 
-parts_longer : (a b : ℕ) (ps : List Part) → a ≤ b → AreParts a ps → AreParts b ps
-parts_longer a b [] le all = tt
-parts_longer a b (p ∷ ps) le (here, all) = (record { order = here.order; end = omega (arith, here.end, le) }, parts_longer a b ps le all)
+-- parts are parts of as many findings as they reach
+ends_reach : (count n start : ℕ) (ends : List ℕ) → last_end start ends ≤ n → AreEndsFrom count start ends → AreEndsFrom n start ends
+ends_reach count n start [] le all = le
+ends_reach count n start (e ∷ es) le (here, all) = (here, ends_reach count n e es le all)
+
+-- more findings change no part
+parts_stay : (findings more : List SeenFinding) (start : ℕ) (ends : List ℕ) → AreEndsFrom (length findings) start ends
+    → found_from (findings ++ more) start ends ≡ found_from findings start ends
+parts_stay findings more start [] all = refl
+parts_stay findings more start (e ∷ es) (here, all) =
+    let (order, end) = ends_within (length findings) e es all in
+    ap (λ f. f ∷ found_from (findings ++ more) e es) (slice_front start e findings more here (omega (arith, order, end)))
+    ∙ ap (λ l. slice_range findings start e ∷ l) (parts_stay findings more e es all)
 
 -- more findings, in no part
-pub parts_kept : (findings new more : List SeenFinding) (ps : List Part) → new ≡ findings ++ more → AreParts (length findings) ps
-    → AreParts (length new) ps × (found_by_part new ps ≡ found_by_part findings ps)
-parts_kept findings new more ps is all = (
-  parts_longer (length findings) (length new) ps (omega (arith, ap length is, length-append findings more)) all,
-  ap (λ l. found_by_part l ps) is ∙ part_stays findings more ps all,
-)
-
--- one more part
-pub part_more : (findings new more : List SeenFinding) (ps : List Part) (p : Part) → new ≡ findings ++ more → p.start ≡ length findings → p.end ≡ length new → AreParts (length findings) ps
-    → AreParts (length new) (ps ++ p ∷ []) × (found_by_part new (ps ++ p ∷ []) ≡ found_by_part findings ps ++ more ∷ [])
-part_more findings new more ps p is start end all =
-    let (within, same) = parts_kept findings new more ps is all in
-    let here : findings_of_part new p ≡ more = ap (λ l. findings_of_part l p) is ∙ slice_behind p.start p.end findings more start (end ∙ ap length is) in (
-      all_more (IsPart (length new)) ps p within (record { order = omega (arith, start, end, ap length is, length-append findings more); end = omega (arith, end) }),
-      map-append (findings_of_part new) ps (p ∷ []) ∙ ap (λ l. l ++ findings_of_part new p ∷ []) same ∙ ap (λ f. found_by_part findings ps ++ f ∷ []) here,
+parts_kept : (findings new more : List SeenFinding) (ends : List ℕ) → new ≡ findings ++ more → AreEnds (length findings) ends
+    → AreEnds (length new) ends × (found_by_part new ends ≡ found_by_part findings ends)
+parts_kept findings new more ends is all =
+    let (order, end) = ends_within (length findings) 0 ends all in
+    let size : length new ≡ length findings + length more = ap length is ∙ length-append findings more in (
+      ends_reach (length findings) (length new) 0 ends (omega (arith, end, size)) all,
+      ap (λ l. found_by_part l ends) is ∙ parts_stay findings more 0 ends all,
     )
+
+-- the findings in no part are forgotten
+pub rest_forgotten : (findings new : List SeenFinding) (ends : List ℕ) (end : ℕ) → end ≡ last_end 0 (take (length ends) ends) → new ≡ take end findings
+    → AreEnds (length findings) ends
+    → (length new ≡ last_end 0 ends) × AreEnds (length new) ends × (found_by_part new ends ≡ found_by_part findings ends)
+rest_forgotten findings new ends end end_is is all =
+    let last : end ≡ last_end 0 ends = end_is ∙ ap (last_end 0) (take-length ends) in
+    let (order, within) = ends_within (length findings) 0 ends all in
+    let size : length new ≡ end = ap length is ∙ length-take-le end findings (omega (arith, last, within)) in
+    let kept = ends_reach (length findings) (length new) 0 ends (omega (arith, size, last)) all in
+    let whole : new ++ drop end findings ≡ findings = ap (λ l. l ++ drop end findings) is ∙ take-append-drop end findings in (
+      size ∙ last,
+      kept,
+      sym (parts_stay new (drop end findings) 0 ends kept) ∙ ap (λ l. found_by_part l ends) whole,
+    )
+
+ends_more : (count start : ℕ) (ends : List ℕ) (end : ℕ) → last_end start ends ≤ end → end ≤ count → AreEndsFrom count start ends
+    → AreEndsFrom count start (ends ++ end ∷ [])
+ends_more count start [] end from to all = (from, to)
+ends_more count start (e ∷ es) end from to (here, all) = (here, ends_more count e es end from to all)
+
+found_more_from : (findings : List SeenFinding) (start : ℕ) (ends : List ℕ) (end : ℕ)
+    → found_from findings start (ends ++ end ∷ []) ≡ found_from findings start ends ++ slice_range findings (last_end start ends) end ∷ []
+found_more_from findings start [] end = refl
+found_more_from findings start (e ∷ es) end = ap (λ l. slice_range findings start e ∷ l) (found_more_from findings e es end)
+
+-- one more part, of all findings after the others
+part_more : (findings new more : List SeenFinding) (ends : List ℕ) (end : ℕ) → new ≡ findings ++ more → length findings ≡ last_end 0 ends → end ≡ length new → AreEnds (length findings) ends
+    → AreEnds (length new) (ends ++ end ∷ []) × (found_by_part new (ends ++ end ∷ []) ≡ found_by_part findings ends ++ more ∷ [])
+part_more findings new more ends end is start end_is all =
+    let (within, same) = parts_kept findings new more ends is all in
+    let size : length new ≡ length findings + length more = ap length is ∙ length-append findings more in
+    let here : slice_range new (last_end 0 ends) end ≡ more =
+    ap (λ l. slice_range l (last_end 0 ends) end) is ∙ slice_behind (last_end 0 ends) end findings more (sym start) (end_is ∙ ap length is) in (
+      ends_more (length new) 0 ends end (omega (arith, start, end_is, size)) (omega (arith, end_is)) within,
+      found_more_from new 0 ends end ∙ ap (λ l. l ++ slice_range new (last_end 0 ends) end ∷ []) same
+          ∙ ap (λ f. found_by_part findings ends ++ f ∷ []) here,
+    )
+
+-- the findings in no part were forgotten, and more are added: they are in no part, or in one more
+module _ (slice ends : List ℕ) (old findings new more : List SeenFinding) (named : slice ≡ ends)
+    (last : length findings ≡ last_end 0 slice) (all : AreEnds (length findings) slice)
+    (kept : found_by_part findings slice ≡ found_by_part old slice) (is : new ≡ findings ++ more) where
+  within : AreEnds (length findings) ends
+  within = let P : List ℕ → Type 0 = λ l. AreEnds (length findings) l in subst P named all
+
+  before : found_by_part findings ends ≡ found_by_part old ends
+  before = let P : List ℕ → Type 0 = λ l. found_by_part findings l ≡ found_by_part old l in subst P named kept
+
+  pub part_refused : AreEnds (length new) ends × (found_by_part new ends ≡ found_by_part old ends)
+  part_refused = let (kept_within, same) = parts_kept findings new more ends is within in (kept_within, same ∙ before)
+
+  pub part_added : (end : ℕ) → end ≡ length new
+      → AreEnds (length new) (ends ++ end ∷ []) × (found_by_part new (ends ++ end ∷ []) ≡ found_by_part old ends ++ more ∷ [])
+  part_added end end_is =
+      let (more_within, same) = part_more findings new more ends end is (last ∙ ap (last_end 0) named) end_is within in
+      (more_within, same ∙ ap (λ l. l ++ more ∷ []) before)
+
+-- the part at a place
+last_before : (start : ℕ) (ends : List ℕ) (i d : ℕ) → i < length ends → last_end start (take (suc i) ends) ≡ get_or ends i d
+last_before start [] i d lt = absurd (omega (arith, lt))
+last_before start (e ∷ []) zero d lt = refl
+last_before start (e ∷ x ∷ es) zero d lt = refl
+last_before start (e ∷ es) (suc i) d lt = last_before e es i d (omega (arith, lt))
+
+pub end_is : (ends : List ℕ) (i d : ℕ) → 0 < i → i ≤ length ends → get_or ends (i - 1) d ≡ last_end 0 (take i ends)
+end_is ends zero d some le = absurd (omega (arith, some))
+end_is ends (suc i) d some le =
+    let same : suc i - 1 ≡ i = omega arith in
+    ap (λ n. get_or ends n d) same ∙ sym (last_before 0 ends i d (omega (arith, le)))
+
+part_from : (findings : List SeenFinding) (start : ℕ) (ends : List ℕ) (i d : ℕ) → i < length ends
+    → slice_get (found_from findings start ends) i ≡ Some (slice_range findings (last_end start (take i ends)) (get_or ends i d))
+part_from findings start [] i d lt = absurd (omega (arith, lt))
+part_from findings start (e ∷ es) zero d lt = refl
+part_from findings start (e ∷ es) (suc i) d lt = part_from findings e es i d (omega (arith, lt))
+
+pub part_found_at : (findings : List SeenFinding) (ends : List ℕ) (i d : ℕ) (p : Part) → i < length ends
+    → p.start ≡ last_end 0 (take i ends) → p.end ≡ get_or ends i d → findings_of_part findings p ≡ found_at (found_by_part findings ends) i
+part_found_at findings ends i d p lt start end =
+    ap (λ n. slice_range findings n p.end) start ∙ ap (slice_range findings (last_end 0 (take i ends))) end
+    ∙ sym (ap (λ o. unwrap_or o []) (part_from findings 0 ends i d lt))
+
+part_within_from : (count start : ℕ) (ends : List ℕ) (i d : ℕ) → i < length ends → AreEndsFrom count start ends
+    → (last_end start (take i ends) ≤ get_or ends i d) × (get_or ends i d ≤ count)
+part_within_from count start [] i d lt all = absurd (omega (arith, lt))
+part_within_from count start (e ∷ es) zero d lt (here, all) =
+    let (order, end) = ends_within count e es all in (here, omega (arith, order, end))
+part_within_from count start (e ∷ es) (suc i) d lt (here, all) = part_within_from count e es i d (omega (arith, lt)) all
+
+pub part_within : (count : ℕ) (ends : List ℕ) (i d : ℕ) (p : Part) → i < length ends
+    → p.start ≡ last_end 0 (take i ends) → p.end ≡ get_or ends i d → AreEnds count ends → IsPart count p
+part_within count ends i d p lt start end all =
+    let (order, within) = part_within_from count 0 ends i d lt all in
+    record { order = omega (arith, start, end, order); end = omega (arith, end, within) }
+
+found_len : (findings : List SeenFinding) (start : ℕ) (ends : List ℕ) → length (found_from findings start ends) ≡ length ends
+found_len findings start [] = refl
+found_len findings start (e ∷ es) = ap (λ n. suc n) (found_len findings e es)
+
+-- past the end there is none
+pub none_found_at : (findings : List SeenFinding) (ends : List ℕ) (i : ℕ) → length ends ≤ i → found_at (found_by_part findings ends) i ≡ []
+none_found_at findings ends i past =
+    ap (λ o. unwrap_or o []) (slice_get_past (found_by_part findings ends) i (omega (arith, past, found_len findings 0 ends)))
+
+-- the first parts
+pub ends_first : (n count start : ℕ) (ends : List ℕ) → AreEndsFrom count start ends → AreEndsFrom count start (take n ends)
+ends_first zero count start [] all = all
+ends_first zero count start (e ∷ es) all = let (order, end) = ends_within count start (e ∷ es) all in omega (arith, order, end)
+ends_first (suc n) count start [] all = all
+ends_first (suc n) count start (e ∷ es) (here, all) = (here, ends_first n count e es all)
+
+pub found_first : (findings : List SeenFinding) (n start : ℕ) (ends : List ℕ)
+    → found_from findings start (take n ends) ≡ take n (found_from findings start ends)
+found_first findings zero start [] = refl
+found_first findings zero start (e ∷ es) = refl
+found_first findings (suc n) start [] = refl
+found_first findings (suc n) start (e ∷ es) = ap (λ l. slice_range findings start e ∷ l) (found_first findings n e es)
 
 -- the findings of one more record
 pub own_more : (records : List Placed) (p : Placed) → map own_findings (contents records) ++ own_findings p.content ∷ [] ≡ map own_findings (contents (records ++ p ∷ []))
@@ -191,6 +312,6 @@ pub used_line : (position : ℕ) (used : Bool) → used ≡ true → line_text (
 used_line position true is = sym (append-nil (line_text (about_record position IdUsed)))
 used_line position false is = absurd (cc is)
 
--- a part that lies within, whatever the parts are called
-pub part_is : (count : ℕ) (parts slice : List Part) (p : Part) → slice ≡ parts → ((n : ℕ) → AreParts n slice → IsPart n p) → AreParts count parts → IsPart count p
-part_is count parts slice p same within all = let P : List Part → Type 0 = λ l. AreParts count l in within count (subst P (sym same) all)
+-- a part that lies within, whatever the ends are called
+pub part_is : (count : ℕ) (ends slice : List ℕ) (p : Part) → slice ≡ ends → ((n : ℕ) → AreEnds n slice → IsPart n p) → AreEnds count ends → IsPart count p
+part_is count ends slice p same within all = let P : List ℕ → Type 0 = λ l. AreEnds count l in within count (subst P (sym same) all)

@@ -1,6 +1,6 @@
 -- How findings are kept in flat lists, and how a record's are reported with N6 among them. States of the code: no
 -- public clause cites them.
-use Rattle.std.specs.Prelude.{◌≡◌, ℕ, ◌≤◌, Bool, true, false, nat_lt, List, [], ◌++◌, map, ◌==◌, slice_range, unwrap_or, None, if◌then◌else◌}
+use Rattle.std.specs.Prelude.{◌≡◌, ℕ, ◌≤◌, Bool, true, false, nat_lt, List, [], ◌∷◌, ◌++◌, map, ◌==◌, slice_range, unwrap_or, None, if◌then◌else◌}
 use Rattle.std.specs.List.{AllByRecursion, filter, slice_get}
 use Rattle.warc_record.specs.Findings.{SeenFinding, Absent, Forbidden, Repeated, Digest, SegmentNumber, IdUsed, NoContentType, Profile, NotUtf8, BareId, NoOrigin, Empty, finding_number, once}
 use Rattle.warc_frame.specs.Record.{Record}
@@ -50,15 +50,31 @@ pub record IsPart (count : ℕ) (p : Part) : Type 0 where
   pub order : p.start ≤ p.end
   pub end : p.end ≤ count
 
-abbrev pub AreParts : ℕ → List Part → Type 0
-AreParts count parts = AllByRecursion (IsPart count) parts
-
--- the findings of a part, and of each
+-- the findings of a part
 abbrev pub findings_of_part : List SeenFinding → Part → List SeenFinding
 findings_of_part findings p = slice_range findings p.start p.end
 
-abbrev pub found_by_part : List SeenFinding → List Part → List (List SeenFinding)
-found_by_part findings parts = map (findings_of_part findings) parts
+-- the findings of each part, by where the parts end: each starts at the end of the one before it, and the first at a
+-- start
+abbrev pub found_from : List SeenFinding → ℕ → List ℕ → List (List SeenFinding)
+found_from findings start [] = []
+found_from findings start (end ∷ ends) = slice_range findings start end ∷ found_from findings end ends
+
+abbrev pub found_by_part : List SeenFinding → List ℕ → List (List SeenFinding)
+found_by_part findings ends = found_from findings 0 ends
+
+-- parts that end here are in order, from a start on, and are parts of n findings
+abbrev pub AreEndsFrom : ℕ → ℕ → List ℕ → Type 0
+AreEndsFrom count start [] = start ≤ count
+AreEndsFrom count start (end ∷ ends) = (start ≤ end) × AreEndsFrom count end ends
+
+abbrev pub AreEnds : ℕ → List ℕ → Type 0
+AreEnds count ends = AreEndsFrom count 0 ends
+
+-- where the last part ends, or the start if there is none
+abbrev pub last_end : ℕ → List ℕ → ℕ
+last_end start [] = start
+last_end start (end ∷ ends) = last_end end ends
 
 -- those at a place, none past the end
 abbrev pub found_at : List (List SeenFinding) → ℕ → List SeenFinding

@@ -1,5 +1,5 @@
 //! The findings that records alone show, kept in flat lists as the records are read.
-ghost use Rattle.std.specs.Prelude.{◌≡◌, ℕ, ◌+◌, false, true, List, [], ◌∷◌, ◌++◌, length, map, OnErr, OnOk, IfOk, if◌then◌else◌};
+ghost use Rattle.std.specs.Prelude.{◌≡◌, ℕ, ◌+◌, ◌≤◌, false, true, List, [], ◌∷◌, ◌++◌, length, map, take, OnErr, OnOk, IfOk, if◌then◌else◌};
 ghost use Rattle.std.specs.List.{filter};
 ghost use Rattle.warc_frame.specs.Count.{capped};
 ghost use Rattle.warc_frame.specs.Effects.{Puts};
@@ -7,7 +7,7 @@ ghost use Rattle.warc_reading.specs.Archive.{contents};
 ghost use Rattle.warc_record.specs.Findings.{SeenFinding, IdUsed, finding_seen, findings_of, once};
 ghost use Rattle.warc_checking.specs.Lines.{record_lines};
 ghost use Rattle.warc_checking.specs.Judged.{own_findings};
-ghost use Rattle.warc_checking.specs.OwnFindings.{AreNamed, AreParts, IsNamed, IsPart, all_found, found_at, found_by_part, finding_in, is_late, findings_of_part, finding_by_number, with_used};
+ghost use Rattle.warc_checking.specs.OwnFindings.{AreEnds, AreNamed, IsNamed, IsPart, all_found, found_at, found_by_part, finding_in, is_late, findings_of_part, last_end, finding_by_number, with_used};
 ghost use Rattle.warc_value.specs.Digests.{is_bad};
 
 use crate::lines::put_finding;
@@ -244,6 +244,14 @@ impl<A: Allocator> FindingList<A> {
         add_finding(&mut self.names, &mut self.findings, finding)
     }
 
+    /// Forgets the findings after the first ones, this many.
+    fn truncate(&mut self, count: usize)
+        ensures { self.new ≡ take count self.old }
+    {
+        // Their names stay, and are never looked at.
+        self.findings.truncate(count);
+    }
+
     /// Adds the lines of a part to the output, and of N6 among them, if it holds.
     fn put<W: Sink>(
         &self,
@@ -336,63 +344,85 @@ struct Part {
     end: usize,
 }
 
-/// The part at a place, an empty one past the end.
-fn part_at(parts: &[Part], position: usize) -> Part
-    ensures is { (findings : List SeenFinding) → findings_of_part findings result
-        ≡ found_at (found_by_part findings parts.now) position }
-    ensures within { (count : ℕ) → AreParts count parts.now → IsPart count result }
+/// Where the last part before a place ends.
+fn end_before(ends: &[usize], position: usize) -> usize
+    requires { position ≤ length ends.now }
+    ensures { result ≡ last_end 0 (take position ends.now) }
 {
-    match parts.get(position) {
-        Some(part) => *part,
-        None => Part { start: 0, end: 0 },
+    if position == 0 {
+        return 0;
+    }
+    ends[position - 1]
+}
+
+/// The part at a place, an empty one past the end.
+fn part_at(ends: &[usize], position: usize) -> Part
+    ensures is { (findings : List SeenFinding) → findings_of_part findings result
+        ≡ found_at (found_by_part findings ends.now) position }
+    ensures within { (count : ℕ) → AreEnds count ends.now → IsPart count result }
+{
+    if position >= ends.len() {
+        return Part { start: 0, end: 0 };
+    }
+    Part {
+        start: end_before(ends, position),
+        end: ends[position],
     }
 }
 
-/// Adds the part of the next record. If memory is refused, none is added, and the findings that were added are in no
-/// part.
+/// Forgets the findings that are in no part. A refusal or a truncation left them.
+fn forget_rest<A: Allocator>(findings: &mut FindingList<A>, ends: &[usize])
+    requires { AreEnds (length findings.old) ends.now }
+    ensures last { length findings.new ≡ last_end 0 ends.now }
+    ensures within { AreEnds (length findings.new) ends.now }
+    ensures same { found_by_part findings.new ends.now ≡ found_by_part findings.old ends.now }
+{
+    findings.truncate(end_before(ends, ends.len()));
+}
+
+/// Adds the part of the next record, by the fields of its head, the length of its block and the verdict on its digest.
+/// If memory is refused, none is added, and the findings that were added are in no part.
 fn add_part<A: Allocator + Copy>(
     alloc: A,
     findings: &mut FindingList<A>,
-    parts: &mut Vec<Part, A>,
+    ends: &mut Vec<usize, A>,
     fields: &Fields<A>,
     block_len: u64,
     verdict: Verdict,
 ) -> Result<(), AllocError>
-    requires { AreParts (length findings.old) parts.old.items }
-    ensures within { AreParts (length findings.new) parts.new.items }
-    ensures ok { OnOk result (found_by_part findings.new parts.new.items
-        ≡ found_by_part findings.old parts.old.items
+    requires { AreEnds (length findings.old) ends.old.items }
+    ensures within { AreEnds (length findings.new) ends.new.items }
+    ensures ok { OnOk result (found_by_part findings.new ends.new.items
+        ≡ found_by_part findings.old ends.old.items
         ++ findings_of fields.now block_len (is_bad verdict) false ∷ []) }
-    ensures err { OnErr result (found_by_part findings.new parts.new.items
-        ≡ found_by_part findings.old parts.old.items) }
+    ensures err { OnErr result (found_by_part findings.new ends.new.items
+        ≡ found_by_part findings.old ends.old.items) }
 {
-    let start = findings.len();
-    parts.reserve(1)?;
+    forget_rest(findings, ends.as_slice());
+    ends.reserve(1)?;
     add_own(alloc, fields, block_len, verdict, findings)?;
-    parts.push_reserved(Part {
-        start,
-        end: findings.len(),
-    });
+    ends.push_reserved(findings.len());
     Ok(())
 }
 
-/// The findings that each record alone shows.
+/// The findings that each record alone shows. Of a record's part only its end is kept: it begins at the end of the one
+/// before it.
 #[derive(Drop)]
 pub(crate) struct OwnFindings<A: Allocator> {
     findings: FindingList<A>,
-    parts: Vec<Part, A>,
+    ends: Vec<usize, A>,
 }
 
 impl<A: Allocator> Model for OwnFindings<A> {
     ghost use Rattle.std.specs.Prelude.{List, length};
     ghost use Rattle.warc_record.specs.Findings.{SeenFinding};
-    ghost use Rattle.warc_checking.specs.OwnFindings.{AreParts, found_by_part};
+    ghost use Rattle.warc_checking.specs.OwnFindings.{AreEnds, found_by_part};
 
     ghost Value = { List (List SeenFinding) };
 
-    ghost view = { λ n. found_by_part n.findings n.parts.items };
+    ghost view = { λ n. found_by_part n.findings n.ends.items };
 
-    ghost invariant = { λ n. AreParts (length n.findings) n.parts.items };
+    ghost invariant = { λ n. AreEnds (length n.findings) n.ends.items };
 }
 
 impl<A: Allocator + Copy> OwnFindings<A> {
@@ -402,7 +432,7 @@ impl<A: Allocator + Copy> OwnFindings<A> {
     {
         OwnFindings {
             findings: FindingList::new(alloc),
-            parts: Vec::new(alloc),
+            ends: Vec::new(alloc),
         }
     }
 
@@ -422,7 +452,7 @@ impl<A: Allocator + Copy> OwnFindings<A> {
         add_part(
             alloc,
             &mut self.findings,
-            &mut self.parts,
+            &mut self.ends,
             fields,
             block_len,
             verdict,
@@ -443,7 +473,7 @@ impl<A: Allocator + Copy> OwnFindings<A> {
         ensures number { IfOk result (λ n. n ≡ capped (length (found_at self.now position)
             + (if used then 1 else 0))) }
     {
-        let part = part_at(self.parts.as_slice(), position);
+        let part = part_at(self.ends.as_slice(), position);
         self.findings.put(part, position as u64, used, buffer, out)?;
         Ok((part.end - part.start).saturating_add(line_count(used)))
     }
@@ -488,7 +518,7 @@ impl<A: Allocator + Copy> Keep<A> for OwnFindings<A> {
     }
 
     fn truncate(&mut self, count: usize) {
-        // The findings of the others stay, and are in no part.
-        self.parts.truncate(count);
+        // The findings of the others stay in no part until the next are added.
+        self.ends.truncate(count);
     }
 }
