@@ -1,10 +1,18 @@
 -- Records that wait until their blocks are judged.
-use Rattle.std.proofs.Common.{◌≡◌, ℕ, ◌≤◌, List, [], ◌∷◌, ◌++◌, ◌+◌, length, take, drop, slice_range, append_assoc, length-append, refl, sym, ap, ◌∙◌, arith}
+use Rattle.std.proofs.Common.{◌≡◌, ℕ, ◌≤◌, false, Result, Ok, Err, IfOk, List, [], ◌∷◌, ◌++◌, ◌+◌, length, take, drop, slice_range, append_assoc, length-append, refl, sym, ap, ◌∙◌, arith}
 use Rattle.std.proofs.Math.Seq.{drop-append_seam, take-append_seam}
-use Rattle.std.proofs.lemmas.List.{length-take-le, map-append}
+use Rattle.std.proofs.lemmas.List.{append-nil, length-take-le, map-append}
 use Rattle.sha1.specs.Sha1.{sha1}
-use Rattle.warc_record.specs.Findings.{SeenFinding}
-use Rattle.warc_checking.specs.Batch.{AreKeptIn, IsKeptIn, all_findings_in, findings_in, findings_with}
+use Rattle.warc_field.specs.Area.{Pair}
+use Rattle.warc_frame.specs.Reading.{Head, any_fields, head_of}
+use Rattle.warc_frame.specs.Record.{Record}
+use Rattle.warc_frame.specs.declared.fault.Fault.{Fault}
+use Rattle.warc_quick.specs.Faultless.{IsFaultlessHead}
+use Rattle.warc_record.specs.Findings.{SeenFinding, Digest, findings_of, once}
+use Rattle.warc_record.specs.Readings.{digest_wanted}
+use Rattle.warc_checking.specs.Batch.{AreKeptIn, IsHeadReread, IsKeptIn, all_findings_in, findings_by_check, findings_in, findings_with}
+use Rattle.warc_checking.specs.declared.batch.HeadCheck.TheVariants.{Faultless, Fields}
+use Rattle.warc_checking.specs.declared.batch.RereadHead.{RereadHead}
 use Rattle.warc_checking.specs.declared.batch.Waiting.{Waiting}
 use Rattle.warc_checking.proofs.OwnFindingLemmas.{all_more, slice_behind, slice_front}
 
@@ -58,3 +66,33 @@ module _ {A : Type 0} (old new more : List ℕ) (ws : List (Waiting A)) (is : ne
         map-append (findings_in new) ws (w ∷ [])
         ∙ ap (λ l. l ++ findings_in new w ∷ []) (ap (λ l. all_findings_in l ws) is ∙ findings_stay old more ws kept)
         ∙ ap (λ g. all_findings_in old ws ++ g ∷ []) (last ∙ found)
+
+-- A head is read again by its fields alone, or by what is known of a plain one.
+abbrev read_fields : Result Head Fault → List Pair
+read_fields (Ok head) = head.fields
+read_fields (Err fault) = []
+
+pub faultless_reread : {A : Type 0} (text : List ℕ) (block_len : ℕ) (h : RereadHead A) (r : Record) → h.check ≡ Faultless
+    → IsFaultlessHead text block_len h.wanted
+    → head_of any_fields text ≡ Ok (record { version = r.version; fields = r.fields; len = length text; block_len = block_len })
+    → IsHeadReread r.fields block_len h
+faultless_reread {A} text block_len h r check is reads =
+    let same : is.fields ≡ r.fields = ap read_fields (sym is.reads ∙ reads) in
+    record {
+      wanted_is = sym is.wanted_is ∙ ap digest_wanted same;
+      found_is = λ bad.
+          ap (λ c. findings_by_check c block_len bad) check ∙ sym (append-nil (once Digest bad)) ∙ sym (is.found bad false)
+          ∙ ap (λ fields. findings_of fields block_len bad false) same;
+    }
+
+pub fields_reread : {A : Type 0} (block_len : ℕ) (h : RereadHead A) (kept fields : List Pair)
+    → h.check ≡ Fields kept → kept ≡ fields → h.wanted ≡ digest_wanted fields → IsHeadReread fields block_len h
+fields_reread {A} block_len h kept fields check kept_is wanted = record {
+  wanted_is = wanted;
+  found_is = λ bad.
+      ap (λ c. findings_by_check c block_len bad) check ∙ ap (λ l. findings_of l block_len bad false) kept_is;
+}
+
+pub if_ok : {X E : Type 0} (r : Result X E) (P : Type 0) → P → IfOk r (λ x. P)
+if_ok (Ok x) P is = is
+if_ok (Err e) P is = tt

@@ -1,15 +1,17 @@
 //! Records whose heads were read again, until their blocks are judged. Several wait at a time, so that their blocks are
 //! hashed side by side.
-ghost use Rattle.std.specs.Prelude.{◌≡◌, ◌↔◌, ℕ, ◌+◌, ◌++◌, ◌^◌, ◌<◌, ◌≤◌, true, false, List, [], ◌∷◌, IfOk, OnOk, OnErr, length, map, take, drop};
+ghost use Rattle.std.specs.Prelude.{◌≡◌, ◌↔◌, ℕ, ◌+◌, ◌++◌, ◌^◌, ◌<◌, ◌≤◌, true, false, List, [], ◌∷◌, IfOk, OnOk, OnErr, MatchResult, None, Ok, length, map, take, drop};
 ghost use Rattle.sha1.specs.Sha1.{sha1};
 ghost use Rattle.warc_value.specs.Digests.{verdict_of};
 ghost use Rattle.warc_frame.specs.Effects.{FailsBy, HasRange, ReadsOnly, ReadsRange};
-ghost use Rattle.warc_frame.specs.Record.{max_head};
+ghost use Rattle.warc_frame.specs.Reading.{any_fields, head_of};
+ghost use Rattle.warc_frame.specs.Record.{Record, max_head};
 ghost use Rattle.warc_frame.specs.Seen.{IfHeld};
+ghost use Rattle.warc_record.specs.Heads.{head_fault};
 ghost use Rattle.warc_digest.specs.Judging.{judged_len};
 ghost use Rattle.warc_reading.specs.Placing.{IsInRow};
-ghost use Rattle.warc_reading.specs.Rereading.{HasTextOf, reread_result, row_len};
-ghost use Rattle.warc_checking.specs.Batch.{AreKeptIn, all_findings_in, digest_in, findings_with, verdict_with};
+ghost use Rattle.warc_reading.specs.Rereading.{HasHeadOf, HasRoomFor, HasTextOf, ReadsHeads, reread_result, row_len};
+ghost use Rattle.warc_checking.specs.Batch.{AreKeptIn, IsHeadReread, all_findings_in, digest_in, findings_with, verdict_with};
 ghost use Rattle.warc_checking.specs.Judged.{own_findings};
 
 use crate::own_findings::OwnFindings;
@@ -19,7 +21,8 @@ use warc_digest::judge_range;
 use warc_field::Fields;
 use warc_frame::{Source, read_range};
 use warc_lanes::{DIGEST_LEN, digest_each};
-use warc_reading::{RereadFault, Row, reread_good};
+use warc_quick::faultless_head;
+use warc_reading::{RereadFault, Row, good_head_in, reread_text};
 use warc_value::{Verdict, Wanted};
 
 /// How many records wait at most.
@@ -184,11 +187,77 @@ fn read_block<S: Source, A: Allocator>(
     }
 }
 
-/// A record whose block is judged later: the fields of its head, how long its block is, how it is judged, and where
-/// what is kept of it is among the bytes of all blocks.
+/// How a head is checked.
+#[derive(Drop)]
+enum HeadCheck<A: Allocator> {
+    /// Nothing is wrong with it. Only the digest can be.
+    Faultless,
+    /// By its fields.
+    Fields(Fields<A>),
+}
+
+/// A head that was read again, and the digest that it asks for of its block.
+#[derive(Drop)]
+struct RereadHead<A: Allocator> {
+    check: HeadCheck<A>,
+    wanted: Wanted,
+}
+
+/// The good head that a text is, if it is a whole one with a block of this length. Its fields are kept only if more
+/// than the digest can be wrong.
+fn checked_head_in<A: Allocator + Copy>(
+    alloc: A,
+    text: &[u8],
+    block_len: u64,
+) -> Result<RereadHead<A>, RereadFault>
+    ensures { (r : Record) → head_of any_fields text.now
+        ≡ Ok (record { version = r.version; fields = r.fields; len = length text.now; block_len = block_len })
+        → head_fault r.fields ≡ None
+        → MatchResult result (IsHeadReread r.fields block_len) (λ e. e ≡ RereadFault.Memory) }
+{
+    if let Some(wanted) = faultless_head(text, block_len) {
+        return Ok(RereadHead {
+            check: HeadCheck::Faultless,
+            wanted,
+        });
+    }
+    let head = match good_head_in(alloc, text, block_len) {
+        Ok(head) => head,
+        Err(fault) => return Err(fault),
+    };
+    let wanted = head.wanted();
+    Ok(RereadHead {
+        check: HeadCheck::Fields(head.into_fields()),
+        wanted,
+    })
+}
+
+/// Reads the head of a record again, through a buffer that it fits.
+fn reread_checked<S: Source, A: Allocator + Copy>(
+    alloc: A,
+    source: &mut S,
+    row: &Row<'_>,
+    buf: &mut [u8],
+) -> Result<RereadHead<A>, RereadFault>
+    requires { HasRoomFor row.now buf.old }
+    ensures read { IfHeld (S.seen source.old).holds (λ bytes. (is : HasHeadOf row.now bytes) →
+        IfOk result (IsHeadReread is.placed.content.fields row.now.block_len)) }
+    ensures size { IfOk result (λ head. row.now.offset ≤ row.now.block_start) }
+    ensures reads { ReadsHeads (row.now ∷ []) (S.seen source.old) (S.seen source.new) }
+    ensures fails { FailsBy (HasHeadOf row.now) (reread_result result) (S.seen source.old) (S.seen source.new) }
+{
+    let len = match reread_text(source, row, buf) {
+        Ok(len) => len,
+        Err(fault) => return Err(fault),
+    };
+    checked_head_in(alloc, &buf[..len], row.block_len)
+}
+
+/// A record whose block is judged later: how its head is checked, how long its block is, how that is judged, and where
+/// what is kept of the block is among the bytes of all blocks.
 #[derive(Drop)]
 struct Waiting<A: Allocator> {
-    fields: Fields<A>,
+    head: HeadCheck<A>,
     block_len: u64,
     check: BlockCheck,
     start: usize,
@@ -212,14 +281,20 @@ fn read_waiting<S: Source, A: Allocator + Copy>(
     ensures fails { FailsBy (HasTextOf row.now) (reread_result result) (S.seen source.old) (S.seen source.new) }
 {
     let start = blocks.len();
-    let head = match reread_good(alloc, source, row, buf) {
+    let head = match reread_checked(alloc, source, row, buf) {
         Ok(head) => head,
         Err(fault) => return Err(fault),
     };
-    let wanted = head.wanted();
-    match read_block(source, row.block_start, row.block_len, &wanted, blocks, buf) {
+    match read_block(
+        source,
+        row.block_start,
+        row.block_len,
+        &head.wanted,
+        blocks,
+        buf,
+    ) {
         Ok(check) => Ok(Waiting {
-            fields: head.into_fields(),
+            head: head.check,
             block_len: row.block_len,
             check,
             start,
@@ -286,7 +361,10 @@ fn add_one<A: Allocator + Copy>(
     ensures { OnOk result (findings.new ≡ findings.old ++ findings_with waiting.now digest.now ∷ []) }
 {
     let verdict = waiting.check.verdict(digest);
-    findings.add(alloc, &waiting.fields, waiting.block_len, verdict)
+    match &waiting.head {
+        HeadCheck::Faultless => findings.add_faultless(verdict),
+        HeadCheck::Fields(fields) => findings.add(alloc, fields, waiting.block_len, verdict),
+    }
 }
 
 /// Adds the findings of each record, by the digest of its block.

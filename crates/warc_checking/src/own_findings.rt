@@ -4,7 +4,7 @@ ghost use Rattle.std.specs.List.{filter};
 ghost use Rattle.warc_frame.specs.Count.{capped};
 ghost use Rattle.warc_frame.specs.Effects.{Puts};
 ghost use Rattle.warc_reading.specs.Archive.{contents};
-ghost use Rattle.warc_record.specs.Findings.{SeenFinding, IdUsed, finding_seen, findings_of, once};
+ghost use Rattle.warc_record.specs.Findings.{SeenFinding, Digest, IdUsed, finding_seen, findings_of, once};
 ghost use Rattle.warc_checking.specs.Lines.{record_lines};
 ghost use Rattle.warc_checking.specs.Judged.{own_findings};
 ghost use Rattle.warc_checking.specs.OwnFindings.{AreEnds, AreNamed, IsNamed, IsPart, all_found, found_at, found_by_part, finding_in, is_late, findings_of_part, last_end, finding_by_number, with_used};
@@ -337,6 +337,17 @@ fn add_own<A: Allocator + Copy>(
     add_all(&found, findings)
 }
 
+/// Adds the finding N4, if it holds.
+fn add_digest<A: Allocator>(bad: bool, findings: &mut FindingList<A>) -> Result<(), AllocError>
+    ensures ok { OnOk result (findings.new ≡ findings.old ++ once Digest bad) }
+    ensures err { OnErr result (findings.new ≡ findings.old) }
+{
+    if !bad {
+        return Ok(());
+    }
+    findings.push(&Finding::Digest)
+}
+
 /// The place of a record's findings among all findings.
 #[derive(Clone, Copy)]
 struct Part {
@@ -405,6 +416,26 @@ fn add_part<A: Allocator + Copy>(
     Ok(())
 }
 
+/// Adds the part of the next record, of which all that may be found is N4. If memory is refused, none is added.
+fn add_digest_part<A: Allocator>(
+    findings: &mut FindingList<A>,
+    ends: &mut Vec<usize, A>,
+    bad: bool,
+) -> Result<(), AllocError>
+    requires { AreEnds (length findings.old) ends.old.items }
+    ensures within { AreEnds (length findings.new) ends.new.items }
+    ensures ok { OnOk result (found_by_part findings.new ends.new.items
+        ≡ found_by_part findings.old ends.old.items ++ once Digest bad ∷ []) }
+    ensures err { OnErr result (found_by_part findings.new ends.new.items
+        ≡ found_by_part findings.old ends.old.items) }
+{
+    forget_rest(findings, ends.as_slice());
+    ends.reserve(1)?;
+    add_digest(bad, findings)?;
+    ends.push_reserved(findings.len());
+    Ok(())
+}
+
 /// The findings that each record alone shows. Of a record's part only its end is kept: it begins at the end of the one
 /// before it.
 #[derive(Drop)]
@@ -457,6 +488,15 @@ impl<A: Allocator + Copy> OwnFindings<A> {
             block_len,
             verdict,
         )
+    }
+
+    /// Adds the findings of the next record, with which nothing can be wrong but its digest, by the verdict on that. If
+    /// memory is refused, none is added.
+    pub(crate) fn add_faultless(&mut self, verdict: Verdict) -> Result<(), AllocError>
+        ensures ok { OnOk result (self.new ≡ self.old ++ once Digest (is_bad verdict) ∷ []) }
+        ensures err { OnErr result (self.new ≡ self.old) }
+    {
+        add_digest_part(&mut self.findings, &mut self.ends, verdict.is_bad())
     }
 
     /// Adds the lines of the findings of the record at a position to the output, and of N6 among them, if it holds.

@@ -1,4 +1,4 @@
-use Rattle.std.proofs.Common.{ap, arith, ◌∙◌}
+use Rattle.std.proofs.Common.{ap, refl, ◌∙◌}
 use Rattle.warc_frame.proofs.EffectLemmas.{fails_after, fails_more}
 use Rattle.warc_reading.specs.Row.{Row}
 use Rattle.warc_checking.proofs.JudgeLemmas.{block_judged, block_there, head_there, own_judged, reads_again}
@@ -10,23 +10,22 @@ returns-in-Err-clause-fails g c =
 
 pub returns-in-Ok-read_block-clause-found : goal.returns-in-Ok-read_block-clause-found
 returns-in-Ok-read_block-clause-found g c = λ bytes held is.
-    let same = c.in-Ok.ensures.read bytes held (head_there c.args.row.now bytes is) in
+    let head = c.in-Ok.ensures.read bytes held (head_there c.args.row.now bytes is) in
+    let start = ap (λ (r : Row). r.block_start) c.row.view_is in
+    let len = ap (λ (r : Row). r.block_len) c.row.view_is in
     let verdict = c.in-Ok-read_block.ensures.verdict bytes (c.in-Ok.ensures.reads.kept ∙ held)
-    ∙ block_judged c.args.row.now bytes is _ _ c.wanted-wanted.result c.in-Ok.head
-    (ap (λ (r : Row). r.block_start) c.row.view_is) (ap (λ (r : Row). r.block_len) c.row.view_is) c.wanted-wanted.ensures same in
-    own_judged is.placed c.args.row.now _ _ _ is.row_is (c.into_fields.ensures ∙ same) (ap (λ (r : Row). r.block_len) c.row.view_is) verdict
+    ∙ block_judged c.args.row.now bytes is _ _ c.in-Ok.head.wanted is.placed.content.fields start len head.wanted_is refl in
+    own_judged is.placed c.args.row.now c.in-Ok.head _ _ head is.row_is len verdict
 
 pub returns-in-Ok-read_block-clause-reads : goal.returns-in-Ok-read_block-clause-reads
 returns-in-Ok-read_block-clause-reads g c =
-    let whole = c.in-Ok.ensures.whole in
-    reads_again c.args.row.now _ _ c.wanted-wanted.result (ap (λ (r : Row). r.block_start) c.row.view_is)
-    (ap (λ (r : Row). r.block_len) c.row.view_is) (omega (arith, whole.size)) c.in-Ok.ensures.reads c.read_block.ensures.reads
+    reads_again c.args.row.now _ _ c.in-Ok.head.wanted (ap (λ (r : Row). r.block_start) c.row.view_is)
+    (ap (λ (r : Row). r.block_len) c.row.view_is) c.in-Ok.ensures.size c.in-Ok.ensures.reads c.read_block.ensures.reads
 
 pub returns-in-Err-read_block-clause-reads : goal.returns-in-Err-read_block-clause-reads
 returns-in-Err-read_block-clause-reads g c =
-    let whole = c.in-Ok.ensures.whole in
-    reads_again c.args.row.now _ _ c.wanted-wanted.result (ap (λ (r : Row). r.block_start) c.row.view_is)
-    (ap (λ (r : Row). r.block_len) c.row.view_is) (omega (arith, whole.size)) c.in-Ok.ensures.reads c.read_block.ensures.reads
+    reads_again c.args.row.now _ _ c.in-Ok.head.wanted (ap (λ (r : Row). r.block_start) c.row.view_is)
+    (ap (λ (r : Row). r.block_len) c.row.view_is) c.in-Ok.ensures.size c.in-Ok.ensures.reads c.read_block.ensures.reads
 
 pub returns-in-Err-read_block-clause-fails : goal.returns-in-Err-read_block-clause-fails
 returns-in-Err-read_block-clause-fails g c =
