@@ -107,7 +107,8 @@ fn is_faultless(head: &QuickHead<'_>, values: &Values<'_>) -> bool
 pub fn faultless_head(text: &[u8], block_len: u64) -> Option<Wanted>
     ensures { IfSome result (IsFaultlessHead text.now block_len) }
 {
-    let (head, values) = head_with_values(text)?;
+    let mut values = Values::none();
+    let head = head_with_values(text, &mut values)?;
     if head.len != text.len() || head.block_len != block_len {
         return None;
     }

@@ -1,5 +1,5 @@
 //! A plain head.
-ghost use Rattle.std.specs.Prelude.{◌≡◌, ◌<◌, ◌≤◌, ◌++◌, List, IfSome, Some, true};
+ghost use Rattle.std.specs.Prelude.{◌≡◌, ◌<◌, ◌≤◌, ◌++◌, List, [], IfSome, Some, true};
 ghost use Rattle.warc_field.specs.Area.{Pair};
 ghost use Rattle.warc_field.specs.Lines.{crlf};
 ghost use Rattle.warc_field.specs.Text.{AreFields};
@@ -67,11 +67,12 @@ pub(crate) fn after_version(text: &[u8]) -> Option<&[u8]>
     }
 }
 
-/// The values of the fields of a head whose lines follow the version line, and what follows the empty line.
-fn read_lines(text: &[u8]) -> Option<(Values<'_>, &[u8])>
-    ensures { IfSome result (λ read. BeginsWithFields text.now read.0.values (crlf ++ read.1.now)) }
+/// Adds the values of the fields of a head whose lines follow the version line. The result is what follows the empty
+/// line.
+fn read_lines<'a>(text: &'a [u8], values: &mut Values<'a>) -> Option<&'a [u8]>
+    requires { AreValues [] values.old.values }
+    ensures { IfSome result (λ rest. BeginsWithFields text.now values.new.values (crlf ++ rest.now)) }
 {
-    let mut values = Values::none();
     let mut rest = text;
     while !rest.starts_with(b"\r\n") {
         let line = first_line(rest)?;
@@ -80,7 +81,7 @@ fn read_lines(text: &[u8]) -> Option<(Values<'_>, &[u8])>
         }
         rest = line.more;
     }
-    Some((values, &rest[2..]))
+    Some(&rest[2..])
 }
 
 /// Whether a value is an id in brackets, as most are: `<`, at least sixteen bytes, none of which is a bracket, a space
@@ -176,19 +177,21 @@ fn good_head<'a>(len: usize, values: &Values<'a>) -> Option<QuickHead<'a>>
     })
 }
 
-/// Reads the good head at the front of a text, if it is plain and there whole, and the values of its fields.
+/// Reads the good head at the front of a text, if it is plain and there whole, and adds the values of its fields.
 #[inline(always)]
-pub(crate) fn head_with_values(text: &[u8]) -> Option<(QuickHead<'_>, Values<'_>)>
-    ensures head { IfSome result (λ read. IsHeadWith text.now read.0 read.1.values) }
-    ensures bounds { IfSome result (λ read. (0 < read.0.len) × (read.0.len ≤ max_quick_head)
-        × (read.0.block_len ≤ max_block)) }
+pub(crate) fn head_with_values<'a>(text: &'a [u8], values: &mut Values<'a>) -> Option<QuickHead<'a>>
+    requires { AreValues [] values.old.values }
+    ensures head { IfSome result (λ head. IsHeadWith text.now head values.new.values) }
+    ensures bounds { IfSome result (λ head. (0 < head.len) × (head.len ≤ max_quick_head)
+        × (head.block_len ≤ max_block)) }
 {
-    let (values, rest) = read_lines(after_version(text)?)?;
+    let rest = read_lines(after_version(text)?, values)?;
     let len = text.len() - rest.len();
     if len > MAX_QUICK_HEAD {
         return None;
     }
-    Some((good_head(len, &values)?, values))
+    let head = good_head(len, values)?;
+    Some(head)
 }
 
 /// Reads the good head at the front of a text, if it is plain and there whole. `None` says nothing of the text.
@@ -200,6 +203,6 @@ pub fn quick_head(text: &[u8]) -> Option<QuickHead<'_>>
     ensures bounds { IfSome result (λ head. (0 < head.len) × (head.len ≤ max_quick_head)
         × (head.block_len ≤ max_block)) }
 {
-    let (head, _) = head_with_values(text)?;
-    Some(head)
+    let mut values = Values::none();
+    head_with_values(text, &mut values)
 }
