@@ -7,8 +7,8 @@ use std::io::{self, Read, Write};
 use std::process::ExitCode;
 use suites_script::{Case, Trial, try_script};
 use warc_frame::{Head, read_head};
-use warc_quick::{QuickHead, faultless_head, quick_head, type_alone};
-use warc_record::{HeadTexts, findings, judge_head};
+use warc_quick::{QuickHead, faultless_head, quick_head, type_alone, uuid_id_key};
+use warc_record::{HeadTexts, findings, id_key, judge_head};
 use warc_value::Wanted;
 
 /// The text that cases speak of which give none.
@@ -117,6 +117,17 @@ fn tell_faultless(alloc: Global, answer: &mut Vec<u8>, text: &[u8]) -> Result<()
     }
 }
 
+/// Adds whether the key of an id is read without a search.
+fn tell_key(alloc: Global, answer: &mut Vec<u8>, id: &[u8]) -> Result<(), AllocError> {
+    let Some(key) = uuid_id_key(id) else {
+        return answer.extend_from_slice(b"not read without a search\n");
+    };
+    match id_key(alloc, id)? {
+        Some(same) if same.bytes() == key.as_slice() => answer.extend_from_slice(b"a key\n"),
+        _ => answer.extend_from_slice(b"read in two ways\n"),
+    }
+}
+
 /// The text that a case gives or else the one that was kept, changed by the words of the case if it has some.
 fn text_of(alloc: Global, case: &Case<'_>, kept: &[u8]) -> Result<Vec<u8>, AllocError> {
     let text = if case.gives() { case.given() } else { kept };
@@ -144,6 +155,7 @@ impl Trial for Trials {
             "quick" => tell_head(alloc, answer, &text_of(alloc, case, &self.text)?),
             "alone" => tell_alone(alloc, answer, &text_of(alloc, case, &self.text)?),
             "faultless" => tell_faultless(alloc, answer, &text_of(alloc, case, &self.text)?),
+            "key" => tell_key(alloc, answer, case.word(1)),
             _ => answer.extend_from_slice(b"no such case\n"),
         }
     }

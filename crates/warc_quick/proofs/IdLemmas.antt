@@ -21,16 +21,29 @@ uncut text none =
     ap (λ n. let t = drop n text in take (length t - suffix_len is_blank t) t) front
     ∙ take_all (length text - suffix_len is_blank text) text (omega (arith, back))
 
-pub plain_id : (value : List ℕ) → 2 < length value → get_or value 0 0 ≡ 60 → get_or value (length value - 1) 0 ≡ 62
-    → ((k : ℕ) → k < length (inner_text value) → ends_id (get_or (inner_text value) k 0) ≡ false) → is_id value ≡ true
-unfolding bare_text is_bare_id
-plain_id value some opens closes plain =
+-- no bracket and no blank is inside
+apart : (inner : List ℕ) → ((k : ℕ) → k < length inner → ends_id (get_or inner k 0) ≡ false)
+    → (k : ℕ) → k < length inner → (is_bracket (get_or inner k 0) ≡ false) × (is_blank (get_or inner k 0) ≡ false)
+apart inner plain k inside = or_parts (is_bracket (get_or inner k 0)) (is_blank (get_or inner k 0)) (plain k inside)
+
+pub bare_is_inner : (value : List ℕ) → 2 < length value → get_or value 0 0 ≡ 60 → get_or value (length value - 1) 0 ≡ 62
+    → ((k : ℕ) → k < length (inner_text value) → ends_id (get_or (inner_text value) k 0) ≡ false) → bare_text value ≡ inner_text value
+unfolding bare_text
+bare_is_inner value some opens closes plain =
     let inner = inner_text value in
-    let apart = λ (k : ℕ) (inside : k < length inner). or_parts (is_bracket (get_or inner k 0)) (is_blank (get_or inner k 0)) (plain k inside) in
-    let none : list_any is_bracket inner ≡ false = none_of is_bracket inner (λ k inside. (apart k inside).0) in
+    let none : list_any is_bracket inner ≡ false = none_of is_bracket inner (λ k inside. (apart inner plain k inside).0) in
     let bracketed : is_bracketed value ≡ true =
     rw (lt-ltb 1 (length value) (omega arith), eq-eqb (get_or value 0 0) 60 opens, eq-eqb (get_or value (length value - 1) 0) 62 closes, none) refl in
+    ap (λ b. trimmed (if b then inner else value)) bracketed ∙ uncut inner (λ k inside. (apart inner plain k inside).1)
+
+pub inner_is_id : (value : List ℕ) → 2 < length value
+    → ((k : ℕ) → k < length (inner_text value) → ends_id (get_or (inner_text value) k 0) ≡ false) → is_bare_id (inner_text value) ≡ true
+unfolding is_bare_id
+inner_is_id value some plain =
+    let inner = inner_text value in
     let long : (length inner == 0) ≡ false = ne_eqb (length inner) 0 (λ e. omega (arith, e, length-take (length value - 2) (drop 1 value), length-drop 1 value)) in
-    let bare : is_bare_id inner ≡ true = rw (long, none_of ends_id inner plain) refl in
-    ap (λ b. is_bare_id (trimmed (if b then inner else value))) bracketed
-    ∙ ap is_bare_id (uncut inner (λ k inside. (apart k inside).1)) ∙ bare
+    rw (long, none_of ends_id inner plain) refl
+
+pub plain_id : (value : List ℕ) → 2 < length value → get_or value 0 0 ≡ 60 → get_or value (length value - 1) 0 ≡ 62
+    → ((k : ℕ) → k < length (inner_text value) → ends_id (get_or (inner_text value) k 0) ≡ false) → is_id value ≡ true
+plain_id value some opens closes plain = ap is_bare_id (bare_is_inner value some opens closes plain) ∙ inner_is_id value some plain

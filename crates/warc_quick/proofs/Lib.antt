@@ -1,6 +1,7 @@
 mod LineLemmas
 mod DateLemmas
 mod IdLemmas
+mod KeyLemmas
 mod NameLemmas
 mod RunLemmas
 mod ValueLemmas
