@@ -9,6 +9,7 @@ use std::alloc::{AllocError, Allocator};
 use std::collections::BTreeSet;
 use std::hash::{FoldHasher, Hasher};
 use std::marker::Model;
+use warc_quick::uuid_id_key;
 use warc_reading::Rows;
 use warc_record::{IdKey, id_key};
 
@@ -55,6 +56,9 @@ fn count_id<A: Allocator>(alloc: A, text: &[u8], counts: &mut [u8]) -> Result<u3
     ensures bucket { (key : List ℕ) → id_key text.now ≡ Some key →
         IfOk result (λ bucket. bucket ≡ bucket_of (length counts.old) key) }
 {
+    if let Some(key) = uuid_id_key(text) {
+        return Ok(count_key(key.as_slice(), counts));
+    }
     match id_key(alloc, text)? {
         Some(key) => Ok(count_key(key.bytes(), counts)),
         None => Ok(0),
