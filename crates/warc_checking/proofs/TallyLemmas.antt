@@ -1,5 +1,5 @@
 -- How ids are counted in buckets, and what an id that is alone in its bucket tells.
-use Rattle.std.proofs.Common.{◌≡◌, ◌⊎◌, inl, inr, ℕ, zero, suc, ◌+◌, ◌<◌, ◌≤◌, Bool, true, false, ◌||◌, List, [], ◌∷◌, ◌++◌, Option, Some, None, length, map, take, drop, refl, sym, ap, ◌∙◌, arith}
+use Rattle.std.proofs.Common.{◌≡◌, ◌⊎◌, inl, inr, ℕ, zero, suc, ◌+◌, ◌*◌, ◌/◌, ◌<◌, ◌≤◌, Bool, true, false, ◌||◌, List, [], ◌∷◌, ◌++◌, Option, Some, None, length, map, take, drop, refl, sym, ap, ◌∙◌, arith}
 use Rattle.std.proofs.Math.Nat.{mod-lt}
 use Rattle.std.proofs.Math.Seq.{take-append_seam}
 use Rattle.std.proofs.lemmas.Bool.{ltb-false}
@@ -17,7 +17,7 @@ use Rattle.warc_reading.specs.Archive.{contents}
 use Rattle.warc_checking.specs.Checking.{is_used, record_key}
 use Rattle.warc_reading.specs.Rereading.{AreCheckable}
 use Rattle.warc_reading.specs.Row.{Placed, Row, row_of}
-use Rattle.warc_checking.specs.UsedIds.{HoldsIdsOf, Ids, IsAlone, IsTally, bucket_of, level}
+use Rattle.warc_checking.specs.UsedIds.{HoldsIdsOf, Ids, IsAlone, IsTally, bucket_of, buckets_in, level}
 use Rattle.warc_checking.proofs.CheckLemmas.{key_by_row}
 use Rattle.warc_checking.proofs.UsedIdLemmas.{ids_none, none_used as no_key_used, or_nothing, used_more}
 
@@ -43,7 +43,7 @@ get_last (y ∷ ys) x i at = ap (slice_get (y ∷ ys ++ x ∷ [])) at ∙ get_la
 -- the id of one more row
 pub tally_more : (n : ℕ) (rows : List Row) (row : Row) (old new buckets : List ℕ) (bucket : ℕ) → slice_get rows n ≡ Some row → 0 < length new
     → length new ≡ length old → length buckets ≡ n
-    → ((key : List ℕ) → id_key row.id ≡ Some key → bucket ≡ bucket_of (length old) key)
+    → ((key : List ℕ) → id_key row.id ≡ Some key → bucket ≡ bucket_of (buckets_in old) key)
     → ((other : List ℕ) → level old other ≤ level new other)
     → ((key : List ℕ) → id_key row.id ≡ Some key → 0 < level new key)
     → ((key : List ℕ) → id_key row.id ≡ Some key → 0 < level old key → 1 < level new key)
@@ -62,10 +62,10 @@ tally_more n rows row old new buckets bucket row_is some size len bucket_is more
       ];
       kept = λ i r key lt is key_is. elim (below_or_at i n lt) [
         | inl lt ↦ get_kept buckets bucket i (omega (arith, lt, len)) ∙ was.kept i r key lt is key_is
-            ∙ ap (λ l. Some (bucket_of l key)) (sym size)
+            ∙ ap (λ l. Some (bucket_of (4 * l) key)) (sym size)
         | inr at ↦ get_last buckets bucket i (at ∙ sym len)
             ∙ ap (λ b. Some b) (bucket_is key (ap (λ (q : Row). id_key q.id) (sym (here i r at is)) ∙ key_is))
-            ∙ ap (λ l. Some (bucket_of l key)) (sym size)
+            ∙ ap (λ l. Some (bucket_of (4 * l) key)) (sym size)
       ];
     }
 
@@ -146,8 +146,8 @@ same_bucket a b is = cc
 
 -- the bucket at a position, which is that of a key, is one of those that are counted
 pub never_past : (counts buckets xs ys : List ℕ) (position bucket : ℕ) (key : List ℕ) → xs ≡ buckets → ys ≡ counts → slice_get xs position ≡ Some bucket
-    → slice_get buckets position ≡ Some (bucket_of (length counts) key) → 0 < length counts → length ys ≤ bucket → ⊥
+    → slice_get buckets position ≡ Some (bucket_of (buckets_in counts) key) → 0 < length counts → length ys ≤ bucket / 4 → ⊥
 never_past counts buckets xs ys position bucket key xs_is ys_is found is some past =
     let there = sym found ∙ ap (λ l. slice_get l position) xs_is ∙ is in
-    let same = same_bucket bucket (bucket_of (length counts) key) there in
-    omega (arith, past, same, ap length ys_is, bucket_below (length counts) key some)
+    let same = same_bucket bucket (bucket_of (buckets_in counts) key) there in
+    omega (arith, past, same, ap length ys_is, bucket_below (buckets_in counts) key (omega (arith, some)))

@@ -1,7 +1,8 @@
--- Which ids of an archive may occur in it more than once. Each id's key has a bucket, and for each bucket it is counted
--- how many of the archive's ids it has: an id that is alone in its bucket occurs once. The bucket of each id is kept.
+-- Which ids of an archive may occur in it more than once. Each id's key has a bucket, and each bucket has a level: 0,
+-- 1 or 2 if it has none, one or more of the archive's ids. An id that is alone in its bucket occurs once. A byte holds
+-- the levels of four buckets, two bits each. The bucket of each id is kept.
 -- States of the code: no public clause cites them.
-use Rattle.std.specs.Prelude.{◌≡◌, ℕ, ◌<◌, ◌≤◌, ◌%◌, false, List, length, Option, Some, slice_index}
+use Rattle.std.specs.Prelude.{◌≡◌, ℕ, ◌*◌, ◌/◌, ◌%◌, ◌^◌, ◌<◌, ◌≤◌, false, List, length, Option, Some, slice_index}
 use Rattle.std.specs.BTreeSet.{BTreeSet, contains}
 use Rattle.std.specs.Cmp.Lexicographic.{slice_cmp}
 use Rattle.std.specs.Hash.FoldHasher.{finish, initial, write}
@@ -16,9 +17,21 @@ use Rattle.warc_reading.specs.Row.{Row}
 unfoldable pub bucket_of : ℕ → List ℕ → ℕ
 bucket_of count key = finish (write initial key) % count
 
--- how many ids were counted in the bucket of a key, up to 255
+-- how many buckets these bytes hold
+abbrev pub buckets_in : List ℕ → ℕ
+buckets_in counts = 4 * length counts
+
+-- the level at a place in a byte of four
+unfoldable pub level_in : ℕ → ℕ → ℕ
+level_in byte place = byte / 2 ^ (2 * place) % 4
+
+-- the level of a bucket
+abbrev pub level_at : List ℕ → ℕ → ℕ
+level_at counts bucket = level_in (slice_index counts (bucket / 4)) (bucket % 4)
+
+-- how many ids were counted in the bucket of a key, up to 2
 abbrev pub level : List ℕ → List ℕ → ℕ
-level counts key = slice_index counts (bucket_of (length counts) key)
+level counts key = level_at counts (bucket_of (buckets_in counts) key)
 
 -- the ids of the first n of these rows were counted, and their buckets were kept
 pub record IsTally (n : ℕ) (rows : List Row) (counts buckets : List ℕ) : Type 0 where
@@ -28,10 +41,10 @@ pub record IsTally (n : ℕ) (rows : List Row) (counts buckets : List ℕ) : Typ
   pub twice : (i j : ℕ) (a b : Row) (key : List ℕ) → i < j → j < n → slice_get rows i ≡ Some a
       → slice_get rows j ≡ Some b → id_key a.id ≡ Some key → id_key b.id ≡ Some key → 1 < level counts key
   pub kept : (i : ℕ) (row : Row) (key : List ℕ) → i < n → slice_get rows i ≡ Some row → id_key row.id ≡ Some key
-      → slice_get buckets i ≡ Some (bucket_of (length counts) key)
+      → slice_get buckets i ≡ Some (bucket_of (buckets_in counts) key)
 
--- how many ids the buckets have, the bucket of each row's id, and the keys of the ids in buckets of several that
--- earlier records use
+-- the levels of the buckets, the bucket of each row's id, and the keys of the ids in buckets of several that earlier
+-- records use
 pub record Ids : Type 0 where
   pub counts : List ℕ
   pub buckets : List ℕ
@@ -49,4 +62,4 @@ IsAlone records ids wanted = (key : List ℕ) → wanted ≡ Some key → level 
 
 -- the bucket at a position is that of a key
 abbrev pub IsBucketAt : Ids → ℕ → List ℕ → Type 0
-IsBucketAt ids position key = slice_get ids.buckets position ≡ Some (bucket_of (length ids.counts) key)
+IsBucketAt ids position key = slice_get ids.buckets position ≡ Some (bucket_of (buckets_in ids.counts) key)

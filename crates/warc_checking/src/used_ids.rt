@@ -1,9 +1,9 @@
 //! The ids of the records so far.
-ghost use Rattle.std.specs.Prelude.{◌≡◌, ℕ, ◌<◌, ◌≤◌, ◌^◌, List, [], ◌∷◌, ◌++◌, length, nat_lt, IfOk, OnOk, Some};
+ghost use Rattle.std.specs.Prelude.{◌≡◌, ℕ, ◌*◌, ◌<◌, ◌≤◌, ◌^◌, List, [], ◌∷◌, ◌++◌, length, nat_lt, IfOk, OnOk, Some};
 ghost use Rattle.warc_frame.specs.Record.{Record};
 ghost use Rattle.warc_record.specs.Ids.{id_key};
 ghost use Rattle.warc_checking.specs.Checking.{is_used, record_key};
-ghost use Rattle.warc_checking.specs.UsedIds.{HoldsIdsOf, IsAlone, IsBucketAt, IsTally, bucket_of, level};
+ghost use Rattle.warc_checking.specs.UsedIds.{HoldsIdsOf, IsAlone, IsBucketAt, IsTally, bucket_of, buckets_in, level, level_at, level_in};
 
 use std::alloc::{AllocError, Allocator};
 use std::collections::BTreeSet;
@@ -13,8 +13,11 @@ use warc_quick::uuid_id_key;
 use warc_reading::Rows;
 use warc_record::{IdKey, id_key};
 
-/// How many buckets there are for each id.
-const BUCKETS: usize = 8;
+/// How many buckets have their levels in one byte.
+const BUCKETS_IN_BYTE: usize = 4;
+
+/// How many bytes of levels there are for each id: 32 buckets.
+const BYTES_FOR_ID: usize = 8;
 
 /// How many buckets there are at most, so that each has a number of 32 bits.
 const MAX_BUCKETS: usize = 0xffff_ffff;
@@ -31,30 +34,64 @@ fn bucket(key: &[u8], count: usize) -> usize
     (hasher.finish() % count as u64) as usize
 }
 
+/// The level at a place in a byte of four.
+#[tactic(auto, unfolding(crate::specs::UsedIds::level_in))]
+fn level_of(levels: u8, place: usize) -> u8
+    requires { place < 4 }
+    ensures { result ≡ level_in levels place }
+{
+    (levels >> (2 * place)) % 4
+}
+
+/// A byte of four levels, with the one at a place raised if it is below 2.
+fn raise_level(levels: u8, place: usize) -> u8
+    requires { place < 4 }
+    ensures more { (other : ℕ) → other < 4 → level_in levels other ≤ level_in result other }
+    ensures once { 0 < level_in result place }
+    ensures twice { 0 < level_in levels place → 1 < level_in result place }
+{
+    if level_of(levels, place) < 2 {
+        levels + (1 << (2 * place))
+    } else {
+        levels
+    }
+}
+
+/// Counts one more id in a bucket.
+fn count_in(bucket: usize, counts: &mut [u8])
+    requires { bucket < buckets_in counts.old }
+    ensures more { (other : ℕ) → level_at counts.old other ≤ level_at counts.new other }
+    ensures once { 0 < level_at counts.new bucket }
+    ensures twice { 0 < level_at counts.old bucket → 1 < level_at counts.new bucket }
+{
+    let at = bucket / BUCKETS_IN_BYTE;
+    counts[at] = raise_level(counts[at], bucket % BUCKETS_IN_BYTE);
+}
+
 /// Counts a key in its bucket, and returns the bucket.
 fn count_key(key: &[u8], counts: &mut [u8]) -> u32
     requires some { 0 < length counts.old }
-    requires few { length counts.old ≤ 2 ^ 32 }
+    requires few { buckets_in counts.old ≤ 2 ^ 32 }
     ensures more { (other : List ℕ) → level counts.old other ≤ level counts.new other }
     ensures once { 0 < level counts.new key.now }
     ensures twice { 0 < level counts.old key.now → 1 < level counts.new key.now }
-    ensures bucket { result ≡ bucket_of (length counts.old) key.now }
+    ensures bucket { result ≡ bucket_of (buckets_in counts.old) key.now }
 {
-    let at = bucket(key, counts.len());
-    counts[at] = counts[at].saturating_add(1);
-    at as u32
+    let bucket = bucket(key, BUCKETS_IN_BYTE * counts.len());
+    count_in(bucket, counts);
+    bucket as u32
 }
 
 /// Counts the id that a text holds, and returns its bucket. If it holds none, the bucket is 0.
 fn count_id<A: Allocator>(alloc: A, text: &[u8], counts: &mut [u8]) -> Result<u32, AllocError>
     requires some { 0 < length counts.old }
-    requires few { length counts.old ≤ 2 ^ 32 }
+    requires few { buckets_in counts.old ≤ 2 ^ 32 }
     ensures more { (other : List ℕ) → level counts.old other ≤ level counts.new other }
     ensures once { (key : List ℕ) → id_key text.now ≡ Some key → OnOk result (0 < level counts.new key) }
     ensures twice { (key : List ℕ) → id_key text.now ≡ Some key → 0 < level counts.old key →
         OnOk result (1 < level counts.new key) }
     ensures bucket { (key : List ℕ) → id_key text.now ≡ Some key →
-        IfOk result (λ bucket. bucket ≡ bucket_of (length counts.old) key) }
+        IfOk result (λ bucket. bucket ≡ bucket_of (buckets_in counts.old) key) }
 {
     if let Some(key) = uuid_id_key(text) {
         return Ok(count_key(key.as_slice(), counts));
@@ -65,7 +102,7 @@ fn count_id<A: Allocator>(alloc: A, text: &[u8], counts: &mut [u8]) -> Result<u3
     }
 }
 
-/// How many ids of the rows each bucket has, and the bucket of each row's id.
+/// The level of each bucket, and the bucket of each row's id.
 #[derive(Drop)]
 struct Tally<A: Allocator> {
     counts: Vec<u8, A>,
@@ -76,7 +113,11 @@ struct Tally<A: Allocator> {
 fn tally_rows<A: Allocator + Copy>(alloc: A, rows: &Rows<A>) -> Result<Tally<A>, AllocError>
     ensures { IfOk result (λ t. IsTally (length rows.now) rows.now t.counts.items t.buckets.items) }
 {
-    let count = rows.len().saturating_mul(BUCKETS).max(1).min(MAX_BUCKETS);
+    let count = rows
+        .len()
+        .saturating_mul(BYTES_FOR_ID)
+        .max(1)
+        .min(MAX_BUCKETS / BUCKETS_IN_BYTE);
     let mut counts = vec![in alloc; 0u8; count]?;
     let mut buckets = Vec::with_capacity(alloc, rows.len())?;
     'counting: for position in 0..rows.len() {
@@ -130,8 +171,9 @@ impl<A: Allocator + Copy> UsedIds<A> {
         let Some(bucket) = self.buckets.get(position) else {
             return true;
         };
-        match self.counts.get(*bucket as usize) {
-            Some(count) => *count > 1,
+        let bucket = *bucket as usize;
+        match self.counts.get(bucket / BUCKETS_IN_BYTE) {
+            Some(levels) => level_of(*levels, bucket % BUCKETS_IN_BYTE) > 1,
             None => true,
         }
     }

@@ -3,7 +3,7 @@ use Rattle.std.proofs.lemmas.List.{length_push}
 use Rattle.std.specs.List.{slice_get}
 use Rattle.warc_record.specs.Ids.{id_key}
 use Rattle.warc_reading.specs.Row.{Row}
-use Rattle.warc_checking.specs.UsedIds.{IsTally, bucket_of}
+use Rattle.warc_checking.specs.UsedIds.{IsTally, bucket_of, buckets_in}
 use Rattle.warc_checking.proofs.TallyLemmas.{tally_more, whole_back}
 use Rattle.warc_checking.proofs.used_ids.tally_rows.Goals as goal
 
@@ -23,10 +23,10 @@ counting-preserved g c =
     let pushed : next ≡ buckets ++ bucket ∷ [] = search rules in
     let P : List ℕ → Type 0 = λ l. IsTally (c.counting.position + 1) c.args.rows.now l next in
     let Q : List ℕ → Type 0 = λ l. IsTally (c.counting.position + 1) c.args.rows.now new l in
-    let Few : List ℕ → Type 0 = λ l. length l ≤ 2 ^ 32 in
+    let Few : List ℕ → Type 0 = λ l. buckets_in l ≤ 2 ^ 32 in
     let more =
     tally_more c.counting.position c.args.rows.now c.in-Some.row old new buckets bucket row_is (omega (arith, c.counting.invariant.tally.some, size))
-    size c.counting.invariant.len (λ key is. c.in_ok-bucket.ensures.bucket key (text ∙ is) ∙ ap (λ l. bucket_of (length l) key) value)
+    size c.counting.invariant.len (λ key is. c.in_ok-bucket.ensures.bucket key (text ∙ is) ∙ ap (λ l. bucket_of (buckets_in l) key) value)
     (rw (← value) c.count_id.ensures.more) (λ key is. c.in_ok-bucket.ensures.once key (text ∙ is))
     (λ key is seen. c.in_ok-bucket.ensures.twice key (text ∙ is) (rw value seen)) c.counting.invariant.tally in
     record {
