@@ -1,7 +1,10 @@
 pub mod CallerLemmas
 pub mod DigestLemmas
+pub mod KeyedLemmas
 pub mod LaneLemmas
 pub mod MessageLemmas
+pub mod OneLemmas
 pub mod PadLemmas
 pub mod PieceLemmas
 pub mod RoundLemmas
+pub mod WordLemmas

@@ -5,7 +5,7 @@ use Rattle.std.proofs.lemmas.Slice.{take-put_mid, drop-put_mid}
 use borrow.Rule.Slice.PartMut.{put_mid}
 
 -- a write to a part leaves the length
-length-written : (s ys : List ℕ) (k j : ℕ) → k + j ≤ length s → length ys ≡ j → length (put_mid k j s ys) ≡ length s
+pub length-written : (s ys : List ℕ) (k j : ℕ) → k + j ≤ length s → length ys ≡ j → length (put_mid k j s ys) ≡ length s
 length-written s ys k j fits long =
     let new : List ℕ = put_mid k j s ys in
     let front : take (k + j) new ≡ take k s ++ ys = take-put_mid k j s ys (k + j) (omega arith) (omega arith) in

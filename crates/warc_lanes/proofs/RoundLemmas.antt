@@ -62,14 +62,15 @@ load_more window word text i j long room is held k below =
           rw (← same) (get_or-set_same (lane_of j window) i (slice_index word j) 0 (omega arith) ∙ is)
     ]
 
+-- the window that has the words of a block
+pub loaded_words : (j : ℕ) (text : List ℕ) (window : List (List ℕ)) → length window ≡ 16
+    → ((k : ℕ) → k < 16 → slice_index (lane_of j window) k ≡ word_at text (4 * k)) → HasWords text 0 (lane_of j window)
+loaded_words j text window long loaded = IsWindow_first text (lane_of j window) (length-map window (λ vector. slice_index vector j) ∙ long) loaded
+
 -- before the first round
-pub before_rounds : (j : ℕ) (hash text : List ℕ) (window : List (List ℕ)) → length window ≡ 16
-    → ((k : ℕ) → k < 16 → slice_index (lane_of j window) k ≡ word_at text (4 * k)) → IsBeforeRound text hash 0 (lane_of j window) hash
+pub before_rounds : (hash text window : List ℕ) → HasWords text 0 window → IsBeforeRound text hash 0 window hash
 unfolding rounds
-before_rounds j hash text window long loaded = record {
-  words = IsWindow_first text (lane_of j window) (length-map window (λ vector. slice_index vector j) ∙ long) loaded;
-  variables_are = refl;
-}
+before_rounds hash text window loaded = record { words = loaded; variables_are = refl }
 
 -- after the last round
 pub block_added : (j : ℕ) (state v : List (List ℕ)) (text : List ℕ) (a b c d e : ℕ) → lane_of j v ≡ rounds (lane_of j state) (schedule text 64) 80

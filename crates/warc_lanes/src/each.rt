@@ -11,8 +11,8 @@ ghost use Rattle.warc_lanes.specs.Messages.{IsPadded};
 
 use crate::{BLOCK_LEN, DIGEST_LEN, FourDigests, LANES, MAX_PADDING, pad};
 
-// Room for the last bytes of a message and its padding.
-const TAIL_LEN: usize = BLOCK_LEN + MAX_PADDING;
+/// Room for the last bytes of a message and its padding.
+pub const TAIL_LEN: usize = BLOCK_LEN + MAX_PADDING;
 
 /// What is kept of a message in a lane.
 #[derive(Clone, Copy)]
@@ -38,7 +38,7 @@ struct Hashing {
 /// Writes the SHA-1 of each message to its place in `digests`.
 ///
 /// The messages are hashed four at a time, and their lengths may differ. Towards the end, when no message is left for a
-/// lane, the others take as long as all four. So a single message takes longer than with `sha1::Sha1`.
+/// lane, the others take as long as all four. So a single message takes longer than with [`crate::OneDigest`].
 pub fn digest_each(messages: &[&[u8]], digests: &mut [[u8; DIGEST_LEN]])
     requires { length digests.old ≡ length messages.now }
     ensures { digests.new ≡ map (λ message. sha1 message.now) messages.now }
@@ -269,8 +269,8 @@ impl Padded {
     }
 }
 
-// The length of a message's whole blocks.
-fn whole_len(len: usize) -> usize
+/// The length of a message's whole blocks.
+pub fn whole_len(len: usize) -> usize
     ensures { result ≡ len / BLOCK_LEN * BLOCK_LEN }
 {
     len / BLOCK_LEN * BLOCK_LEN

@@ -1,8 +1,9 @@
-ghost use Rattle.std.specs.Prelude.{◌≡◌, ◌<◌};
+ghost use Rattle.std.specs.Prelude.{◌≡◌, ◌<◌, ◌++◌};
 ghost use Rattle.sha1.specs.Sha1.{sha1};
 
 use crate::each::put_last;
-use crate::{BLOCK_LEN, DIGEST_LEN, FourDigests, LANES, MAX_PADDING, digest_each, pad};
+use crate::{BLOCK_LEN, DIGEST_LEN, FourDigests, LANES, MAX_PADDING, OneDigest, digest_each, pad};
+use sha1::Sha1;
 use std::alloc::{AllocError, Global};
 use std::test::Fail;
 
@@ -199,6 +200,96 @@ fn each_digest(rt: HostRuntime) -> Result<(), Fail> {
                 "message {number} of {count}"
             );
         }
+    }
+    Ok(())
+}
+
+// The digest of a message that comes in two pieces.
+fn digest_of_two(first: &[u8], second: &[u8]) -> [u8; DIGEST_LEN]
+    ensures { result ≡ sha1 (first.now ++ second.now) }
+{
+    let mut digest = OneDigest::new();
+    digest.update(first);
+    digest.update(second);
+    digest.finish()
+}
+
+// The digests of no bytes, of "abc", and of a message of 448 bits in NIST's examples for FIPS 180-4.
+#[test]
+fn one_known_digest(rt: HostRuntime) {
+    let long = b"abcdbcdecdefdefgefghfghighijhijkijkljklmklmnlmnomnopnopq";
+    let long_digest: [u8; DIGEST_LEN] = [
+        0x84, 0x98, 0x3e, 0x44, 0x1c, 0x3b, 0xd2, 0x6e, 0xba, 0xae, 0x4a, 0xa1, 0xf9, 0x51, 0x29,
+        0xe5, 0xe5, 0x46, 0x70, 0xf1,
+    ];
+    assert_eq!(rt; digest_of_two(b"", b"").as_slice(), DIGESTS[0].as_slice());
+    assert_eq!(rt; digest_of_two(b"abc", b"").as_slice(), ABC.as_slice());
+    assert_eq!(rt; digest_of_two(b"a", b"bc").as_slice(), ABC.as_slice());
+    assert_eq!(rt; digest_of_two(long, b"").as_slice(), long_digest.as_slice());
+}
+
+// Each message in one piece and in pieces of 4,096 bytes.
+#[test]
+fn one_digest(rt: HostRuntime) -> Result<(), Fail> {
+    let text = counted(rt.alloc())?;
+    for number in 0..COUNT {
+        let message = message_of(&text, number);
+        let mut digest = OneDigest::new();
+        for piece in message.chunks(4096) {
+            digest.update(piece);
+        }
+        assert_eq!(rt;
+            digest.finish().as_slice(),
+            DIGESTS[number].as_slice(),
+            "message {number} in pieces"
+        );
+        assert_eq!(rt;
+            digest_of_two(message, b"").as_slice(),
+            DIGESTS[number].as_slice(),
+            "message {number}"
+        );
+    }
+    Ok(())
+}
+
+// Each front of the text up to two groups of blocks, cut at each place near the edge of a block, has the digest that
+// scalar code gives.
+#[test]
+fn one_digest_of_each_length(rt: HostRuntime) -> Result<(), Fail> {
+    let text = counted(rt.alloc())?;
+    let cuts = [
+        0usize, 1, 8, 55, 56, 63, 64, 65, 119, 127, 128, 129, 192, 255, 256, 257, 320, 511,
+    ];
+    for len in 0..2 * LANES * BLOCK_LEN + 2 {
+        let message = &text[..len.min(text.len())];
+        let whole = Sha1::digest(message);
+        for cut in cuts {
+            let (first, second) = message.split_at(cut.min(message.len()));
+            assert_eq!(rt;
+                digest_of_two(first, second).as_slice(),
+                whole.as_slice(),
+                "{len} bytes, cut at {cut}"
+            );
+        }
+    }
+    Ok(())
+}
+
+// A message in pieces of each size from 1 to 130.
+#[test]
+fn one_digest_of_pieces(rt: HostRuntime) -> Result<(), Fail> {
+    let text = counted(rt.alloc())?;
+    let message = message_of(&text, 10);
+    for size in 1..131 {
+        let mut digest = OneDigest::new();
+        for piece in message.chunks(size) {
+            digest.update(piece);
+        }
+        assert_eq!(rt;
+            digest.finish().as_slice(),
+            DIGESTS[10].as_slice(),
+            "pieces of {size} bytes"
+        );
     }
     Ok(())
 }

@@ -1,20 +1,13 @@
-use Rattle.std.proofs.Common.{rules, arith}
 use Rattle.warc_lanes.specs.Lanes.{lane_of, bytes_in}
-use Rattle.warc_lanes.proofs.RoundLemmas.{load_more, before_rounds, block_added}
+use Rattle.warc_lanes.proofs.RoundLemmas.{before_rounds, block_added}
 use Rattle.warc_lanes.proofs.kernel.compress.Goals as goal
-
-pub load-preserved : goal.load-preserved
-load-preserved c = (
-  search rules,
-  λ j h. load_more c.load.window c.words_at.result _ c.load.i j c.load.invariant.0 (omega arith) (c.words_at.ensures j h) (c.load.invariant.1 j h),
-)
 
 pub returns : goal.returns
 returns c j h =
     let text = bytes_in j c.args.blocks.now in
     let state = c.args.state.now in
     let hash = lane_of j state in
-    let start = before_rounds j hash text c.load.window c.load.invariant.0 (λ k below. c.load.invariant.1 j h k (omega arith)) in
+    let start = before_rounds hash text _ (c.load.ensures j h) in
     let twenty = c.twenty_rounds-v.ensures j h text hash start in
     let forty = c.twenty_rounds-v-2.ensures j h text hash twenty in
     let sixty = c.twenty_rounds-v-3.ensures j h text hash forty in

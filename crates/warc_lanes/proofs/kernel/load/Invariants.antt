@@ -1,7 +1,7 @@
 use Rattle.std.proofs.Common.{◌≡◌, ℕ, ◌*◌, ◌<◌, length, slice_index}
 use Rattle.sha1.specs.Sha1.{word_at}
 use Rattle.warc_lanes.specs.Lanes.{InEachLane, lane_of, bytes_in}
-use Rattle.warc_lanes.proofs.kernel.compress.Given as goal
+use Rattle.warc_lanes.proofs.kernel.load.Given as goal
 
 abbrev pub invariant-load : goal.invariant-load
 invariant-load l =
