@@ -3,7 +3,7 @@ ghost use Rattle.sha1.specs.Sha1.{sha1};
 ghost use Rattle.warc_value.specs.Digests.{is_bad, wanted_digest, verdict_of};
 
 use crate::symbols::unbase32;
-use sha1::Sha1;
+use warc_lanes::OneDigest;
 
 /// The digest that a record's block should have.
 #[derive(Clone, Copy, PartialEq, Eq, Debug)]
@@ -57,13 +57,15 @@ impl Wanted {
 pub fn digest(block: &[u8]) -> [u8; 20]
     ensures { result ≡ sha1 block.now }
 {
-    Sha1::digest(block)
+    let mut state = OneDigest::new();
+    state.update(block);
+    state.finish()
 }
 
 /// The SHA-1 of a block that comes in pieces.
 #[derive(Drop)]
 pub struct Running {
-    state: Sha1,
+    state: OneDigest,
 }
 
 impl Running {
@@ -73,7 +75,9 @@ impl Running {
     pub fn new() -> Running
         ensures { HasTaken result [] }
     {
-        Running { state: Sha1::new() }
+        Running {
+            state: OneDigest::new(),
+        }
     }
 
     /// Takes the next piece, of any length.
@@ -88,7 +92,7 @@ impl Running {
         ensures { (taken : List ℕ) → HasTaken self taken → result ≡ sha1 taken }
     {
         let Running { state } = self;
-        state.finalize()
+        state.finish()
     }
 
     /// Whether the pieces joined have the digest that is wanted.
@@ -99,7 +103,7 @@ impl Running {
         let Running { state } = self;
         match wanted {
             Wanted::Sha1(digest) => {
-                if state.finalize() == *digest {
+                if state.finish() == *digest {
                     Verdict::Good
                 } else {
                     Verdict::Bad
