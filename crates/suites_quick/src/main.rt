@@ -7,8 +7,8 @@ use std::io::{self, Read, Write};
 use std::process::ExitCode;
 use suites_script::{Case, Trial, try_script};
 use warc_frame::{Head, read_head};
-use warc_quick::{QuickHead, faultless_head, quick_head, type_alone, uuid_id_key};
-use warc_record::{HeadTexts, findings, id_key, judge_head};
+use warc_quick::{QuickHead, faultless_head, quick_head, type_alone};
+use warc_record::{HeadTexts, findings, id_key, judge_head, uuid_id_key};
 use warc_value::Wanted;
 
 /// The text that cases speak of which give none.

@@ -9,9 +9,8 @@ use std::alloc::{AllocError, Allocator};
 use std::collections::BTreeSet;
 use std::hash::{FoldHasher, Hasher};
 use std::marker::Model;
-use warc_quick::uuid_id_key;
 use warc_reading::Rows;
-use warc_record::{IdKey, id_key};
+use warc_record::{IdKey, id_key, uuid_id_key};
 
 /// How many buckets have their levels in one byte.
 const BUCKETS_IN_BYTE: usize = 4;

@@ -1,7 +1,5 @@
 mod LineLemmas
 mod DateLemmas
-mod IdLemmas
-mod KeyLemmas
 mod NameLemmas
 mod RunLemmas
 mod ValueLemmas

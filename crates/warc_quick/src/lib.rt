@@ -2,7 +2,7 @@
 //!
 //! Most heads are plain: each field is on a line of its own, and each name of the standard is spelled as there and
 //! occurs at most once, if it may not repeat. These are read here. Any other head is left to `warc_frame` and
-//! `warc_record`. The key of an id that is a UUID in brackets, as nearly all are, is read in place too.
+//! `warc_record`.
 #![tactic(auto)]
 
 mod alone;
@@ -10,7 +10,6 @@ mod canonical;
 mod dates;
 mod faultless;
 mod head;
-mod ids;
 mod lines;
 mod names;
 mod plain;
@@ -21,5 +20,4 @@ pub use alone::type_alone;
 pub use canonical::is_canonical_head;
 pub use faultless::faultless_head;
 pub use head::{QuickHead, quick_head};
-pub use ids::uuid_id_key;
 pub use plain::{QuickRecord, quick_record};

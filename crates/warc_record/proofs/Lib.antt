@@ -2,6 +2,8 @@ mod ByteLemmas
 mod KindLemmas
 mod KnownLemmas
 mod UuidLemmas
+pub mod IdLemmas
+mod KeyLemmas
 mod ValueLemmas
 mod HeadLemmas
 pub mod GoodLemmas

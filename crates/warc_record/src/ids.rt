@@ -1,4 +1,4 @@
-ghost use Rattle.std.specs.Prelude.{◌≡◌, ◌∷◌, ◌==◌, IfOk, OnErr, None, true, length};
+ghost use Rattle.std.specs.Prelude.{◌≡◌, ◌∷◌, ◌==◌, IfOk, IfSome, OnErr, None, Some, true, length, slice_index};
 ghost use Rattle.std.specs.List.{list_any};
 ghost use Rattle.std.proofs.Common.{rules};
 ghost use Rattle.std.specs.Cmp.{partial_order_from_own_ties};
@@ -7,7 +7,6 @@ ghost use Rattle.std.specs.Cmp.Lexicographic.{slice_cmp, pointwise};
 ghost use Rattle.std.specs.Ordering.{nat_cmp, as_partial_cmp};
 ghost use Rattle.uuid.specs.Text.{parsed_urn};
 ghost use Rattle.warc_field.specs.Text.{is_blank};
-ghost use Rattle.warc_record.specs.Keys.{form_bytes};
 ghost use Rattle.warc_record.specs.Ids.{is_bracket, ends_id, is_bracketed, bare_text, is_bare_id, id_key, key_of};
 
 use memchr::memchr2;
@@ -16,6 +15,9 @@ use std::cmp::Ordering;
 use std::marker::Model;
 use uuid::Uuid;
 use warc_field::trim;
+
+/// How many bytes `<urn:uuid:...>` has.
+const UUID_ID: usize = 47;
 
 /// An id, to be compared and kept. Contracts see its key: `<` and the sixteen bytes of a UUID, or
 /// else the bare text.
@@ -162,13 +164,35 @@ pub fn urn_uuid(text: &[u8]) -> Option<[u8; 16]>
     }
 }
 
-/// The key of a UUID.
-fn uuid_form<A: Allocator>(uuid: [u8; 16]) -> Form<A>
-    ensures { form_bytes result ≡ 60 ∷ uuid }
+/// Whether a text is as long as a UUID in brackets, begins with `<` and ends with `>`.
+#[inline(always)]
+fn has_uuid_brackets(text: &[u8]) -> bool
+    ensures { result ≡ true →
+        (length text.now ≡ 47) × (slice_index text.now 0 ≡ 60) × (slice_index text.now 46 ≡ 62) }
 {
-    let mut bytes = [b'<'; 17];
-    bytes[1..].copy_from_slice(&uuid);
-    Form::Uuid(bytes)
+    text.len() == UUID_ID && text[0] == b'<' && text[UUID_ID - 1] == b'>'
+}
+
+/// The key of a UUID.
+#[inline(always)]
+fn uuid_key(uuid: [u8; 16]) -> [u8; 17]
+    ensures { result ≡ 60 ∷ uuid }
+{
+    let mut key = [b'<'; 17];
+    key[1..].copy_from_slice(&uuid);
+    key
+}
+
+/// The key of the id that a text holds, if the text is a UUID between `<` and `>`, as nearly all are. Such a text
+/// isn't searched for brackets, spaces and tabs, since a UUID contains none. `None` says nothing of the text.
+pub fn uuid_id_key(text: &[u8]) -> Option<[u8; 17]>
+    ensures { IfSome result (λ key. id_key text.now ≡ Some key) }
+{
+    if !has_uuid_brackets(text) {
+        return None;
+    }
+    let uuid = urn_uuid(&text[1..UUID_ID - 1])?;
+    Some(uuid_key(uuid))
 }
 
 /// The key of the id that a text holds, or `None` if it holds none. Only an id that isn't a UUID
@@ -180,12 +204,17 @@ pub fn id_key<A: Allocator>(alloc: A, text: &[u8]) -> Result<Option<IdKey<A>>, A
     ensures memory { let bare = bare_text text.now in
         OnErr result ((is_bare_id bare ≡ true) × (parsed_urn bare ≡ None)) }
 {
+    if let Some(key) = uuid_id_key(text) {
+        return Ok(Some(IdKey {
+            form: Form::Uuid(key),
+        }));
+    }
     let bare = bare(text);
     if !is_bare_id(bare) {
         return Ok(None);
     }
     let form = match urn_uuid(bare) {
-        Some(uuid) => uuid_form(uuid),
+        Some(uuid) => Form::Uuid(uuid_key(uuid)),
         None => Form::Text(Vec::from_slice(alloc, bare)?),
     };
     Ok(Some(IdKey { form }))

@@ -1,6 +1,6 @@
 use Rattle.std.proofs.Common.{◌≡◌, ℕ, ◌-◌, ◌<◌, false, arith, length, take, drop, get_or, subst, ap}
 use Rattle.warc_record.specs.Ids.{ends_id}
-use Rattle.warc_quick.proofs.IdLemmas.{plain_id}
+use Rattle.warc_record.proofs.IdLemmas.{plain_id}
 use Rattle.warc_quick.proofs.head.is_plain_id.Goals as goal
 
 pub returns : goal.returns

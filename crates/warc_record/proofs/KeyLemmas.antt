@@ -13,7 +13,7 @@ use Rattle.uuid.proofs.TextLemmas.{by_index_at, by_index_length}
 use Rattle.uuid.specs.Text.{digit_place, digits_of, has_hyphens, has_urn_prefix, hyphen_place, is_hex_digit, is_hyphen_place, parsed_hyphenated, parsed_simple, parsed_urn, urn_prefix}
 use Rattle.warc_field.specs.Text.{is_blank}
 use Rattle.warc_record.specs.Ids.{bare_text, ends_id, id_key, inner_text, is_bare_id, key_by, key_of}
-use Rattle.warc_quick.proofs.IdLemmas.{bare_is_inner, inner_is_id}
+use Rattle.warc_record.proofs.IdLemmas.{bare_is_inner, inner_is_id}
 
 -- what an option under a test gives
 given : {X : Type 0} (b : Bool) (o : Option X) (x : X) → (if b then o else None) ≡ Some x → (b ≡ true) × (o ≡ Some x)

@@ -1,6 +1,6 @@
 use Rattle.std.proofs.Common.{sym, ◌∙◌}
-use Rattle.warc_quick.proofs.KeyLemmas.{plain_key}
-use Rattle.warc_quick.proofs.ids.uuid_id_key.Goals as goal
+use Rattle.warc_record.proofs.KeyLemmas.{plain_key}
+use Rattle.warc_record.proofs.ids.uuid_id_key.Goals as goal
 
 pub returns : goal.returns
 returns c =
