@@ -7,7 +7,7 @@ use std::io::{self, Read, Write};
 use std::process::ExitCode;
 use suites_script::{Case, Trial, try_script};
 use warc_frame::{Head, read_head};
-use warc_quick::{QuickHead, faultless_head, quick_head, type_alone};
+use warc_quick::{QuickHead, QuickRecord, faultless_head, judged_record, quick_head, type_alone};
 use warc_record::{HeadTexts, findings, id_key, judge_head, uuid_id_key};
 use warc_value::Wanted;
 
@@ -100,6 +100,14 @@ fn has_no_finding(alloc: Global, head: Head<Global>, wanted: Wanted) -> Result<b
     }
 }
 
+/// Adds that nothing is wrong with a record that asks for this digest.
+fn tell_nothing_wrong(answer: &mut Vec<u8>, wanted: Wanted) -> Result<(), AllocError> {
+    match wanted {
+        Wanted::Sha1(_) => answer.extend_from_slice(b"faultless, with a digest\n"),
+        Wanted::Unchecked => answer.extend_from_slice(b"faultless\n"),
+    }
+}
+
 /// Adds whether it is found in place that nothing is wrong with the record whose head a text begins with.
 fn tell_faultless(alloc: Global, answer: &mut Vec<u8>, text: &[u8]) -> Result<(), AllocError> {
     let Ok(head) = read_head(alloc, text) else {
@@ -111,10 +119,36 @@ fn tell_faultless(alloc: Global, answer: &mut Vec<u8>, text: &[u8]) -> Result<()
     if !has_no_finding(alloc, head, wanted)? {
         return answer.extend_from_slice(b"read in two ways\n");
     }
-    match wanted {
-        Wanted::Sha1(_) => answer.extend_from_slice(b"faultless, with a digest\n"),
-        Wanted::Unchecked => answer.extend_from_slice(b"faultless\n"),
+    tell_nothing_wrong(answer, wanted)
+}
+
+/// Whether the reading that keeps the fields finds a head and a block of the same lengths, and nothing else wrong.
+fn is_confirmed_faultless(
+    alloc: Global,
+    text: &[u8],
+    record: &QuickRecord<'_>,
+) -> Result<bool, AllocError> {
+    let Ok(head) = read_head(alloc, text) else {
+        return Ok(false);
+    };
+    if record.head_text.len() != head.len || record.block.len() as u64 != head.block_len {
+        return Ok(false);
     }
+    has_no_finding(alloc, head, record.head.wanted())
+}
+
+/// Adds whether it is known of the record that a text begins with that nothing is wrong with it, if it is read so.
+fn tell_judged(alloc: Global, answer: &mut Vec<u8>, text: &[u8]) -> Result<(), AllocError> {
+    let Some(record) = judged_record(text) else {
+        return answer.extend_from_slice(b"not read in place\n");
+    };
+    if !record.head.is_faultless {
+        return answer.extend_from_slice(b"not known in place\n");
+    }
+    if !is_confirmed_faultless(alloc, text, &record)? {
+        return answer.extend_from_slice(b"read in two ways\n");
+    }
+    tell_nothing_wrong(answer, record.head.wanted())
 }
 
 /// Adds whether the key of an id is read without a search.
@@ -155,6 +189,7 @@ impl Trial for Trials {
             "quick" => tell_head(alloc, answer, &text_of(alloc, case, &self.text)?),
             "alone" => tell_alone(alloc, answer, &text_of(alloc, case, &self.text)?),
             "faultless" => tell_faultless(alloc, answer, &text_of(alloc, case, &self.text)?),
+            "judged" => tell_judged(alloc, answer, &text_of(alloc, case, &self.text)?),
             "key" => tell_key(alloc, answer, case.word(1)),
             _ => answer.extend_from_slice(b"no such case\n"),
         }

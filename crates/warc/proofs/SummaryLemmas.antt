@@ -1,13 +1,23 @@
 -- The first and the last of dated rows, and the lines of a summary.
-use Rattle.std.proofs.Common.{◌≡◌, ℕ, ◌+◌, ◌<◌, ◌≤◌, Bool, true, false, not, List, [], ◌∷◌, ◌++◌, length, map, Option, None, Some, if◌then◌else◌, codes, option_map, refl, sym, ap, subst, ◌∙◌, arith, ⊎_elim, append_assoc, true≢false, get_or}
+use Rattle.std.proofs.Common.{◌≡◌, ℕ, ◌+◌, ◌<◌, ◌≤◌, Bool, true, false, not, List, [], ◌∷◌, ◌++◌, length, map, Option, None, Some, if◌then◌else◌, codes, option_map, Result, Ok, Err, OnOk, refl, sym, ap, ap₂, subst, ◌∙◌, arith, ⊎_elim, append_assoc, true≢false, get_or}
 use Rattle.std.proofs.lemmas.Bool.{cases_lt}
 use Rattle.std.proofs.lemmas.Bool.Decides.{nat_tests}
 use Rattle.std.proofs.lemmas.Option.{slice_get_within, slice_get-get_or}
+use Rattle.std.proofs.lemmas.List.{map-append}
 use Rattle.std.specs.List.{concat, flat_map, slice_get}
+use Rattle.std.specs.Option.{option_map_or}
+use Rattle.warc_field.specs.Area.{Pair}
+use Rattle.warc_field.specs.Decimal.{decimal_of}
+use Rattle.warc_frame.specs.Names.{warc_segment_number}
+use Rattle.warc_quick.specs.Quick.{AreAlone}
+use Rattle.warc_record.specs.Readings.{SegmentReading, present_value, segment_number}
+use Rattle.warc_record.specs.declared.readings.SegmentNumber.TheVariants.{Absent, Number, Bad}
+use Rattle.warc_value.specs.declared.hash.Verdict.{Verdict}
+use Rattle.warc_reading.specs.Judging.{verdict_on}
 use Rattle.warc_value.specs.Dates.{Instant, is_before}
 use Rattle.warc_index.specs.Captures.{is_earlier}
-use Rattle.warc_reading.specs.Row.{Row}
-use Rattle.warc.specs.Summary.{IsEndOf, IsEndRow, instant_at, is_nearer, number_line, shown_date, summary_numbers, summary_text, text_line}
+use Rattle.warc_reading.specs.Row.{Placed, Row}
+use Rattle.warc.specs.Summary.{Flags, IsEndOf, IsEndRow, has_segment_number, is_numbered, instant_at, is_nearer, number_line, shown_date, summary_numbers, summary_text, text_line}
 use Rattle.warc.specs.declared.summary.Dated.{Dated}
 use Rattle.warc.specs.declared.summary.End.{End}
 use Rattle.warc.specs.declared.summary.Summary.{Summary}
@@ -211,3 +221,30 @@ module _ (s : Summary) (a b c : List ℕ) (is_a : a ≡ flat_map number_line (su
 
   pub all_lines_of : a ++ (b ++ c) ≡ summary_text s
   all_lines_of = sym (append_assoc a b c) ∙ lines_in_turn
+
+-- ---- what is kept of a record that was read in place
+
+never_absent : (number : Option ℕ) → option_map_or Number number Bad ≡ Absent → ⊥
+never_absent None is = cc is
+never_absent (Some n) is = cc is
+
+not_numbered : (fields : List Pair) (value : Option (List ℕ)) → present_value warc_segment_number fields ≡ value → segment_number fields ≡ Absent
+    → has_segment_number fields ≡ false
+not_numbered fields None is none = rw is refl
+not_numbered fields (Some text) is none =
+    let same : segment_number fields ≡ option_map_or Number (decimal_of text) Bad = rw is refl in
+    absurd (never_absent (decimal_of text) (sym same ∙ none))
+
+-- a record that says nothing of segments has no segment number
+pub alone_is_no_segment : (fields : List Pair) → AreAlone fields → has_segment_number fields ≡ false
+alone_is_no_segment fields alone = not_numbered fields (present_value warc_segment_number fields) refl (ap (λ (s : SegmentReading). s.number) alone.segment)
+
+pub flags_more : {E : Type 0} (answer : Result (Unit {0}) E) (old new : Flags) (records : List Placed) (p : Placed) (verdict : Verdict)
+    → (old.segmented ≡ map is_numbered records) × (old.verdicts ≡ map verdict_on records) → is_numbered p ≡ false → verdict ≡ verdict_on p
+    → OnOk answer ((new.segmented ≡ old.segmented ++ false ∷ []) × (new.verdicts ≡ old.verdicts ++ verdict ∷ []))
+    → OnOk answer ((new.segmented ≡ map is_numbered (records ++ p ∷ [])) × (new.verdicts ≡ map verdict_on (records ++ p ∷ [])))
+flags_more (Ok u) old new records p verdict is number judged added = (
+  added.0 ∙ ap₂ (λ (l : List Bool) (x : Bool). l ++ x ∷ []) is.0 (sym number) ∙ sym (map-append is_numbered records (p ∷ [])),
+  added.1 ∙ ap₂ (λ (l : List Verdict) (x : Verdict). l ++ x ∷ []) is.1 judged ∙ sym (map-append verdict_on records (p ∷ [])),
+)
+flags_more (Err e) old new records p verdict is number judged added = tt

@@ -1,5 +1,5 @@
 //! How the blocks of an archive compare with the digests that their heads state.
-ghost use Rattle.std.specs.Prelude.{◌≡◌, true, false, [], codes, OnErr, map};
+ghost use Rattle.std.specs.Prelude.{◌≡◌, ◌∷◌, ◌++◌, true, false, [], codes, OnErr, OnOk, map};
 ghost use Rattle.warc_frame.specs.Effects.{Puts, SendsText};
 ghost use Rattle.warc_reading.specs.Judging.{verdict_on};
 ghost use Rattle.warc_reading.specs.Opening.{Opens};
@@ -14,8 +14,8 @@ use std::alloc::{AllocError, Allocator, Global};
 use std::marker::Model;
 use warc_field::Fields;
 use warc_frame::{Fault, OutBuffer, OutFault, SendFault, Sink, Source, names, put_columns};
-use warc_quick::QuickHead;
-use warc_reading::{Keep, Row, Rows, read_on};
+use warc_quick::{QuickHead, QuickRecord};
+use warc_reading::{Keep, Row, Rows, plain_verdict, read_on};
 use warc_record::bare;
 use warc_value::Verdict;
 
@@ -76,6 +76,20 @@ impl<A: Allocator + Copy> Digests<A> {
             values: Vec::new(alloc),
         }
     }
+
+    /// Adds how the next block compares with its digest, and the value of that digest unless the block is good. If
+    /// memory is refused, nothing is added.
+    fn add(&mut self, alloc: A, verdict: Verdict, value: &[u8]) -> Result<(), AllocError>
+        ensures ok { OnOk result ((self.new.verdicts ≡ self.old.verdicts ++ verdict ∷ [])
+            × (self.new.digests ≡ self.old.digests ++ unless_good verdict value.now ∷ [])) }
+        ensures err { OnErr result (self.new ≡ self.old) }
+    {
+        self.values.reserve(1)?;
+        let value = unless_good(verdict, value).to_vec(alloc)?;
+        self.verdicts.push(verdict)?;
+        self.values.push_reserved(value);
+        Ok(())
+    }
 }
 
 impl<A: Allocator> Digests<A> {
@@ -114,14 +128,14 @@ impl<A: Allocator + Copy> Keep<A> for Digests<A> {
 
     ghost judges = { true };
 
-    ghost takes = { λ _. false };
+    ghost takes = { λ _. true };
 
     fn judges() -> bool {
         true
     }
 
     fn takes(_head: &QuickHead<'_>) -> bool {
-        false
+        true
     }
 
     fn keep(
@@ -133,22 +147,17 @@ impl<A: Allocator + Copy> Keep<A> for Digests<A> {
         _block_len: u64,
         verdict: Verdict,
     ) -> Result<(), AllocError> {
-        self.values.reserve(1)?;
-        let value = unless_good(verdict, digest_value(fields)).to_vec(alloc)?;
-        self.verdicts.push(verdict)?;
-        self.values.push_reserved(value);
-        Ok(())
+        self.add(alloc, verdict, digest_value(fields))
     }
 
     fn keep_plain(
         &mut self,
-        _alloc: A,
+        alloc: A,
         _position: usize,
-        _head: &QuickHead<'_>,
+        found: &QuickRecord<'_>,
         _block_start: u64,
     ) -> Result<(), AllocError> {
-        // None is taken: blocks are judged.
-        Ok(())
+        self.add(alloc, plain_verdict(found), found.head.digest)
     }
 
     fn truncate(&mut self, count: usize) {

@@ -1,5 +1,5 @@
 //! What an archive holds: how many records of which kind, how many bytes, and from when to when.
-ghost use Rattle.std.specs.Prelude.{◌≡◌, true, false, [], OnErr, map, option_map, if◌then◌else◌};
+ghost use Rattle.std.specs.Prelude.{◌≡◌, ◌∷◌, ◌++◌, true, false, [], OnErr, OnOk, map, option_map, if◌then◌else◌};
 ghost use Rattle.std.specs.List.{concat};
 ghost use Rattle.warc_frame.specs.Effects.{Puts, SendsText};
 ghost use Rattle.warc_index.specs.Captures.{is_earlier};
@@ -14,8 +14,8 @@ use std::alloc::{AllocError, Allocator, Global};
 use std::marker::Model;
 use warc_field::Fields;
 use warc_frame::{Fault, OutBuffer, OutFault, SendFault, Sink, Source, names, put_columns};
-use warc_quick::QuickHead;
-use warc_reading::{Keep, Rows, read_on};
+use warc_quick::{QuickHead, QuickRecord};
+use warc_reading::{Keep, Rows, plain_verdict, read_on};
 use warc_record::Kind;
 use warc_value::{Moment, Verdict, read_date};
 
@@ -74,6 +74,18 @@ impl<A: Allocator + Copy> RecordFlags<A> {
 }
 
 impl<A: Allocator> RecordFlags<A> {
+    /// Adds those of the next record. If memory is refused, none is added.
+    fn add(&mut self, segmented: bool, verdict: Verdict) -> Result<(), AllocError>
+        ensures ok { OnOk result ((self.new.segmented ≡ self.old.segmented ++ segmented ∷ [])
+            × (self.new.verdicts ≡ self.old.verdicts ++ verdict ∷ [])) }
+        ensures err { OnErr result (self.new ≡ self.old) }
+    {
+        self.segmented.reserve(1)?;
+        self.verdicts.push(verdict)?;
+        self.segmented.push_reserved(segmented);
+        Ok(())
+    }
+
     /// How many records are segments.
     fn segmented_count(&self) -> usize
         ensures { result ≡ segmented_count self.now.segmented }
@@ -101,14 +113,14 @@ impl<A: Allocator + Copy> Keep<A> for RecordFlags<A> {
 
     ghost judges = { true };
 
-    ghost takes = { λ _. false };
+    ghost takes = { λ head. head.is_alone };
 
     fn judges() -> bool {
         true
     }
 
-    fn takes(_head: &QuickHead<'_>) -> bool {
-        false
+    fn takes(head: &QuickHead<'_>) -> bool {
+        head.is_alone
     }
 
     fn keep(
@@ -120,21 +132,20 @@ impl<A: Allocator + Copy> Keep<A> for RecordFlags<A> {
         _block_len: u64,
         verdict: Verdict,
     ) -> Result<(), AllocError> {
-        self.segmented.reserve(1)?;
-        self.verdicts.push(verdict)?;
-        self.segmented.push_reserved(has_segment_number(fields));
-        Ok(())
+        self.add(has_segment_number(fields), verdict)
     }
 
     fn keep_plain(
         &mut self,
         _alloc: A,
         _position: usize,
-        _head: &QuickHead<'_>,
+        found: &QuickRecord<'_>,
         _block_start: u64,
     ) -> Result<(), AllocError> {
-        // None is taken: blocks are judged.
-        Ok(())
+        if !found.head.is_alone {
+            return Ok(());
+        }
+        self.add(false, plain_verdict(found))
     }
 
     fn truncate(&mut self, count: usize) {

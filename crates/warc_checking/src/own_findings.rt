@@ -16,7 +16,7 @@ use std::marker::Model;
 use warc_field::Fields;
 use warc_frame::laws::went_out_of_longer;
 use warc_frame::{OutBuffer, SendFault, Sink};
-use warc_quick::QuickHead;
+use warc_quick::{QuickHead, QuickRecord};
 use warc_reading::Keep;
 use warc_record::{ArchiveFacts, Finding, all_findings};
 use warc_value::Verdict;
@@ -550,7 +550,7 @@ impl<A: Allocator + Copy> Keep<A> for OwnFindings<A> {
         &mut self,
         _alloc: A,
         _position: usize,
-        _head: &QuickHead<'_>,
+        _found: &QuickRecord<'_>,
         _block_start: u64,
     ) -> Result<(), AllocError> {
         // None is taken: blocks are judged.

@@ -23,9 +23,9 @@ use Rattle.warc_record.specs.Kinds.{is_continuation, is_known, is_revisit, kind_
 use Rattle.warc_record.specs.Readings.{Reading, kind_of, reading_of, segment_number, unless_empty}
 use Rattle.warc_record.specs.Table.{Rule, is_among, rules}
 use Rattle.warc_quick.specs.declared.head.QuickHead.{QuickHead}
-use Rattle.warc_quick.specs.Faultless.{IsFaultlessHead}
+use Rattle.warc_quick.specs.Faultless.{AreFaultless, IsFaultlessHead}
 use Rattle.warc_quick.specs.Fronts.{AreValues, IsHeadWith}
-use Rattle.warc_quick.specs.Quick.{Says}
+use Rattle.warc_quick.specs.Quick.{IsQuickHead, Says}
 use Rattle.warc_quick.specs.Ruled.{IsKept, is_simple}
 use Rattle.warc_quick.proofs.AsciiLemmas.{left_ascii, right_ascii, values_utf8}
 
@@ -139,29 +139,67 @@ module _ (fields : List Pair) (head : QuickHead) (says : Says fields head) (kind
       (no_segment_number fields text number none) (ap (λ k. lacks_content_type k fields head.block_len) of_kind ∙ typed)
       utf8 (in_brackets (first_value warc_record_id fields) (ap stands_in_brackets (sym says.texts.id) ∙ brackets))
 
--- a text that is all a head, in ASCII
-pub is_faultless_head : (text : List ℕ) (block_len : ℕ) (found : QuickHead) (values : List (Option (Bor (List ℕ)))) (wanted : Wanted)
-    → (is : IsHeadWith text found values) → found.len ≡ length text → found.block_len ≡ block_len → IsAscii text
-    → wanted ≡ wanted_digest found.digest.now
-    → ((fields : List Pair) → Says fields found → AreValues fields values → not_utf8 fields ≡ [] → (bad_digest used_id : Bool)
-    → findings_of fields found.block_len bad_digest used_id ≡ once Digest bad_digest ++ once IdUsed used_id)
+-- a head that says this, and of which it is said whether it is faultless
+module _ (text : List ℕ) (found : QuickHead) (values : List (Option (Bor (List ℕ)))) (mark : Bool) where
+  abbrev marked : QuickHead
+  marked = record {
+    len = found.len;
+    block_len = found.block_len;
+    texts = found.texts;
+    digest = found.digest;
+    payload_digest = found.payload_digest;
+    is_alone = found.is_alone;
+    is_faultless = mark;
+  }
+
+  says_marked : (fields : List Pair) → Says fields found → (mark ≡ true → AreFaultless fields found.block_len) → Says fields marked
+  says_marked fields says faultless = record {
+    values = says.values;
+    good = says.good;
+    block = says.block;
+    texts = says.texts;
+    digest = says.digest;
+    wanted = says.wanted;
+    payload = says.payload;
+    alone = says.alone;
+    faultless = faultless;
+  }
+
+  pub judged : IsHeadWith text found values
+      → (mark ≡ true → IsAscii (take found.len text)
+      × ((fields : List Pair) → Says fields found → AreValues fields values → not_utf8 fields ≡ [] → AreFaultless fields found.block_len))
+      → IsQuickHead text marked
+  judged is nothing =
+      let fields = is.head.fields in
+      let version = is.head.version in
+      let utf8 = λ (yes : mark ≡ true).
+      let head_ascii : IsAscii (head_text version is.area) = subst IsAscii is.text_is (nothing yes).0 in
+      let area_ascii = right_ascii (version_line version) is.area (left_ascii (version_line version ++ is.area) crlf head_ascii) in
+      all_utf8 fields (values_utf8 fields is.area is.spelled area_ascii) in
+      record {
+        version = version;
+        fields = fields;
+        within = is.head.within;
+        whole = is.head.whole;
+        says = says_marked fields is.head.says (λ yes. (nothing yes).1 fields is.head.says is.are (utf8 yes));
+      }
+
+-- a text that is all a faultless head
+pub is_faultless_head : (text : List ℕ) (block_len : ℕ) (found : QuickHead) (wanted : Wanted) → IsQuickHead text found
+    → found.len ≡ length text → found.block_len ≡ block_len → found.is_faultless ≡ true → wanted ≡ wanted_digest found.digest.now
     → IsFaultlessHead text block_len wanted
-is_faultless_head text block_len found values wanted is whole same_block ascii asks nothing =
+is_faultless_head text block_len found wanted is whole same_block faultless asks =
     let all : take found.len text ≡ text = take_all found.len text (omega (arith, whole)) in
-    let fields = is.head.fields in
-    let version = is.head.version in
-    let head_ascii : IsAscii (head_text version is.area) = subst IsAscii (sym all ∙ is.text_is) ascii in
-    let area_ascii = right_ascii (version_line version) is.area (left_ascii (version_line version ++ is.area) crlf head_ascii) in
+    let fields = is.fields in
+    let version = is.version in
     record {
       version = version;
       fields = fields;
       reads =
-          ap (head_of any_fields) (sym all) ∙ is.head.whole
+          ap (head_of any_fields) (sym all) ∙ is.whole
           ∙ ap (λ n. Ok (record { version = version; fields = fields; len = n; block_len = found.block_len })) whole
           ∙ ap (λ n. Ok (record { version = version; fields = fields; len = length text; block_len = n })) same_block;
-      good = is.head.says.good;
-      wanted_is = is.head.says.wanted ∙ sym asks;
-      found = λ bad_digest used_id.
-          ap (λ n. findings_of fields n bad_digest used_id) (sym same_block)
-          ∙ nothing fields is.head.says is.are (all_utf8 fields (values_utf8 fields is.area is.spelled area_ascii)) bad_digest used_id;
+      good = is.says.good;
+      wanted_is = is.says.wanted ∙ sym asks;
+      found = subst (AreFaultless fields) same_block (is.says.faultless faultless);
     }

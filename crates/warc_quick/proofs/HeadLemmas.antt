@@ -31,6 +31,7 @@ use Rattle.warc_quick.specs.declared.head.QuickHead.{QuickHead}
 use Rattle.warc_quick.specs.declared.names.QuickName.{QuickName}
 use Rattle.warc_quick.specs.declared.names.QuickName.TheVariants.{«Type», RecordId, Date, ContentLength}
 use Rattle.warc_quick.specs.Names.{quick_name}
+use Rattle.warc_quick.specs.Faultless.{AreFaultless}
 use Rattle.warc_quick.specs.Fronts.{BeginsWithFields, IsHeadWith, IsValueOf}
 use Rattle.warc_quick.specs.Quick.{AreAlone, Says, max_quick_head, no_segment, nothing_named}
 use Rattle.warc_quick.proofs.ValueLemmas.{some_counts}
@@ -100,8 +101,8 @@ module _ (fields : List Pair) (found : QuickHead) (size : Bor (List ℕ)) (are :
       → found.digest.now ≡ unwrap_or (first_value warc_block_digest fields) []
       → found.texts.is_truncated ≡ not (length (unwrap_or (first_value warc_truncated fields) []) == 0)
       → found.payload_digest.now ≡ unwrap_or (first_value warc_payload_digest fields) []
-      → (found.is_alone ≡ true → AreAlone fields) → Says fields found
-  says target digest mark payload alone = record {
+      → (found.is_alone ≡ true → AreAlone fields) → (found.is_faultless ≡ true → AreFaultless fields found.block_len) → Says fields found
+  says target digest mark payload alone faultless = record {
     values = are;
     good = (good_heads_have_no_fault fields).0 (record {
       type_is = record { value = found.texts.kind.now; stands = sym of_type.first; alone = of_type.alone refl; reads = token };
@@ -116,9 +117,11 @@ module _ (fields : List Pair) (found : QuickHead) (size : Bor (List ℕ)) (are :
       target = target ∙ sym (target_is (first_value warc_target_uri fields));
       truncated = mark ∙ sym (mark_is (first_value warc_truncated fields));
     };
+    digest = sym digest;
     wanted = digest_is (first_value warc_block_digest fields) ∙ ap wanted_digest (sym digest);
     payload = payload_is (first_value warc_payload_digest fields) ∙ ap unless_empty (sym payload);
     alone = alone;
+    faultless = faultless;
   }
 
 area_at : (version : Version) (area : List ℕ) → drop 10 (version_line version ++ area) ≡ area

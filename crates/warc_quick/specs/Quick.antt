@@ -1,11 +1,11 @@
 -- A head that is read in place: the good head at the front of a text, and what it says (ISO 28500:2017, 4 and 5). Which
 -- heads are read so is this project's own choice.
 use Rattle.std.specs.Prelude.{◌≡◌, ℕ, ◌+◌, ◌≤◌, true, false, List, [], length, take, None, Ok, unwrap_or}
-use Rattle.warc_field.specs.Area.{Pair}
+use Rattle.warc_field.specs.Area.{Pair, first_value}
 use Rattle.warc_field.specs.Text.{AreFields}
 use Rattle.warc_value.specs.Digests.{wanted_digest}
 use Rattle.warc_frame.specs.declared.version.Version.{Version}
-use Rattle.warc_frame.specs.Names.{warc_payload_digest}
+use Rattle.warc_frame.specs.Names.{warc_block_digest, warc_payload_digest}
 use Rattle.warc_frame.specs.Reading.{any_fields, head_of}
 use Rattle.warc_frame.specs.Record.{Record, block_len}
 use Rattle.warc_frame.specs.Spelling.{Spells}
@@ -13,6 +13,7 @@ use Rattle.warc_record.specs.Heads.{head_fault}
 use Rattle.warc_record.specs.Readings.{Reading, ReferenceReading, SegmentReading, digest_wanted, present_value, reading_of, reference_of, segment_reading, unless_empty}
 use Rattle.warc_record.specs.declared.readings.SegmentNumber.TheVariants.{Absent}
 use Rattle.warc_record.specs.declared.head.HeadTexts.{HeadTexts}
+use Rattle.warc_quick.specs.Faultless.{AreFaultless}
 use Rattle.warc_quick.specs.declared.head.QuickHead.{QuickHead}
 use Rattle.warc_quick.specs.declared.plain.QuickRecord.{QuickRecord}
 
@@ -46,9 +47,11 @@ pub record Says (fields : List Pair) (found : QuickHead) : Type 0 where
   pub good : head_fault fields ≡ None
   pub block : block_len fields ≡ Ok found.block_len
   pub texts : AreTexts (reading_of fields) found.texts
+  pub digest : unwrap_or (first_value warc_block_digest fields) [] ≡ found.digest.now
   pub wanted : digest_wanted fields ≡ wanted_digest found.digest.now
   pub payload : present_value warc_payload_digest fields ≡ unless_empty found.payload_digest.now
   pub alone : found.is_alone ≡ true → AreAlone fields
+  pub faultless : found.is_faultless ≡ true → AreFaultless fields found.block_len
 
 -- the first bytes of a text are a whole, good head, which says this
 pub record IsQuickHead (text : List ℕ) (found : QuickHead) : Type 0 where
@@ -66,4 +69,11 @@ pub record IsQuickRecord (text : List ℕ) (found : QuickRecord) : Type 0 where
   pub spelled : Spells content (take found.len text)
   pub says : Says content.fields found.head
   pub block : found.head.block_len ≡ length content.block
+  pub block_is : found.block.now ≡ content.block
+  pub reads : head_of any_fields found.head_text.now ≡ Ok (record {
+    version = content.version;
+    fields = content.fields;
+    len = length found.head_text.now;
+    block_len = length content.block;
+  })
   pub end : found.head.len + length content.block + 4 ≡ found.len

@@ -1,14 +1,15 @@
 //! A plain head of whose record nothing is wrong.
-ghost use Rattle.std.specs.Prelude.{◌≡◌, ◌<◌, ◌++◌, Bool, IfSome, List, [], false, true};
+ghost use Rattle.std.specs.Prelude.{◌≡◌, ◌<◌, ◌≤◌, IfSome, List, [], false, true};
 ghost use Rattle.std.specs.List.{All};
 ghost use Rattle.warc_field.specs.Area.{Pair};
+ghost use Rattle.warc_frame.specs.Record.{max_block};
 ghost use Rattle.warc_record.specs.declared.types.Kind.{Kind};
-ghost use Rattle.warc_record.specs.Findings.{Digest, IdUsed, findings_of, lacks_content_type, not_utf8, once, stands};
+ghost use Rattle.warc_record.specs.Findings.{lacks_content_type, not_utf8, stands};
 ghost use Rattle.warc_record.specs.Table.{rule_seen, rules};
-ghost use Rattle.warc_quick.specs.Faultless.{IsFaultlessHead};
+ghost use Rattle.warc_quick.specs.Faultless.{AreFaultless, IsFaultlessHead};
 ghost use Rattle.warc_quick.specs.Fronts.{AreValues};
 ghost use Rattle.warc_quick.specs.Names.{quick_count, quick_name, quick_place};
-ghost use Rattle.warc_quick.specs.Quick.{Says};
+ghost use Rattle.warc_quick.specs.Quick.{IsQuickHead, Says};
 ghost use Rattle.warc_quick.specs.Ruled.{IsKept, IsRuleOf, is_simple};
 
 use crate::head::{QuickHead, head_with_values};
@@ -86,8 +87,7 @@ fn has_needed_type(block_len: u64, values: &Values<'_>) -> bool
 /// used, and that a value isn't UTF-8.
 fn is_faultless(head: &QuickHead<'_>, values: &Values<'_>) -> bool
     ensures { result ≡ true → (fields : List Pair) → Says fields head.now → AreValues fields values.now.values
-        → not_utf8 fields ≡ [] → (bad_digest used_id : Bool)
-        → findings_of fields head.now.block_len bad_digest used_id ≡ once Digest bad_digest ++ once IdUsed used_id }
+        → not_utf8 fields ≡ [] → AreFaultless fields head.now.block_len }
 {
     let kind = Kind::named(head.texts.kind);
     if !is_simple(kind) || !stands_in_brackets(head.texts.id) {
@@ -101,18 +101,29 @@ fn is_faultless(head: &QuickHead<'_>, values: &Values<'_>) -> bool
     keeps_table(kind, values)
 }
 
+/// Reads the good head at the front of a text as `quick_head` does, and looks whether it is faultless.
+#[inline(always)]
+pub(crate) fn judged_head(text: &[u8]) -> Option<QuickHead<'_>>
+    ensures head { IfSome result (IsQuickHead text.now) }
+    ensures block { IfSome result (λ head. head.block_len ≤ max_block) }
+{
+    let mut values = Values::none();
+    let mut head = head_with_values(text, &mut values)?;
+    head.is_faultless = text[..head.len].is_ascii() && is_faultless(&head, &values);
+    Some(head)
+}
+
 /// The digest that a head asks for of its block, if the text is a plain, good head of a block of `block_len` bytes, and
 /// all that can be found of its record is that the digest differs (N4) and that the id is used (N6). `None` says
 /// nothing of the text.
 pub fn faultless_head(text: &[u8], block_len: u64) -> Option<Wanted>
     ensures { IfSome result (IsFaultlessHead text.now block_len) }
 {
-    let mut values = Values::none();
-    let head = head_with_values(text, &mut values)?;
+    let head = judged_head(text)?;
     if head.len != text.len() || head.block_len != block_len {
         return None;
     }
-    if !text.is_ascii() || !is_faultless(&head, &values) {
+    if !head.is_faultless {
         return None;
     }
     Some(head.wanted())

@@ -46,6 +46,10 @@ pub struct QuickHead<'a> {
 
     /// Whether it is known that the head names no other record and says nothing of segments.
     pub is_alone: bool,
+
+    /// Whether it is known that all that can be found of its record is that the digest differs (N4) and that the id is
+    /// used (N6).
+    pub is_faultless: bool,
 }
 
 impl QuickHead<'_> {
@@ -174,6 +178,7 @@ fn good_head<'a>(len: usize, values: &Values<'a>) -> Option<QuickHead<'a>>
         digest: values.or_empty(QuickName::BlockDigest),
         payload_digest: values.or_empty(QuickName::PayloadDigest),
         is_alone: names_nothing(values) & has_no_segment(values),
+        is_faultless: false,
     })
 }
 

@@ -1,4 +1,5 @@
-//! The head of a WARC record, read in place, line by line. It takes no memory, and copies no name and no value.
+//! The head of a WARC record, read in place, line by line. Reading takes no memory, and copies no name and no value.
+//! Only `type_alone` copies values, and may ask for memory.
 //!
 //! Most heads are plain: each field is on a line of its own, and each name of the standard is spelled as there and
 //! occurs at most once, if it may not repeat. These are read here. Any other head is left to `warc_frame` and
@@ -20,4 +21,4 @@ pub use alone::type_alone;
 pub use canonical::is_canonical_head;
 pub use faultless::faultless_head;
 pub use head::{QuickHead, quick_head};
-pub use plain::{QuickRecord, quick_record};
+pub use plain::{QuickRecord, judged_record, quick_record};

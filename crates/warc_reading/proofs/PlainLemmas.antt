@@ -70,7 +70,7 @@ none_open judges begin rest None (Some c) none m = absurd m
 none_open judges begin rest (Some u) c none m = cc none
 
 -- where a record is whose head has this length
-abbrev placed_at : ℕ → ℕ → Record → Placed
+abbrev pub placed_at : ℕ → ℕ → Record → Placed
 placed_at at head r = record { offset = at; block_start = at + head; content = r }
 
 row_by_texts : (at start len : ℕ) (mark : Bool) (kind date id target : List ℕ) (r : Record) → kind ≡ unwrap_or (reading_of r.fields).type_text []
@@ -87,6 +87,11 @@ row_is at piece found is =
     let texts = is.says.texts in
     row_by_texts at (at + found.head.len) found.head.block_len t.is_truncated t.kind.now t.date.now t.id.now t.target.now is.content
     texts.kind texts.date texts.id texts.target texts.truncated is.block
+
+pub next_plain : (at : ℕ) (piece : List ℕ) (found : QuickRecord) (is : IsQuickRecord piece found) (start : ℕ) → start ≡ at + found.head.len
+    → IsNextPlain (placed_at at found.head.len is.content) found start
+next_plain at piece found is start start_is =
+    record { says = is.says; start_is = start_is; len_is = is.block; block_is = is.block_is; reads = is.reads }
 
 module _ {A L : Type 0} {judges : Bool} (K : L → List Placed → Type 0) (text piece : List ℕ) (d after : State) (old new : Reading A L) (found : QuickRecord)
     (stands : Stands judges K text d old) (is : IsQuickRecord piece found) (between : IsBetween d) (limit : d.position + found.len ≤ max_archive) where
@@ -108,11 +113,11 @@ module _ {A L : Type 0} {judges : Bool} (K : L → List Placed → Type 0) (text
   plain_alone = none_open judges (length stands.has.front) stands.has.rest stands.told.unclosed old.current (between 0 text stands.told stands.is_at).0 stands.has.current
 
   pub plain_stands : (start : ℕ) → start ≡ d.position + found.head.len → new.rows ≡ old.rows ++ plain_row d.position start found.head ∷ [] → new.begin ≡ d.position + found.len → new.current ≡ old.current
-      → ((records : List Placed) (p : Placed) → K old.beside records → length old.rows ≡ length records → IsNextPlain p found.head start → K new.beside (records ++ p ∷ []))
+      → ((records : List Placed) (p : Placed) → K old.beside records → length old.rows ≡ length records → IsNextPlain p found start → K new.beside (records ++ p ∷ []))
       → IsAt (d.position + found.len) [] nothing after → Stands judges K (text ++ take found.len piece) after new
   plain_stands start start_is rows begin current keeps anew =
       let p : Placed = placed_at d.position found.head.len is.content in
-      let next : IsNextPlain p found.head start = record { says = is.says; start_is = start_is; len_is = is.block } in
+      let next : IsNextPlain p found start = next_plain d.position piece found is start start_is in
       let count : length old.rows ≡ length kept.listed.are.records = ap length kept.listed.are.rows_are ∙ length-map kept.listed.are.records row_of in
       let more = kept_more K text (take found.len piece) old.rows old.beside new.beside p kept is.spelled is.says.good here
       (omega (arith, here, size, is.end)) (omega (arith, here, size, limit, length-append text (take found.len piece))) (keeps kept.listed.are.records p kept.beside count next) in

@@ -1,5 +1,5 @@
 //! What is kept of records besides their rows: nothing in a listing; in an archive, what finds them and joins them.
-ghost use Rattle.std.specs.Prelude.{◌≡◌, Bool, true, false, None, List, [], ◌∷◌, ◌++◌, length, take, OnErr, OnOk};
+ghost use Rattle.std.specs.Prelude.{◌≡◌, Bool, true, false, None, List, [], ◌∷◌, ◌++◌, ◌<◌, length, take, OnErr, OnOk};
 ghost use Rattle.warc_field.specs.Area.{Pair};
 ghost use Rattle.warc_quick.specs.Quick.{Says};
 ghost use Rattle.warc_quick.specs.declared.head.QuickHead.{QuickHead};
@@ -14,10 +14,13 @@ use std::alloc::{AllocError, Allocator};
 use warc_field::Fields;
 use warc_index::{Index, RecordIndex, UnorderedIndex};
 use warc_order::{EntryList, HasEntries, Order, Unordered};
-use warc_quick::{QuickHead, type_alone};
+use warc_quick::{QuickHead, QuickRecord, type_alone};
 use warc_record::{Typed, type_head};
 use warc_segment::{Parts, Place};
 use warc_value::Verdict;
+
+/// How many bytes a read asks for, where nothing else is said.
+const PIECE: usize = 65_536;
 
 /// What is kept of records besides their rows, as they are read.
 pub trait Keep<A: Allocator> {
@@ -56,18 +59,18 @@ pub trait Keep<A: Allocator> {
         ensures err { (records : List Placed) → keeps self.old records → position ≡ length records →
             OnErr result (keeps self.new records) };
 
-    /// Keeps what is needed of the next record, by its position, its plain head, which is one that it takes, and where
-    /// its block begins. If memory is refused, it keeps what it kept of the records before.
+    /// Keeps what is needed of the next record, by its position, the record as it was read in place, whose head is one
+    /// that it takes, and where its block begins. If memory is refused, it keeps what it kept of the records before.
     fn keep_plain(
         &mut self,
         alloc: A,
         position: usize,
-        head: &QuickHead<'_>,
+        found: &QuickRecord<'_>,
         block_start: u64,
     ) -> Result<(), AllocError>
-        requires { (fields : List Pair) × Says fields head.now }
-        ensures ok { (records : List Placed) (p : Placed) → takes head.now ≡ true → keeps self.old records →
-            position ≡ length records → IsNextPlain p head.now block_start →
+        requires { (p : Placed) × IsNextPlain p found.now block_start }
+        ensures ok { (records : List Placed) (p : Placed) → takes found.now.head ≡ true → keeps self.old records →
+            position ≡ length records → IsNextPlain p found.now block_start →
             OnOk result (keeps self.new (records ++ p ∷ [])) }
         ensures err { (records : List Placed) → keeps self.old records → position ≡ length records →
             OnErr result (keeps self.new records) };
@@ -75,6 +78,13 @@ pub trait Keep<A: Allocator> {
     /// Forgets all but the first `count` records. It takes no memory.
     fn truncate(&mut self, count: usize)
         ensures { (records : List Placed) → keeps self.old records → keeps self.new (take count records) };
+
+    /// How many bytes a read asks for.
+    fn piece_len() -> usize
+        ensures { 0 < result }
+    {
+        PIECE
+    }
 }
 
 /// Only rows are kept.
@@ -112,7 +122,7 @@ impl<A: Allocator> Keep<A> for RowsAlone {
         &mut self,
         _alloc: A,
         _position: usize,
-        _head: &QuickHead<'_>,
+        _found: &QuickRecord<'_>,
         _block_start: u64,
     ) -> Result<(), AllocError> {
         Ok(())
@@ -183,24 +193,24 @@ fn add_head<O: EntryList, A: Allocator + Copy>(
     add(index, parts, position, &typed, place)
 }
 
-/// Keeps the next record, by its position, its plain head that is alone and where its block begins.
+/// Keeps the next record, whose plain head is alone, by its position and where its block begins.
 fn add_plain<O: EntryList, A: Allocator + Copy>(
     alloc: A,
     index: &mut RecordIndex<O, A>,
     parts: &mut Parts<A>,
     position: usize,
-    head: &QuickHead<'_>,
+    found: &QuickRecord<'_>,
     block_start: u64,
 ) -> Result<(), AllocError>
-    requires alone { head.now.is_alone ≡ true }
-    requires says { (fields : List Pair) × Says fields head.now }
+    requires alone { found.now.head.is_alone ≡ true }
+    requires next { (p : Placed) × IsNextPlain p found.now block_start }
     ensures ok { (records : List Placed) (p : Placed) → AreOf records index.old parts.old →
-        IsNextPlain p head.now block_start → OnOk result (AreOf (records ++ p ∷ []) index.new parts.new) }
+        IsNextPlain p found.now block_start → OnOk result (AreOf (records ++ p ∷ []) index.new parts.new) }
     ensures err { (records : List Placed) → AreOf records index.old parts.old →
         position ≡ length records → OnErr result (AreOf records index.new parts.new) }
 {
-    let typed = type_alone(alloc, head)?;
-    let place = place_of(&typed, block_start, head.block_len);
+    let typed = type_alone(alloc, &found.head)?;
+    let place = place_of(&typed, block_start, found.head.block_len);
     add(index, parts, position, &typed, place)
 }
 
@@ -304,10 +314,10 @@ impl<O: EntryList, A: Allocator + Copy> Keep<A> for RecordLookup<O, A> {
         &mut self,
         alloc: A,
         position: usize,
-        head: &QuickHead<'_>,
+        found: &QuickRecord<'_>,
         block_start: u64,
     ) -> Result<(), AllocError> {
-        if !head.is_alone {
+        if !found.head.is_alone {
             return Ok(());
         }
         add_plain(
@@ -315,7 +325,7 @@ impl<O: EntryList, A: Allocator + Copy> Keep<A> for RecordLookup<O, A> {
             &mut self.index,
             &mut self.parts,
             position,
-            head,
+            found,
             block_start,
         )
     }

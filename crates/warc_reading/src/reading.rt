@@ -5,7 +5,7 @@ ghost use Rattle.warc_record.specs.Heads.{head_fault};
 ghost use Rattle.warc_record.specs.Readings.{digest_wanted};
 ghost use Rattle.warc_reading.specs.Archive.{IsArchiveOf};
 ghost use Rattle.warc_reading.specs.Fronts.{AreFrontRows, IsLongestFront, reach_of};
-ghost use Rattle.warc_reading.specs.Judging.{IsNextOf, IsNextPlain, judged_by};
+ghost use Rattle.warc_reading.specs.Judging.{IsNextOf, IsNextPlain, judged_by, verdict_on};
 ghost use Rattle.warc_reading.specs.Growing.{Grows, grown};
 ghost use Rattle.warc_reading.specs.Opening.{Opens};
 ghost use Rattle.warc_reading.specs.Row.{Placed};
@@ -16,7 +16,7 @@ ghost use Rattle.warc_frame.specs.Record.{max_archive};
 ghost use Rattle.warc_frame.specs.Seen.{GoesOn, IfHeld, InOrder};
 ghost use Rattle.warc_frame.specs.Told.{Told};
 ghost use Rattle.warc_field.specs.Area.{Pair};
-ghost use Rattle.warc_quick.specs.Quick.{IsQuickRecord, Says};
+ghost use Rattle.warc_quick.specs.Quick.{IsQuickRecord};
 ghost use Rattle.warc_reading.specs.Stream.{Extends, HasSeen, IsBetween, WantsSince, IsHead, IsKeptOf, IsLeft, Since, Stands, StaysRefused, Stops, TakesFront, plain_row, row_by};
 ghost use Rattle.warc_reading.specs.declared.reading.Current.{Current as Kept};
 
@@ -26,12 +26,9 @@ use crate::spare_fields::SpareFields;
 use std::alloc::{AllocError, Allocator};
 use warc_field::Fields;
 use warc_frame::{Decoder, Event, Fault, FaultKind, MAX_ARCHIVE, ReadFault, Source};
-use warc_quick::{QuickHead, QuickRecord, quick_record};
+use warc_quick::{QuickRecord, judged_record, quick_record};
 use warc_record::{GoodHead, judge_head};
 use warc_value::{Running, Verdict, Wanted};
-
-/// How many bytes a read asks for.
-const PIECE: usize = 65_536;
 
 /// The digest that a block is judged by, and the digest of the block's bytes so far.
 #[derive(Drop)]
@@ -69,6 +66,15 @@ impl BlockDigest {
         let BlockDigest { wanted, running } = self;
         running.verdict(&wanted)
     }
+}
+
+/// How the block of a record that was read in place compares with the digest that its head asks for.
+pub fn plain_verdict(found: &QuickRecord<'_>) -> Verdict
+    ensures { (p : Placed) (start : ℕ) → IsNextPlain p found.now start → result ≡ verdict_on p }
+{
+    let mut digest = BlockDigest::new(found.head.wanted());
+    digest.update(found.block);
+    digest.verdict()
 }
 
 /// The digest by which the block after a head is judged, where blocks are judged; else none.
@@ -229,39 +235,39 @@ impl<A: Allocator + Copy, L: Keep<A> + Drop> Reading<A, L> {
         Ok(())
     }
 
-    /// Keeps a row of the record at an offset that has a plain head, and what else is needed of it.
+    /// Keeps a row of the record at an offset that was read in place, and what else is needed of it.
     fn keep_plain(
         &mut self,
         alloc: A,
         offset: u64,
-        head: &QuickHead<'_>,
+        found: &QuickRecord<'_>,
         block_start: u64,
     ) -> Result<(), AllocError>
-        requires taken { L.takes head.now ≡ true }
-        requires says { (fields : List Pair) × Says fields head.now }
+        requires taken { L.takes found.now.head ≡ true }
+        requires next { (p : Placed) × IsNextPlain p found.now block_start }
         ensures begin { self.new.begin ≡ self.old.begin }
         ensures current { self.new.current ≡ self.old.current }
-        ensures row { OnOk result (self.new.rows ≡ self.old.rows ++ plain_row offset block_start head.now ∷ []) }
+        ensures row { OnOk result (self.new.rows ≡ self.old.rows ++ plain_row offset block_start found.now.head ∷ []) }
         ensures untouched { OnErr result (self.new.rows ≡ self.old.rows) }
         ensures beside { (records : List Placed) (p : Placed) → L.keeps self.old.beside records →
-            length self.old.rows ≡ length records → IsNextPlain p head.now block_start →
+            length self.old.rows ≡ length records → IsNextPlain p found.now block_start →
             OnOk result (L.keeps self.new.beside (records ++ p ∷ [])) }
         ensures left { (records : List Placed) → L.keeps self.old.beside records →
             length self.old.rows ≡ length records → OnErr result (L.keeps self.new.beside records) }
     {
-        let texts = &head.texts;
+        let texts = &found.head.texts;
         let position = self.rows.len();
         self.rows.push(&Row {
             offset,
             block_start,
-            block_len: head.block_len,
+            block_len: found.head.block_len,
             is_truncated: texts.is_truncated,
             kind: texts.kind,
             date: texts.date,
             id: texts.id,
             target: texts.target,
         })?;
-        match self.beside.keep_plain(alloc, position, head, block_start) {
+        match self.beside.keep_plain(alloc, position, found, block_start) {
             Ok(()) => Ok(()),
             Err(refused) => {
                 // The row is taken back, which takes no memory.
@@ -273,10 +279,12 @@ impl<A: Allocator + Copy, L: Keep<A> + Drop> Reading<A, L> {
 }
 
 /// The record that a piece begins with, if it can be read in place: the decoder stands between records, the head is
-/// plain, and the record ends within the piece and within the limit of an archive.
+/// plain, and the record ends within the piece and within the limit of an archive. Where blocks are judged, it is asked
+/// too whether the head is faultless.
 fn plain_record<'a, A: Allocator + Copy>(
     decoder: &Decoder<A>,
     piece: &'a [u8],
+    judges: bool,
 ) -> Option<QuickRecord<'a>>
     ensures found { IfSome result (IsQuickRecord piece.now) }
     ensures between { IfSome result (λ _. IsBetween decoder.now) }
@@ -285,7 +293,11 @@ fn plain_record<'a, A: Allocator + Copy>(
     if decoder.finish().is_err() {
         return None;
     }
-    let found = quick_record(piece)?;
+    let found = if judges {
+        judged_record(piece)?
+    } else {
+        quick_record(piece)?
+    };
     if found.len as u64 > MAX_ARCHIVE - decoder.position() {
         return None;
     }
@@ -310,7 +322,7 @@ fn take_plain<A: Allocator + Copy, L: Keep<A> + Drop>(
     let begin = decoder.position();
     let end = begin + found.len as u64;
     let block_start = begin + found.head.len as u64;
-    let kept = reading.keep_plain(alloc, begin, &found.head, block_start);
+    let kept = reading.keep_plain(alloc, begin, found, block_start);
     if kept.is_err() {
         return Err(FaultKind::Memory.at(reading.begin));
     }
@@ -361,11 +373,9 @@ fn take_front<A: Allocator + Copy, L: Keep<A> + Drop>(
     requires { 0 < length piece.now }
     ensures { TakesFront L.judges L.keeps piece.now decoder.old reading.old decoder.new reading.new result }
 {
-    if !L::judges() {
-        if let Some(found) = plain_record(decoder, piece) {
-            if L::takes(&found.head) {
-                return take_plain(alloc, decoder, reading, &found, piece);
-            }
+    if let Some(found) = plain_record(decoder, piece, L::judges()) {
+        if L::takes(&found.head) {
+            return take_plain(alloc, decoder, reading, &found, piece);
         }
     }
     reading.spare.hand_on(decoder);
@@ -471,7 +481,7 @@ pub fn read_on<S: Source, A: Allocator + Copy, L: Keep<A> + Drop>(
         → InOrder (length bytes) (S.seen source.old) (S.seen source.new) }
 {
     let begin = rows.end();
-    let Ok(mut buf) = vec![in alloc; 0u8; PIECE] else {
+    let Ok(mut buf) = vec![in alloc; 0u8; L::piece_len()] else {
         return (Err(FaultKind::Memory.at(begin)), rows, beside);
     };
     let count = rows.len();
@@ -495,7 +505,8 @@ pub fn read_front<S: Source, A: Allocator + Copy>(
     ensures front { IfHeld (S.seen source.old).holds (λ bytes. AreFrontRows bytes result.0 result.1) }
     ensures order { InOrder 0 (S.seen source.old) (S.seen source.new) }
 {
-    let Ok(mut buf) = vec![in alloc; 0u8; PIECE] else {
+    let len = <RowsAlone as Keep<A>>::piece_len();
+    let Ok(mut buf) = vec![in alloc; 0u8; len] else {
         return (Err(FaultKind::Memory.at(0)), Rows::new(alloc));
     };
     let mut reading = Reading::behind(Rows::new(alloc), RowsAlone);

@@ -8,9 +8,15 @@ use Rattle.warc_reading.specs.Row.{row_of}
 use Rattle.warc_reading.specs.Stream.{Since, plain_row}
 use Rattle.warc_reading.proofs.FrontLemmas.{memory_stops_at}
 use Rattle.warc_reading.proofs.GrowLemmas.{extends_same, left_by, since_more}
-use Rattle.warc_reading.proofs.PlainLemmas.{next_at, plain_stands, pushed, unpushed}
+use Rattle.warc_reading.proofs.PlainLemmas.{next_at, next_plain, placed_at, plain_stands, pushed, unpushed}
 use Rattle.warc_reading.proofs.StepLemmas.{memory_stops}
 use Rattle.warc_reading.proofs.reading.take_plain.Goals as goal
+
+pub keep_plain-kept-requires-clause-next : goal.keep_plain-kept-requires-clause-next
+keep_plain-kept-requires-clause-next g c =
+    let found = c.args.found.now in
+    let begin : ℕ = c.position-begin.result in
+    (placed_at begin found.head.len c.requires.found.content, next_plain begin c.args.piece.now found c.requires.found (begin + found.head.len) refl)
 
 pub returns-then-is_err : goal.returns-then-is_err
 returns-then-is_err g c =
