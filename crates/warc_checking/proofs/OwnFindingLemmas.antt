@@ -1,20 +1,34 @@
 -- Findings in flat lists, and the lines of those that are told.
-use Rattle.std.proofs.Common.{◌≡◌, ℕ, zero, suc, ◌+◌, ◌-◌, ◌<◌, ◌≤◌, Bool, List, [], ◌∷◌, ◌++◌, Some, None, length, map, take, drop, slice_range, get_or, true, false, append_assoc, length-append, refl, sym, ap, subst, ◌∙◌, arith}
+use Rattle.std.proofs.Common.{◌≡◌, ◌≢◌, ℕ, zero, suc, ◌+◌, ◌-◌, ◌<◌, ◌≤◌, Bool, ◌&&◌, if◌then◌else◌, List, [], ◌∷◌, ◌++◌, Some, None, length, map, take, drop, set, slice_range, get_or, true, false, append_assoc, length-append, refl, sym, ap, subst, ◌∙◌, arith}
 use Rattle.std.proofs.Math.Seq.{drop-append_seam, take-length}
 use Rattle.std.proofs.lemmas.List.{append-nil, drop-append-le, drop-map, length-drop, length-take-le, map-append, map_more, take-append-drop, take-append-le, take-map, take_all}
 use Rattle.std.proofs.lemmas.List.Elements.{filter-append}
 use Rattle.std.proofs.lemmas.Option.{slice_get_past}
 use Rattle.std.specs.List.{AllByRecursion, filter, slice_get}
 use Rattle.std.specs.Option.{unwrap_or}
+use Rattle.std.specs.Prelude.{option_map}
 use Rattle.warc_reading.specs.Archive.{contents}
 use Rattle.warc_reading.specs.Row.{Placed}
-use Rattle.warc_record.specs.Findings.{SeenFinding, Absent, Forbidden, Repeated, Digest, SegmentNumber, IdUsed, NoContentType, Profile, NotUtf8, BareId, NoOrigin, Empty, finding_field, finding_number, once}
+use Rattle.warc_record.specs.Findings.{SeenFinding, Absent, Forbidden, Repeated, Digest, SegmentNumber, IdUsed, NoContentType, Profile, NotUtf8, BareId, NoOrigin, Empty, finding_field, finding_number, findings_of, once}
+use Rattle.warc_field.specs.Area.{Pair}
+use Rattle.warc_value.specs.Digests.{is_bad}
+use Rattle.warc_value.specs.declared.hash.Verdict.{Verdict}
+use Rattle.warc_value.specs.declared.hash.Wanted.{Wanted}
+use Rattle.warc_frame.specs.Record.{Record}
+use Rattle.warc_quick.specs.Faultless.{IsFaultlessHead}
+use Rattle.warc_record.specs.Blocks.{has_bad_digest}
+use Rattle.warc_record.specs.Kinds.{is_known}
+use Rattle.warc_record.specs.Readings.{kind_of}
+use Rattle.warc_reading.specs.Judging.{IsNextOf}
 use Rattle.warc_checking.specs.Checking.{about_record, line_text}
 use Rattle.warc_checking.specs.Lines.{record_lines}
 use Rattle.warc_checking.specs.Judged.{own_findings}
-use Rattle.warc_checking.specs.OwnFindings.{AreEnds, AreEndsFrom, AreNamed, IsNamed, IsPart, all_found, found_at, found_by_part, found_from, finding_in, findings_of_part, finding_by_number, last_end}
+use Rattle.warc_checking.specs.OwnFindings.{AreEnds, AreEndsFrom, AreNamed, Found, IsNamed, IsPart, IsWithoutDigest, all_found, all_of, bad_at, each_with, found_at, found_by_part, found_from, found_with, finding_in, findings_of_part, finding_by_number, is_between, is_higher, is_lower, last_end, mark_at, marked, shown_by, shown_faultless, shown_of, state_by, with_bad, with_both, with_digest}
+use Rattle.warc_checking.specs.declared.own_findings.DigestState.{DigestState}
+use Rattle.warc_checking.specs.declared.own_findings.DigestState.TheVariants.{Outside, Unmarked, Marked}
 use Rattle.warc_checking.specs.declared.own_findings.PackedFinding.{PackedFinding}
 use Rattle.warc_checking.specs.declared.own_findings.Part.{Part}
+use Rattle.warc_checking.proofs.AmongLemmas.{all_shown}
 use Rattle.warc_checking.proofs.CheckLemmas.{text_append}
 
 -- a part of a list stays when more follow
@@ -307,11 +321,210 @@ part_found names findings p =
 pub part_len : (findings : List SeenFinding) (p : Part) → IsPart (length findings) p → p.end - p.start ≡ length (findings_of_part findings p)
 part_len findings p is = sym (length-take-le (p.end - p.start) (drop p.start findings) (omega (arith, length-drop p.start findings, is.order, is.end)))
 
--- the line of N6, if it holds
-pub used_line : (position : ℕ) (used : Bool) → used ≡ true → line_text (about_record position IdUsed) ≡ record_lines position (once IdUsed used)
-used_line position true is = sym (append-nil (line_text (about_record position IdUsed)))
-used_line position false is = absurd (cc is)
+-- the line of a finding, if it holds
+pub once_line : (position : ℕ) (f : SeenFinding) (holds : Bool) → holds ≡ true → line_text (about_record position f) ≡ record_lines position (once f holds)
+once_line position f true is = sym (append-nil (line_text (about_record position f)))
+once_line position f false is = absurd (cc is)
 
 -- a part that lies within, whatever the ends are called
 pub part_is : (count : ℕ) (ends slice : List ℕ) (p : Part) → slice ≡ ends → ((n : ℕ) → AreEnds n slice → IsPart n p) → AreEnds count ends → IsPart count p
 part_is count ends slice p same within all = let P : List ℕ → Type 0 = λ l. AreEnds count l in within count (subst P (sym same) all)
+
+-- N4 and N6 are put among the others by three ranges of numbers
+twice : {X : Type 0} (p q r : X → Bool) (xs : List X) → ((x : X) → r x ≡ (q x && p x)) → filter p (filter q xs) ≡ filter r xs
+twice p q r [] same = refl
+twice p q r (x ∷ xs) same = grind (arith, same x, twice p q r xs same)
+
+none_twice : {X : Type 0} (p q : X → Bool) (xs : List X) → ((x : X) → (q x && p x) ≡ false) → filter p (filter q xs) ≡ []
+none_twice p q [] none = refl
+none_twice p q (x ∷ xs) none = grind (arith, none x, none_twice p q xs none)
+
+abbrev AreRanges : SeenFinding → Type 0
+AreRanges f =
+    (is_between 0 4 f ≡ (is_lower Digest f && is_lower IdUsed f)) × (is_between 4 6 f ≡ (is_higher Digest f && is_lower IdUsed f))
+    × ((is_lower Digest f && is_higher IdUsed f) ≡ false) × (is_between 6 255 f ≡ (is_higher Digest f && is_higher IdUsed f))
+
+ranges : (f : SeenFinding) → AreRanges f
+ranges (Absent name) = (refl, refl, refl, refl)
+ranges (Forbidden name) = (refl, refl, refl, refl)
+ranges (Repeated name) = (refl, refl, refl, refl)
+ranges Digest = (refl, refl, refl, refl)
+ranges SegmentNumber = (refl, refl, refl, refl)
+ranges IdUsed = (refl, refl, refl, refl)
+ranges NoContentType = (refl, refl, refl, refl)
+ranges Profile = (refl, refl, refl, refl)
+ranges (NotUtf8 name) = (refl, refl, refl, refl)
+ranges BareId = (refl, refl, refl, refl)
+ranges NoOrigin = (refl, refl, refl, refl)
+ranges Empty = (refl, refl, refl, refl)
+
+three_filtered : (test : SeenFinding → Bool) (a b c x y z : List SeenFinding) → filter test a ≡ x → filter test b ≡ y → filter test c ≡ z → filter test (a ++ b ++ c) ≡ x ++ y ++ z
+three_filtered test a b c x y z ia ib ic =
+    filter-append test (a ++ b) c ∙ ap (λ l. l ++ filter test c) (filter-append test a b)
+    ∙ ap (λ l. l ++ filter test b ++ filter test c) ia ∙ ap (λ l. x ++ l ++ filter test c) ib ∙ ap (λ l. x ++ y ++ l) ic
+
+digest_stays : (bad : Bool) → filter (is_lower IdUsed) (once Digest bad) ≡ once Digest bad
+digest_stays true = refl
+digest_stays false = refl
+
+digest_goes : (bad : Bool) → filter (is_higher IdUsed) (once Digest bad) ≡ []
+digest_goes true = refl
+digest_goes false = refl
+
+parts_of_five : (a b c d e : List SeenFinding) → (a ++ b) ++ (c ++ d) ++ e ≡ (a ++ b ++ c) ++ d ++ e
+parts_of_five a b c d e = simp append_assoc
+
+pub both_parts : (o : List SeenFinding) (bad used : Bool)
+    → (filter (is_between 0 4) o ++ once Digest bad) ++ (filter (is_between 4 6) o ++ once IdUsed used) ++ filter (is_between 6 255) o ≡ with_both o bad used
+both_parts o bad used =
+    let first = filter (is_between 0 4) o in
+    let second = filter (is_between 4 6) o in
+    let last = filter (is_between 6 255) o in
+    let below = filter (is_lower Digest) o in
+    let above = filter (is_higher Digest) o in
+    let front : filter (is_lower IdUsed) (with_digest o bad) ≡ first ++ once Digest bad ++ second =
+    three_filtered (is_lower IdUsed) below (once Digest bad) above first (once Digest bad) second
+    (twice (is_lower IdUsed) (is_lower Digest) (is_between 0 4) o (λ f. (ranges f).0)) (digest_stays bad)
+    (twice (is_lower IdUsed) (is_higher Digest) (is_between 4 6) o (λ f. (ranges f).1)) in
+    let back : filter (is_higher IdUsed) (with_digest o bad) ≡ last =
+    three_filtered (is_higher IdUsed) below (once Digest bad) above [] [] last
+    (none_twice (is_higher IdUsed) (is_lower Digest) o (λ f. (ranges f).2)) (digest_goes bad)
+    (twice (is_higher IdUsed) (is_higher Digest) (is_between 6 255) o (λ f. (ranges f).3)) in
+    parts_of_five first (once Digest bad) second (once IdUsed used) last ∙ ap (λ l. l ++ once IdUsed used ++ last) (sym front)
+    ∙ ap (λ l. filter (is_lower IdUsed) (with_digest o bad) ++ once IdUsed used ++ l) (sym back)
+
+pub both_lines : (position : ℕ) (o : List SeenFinding) (bad used : Bool) (output : List ℕ)
+    → ((output ++ record_lines position (filter (is_between 0 4) o ++ once Digest bad)) ++ record_lines position (filter (is_between 4 6) o ++ once IdUsed used)) ++ record_lines position (filter (is_between 6 255) o)
+    ≡ output ++ record_lines position (with_both o bad used)
+both_lines position o bad used output =
+    three_texts position (filter (is_between 0 4) o ++ once Digest bad) (filter (is_between 4 6) o ++ once IdUsed used) (filter (is_between 6 255) o) output
+    ∙ ap (λ l. output ++ record_lines position l) (both_parts o bad used)
+
+-- how many they are with N4
+pub digest_len : (found : List SeenFinding) (bad : Bool) → IsWithoutDigest found → length (with_digest found bad) ≡ length found + (if bad then 1 else 0)
+digest_len found true is =
+    let a = filter (is_lower Digest) found in
+    let b = filter (is_higher Digest) found in
+    let whole : length (with_digest found true) ≡ length (a ++ Digest ∷ []) + length b = length-append (a ++ Digest ∷ []) b in
+    let rest : length (with_digest found false) ≡ length (a ++ []) + length b = length-append (a ++ []) b in
+    let one : length (a ++ Digest ∷ []) ≡ length a + 1 = length-append a (Digest ∷ []) in
+    let none : length (a ++ []) ≡ length a + 0 = length-append a [] in
+    omega (arith, whole, rest, one, none, ap length is)
+digest_len found false is = ap length is ∙ omega arith
+
+-- the other findings of records, and what is kept of N4
+pub each_more : (others : List (List SeenFinding)) (states : List DigestState) (o : List SeenFinding) (s : DigestState) → length others ≡ length states
+    → each_with (others ++ o ∷ []) (states ++ s ∷ []) ≡ each_with others states ++ found_with o s ∷ []
+each_more [] [] o s same = refl
+each_more [] (x ∷ xs) o s same = absurd (omega (arith, same))
+each_more (x ∷ xs) [] o s same = absurd (omega (arith, same))
+each_more (x ∷ xs) (y ∷ ys) o s same = ap (λ l. found_with x y ∷ l) (each_more xs ys o s (omega (arith, same)))
+
+pub each_len : (others : List (List SeenFinding)) (states : List DigestState) → length others ≡ length states → length (each_with others states) ≡ length states
+each_len [] [] same = refl
+each_len [] (x ∷ xs) same = absurd (omega (arith, same))
+each_len (x ∷ xs) [] same = absurd (omega (arith, same))
+each_len (x ∷ xs) (y ∷ ys) same = ap (λ n. suc n) (each_len xs ys (omega (arith, same)))
+
+pub each_first : (n : ℕ) (others : List (List SeenFinding)) (states : List DigestState) → each_with (take n others) (take n states) ≡ take n (each_with others states)
+each_first zero [] states = refl
+each_first zero (x ∷ xs) [] = refl
+each_first zero (x ∷ xs) (y ∷ ys) = refl
+each_first (suc n) [] states = refl
+each_first (suc n) (x ∷ xs) [] = refl
+each_first (suc n) (x ∷ xs) (y ∷ ys) = ap (λ l. found_with x y ∷ l) (each_first n xs ys)
+
+one_marked : (o : List SeenFinding) (s : DigestState) → found_with o (marked s) ≡ with_bad (found_with o s)
+one_marked o Outside = refl
+one_marked o Unmarked = refl
+one_marked o Marked = refl
+
+pub each_marked : (others : List (List SeenFinding)) (states : List DigestState) (i : ℕ) (d : DigestState) → length others ≡ length states
+    → each_with others (set states i (marked (get_or states i d))) ≡ mark_at (each_with others states) i
+each_marked [] [] i d same = refl
+each_marked [] (y ∷ ys) i d same = absurd (omega (arith, same))
+each_marked (x ∷ xs) [] i d same = absurd (omega (arith, same))
+each_marked (x ∷ xs) (y ∷ ys) zero d same = ap (λ f. f ∷ each_with xs ys) (one_marked x y)
+each_marked (x ∷ xs) (y ∷ ys) (suc i) d same = ap (λ l. found_with x y ∷ l) (each_marked xs ys i d (omega (arith, same)))
+
+pub each_at : (others : List (List SeenFinding)) (states : List DigestState) (i : ℕ) → length others ≡ length states
+    → found_at (map all_of (each_with others states)) i ≡ with_digest (found_at others i) (bad_at states i)
+each_at [] [] i same = refl
+each_at [] (y ∷ ys) i same = absurd (omega (arith, same))
+each_at (x ∷ xs) [] i same = absurd (omega (arith, same))
+each_at (x ∷ xs) (y ∷ ys) zero same = refl
+each_at (x ∷ xs) (y ∷ ys) (suc i) same = each_at xs ys i (omega (arith, same))
+
+-- none of them has N4
+pub without_at : (others : List (List SeenFinding)) (i : ℕ) → AllByRecursion IsWithoutDigest others → IsWithoutDigest (found_at others i)
+without_at [] i all = refl
+without_at (x ∷ xs) zero (here, all) = here
+without_at (x ∷ xs) (suc i) (here, all) = without_at xs i all
+
+-- a mark changes the record at its position, and no other
+pub mark_there : (before : List Found) (f : Found) (after : List Found) → mark_at (before ++ f ∷ after) (length before) ≡ before ++ with_bad f ∷ after
+mark_there [] f after = refl
+mark_there (x ∷ xs) f after = ap (λ l. x ∷ l) (mark_there xs f after)
+
+pub mark_len : (fs : List Found) (i : ℕ) → length (mark_at fs i) ≡ length fs
+mark_len [] i = refl
+mark_len (x ∷ xs) zero = refl
+mark_len (x ∷ xs) (suc i) = ap (λ n. suc n) (mark_len xs i)
+
+pub mark_here : (fs : List Found) (i : ℕ) → slice_get (mark_at fs i) i ≡ option_map with_bad (slice_get fs i)
+mark_here [] i = refl
+mark_here (x ∷ xs) zero = refl
+mark_here (x ∷ xs) (suc i) = mark_here xs i
+
+pub mark_elsewhere : (fs : List Found) (i j : ℕ) → i ≢ j → slice_get (mark_at fs i) j ≡ slice_get fs j
+mark_elsewhere [] i j other = refl
+mark_elsewhere (x ∷ xs) zero zero other = absurd (other refl)
+mark_elsewhere (x ∷ xs) zero (suc j) other = refl
+mark_elsewhere (x ∷ xs) (suc i) zero other = refl
+mark_elsewhere (x ∷ xs) (suc i) (suc j) other = mark_elsewhere xs i j (λ same. other (ap (λ n. suc n) same))
+
+-- what a record shows with which nothing is wrong but its digest
+pub all_faultless : (bad : Bool) → all_of (shown_faultless bad) ≡ once Digest bad
+all_faultless true = refl
+all_faultless false = refl
+
+-- what is kept of a record of which nothing is known but its fields
+pub state_shown : (o : List SeenFinding) (known : Bool) → found_with o (state_by known) ≡ record { others = o; known = known; bad = false }
+state_shown o true = refl
+state_shown o false = refl
+
+-- the findings of one more record are kept
+pub shown_more : (records : List Placed) (p : Placed) (old new : List Found) (fields : List Pair) (start len : ℕ) (verdict : Verdict) → map all_of old ≡ map own_findings (contents records)
+    → IsNextOf true p fields start len verdict → new ≡ old ++ shown_by fields len (is_bad verdict) ∷ [] → map all_of new ≡ map own_findings (contents (records ++ p ∷ []))
+shown_more records p old new fields start len verdict kept next more =
+    let one : all_of (shown_by fields len (is_bad verdict)) ≡ own_findings p.content =
+    all_shown fields len (is_bad verdict) ∙ ap (λ l. findings_of l len (is_bad verdict) false) next.fields_are
+    ∙ ap (λ n. findings_of p.content.fields n (is_bad verdict) false) next.len_is
+    ∙ ap (λ v. findings_of p.content.fields (length p.content.block) (is_bad v) false) next.verdict_is in
+    ap (map all_of) more ∙ map-append all_of old (shown_by fields len (is_bad verdict) ∷ [])
+    ∙ ap (λ f. map all_of old ++ f ∷ []) one ∙ ap (λ l. l ++ own_findings p.content ∷ []) kept ∙ own_more records p
+
+and_true : (b : Bool) → (b && true) ≡ b
+and_true true = refl
+and_true false = refl
+
+abbrev shown_with : List SeenFinding → Bool → Bool → Found
+shown_with others known bad = record { others = others; known = known; bad = bad && known }
+
+-- a faultless head shows nothing else, and its kind is one of the eight
+known_faultless : (known : Bool) → with_digest [] known ≡ Digest ∷ [] → known ≡ true
+known_faultless true is = refl
+known_faultless false is = absurd (cc is)
+
+pub shown_of_faultless : (text : List ℕ) (block_len : ℕ) (wanted : Wanted) (is : IsFaultlessHead text block_len wanted) (bad : Bool)
+    → shown_by is.fields block_len bad ≡ shown_faultless bad
+shown_of_faultless text block_len wanted is bad =
+    let known = is_known (kind_of is.fields) in
+    let none : findings_of is.fields block_len false false ≡ [] = is.found false false in
+    let one = ap (λ l. with_digest l known) (sym none) ∙ all_shown is.fields block_len true ∙ is.found true false in
+    let all : known ≡ true = known_faultless known one in
+    ap (λ l. shown_with l known bad) none ∙ ap (λ k. shown_with [] k bad) all ∙ ap (λ b. record { others = []; known = true; bad = b }) (and_true bad)
+
+-- what a record shows is what is found of it alone
+pub all_shown_of : (r : Record) → all_of (shown_of r) ≡ own_findings r
+all_shown_of r = all_shown r.fields (length r.block) (has_bad_digest r)

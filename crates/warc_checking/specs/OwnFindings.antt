@@ -1,8 +1,13 @@
--- How findings are kept in flat lists, and how a record's are reported with N6 among them. States of the code: no
--- public clause cites them.
-use Rattle.std.specs.Prelude.{◌≡◌, ℕ, ◌≤◌, Bool, true, false, nat_lt, List, [], ◌∷◌, ◌++◌, map, ◌==◌, slice_range, unwrap_or, None, if◌then◌else◌}
+-- How findings are kept in flat lists, and how a record's are reported with N4 and N6 among them. States of the code:
+-- no public clause cites them.
+use Rattle.std.specs.Prelude.{◌≡◌, ℕ, ◌≤◌, zero, suc, Bool, true, false, nat_lt, ◌&&◌, List, [], ◌∷◌, ◌++◌, map, length, ◌==◌, slice_range, unwrap_or, None, if◌then◌else◌}
 use Rattle.std.specs.List.{AllByRecursion, filter, slice_get}
-use Rattle.warc_record.specs.Findings.{SeenFinding, Absent, Forbidden, Repeated, Digest, SegmentNumber, IdUsed, NoContentType, Profile, NotUtf8, BareId, NoOrigin, Empty, finding_number, once}
+use Rattle.std.specs.Option.{option_map_or}
+use Rattle.warc_field.specs.Area.{Pair}
+use Rattle.warc_record.specs.Blocks.{has_bad_digest}
+use Rattle.warc_record.specs.Findings.{SeenFinding, Absent, Forbidden, Repeated, Digest, SegmentNumber, IdUsed, NoContentType, Profile, NotUtf8, BareId, NoOrigin, Empty, finding_number, findings_of, once}
+use Rattle.warc_record.specs.Kinds.{is_known}
+use Rattle.warc_record.specs.Readings.{kind_of}
 use Rattle.warc_frame.specs.Record.{Record}
 use Rattle.warc_reading.specs.Archive.{contents}
 use Rattle.warc_reading.specs.Row.{Placed, Row, row_of}
@@ -11,6 +16,8 @@ use Rattle.warc_record.specs.Ids.{id_key}
 use Rattle.warc_reading.specs.Rereading.{AreCheckable}
 use Rattle.warc_checking.specs.Judged.{own_findings}
 use Rattle.warc_checking.specs.UsedIds.{HoldsIdsOf, Ids, IsAlone}
+use Rattle.warc_checking.specs.declared.own_findings.DigestState.{DigestState}
+use Rattle.warc_checking.specs.declared.own_findings.DigestState.TheVariants.{Outside, Unmarked, Marked}
 use Rattle.warc_checking.specs.declared.own_findings.PackedFinding.{PackedFinding}
 use Rattle.warc_checking.specs.declared.own_findings.Part.{Part}
 
@@ -80,14 +87,109 @@ last_end start (end ∷ ends) = last_end end ends
 abbrev pub found_at : List (List SeenFinding) → ℕ → List SeenFinding
 found_at found position = unwrap_or (slice_get found position) []
 
--- whether a finding comes after N6, or else before it
-abbrev pub is_late : Bool → SeenFinding → Bool
-is_late true f = nat_lt (finding_number IdUsed) (finding_number f)
-is_late false f = nat_lt (finding_number f) (finding_number IdUsed)
+-- the number of a finding is between two others
+abbrev pub is_between : ℕ → ℕ → SeenFinding → Bool
+is_between above below f = nat_lt above (finding_number f) && nat_lt (finding_number f) below
+
+-- the number of a finding is lower, or higher, than that of another one
+abbrev pub is_lower : SeenFinding → SeenFinding → Bool
+is_lower one f = nat_lt (finding_number f) (finding_number one)
+
+abbrev pub is_higher : SeenFinding → SeenFinding → Bool
+is_higher one f = nat_lt (finding_number one) (finding_number f)
+
+-- findings with another one among them, if it holds: those of lower numbers, that one, those of higher numbers
+abbrev pub with_among : SeenFinding → List SeenFinding → Bool → List SeenFinding
+with_among one found holds = filter (is_lower one) found ++ once one holds ++ filter (is_higher one) found
+
+-- findings with N4 among them, if it holds
+abbrev pub with_digest : List SeenFinding → Bool → List SeenFinding
+with_digest found bad = with_among Digest found bad
 
 -- findings with N6 among them, if it holds
 abbrev pub with_used : List SeenFinding → Bool → List SeenFinding
-with_used found used = filter (is_late false) found ++ once IdUsed used ++ filter (is_late true) found
+with_used found used = with_among IdUsed found used
+
+-- findings with N4 and N6 among them, if they hold
+abbrev pub with_both : List SeenFinding → Bool → Bool → List SeenFinding
+with_both found bad used = with_used (with_digest found bad) used
+
+-- N4 isn't among them
+abbrev pub IsWithoutDigest : List SeenFinding → Type 0
+IsWithoutDigest found = with_digest found false ≡ found
+
+-- what a record alone shows: the findings but for N4; whether its kind is one of the eight, since N4 holds of no other;
+-- and whether N4 holds
+pub record Found : Type 0 where
+  pub others : List SeenFinding
+  pub known : Bool
+  pub bad : Bool
+
+-- all findings that a record alone shows
+abbrev pub all_of : Found → List SeenFinding
+all_of f = with_digest f.others f.bad
+
+-- what a record with these fields and a block of this length shows, by whether its digest differs
+abbrev pub shown_by : List Pair → ℕ → Bool → Found
+shown_by fields block_len bad = record {
+  others = findings_of fields block_len false false;
+  known = is_known (kind_of fields);
+  bad = bad && is_known (kind_of fields);
+}
+
+-- what a record shows with which nothing is wrong but its digest, if that differs
+abbrev pub shown_faultless : Bool → Found
+shown_faultless bad = record { others = []; known = true; bad = bad }
+
+-- what a record shows
+abbrev pub shown_of : Record → Found
+shown_of r = shown_by r.fields (length r.block) (has_bad_digest r)
+
+-- the same, once its digest is known to differ
+abbrev pub with_bad : Found → Found
+with_bad f = record { others = f.others; known = f.known; bad = f.known }
+
+-- the same of the record at a position
+abbrev pub mark_at : List Found → ℕ → List Found
+mark_at [] position = []
+mark_at (f ∷ fs) zero = with_bad f ∷ fs
+mark_at (f ∷ fs) (suc position) = f ∷ mark_at fs position
+
+-- what is kept of N4, by whether the kind is one of the eight
+abbrev pub state_by : Bool → DigestState
+state_by true = Unmarked
+state_by false = Outside
+
+-- what is kept once the digest is known to differ
+abbrev pub marked : DigestState → DigestState
+marked Outside = Outside
+marked Unmarked = Marked
+marked Marked = Marked
+
+-- N4 holds
+abbrev pub is_marked : DigestState → Bool
+is_marked Outside = false
+is_marked Unmarked = false
+is_marked Marked = true
+
+-- the same of the record at a position, false past the end
+abbrev pub bad_at : List DigestState → ℕ → Bool
+bad_at states position = option_map_or is_marked (slice_get states position) false
+
+-- the kind is one of the eight
+abbrev pub is_inside : DigestState → Bool
+is_inside Outside = false
+is_inside Unmarked = true
+is_inside Marked = true
+
+-- the other findings of records, and what is kept of N4
+abbrev pub found_with : List SeenFinding → DigestState → Found
+found_with others state = record { others = others; known = is_inside state; bad = is_marked state }
+
+abbrev pub each_with : List (List SeenFinding) → List DigestState → List Found
+each_with [] states = []
+each_with (others ∷ rest) [] = []
+each_with (others ∷ rest) (state ∷ states) = found_with others state ∷ each_with rest states
 
 -- what is known of the record whose findings are written next: its row, its findings, and the ids used before it
 pub record IsDue (before : List Record) (p : Placed) (row : Row) (found : List SeenFinding) (ids : Ids) : Type 0 where

@@ -13,6 +13,7 @@ ghost use Rattle.warc_reading.specs.Placing.{IsInRow};
 ghost use Rattle.warc_reading.specs.Rereading.{HasHeadOf, HasRoomFor, HasTextOf, ReadsHeads, reread_result, row_len};
 ghost use Rattle.warc_checking.specs.Batch.{AreKeptIn, IsHeadReread, all_findings_in, digest_in, findings_with, verdict_with};
 ghost use Rattle.warc_checking.specs.Judged.{own_findings};
+ghost use Rattle.warc_checking.specs.OwnFindings.{all_of};
 
 use crate::own_findings::OwnFindings;
 use std::alloc::{AllocError, Allocator};
@@ -358,12 +359,13 @@ fn add_one<A: Allocator + Copy>(
     digest: &[u8; DIGEST_LEN],
     findings: &mut OwnFindings<A>,
 ) -> Result<(), AllocError>
-    ensures { OnOk result (findings.new ≡ findings.old ++ findings_with waiting.now digest.now ∷ []) }
+    ensures { OnOk result (map all_of findings.new ≡ map all_of findings.old
+        ++ findings_with waiting.now digest.now ∷ []) }
 {
     let verdict = waiting.check.verdict(digest);
     match &waiting.head {
-        HeadCheck::Faultless => findings.add_faultless(verdict),
-        HeadCheck::Fields(fields) => findings.add(alloc, fields, waiting.block_len, verdict),
+        HeadCheck::Faultless => findings.add_faultless_judged(verdict),
+        HeadCheck::Fields(fields) => findings.add_judged(alloc, fields, waiting.block_len, verdict),
     }
 }
 
@@ -376,7 +378,7 @@ fn add_each<A: Allocator + Copy>(
 ) -> Result<(), AllocError>
     requires { length digests.now ≡ length waiting.now }
     ensures { (blocks : List ℕ) → digests.now ≡ map (digest_in blocks) waiting.now →
-        OnOk result (findings.new ≡ findings.old ++ all_findings_in blocks waiting.now) }
+        OnOk result (map all_of findings.new ≡ map all_of findings.old ++ all_findings_in blocks waiting.now) }
 {
     'adding: for i in 0..waiting.len() {
         add_one(alloc, &waiting[i], &digests[i], findings)?;
@@ -392,7 +394,8 @@ fn judge_waiting<A: Allocator + Copy>(
     findings: &mut OwnFindings<A>,
 ) -> Result<(), AllocError>
     requires { AreKeptIn (length blocks.now) waiting.now }
-    ensures { OnOk result (findings.new ≡ findings.old ++ all_findings_in blocks.now waiting.now) }
+    ensures { OnOk result (map all_of findings.new ≡ map all_of findings.old
+        ++ all_findings_in blocks.now waiting.now) }
 {
     let messages = messages(alloc, waiting, blocks)?;
     let mut digests = vec![in alloc; [0u8; DIGEST_LEN]; messages.len()]?;
@@ -444,7 +447,7 @@ impl<A: Allocator + Copy> Batch<A> {
         alloc: A,
         findings: &mut OwnFindings<A>,
     ) -> Result<(), AllocError>
-        ensures { OnOk result ((findings.new ≡ findings.old ++ self.old) × (self.new ≡ [])) }
+        ensures { OnOk result ((map all_of findings.new ≡ map all_of findings.old ++ self.old) × (self.new ≡ [])) }
     {
         judge_waiting(
             alloc,
@@ -469,7 +472,8 @@ impl<A: Allocator + Copy> Batch<A> {
     ) -> Result<(), RereadFault>
         requires { max_head ≤ length buf.old }
         ensures added { IfHeld (S.seen source.old).holds (λ bytes. (is : HasTextOf row.now bytes) → OnOk result
-            (findings.new ++ self.new ≡ (findings.old ++ self.old) ++ own_findings is.placed.content ∷ [])) }
+            (map all_of findings.new ++ self.new ≡ (map all_of findings.old ++ self.old)
+            ++ own_findings is.placed.content ∷ [])) }
         ensures reads { ReadsOnly (IsInRow row.now) (row_len row.now) (S.seen source.old) (S.seen source.new) }
         ensures fails { FailsBy (HasTextOf row.now) (reread_result result) (S.seen source.old) (S.seen source.new) }
     {

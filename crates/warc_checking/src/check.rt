@@ -11,6 +11,7 @@ ghost use Rattle.warc_reading.specs.Rereading.{AreCheckable, HasRecordsOf, HasTe
 ghost use Rattle.warc_reading.specs.Row.{Placed};
 ghost use Rattle.warc_checking.specs.Checks.{Checks};
 ghost use Rattle.warc_checking.specs.Judged.{own_findings};
+ghost use Rattle.warc_checking.specs.OwnFindings.{all_of};
 
 use crate::batch::Batch;
 use crate::own_findings::OwnFindings;
@@ -70,10 +71,10 @@ fn judge_each<S: Source, A: Allocator + Copy>(
     head: &mut [u8],
 ) -> Result<(), RereadFault>
     requires head { max_head ≤ length head.old }
-    requires none { findings.old ++ batch.old ≡ [] }
+    requires none { map all_of findings.old ++ batch.old ≡ [] }
     ensures judged { IfHeld (S.seen source.old).holds (λ bytes. (records : List Placed)
         → AreCheckable bytes records rows.now
-        → OnOk result (findings.new ≡ map own_findings (contents records))) }
+        → OnOk result (map all_of findings.new ≡ map own_findings (contents records))) }
     ensures reads { ReadsRows rows.now (S.seen source.old) (S.seen source.new) }
     ensures fails { FailsBy (HasRecordsOf rows.now) (reread_result result) (S.seen source.old) (S.seen source.new) }
 {
@@ -100,7 +101,7 @@ fn judge_rows<S: Source, A: Allocator + Copy>(
 ) -> Result<OwnFindings<A>, RereadFault>
     ensures judged { IfHeld (S.seen source.old).holds (λ bytes. (records : List Placed)
         → AreCheckable bytes records rows.now
-        → IfOk result (λ found. found ≡ map own_findings (contents records))) }
+        → IfOk result (λ found. map all_of found ≡ map own_findings (contents records))) }
     ensures reads { ReadsRows rows.now (S.seen source.old) (S.seen source.new) }
     ensures fails { FailsBy (HasRecordsOf rows.now) (reread_result result) (S.seen source.old) (S.seen source.new) }
 {

@@ -25,11 +25,16 @@ pub struct Checked<S: Source, A: Allocator = Global> {
 }
 
 impl<S: Source, A: Allocator> Model for Checked<S, A> {
+    ghost use Rattle.std.specs.Prelude.{map};
     ghost use Rattle.warc_checking.specs.Judged.{Judged};
+    ghost use Rattle.warc_checking.specs.OwnFindings.{all_of};
 
     ghost Value = { Judged S };
 
-    ghost view = { λ a. record { listing = record { source = a.source; rows = a.rows }; findings = a.findings } };
+    ghost view = { λ a. record {
+      listing = record { source = a.source; rows = a.rows };
+      findings = map all_of a.findings;
+    } };
 }
 
 impl<S: Source, A: Allocator> Checked<S, A> {
@@ -49,8 +54,8 @@ impl<S: Source, A: Allocator> Checked<S, A> {
 }
 
 impl<S: Source, A: Allocator + Copy> Checked<S, A> {
-    /// Reads the source as a listing is read, and keeps with each row what its record has wrong: 16 bytes for each
-    /// record, and for each finding 24 bytes and its field's name.
+    /// Reads the source as a listing is read, and keeps with each row what its record has wrong: 9 bytes for each
+    /// record, and for each finding but a wrong digest 24 bytes and its field's name.
     pub fn open(alloc: A, source: S) -> Result<Checked<S, A>, (Fault, S)>
         ensures { Opens IsJudgedOf (S.seen source) (S.seen (source_judged result)) (judged_of result) }
     {

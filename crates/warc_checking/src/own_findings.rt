@@ -1,13 +1,15 @@
 //! The findings that records alone show, kept in flat lists as the records are read.
-ghost use Rattle.std.specs.Prelude.{◌≡◌, ℕ, ◌+◌, ◌≤◌, false, true, List, [], ◌∷◌, ◌++◌, length, map, take, OnErr, OnOk, IfOk, if◌then◌else◌};
+ghost use Rattle.std.specs.Prelude.{◌≡◌, ℕ, ◌+◌, ◌≤◌, ◌<◌, false, true, List, [], ◌∷◌, ◌++◌, length, map, take, OnErr, OnOk, IfOk, if◌then◌else◌};
 ghost use Rattle.std.specs.List.{filter};
 ghost use Rattle.warc_frame.specs.Count.{capped};
 ghost use Rattle.warc_frame.specs.Effects.{Puts};
 ghost use Rattle.warc_reading.specs.Archive.{contents};
-ghost use Rattle.warc_record.specs.Findings.{SeenFinding, Digest, IdUsed, finding_seen, findings_of, once};
+ghost use Rattle.warc_record.specs.Findings.{SeenFinding, finding_seen, findings_of, once};
+ghost use Rattle.warc_record.specs.Kinds.{is_known};
+ghost use Rattle.warc_record.specs.Readings.{kind_of};
 ghost use Rattle.warc_checking.specs.Lines.{record_lines};
 ghost use Rattle.warc_checking.specs.Judged.{own_findings};
-ghost use Rattle.warc_checking.specs.OwnFindings.{AreEnds, AreNamed, IsNamed, IsPart, all_found, found_at, found_by_part, finding_in, is_late, findings_of_part, last_end, finding_by_number, with_used};
+ghost use Rattle.warc_checking.specs.OwnFindings.{AreEnds, AreNamed, Found, IsNamed, IsPart, all_found, all_of, bad_at, each_with, found_at, found_by_part, finding_in, is_between, is_marked, findings_of_part, last_end, finding_by_number, mark_at, marked, shown_by, shown_faultless, state_by, with_both, with_used};
 ghost use Rattle.warc_value.specs.Digests.{is_bad};
 
 use crate::lines::put_finding;
@@ -15,14 +17,21 @@ use std::alloc::{AllocError, Allocator};
 use std::marker::Model;
 use warc_field::Fields;
 use warc_frame::laws::went_out_of_longer;
+use warc_frame::names::WARC_TYPE;
 use warc_frame::{OutBuffer, SendFault, Sink};
 use warc_quick::{QuickHead, QuickRecord};
 use warc_reading::Keep;
-use warc_record::{ArchiveFacts, Finding, all_findings};
+use warc_record::{ArchiveFacts, Finding, Kind};
 use warc_value::Verdict;
 
+/// The number of the finding that a digest differs: N4.
+const DIGEST_NUMBER: u8 = 4;
+
+/// The number of the finding that an id is used: N6.
+const USED_NUMBER: u8 = 6;
+
 /// A finding in 24 bytes: its number, and where the name of its field is in a list of bytes, an empty part if it is
-/// about none.
+/// about none. N4 is never packed.
 #[derive(Clone, Copy)]
 struct PackedFinding {
     number: u8,
@@ -58,98 +67,159 @@ fn finding_in<'a>(names: &'a [u8], packed: &PackedFinding) -> Finding<'a>
     finding_by_number(packed.number, &names[packed.start..packed.end])
 }
 
-/// Whether a finding comes after N6, or else before it.
-fn is_late(finding: Finding<'_>, late: bool) -> bool
-    ensures { result ≡ is_late late (finding_seen finding.entry) }
-{
-    let used = Finding::IdUsed.number();
-    if late {
-        finding.number() > used
-    } else {
-        finding.number() < used
-    }
+/// The numbers between two others.
+#[derive(Clone, Copy)]
+struct Between {
+    above: u8,
+    below: u8,
 }
 
-/// Adds the line of a finding to the output, by the position of its record, if it comes after N6, or else before it.
+/// The numbers before N4.
+const BEFORE_DIGEST: Between = Between {
+    above: 0,
+    below: DIGEST_NUMBER,
+};
+
+/// The numbers after N4 and before N6.
+const DIGEST_TO_USED: Between = Between {
+    above: DIGEST_NUMBER,
+    below: USED_NUMBER,
+};
+
+/// The numbers after N6.
+const AFTER_USED: Between = Between {
+    above: USED_NUMBER,
+    below: u8::MAX,
+};
+
+/// Whether the number of a finding is among these.
+fn is_between(finding: Finding<'_>, numbers: Between) -> bool
+    ensures { result ≡ is_between numbers.above numbers.below (finding_seen finding.entry) }
+{
+    let number = finding.number();
+    numbers.above < number && number < numbers.below
+}
+
+/// Adds the line of a finding to the output, by the position of its record, if its number is among these.
 fn put_packed<W: Sink>(
     position: u64,
     names: &[u8],
     packed: &PackedFinding,
-    late: bool,
+    numbers: Between,
     buffer: &mut OutBuffer,
     out: &mut W,
 ) -> Result<(), SendFault>
     requires { IsNamed (length names.now) packed.now }
     ensures { Puts (W.seen out.old) (W.seen out.new) buffer.old buffer.new result (record_lines position
-        (filter (is_late late) (finding_in names.now packed.now ∷ []))) }
+        (filter (is_between numbers.above numbers.below) (finding_in names.now packed.now ∷ []))) }
 {
     let finding = finding_in(names, packed);
-    if !is_late(finding, late) {
+    if !is_between(finding, numbers) {
         return Ok(());
     }
     put_finding(position, &finding, buffer, out)
 }
 
-/// Adds the lines of the findings that come after N6, or else of those before it.
-fn put_half<W: Sink>(
+/// Adds the lines of the findings whose numbers are among these.
+fn put_range<W: Sink>(
     position: u64,
     names: &[u8],
     findings: &[PackedFinding],
-    late: bool,
+    numbers: Between,
     buffer: &mut OutBuffer,
     out: &mut W,
 ) -> Result<(), SendFault>
     requires { AreNamed (length names.now) findings.now }
     ensures { Puts (W.seen out.old) (W.seen out.new) buffer.old buffer.new result (record_lines position
-        (filter (is_late late) (all_found names.now findings.now))) }
+        (filter (is_between numbers.above numbers.below) (all_found names.now findings.now))) }
 {
     went_out_of_longer();
     'putting: for packed in findings {
-        put_packed(position, names, packed, late, buffer, out)?;
+        put_packed(position, names, packed, numbers, buffer, out)?;
     }
     Ok(())
 }
 
-/// Adds the line of N6 to the output, if it holds.
-fn put_used<W: Sink>(
+/// Adds the line of a finding to the output, if it holds.
+fn put_once<W: Sink>(
     position: u64,
-    used: bool,
+    finding: &Finding<'_>,
+    holds: bool,
     buffer: &mut OutBuffer,
     out: &mut W,
 ) -> Result<(), SendFault>
     ensures { Puts (W.seen out.old) (W.seen out.new) buffer.old buffer.new result (record_lines position
-        (once IdUsed used)) }
+        (once (finding_seen finding.now) holds)) }
 {
-    if !used {
+    if !holds {
         return Ok(());
     }
-    put_finding(position, &Finding::IdUsed, buffer, out)
+    put_finding(position, finding, buffer, out)
 }
 
-/// How many lines N6 takes.
-fn line_count(used: bool) -> usize
-    ensures { result ≡ (if used then 1 else 0) }
-{
-    if used { 1 } else { 0 }
-}
-
-/// Adds the lines of a record's findings to the output, and of N6 among them, if it holds.
-fn put_found<W: Sink>(
+/// Adds the lines of the findings whose numbers are among these, and then of another finding, if it holds.
+fn put_range_and<W: Sink>(
     position: u64,
     names: &[u8],
     findings: &[PackedFinding],
-    used: bool,
+    numbers: Between,
+    finding: &Finding<'_>,
+    holds: bool,
     buffer: &mut OutBuffer,
     out: &mut W,
 ) -> Result<(), SendFault>
     requires { AreNamed (length names.now) findings.now }
     ensures { Puts (W.seen out.old) (W.seen out.new) buffer.old buffer.new result (record_lines position
-        (with_used (all_found names.now findings.now) used)) }
+        (filter (is_between numbers.above numbers.below) (all_found names.now findings.now)
+        ++ once (finding_seen finding.now) holds)) }
 {
     went_out_of_longer();
-    put_half(position, names, findings, false, buffer, out)?;
-    put_used(position, used, buffer, out)?;
-    put_half(position, names, findings, true, buffer, out)
+    put_range(position, names, findings, numbers, buffer, out)?;
+    put_once(position, finding, holds, buffer, out)
+}
+
+/// How many lines a finding takes, if it holds.
+fn line_count(holds: bool) -> usize
+    ensures { result ≡ (if holds then 1 else 0) }
+{
+    if holds { 1 } else { 0 }
+}
+
+/// Adds the lines of a record's findings to the output, and of N4 and N6 among them, if they hold.
+fn put_found<W: Sink>(
+    position: u64,
+    names: &[u8],
+    findings: &[PackedFinding],
+    facts: ArchiveFacts,
+    buffer: &mut OutBuffer,
+    out: &mut W,
+) -> Result<(), SendFault>
+    requires { AreNamed (length names.now) findings.now }
+    ensures { Puts (W.seen out.old) (W.seen out.new) buffer.old buffer.new result (record_lines position
+        (with_both (all_found names.now findings.now) facts.bad_digest facts.used_id)) }
+{
+    went_out_of_longer();
+    put_range_and(
+        position,
+        names,
+        findings,
+        BEFORE_DIGEST,
+        &Finding::Digest,
+        facts.bad_digest,
+        buffer,
+        out,
+    )?;
+    put_range_and(
+        position,
+        names,
+        findings,
+        DIGEST_TO_USED,
+        &Finding::IdUsed,
+        facts.used_id,
+        buffer,
+        out,
+    )?;
+    put_range(position, names, findings, AFTER_USED, buffer, out)
 }
 
 /// Adds the finding of a number after the others, with the name of its field. If memory is refused, none is added.
@@ -252,51 +322,51 @@ impl<A: Allocator> FindingList<A> {
         self.findings.truncate(count);
     }
 
-    /// Adds the lines of a part to the output, and of N6 among them, if it holds.
+    /// Adds the lines of a part to the output, and of N4 and N6 among them, if they hold.
     fn put<W: Sink>(
         &self,
         part: Part,
         position: u64,
-        used: bool,
+        facts: ArchiveFacts,
         buffer: &mut OutBuffer,
         out: &mut W,
     ) -> Result<(), SendFault>
         requires { IsPart (length self.now) part }
         ensures { Puts (W.seen out.old) (W.seen out.new) buffer.old buffer.new result (record_lines position
-            (with_used (findings_of_part self.now part) used)) }
+            (with_both (findings_of_part self.now part) facts.bad_digest facts.used_id)) }
     {
         put_part(
             self.names.as_slice(),
             self.findings.as_slice(),
             part,
             position,
-            used,
+            facts,
             buffer,
             out,
         )
     }
 }
 
-/// Adds the lines of a part of the findings to the output, and of N6 among them, if it holds.
+/// Adds the lines of a part of the findings to the output, and of N4 and N6 among them, if they hold.
 fn put_part<W: Sink>(
     names: &[u8],
     findings: &[PackedFinding],
     part: Part,
     position: u64,
-    used: bool,
+    facts: ArchiveFacts,
     buffer: &mut OutBuffer,
     out: &mut W,
 ) -> Result<(), SendFault>
     requires named { AreNamed (length names.now) findings.now }
     requires within { IsPart (length findings.now) part }
     ensures { Puts (W.seen out.old) (W.seen out.new) buffer.old buffer.new result (record_lines position
-        (with_used (findings_of_part (all_found names.now findings.now) part) used)) }
+        (with_both (findings_of_part (all_found names.now findings.now) part) facts.bad_digest facts.used_id)) }
 {
     put_found(
         position,
         names,
         &findings[part.start..part.end],
-        used,
+        facts,
         buffer,
         out,
     )
@@ -316,36 +386,19 @@ fn add_all<A: Allocator>(
     Ok(())
 }
 
-/// Adds the findings that a record alone shows, by the fields of its head, the length of its block and the verdict on
-/// its digest. If memory is refused some of them are added.
-fn add_own<A: Allocator + Copy>(
+/// Adds the findings that a record alone shows but for N4, by the fields of its head and the length of its block. If
+/// memory is refused some of them are added.
+fn add_others<A: Allocator + Copy>(
     alloc: A,
     fields: &Fields<A>,
     block_len: u64,
-    verdict: Verdict,
     findings: &mut FindingList<A>,
 ) -> Result<(), AllocError>
-    ensures ok { OnOk result (findings.new ≡ findings.old
-        ++ findings_of fields.now block_len (is_bad verdict) false) }
+    ensures ok { OnOk result (findings.new ≡ findings.old ++ findings_of fields.now block_len false false) }
     ensures more { (more : List SeenFinding) × (findings.new ≡ findings.old ++ more) }
 {
-    let facts = ArchiveFacts {
-        bad_digest: verdict.is_bad(),
-        used_id: false,
-    };
-    let found = all_findings(alloc, fields, block_len, facts)?;
+    let found = warc_record::findings(alloc, fields, block_len)?;
     add_all(&found, findings)
-}
-
-/// Adds the finding N4, if it holds.
-fn add_digest<A: Allocator>(bad: bool, findings: &mut FindingList<A>) -> Result<(), AllocError>
-    ensures ok { OnOk result (findings.new ≡ findings.old ++ once Digest bad) }
-    ensures err { OnErr result (findings.new ≡ findings.old) }
-{
-    if !bad {
-        return Ok(());
-    }
-    findings.push(&Finding::Digest)
 }
 
 /// The place of a record's findings among all findings.
@@ -391,60 +444,56 @@ fn forget_rest<A: Allocator>(findings: &mut FindingList<A>, ends: &[usize])
     findings.truncate(end_before(ends, ends.len()));
 }
 
-/// Adds the part of the next record, by the fields of its head, the length of its block and the verdict on its digest.
-/// If memory is refused, none is added, and the findings that were added are in no part.
+/// Adds the part of the next record, by the fields of its head and the length of its block. If memory is refused, none
+/// is added, and the findings that were added are in no part.
 fn add_part<A: Allocator + Copy>(
     alloc: A,
     findings: &mut FindingList<A>,
     ends: &mut Vec<usize, A>,
     fields: &Fields<A>,
     block_len: u64,
-    verdict: Verdict,
 ) -> Result<(), AllocError>
     requires { AreEnds (length findings.old) ends.old.items }
     ensures within { AreEnds (length findings.new) ends.new.items }
     ensures ok { OnOk result (found_by_part findings.new ends.new.items
-        ≡ found_by_part findings.old ends.old.items
-        ++ findings_of fields.now block_len (is_bad verdict) false ∷ []) }
+        ≡ found_by_part findings.old ends.old.items ++ findings_of fields.now block_len false false ∷ []) }
     ensures err { OnErr result (found_by_part findings.new ends.new.items
         ≡ found_by_part findings.old ends.old.items) }
 {
     forget_rest(findings, ends.as_slice());
     ends.reserve(1)?;
-    add_own(alloc, fields, block_len, verdict, findings)?;
+    add_others(alloc, fields, block_len, findings)?;
     ends.push_reserved(findings.len());
     Ok(())
 }
 
-/// Adds the part of the next record, of which all that may be found is N4. If memory is refused, none is added.
-fn add_digest_part<A: Allocator>(
+/// Adds the part of the next record, which is empty. If memory is refused, none is added.
+fn add_empty_part<A: Allocator>(
     findings: &mut FindingList<A>,
     ends: &mut Vec<usize, A>,
-    bad: bool,
 ) -> Result<(), AllocError>
     requires { AreEnds (length findings.old) ends.old.items }
     ensures within { AreEnds (length findings.new) ends.new.items }
     ensures ok { OnOk result (found_by_part findings.new ends.new.items
-        ≡ found_by_part findings.old ends.old.items ++ once Digest bad ∷ []) }
+        ≡ found_by_part findings.old ends.old.items ++ [] ∷ []) }
     ensures err { OnErr result (found_by_part findings.new ends.new.items
         ≡ found_by_part findings.old ends.old.items) }
 {
     forget_rest(findings, ends.as_slice());
     ends.reserve(1)?;
-    add_digest(bad, findings)?;
     ends.push_reserved(findings.len());
     Ok(())
 }
 
-/// The findings that each record alone shows. Of a record's part only its end is kept: it begins at the end of the one
-/// before it.
+/// The findings of each record but for N4 and N6. Of a record's part only its end is kept: it begins at the end of the
+/// one before it.
 #[derive(Drop)]
-pub(crate) struct OwnFindings<A: Allocator> {
+struct OtherFindings<A: Allocator> {
     findings: FindingList<A>,
     ends: Vec<usize, A>,
 }
 
-impl<A: Allocator> Model for OwnFindings<A> {
+impl<A: Allocator> Model for OtherFindings<A> {
     ghost use Rattle.std.specs.Prelude.{List, length};
     ghost use Rattle.warc_record.specs.Findings.{SeenFinding};
     ghost use Rattle.warc_checking.specs.OwnFindings.{AreEnds, found_by_part};
@@ -456,47 +505,256 @@ impl<A: Allocator> Model for OwnFindings<A> {
     ghost invariant = { λ n. AreEnds (length n.findings) n.ends.items };
 }
 
+impl<A: Allocator + Copy> OtherFindings<A> {
+    /// Of no records.
+    fn new(alloc: A) -> OtherFindings<A>
+        ensures { result ≡ [] }
+    {
+        OtherFindings {
+            findings: FindingList::new(alloc),
+            ends: Vec::new(alloc),
+        }
+    }
+
+    /// Adds the findings of the next record, by the fields of its head and the length of its block. If memory is
+    /// refused, none is added.
+    fn add(&mut self, alloc: A, fields: &Fields<A>, block_len: u64) -> Result<(), AllocError>
+        ensures ok { OnOk result (self.new ≡ self.old ++ findings_of fields.now block_len false false ∷ []) }
+        ensures err { OnErr result (self.new ≡ self.old) }
+    {
+        add_part(alloc, &mut self.findings, &mut self.ends, fields, block_len)
+    }
+}
+
+impl<A: Allocator> OtherFindings<A> {
+    /// Adds that the next record has none. If memory is refused, nothing is added.
+    fn add_none(&mut self) -> Result<(), AllocError>
+        ensures ok { OnOk result (self.new ≡ self.old ++ [] ∷ []) }
+        ensures err { OnErr result (self.new ≡ self.old) }
+    {
+        add_empty_part(&mut self.findings, &mut self.ends)
+    }
+
+    /// Forgets the findings of all but the first records, this many.
+    fn truncate(&mut self, count: usize)
+        ensures { self.new ≡ take count self.old }
+    {
+        // The findings of the others stay in no part until the next are added.
+        self.ends.truncate(count);
+    }
+
+    /// Adds the lines of the findings of the record at a position to the output, and of N4 and N6 among them, if they
+    /// hold. The result is their number, up to 2^64 - 1.
+    fn put<W: Sink>(
+        &self,
+        position: usize,
+        facts: ArchiveFacts,
+        buffer: &mut OutBuffer,
+        out: &mut W,
+    ) -> Result<usize, SendFault>
+        ensures puts { Puts (W.seen out.old) (W.seen out.new) buffer.old buffer.new result (record_lines position
+            (with_both (found_at self.now position) facts.bad_digest facts.used_id)) }
+        ensures number { IfOk result (λ n. n ≡ capped (length (found_at self.now position)
+            + (if facts.bad_digest then 1 else 0) + (if facts.used_id then 1 else 0))) }
+    {
+        let part = part_at(self.ends.as_slice(), position);
+        self.findings
+            .put(part, position as u64, facts, buffer, out)?;
+        let more = line_count(facts.bad_digest) + line_count(facts.used_id);
+        Ok((part.end - part.start).saturating_add(more))
+    }
+}
+
+/// What is known of N4 of a record.
+#[derive(Clone, Copy)]
+enum DigestState {
+    /// Its kind is none of the eight: N4 never holds.
+    Outside,
+    /// N4 isn't known to hold.
+    Unmarked,
+    /// N4 holds.
+    Marked,
+}
+
+impl DigestState {
+    /// Of a record of which nothing is known but its kind.
+    fn of_kind(kind: Kind) -> DigestState
+        ensures { result ≡ state_by (is_known kind) }
+    {
+        match kind {
+            Kind::Other => DigestState::Outside,
+            _ => DigestState::Unmarked,
+        }
+    }
+
+    /// The same, once the digest is known to differ.
+    fn marked(&self) -> DigestState
+        ensures { result ≡ marked self.now }
+    {
+        match self {
+            DigestState::Outside => DigestState::Outside,
+            DigestState::Unmarked | DigestState::Marked => DigestState::Marked,
+        }
+    }
+
+    /// Whether N4 holds.
+    fn is_marked(&self) -> bool
+        ensures { result ≡ is_marked self.now }
+    {
+        match self {
+            DigestState::Outside | DigestState::Unmarked => false,
+            DigestState::Marked => true,
+        }
+    }
+}
+
+/// The kind of the record with these fields.
+fn kind_of<A: Allocator>(fields: &Fields<A>) -> Kind
+    ensures { result ≡ kind_of fields.now }
+{
+    match fields.first(WARC_TYPE.as_bytes()) {
+        Some(value) => Kind::named(value.bytes()),
+        None => Kind::Other,
+    }
+}
+
+/// Whether N4 holds of the record at a position, false past the end.
+fn bad_at(states: &[DigestState], position: usize) -> bool
+    ensures { result ≡ bad_at states.now position }
+{
+    match states.get(position) {
+        Some(state) => state.is_marked(),
+        None => false,
+    }
+}
+
+/// Marks that the digest of the record at a position differs.
+fn mark_at(states: &mut [DigestState], position: usize)
+    requires { position < length states.old }
+    ensures { (others : List (List SeenFinding)) → length others ≡ length states.old →
+        each_with others states.new ≡ mark_at (each_with others states.old) position }
+{
+    states[position] = states[position].marked();
+}
+
+/// The findings that each record alone shows. Whether N4 holds is kept apart from the others: a record is added before
+/// its digest is known, and marked once that is known to differ. A mark takes no memory.
+#[derive(Drop)]
+pub(crate) struct OwnFindings<A: Allocator> {
+    others: OtherFindings<A>,
+    states: Vec<DigestState, A>,
+}
+
+impl<A: Allocator> Model for OwnFindings<A> {
+    ghost use Rattle.std.specs.Prelude.{◌≡◌, List, length};
+    ghost use Rattle.std.specs.List.{AllByRecursion};
+    ghost use Rattle.warc_checking.specs.OwnFindings.{Found, IsWithoutDigest, each_with};
+
+    ghost Value = { List Found };
+
+    ghost view = { λ n. each_with n.others n.states.items };
+
+    ghost invariant = { λ n. (length n.others ≡ length n.states.items) × AllByRecursion IsWithoutDigest n.others };
+}
+
 impl<A: Allocator + Copy> OwnFindings<A> {
     /// Of no records.
     pub(crate) fn new(alloc: A) -> OwnFindings<A>
         ensures { result ≡ [] }
     {
         OwnFindings {
-            findings: FindingList::new(alloc),
-            ends: Vec::new(alloc),
+            others: OtherFindings::new(alloc),
+            states: Vec::new(alloc),
         }
+    }
+
+    /// Adds the findings of the next record, by the fields of its head and the length of its block. Its digest isn't
+    /// known to differ. If memory is refused, none is added.
+    pub(crate) fn add(
+        &mut self,
+        alloc: A,
+        fields: &Fields<A>,
+        block_len: u64,
+    ) -> Result<(), AllocError>
+        ensures ok { OnOk result (self.new ≡ self.old ++ shown_by fields.now block_len false ∷ []) }
+        ensures err { OnErr result (self.new ≡ self.old) }
+    {
+        let state = DigestState::of_kind(kind_of(fields));
+        self.states.reserve(1)?;
+        self.others.add(alloc, fields, block_len)?;
+        self.states.push_reserved(state);
+        Ok(())
     }
 
     /// Adds the findings of the next record, by the fields of its head, the length of its block and the verdict on its
     /// digest. If memory is refused, none is added.
-    pub(crate) fn add(
+    pub(crate) fn add_judged(
         &mut self,
         alloc: A,
         fields: &Fields<A>,
         block_len: u64,
         verdict: Verdict,
     ) -> Result<(), AllocError>
-        ensures ok { OnOk result (self.new ≡ self.old
-            ++ findings_of fields.now block_len (is_bad verdict) false ∷ []) }
+        ensures ok { OnOk result (self.new ≡ self.old ++ shown_by fields.now block_len (is_bad verdict) ∷ []) }
         ensures err { OnErr result (self.new ≡ self.old) }
     {
-        add_part(
-            alloc,
-            &mut self.findings,
-            &mut self.ends,
-            fields,
-            block_len,
-            verdict,
-        )
+        let position = self.len();
+        self.add(alloc, fields, block_len)?;
+        if verdict.is_bad() {
+            self.mark(position);
+        }
+        Ok(())
+    }
+}
+
+impl<A: Allocator> OwnFindings<A> {
+    /// How many records there are.
+    pub(crate) fn len(&self) -> usize
+        ensures { result ≡ length self.now }
+    {
+        self.states.len()
     }
 
-    /// Adds the findings of the next record, with which nothing can be wrong but its digest, by the verdict on that. If
-    /// memory is refused, none is added.
-    pub(crate) fn add_faultless(&mut self, verdict: Verdict) -> Result<(), AllocError>
-        ensures ok { OnOk result (self.new ≡ self.old ++ once Digest (is_bad verdict) ∷ []) }
+    /// Adds the next record, with which nothing can be wrong but its digest, which isn't known to differ. If memory is
+    /// refused, none is added.
+    pub(crate) fn add_faultless(&mut self) -> Result<(), AllocError>
+        ensures ok { OnOk result (self.new ≡ self.old ++ shown_faultless false ∷ []) }
         ensures err { OnErr result (self.new ≡ self.old) }
     {
-        add_digest_part(&mut self.findings, &mut self.ends, verdict.is_bad())
+        self.states.reserve(1)?;
+        self.others.add_none()?;
+        self.states.push_reserved(DigestState::Unmarked);
+        Ok(())
+    }
+
+    /// Adds the next record, with which nothing can be wrong but its digest, by the verdict on that. If memory is
+    /// refused, none is added.
+    pub(crate) fn add_faultless_judged(&mut self, verdict: Verdict) -> Result<(), AllocError>
+        ensures ok { OnOk result (self.new ≡ self.old ++ shown_faultless (is_bad verdict) ∷ []) }
+        ensures err { OnErr result (self.new ≡ self.old) }
+    {
+        let position = self.len();
+        self.add_faultless()?;
+        if verdict.is_bad() {
+            self.mark(position);
+        }
+        Ok(())
+    }
+
+    /// Marks that the digest of the record at a position differs. N4 then holds, if its kind is one of the eight.
+    pub(crate) fn mark(&mut self, position: usize)
+        requires { position < length self.old }
+        ensures { self.new ≡ mark_at self.old position }
+    {
+        mark_at(&mut self.states, position);
+    }
+
+    /// Forgets all but the first records, this many.
+    pub(crate) fn truncate(&mut self, count: usize)
+        ensures { self.new ≡ take count self.old }
+    {
+        self.others.truncate(count);
+        self.states.truncate(count);
     }
 
     /// Adds the lines of the findings of the record at a position to the output, and of N6 among them, if it holds.
@@ -509,18 +767,20 @@ impl<A: Allocator + Copy> OwnFindings<A> {
         out: &mut W,
     ) -> Result<usize, SendFault>
         ensures puts { Puts (W.seen out.old) (W.seen out.new) buffer.old buffer.new result (record_lines position
-            (with_used (found_at self.now position) used)) }
-        ensures number { IfOk result (λ n. n ≡ capped (length (found_at self.now position)
+            (with_used (found_at (map all_of self.now) position) used)) }
+        ensures number { IfOk result (λ n. n ≡ capped (length (found_at (map all_of self.now) position)
             + (if used then 1 else 0))) }
     {
-        let part = part_at(self.ends.as_slice(), position);
-        self.findings.put(part, position as u64, used, buffer, out)?;
-        Ok((part.end - part.start).saturating_add(line_count(used)))
+        let facts = ArchiveFacts {
+            bad_digest: bad_at(self.states.as_slice(), position),
+            used_id: used,
+        };
+        self.others.put(position, facts, buffer, out)
     }
 }
 
 impl<A: Allocator + Copy> Keep<A> for OwnFindings<A> {
-    ghost keeps = { λ l records. l ≡ map own_findings (contents records) };
+    ghost keeps = { λ l records. map all_of l ≡ map own_findings (contents records) };
 
     ghost judges = { true };
 
@@ -543,7 +803,7 @@ impl<A: Allocator + Copy> Keep<A> for OwnFindings<A> {
         block_len: u64,
         verdict: Verdict,
     ) -> Result<(), AllocError> {
-        self.add(alloc, fields, block_len, verdict)
+        self.add_judged(alloc, fields, block_len, verdict)
     }
 
     fn keep_plain(
@@ -558,7 +818,6 @@ impl<A: Allocator + Copy> Keep<A> for OwnFindings<A> {
     }
 
     fn truncate(&mut self, count: usize) {
-        // The findings of the others stay in no part until the next are added.
-        self.ends.truncate(count);
+        OwnFindings::truncate(self, count);
     }
 }

@@ -1,5 +1,5 @@
 //! The lines of findings that are known, of all records of an archive.
-ghost use Rattle.std.specs.Prelude.{◌≡◌, ℕ, ◌++◌, List, [], ◌∷◌, Option, Some, false, IfErr, IfOk, OnOk, length};
+ghost use Rattle.std.specs.Prelude.{◌≡◌, ℕ, ◌++◌, List, [], ◌∷◌, Option, Some, false, IfErr, IfOk, OnOk, length, map};
 ghost use Rattle.warc_frame.specs.Count.{capped};
 ghost use Rattle.warc_frame.specs.Failing.{failed_by, is_read};
 ghost use Rattle.warc_frame.specs.Record.{Record};
@@ -10,7 +10,7 @@ ghost use Rattle.warc_reading.specs.Row.{Placed};
 ghost use Rattle.warc_checking.specs.Checking.{findings_behind, findings_of_archive};
 ghost use Rattle.warc_checking.specs.Checks.{AreCutOff, AreTold};
 ghost use Rattle.warc_checking.specs.Lines.{PutsCheck, PutsFindingsOf, record_lines};
-ghost use Rattle.warc_checking.specs.OwnFindings.{AreJudged, IsDue, found_at};
+ghost use Rattle.warc_checking.specs.OwnFindings.{AreJudged, IsDue, all_of, found_at};
 ghost use Rattle.warc_checking.specs.UsedIds.{HoldsIdsOf, IsBucketAt, IsTally};
 
 use crate::lines::put_none;
@@ -35,18 +35,20 @@ fn put_next<A: Allocator + Copy, W: Sink>(
 ) -> Result<usize, OutFault>
     requires bucket { (key : List ℕ) → id_key row.now.id ≡ Some key → IsBucketAt ids.old position key }
     ensures out { (before : List Record) (p : Placed) (start : Option (List ℕ)) (output : List ℕ) →
-        IsDue before p row.now (found_at findings.now position) ids.old → IsStaged start output (W.seen out.old).tells
-        buffer.old → OnOk result (IsStaged start (output ++ record_lines position (findings_behind before p.content))
+        IsDue before p row.now (found_at (map all_of findings.now) position) ids.old →
+        IsStaged start output (W.seen out.old).tells buffer.old →
+        OnOk result (IsStaged start (output ++ record_lines position (findings_behind before p.content))
         (W.seen out.new).tells buffer.new) }
     ensures cut { (before : List Record) (p : Placed) (start : Option (List ℕ)) (output : List ℕ) →
-        IsDue before p row.now (found_at findings.now position) ids.old → IsStaged start output (W.seen out.old).tells
-        buffer.old → IfErr result (λ e. WentOut start (output ++ record_lines position
-        (findings_behind before p.content)) (W.seen out.new).tells (sent_of e)) }
+        IsDue before p row.now (found_at (map all_of findings.now) position) ids.old →
+        IsStaged start output (W.seen out.old).tells buffer.old →
+        IfErr result (λ e. WentOut start (output ++ record_lines position (findings_behind before p.content))
+        (W.seen out.new).tells (sent_of e)) }
     ensures number { (before : List Record) (p : Placed) →
-        IsDue before p row.now (found_at findings.now position) ids.old →
+        IsDue before p row.now (found_at (map all_of findings.now) position) ids.old →
         IfOk result (λ n. n ≡ capped (length (findings_behind before p.content))) }
     ensures ids { (before : List Record) (p : Placed) →
-        IsDue before p row.now (found_at findings.now position) ids.old →
+        IsDue before p row.now (found_at (map all_of findings.now) position) ids.old →
         OnOk result (HoldsIdsOf (before ++ p.content ∷ []) ids.new) }
     ensures counts { ids.new.counts ≡ ids.old.counts }
     ensures buckets { ids.new.buckets ≡ ids.old.buckets }
@@ -76,7 +78,8 @@ fn put_each<A: Allocator + Copy, W: Sink>(
 ) -> Result<usize, OutFault>
     requires tally { IsTally (length rows.now) rows.now ids.old.counts ids.old.buckets }
     requires ids { HoldsIdsOf [] ids.old }
-    ensures puts { (bytes : List ℕ) (records : List Placed) → AreJudged bytes records rows.now findings.now →
+    ensures puts { (bytes : List ℕ) (records : List Placed) →
+        AreJudged bytes records rows.now (map all_of findings.now) →
         PutsFindingsOf (contents records) (W.seen out.old) (W.seen out.new) buffer.old buffer.new result }
     ensures cause { (W.seen out.new).faults ≡ failed_by result (W.seen out.old).faults }
     ensures unread { IfErr result (λ e. is_read e ≡ false) }
@@ -102,7 +105,8 @@ fn put_rows<A: Allocator + Copy, W: Sink>(
     buffer: &mut OutBuffer,
     out: &mut W,
 ) -> Result<usize, OutFault>
-    ensures puts { (bytes : List ℕ) (records : List Placed) → AreJudged bytes records rows.now findings.now →
+    ensures puts { (bytes : List ℕ) (records : List Placed) →
+        AreJudged bytes records rows.now (map all_of findings.now) →
         PutsCheck (contents records) (W.seen out.old) (W.seen out.new) buffer.old buffer.new result }
     ensures cause { (W.seen out.new).faults ≡ failed_by result (W.seen out.old).faults }
     ensures unread { IfErr result (λ e. is_read e ≡ false) }
@@ -126,11 +130,14 @@ pub(crate) fn tell_rows<A: Allocator + Copy, W: Sink>(
     findings: &OwnFindings<A>,
     out: &mut W,
 ) -> Result<usize, OutFault>
-    ensures told { (bytes : List ℕ) (records : List Placed) → AreJudged bytes records rows.now findings.now →
+    ensures told { (bytes : List ℕ) (records : List Placed) →
+        AreJudged bytes records rows.now (map all_of findings.now) →
         AreTold (contents records) result (W.seen out.old) (W.seen out.new) }
-    ensures number { (bytes : List ℕ) (records : List Placed) → AreJudged bytes records rows.now findings.now →
+    ensures number { (bytes : List ℕ) (records : List Placed) →
+        AreJudged bytes records rows.now (map all_of findings.now) →
         IfOk result (λ n. n ≡ capped (length (findings_of_archive (contents records)))) }
-    ensures cut { (bytes : List ℕ) (records : List Placed) → AreJudged bytes records rows.now findings.now →
+    ensures cut { (bytes : List ℕ) (records : List Placed) →
+        AreJudged bytes records rows.now (map all_of findings.now) →
         AreCutOff (contents records) result (W.seen out.old) (W.seen out.new) }
     ensures cause { (W.seen out.new).faults ≡ failed_by result (W.seen out.old).faults }
     ensures unread { IfErr result (λ e. is_read e ≡ false) }

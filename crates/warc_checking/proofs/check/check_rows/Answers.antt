@@ -1,10 +1,10 @@
-use Rattle.std.proofs.Common.{rules, ℕ, List, Some, false, true, ◌≡◌, refl, sym, ◌∙◌}
+use Rattle.std.proofs.Common.{rules, ℕ, List, Some, false, true, ◌≡◌, map, refl, sym, ◌∙◌}
 use Rattle.std.proofs.lemmas.Result.{IfErr-weaker, IfOk-weaker}
 use Rattle.warc_frame.proofs.EffectLemmas.{fails_more}
 use Rattle.warc_reading.specs.Archive.{IsArchiveOf}
 use Rattle.warc_reading.proofs.HeadLemmas.{fails_ended}
 use Rattle.warc_reading.proofs.PlaceLemmas.{checkable_archive}
-use Rattle.warc_checking.specs.OwnFindings.{AreJudged}
+use Rattle.warc_checking.specs.OwnFindings.{AreJudged, all_of}
 use Rattle.warc_checking.proofs.CountLemmas.{counted}
 use Rattle.warc_checking.proofs.RecordsLemmas.{fails_unread, none_failed, none_out, none_sent}
 use Rattle.warc_checking.proofs.check.check_rows.Goals as goal
@@ -25,7 +25,7 @@ returns-in-Err g c = record {
 pub returns : goal.returns
 returns g c =
     let found : (bytes : List ℕ) → (g.S.Source.seen c.args.source.now).holds ≡ Some bytes → (is : IsArchiveOf bytes c.args.rows.now)
-    → AreJudged bytes is.are.records c.args.rows.now c.in-Ok.findings =
+    → AreJudged bytes is.are.records c.args.rows.now (map all_of c.in-Ok.findings) =
     λ bytes held is.
     let can = checkable_archive c.head_of_spelled.ensures bytes _ is _ refl in
     record { can = can; found_is = c.in-Ok.ensures.judged bytes held is.are.records can } in

@@ -1,22 +1,27 @@
-use Rattle.std.proofs.Common.{◌≡◌, ◌-◌, ◌+◌, ◌∙◌, ap, length, if◌then◌else◌}
+use Rattle.std.proofs.Common.{◌+◌, ◌∙◌, ap, length, if◌then◌else◌, map, sym}
+use Rattle.std.proofs.lemmas.Result.{IfOk-weaker}
 use Rattle.warc_frame.specs.Count.{capped}
-use Rattle.warc_checking.specs.OwnFindings.{found_at, found_by_part}
-use Rattle.warc_checking.proofs.OwnFindingLemmas.{part_is, part_len}
+use Rattle.warc_checking.specs.Lines.{record_lines}
+use Rattle.warc_checking.specs.OwnFindings.{all_of, bad_at, found_at, with_digest, with_used}
+use Rattle.warc_checking.proofs.CheckLemmas.{puts_same}
+use Rattle.warc_checking.proofs.OwnFindingLemmas.{digest_len, each_at, without_at}
 use Rattle.warc_checking.proofs.own_findings.OwnFindings.put.Goals as goal
 
-pub put-requires : goal.put-requires
-put-requires g c = part_is _ _ _ _ c.as_slice.ensures.value c.part_at-part.ensures.within c.self.invariant
-
-pub overflow_sub-part : goal.overflow_sub-part
-overflow_sub-part g c = (part_is _ _ _ _ c.as_slice.ensures.value c.part_at-part.ensures.within c.self.invariant).order
+pub returns-clause-puts : goal.returns-clause-puts
+returns-clause-puts g c =
+    let i = c.args.position in
+    let others = c.self.inside.others in
+    let bad = c.bad_at.ensures ∙ ap (λ l. bad_at l i) c.as_slice.ensures.value in
+    let all = ap (with_digest (found_at others i)) bad ∙ sym (each_at others c.self.inside.states.items i c.self.invariant.0)
+    ∙ ap (λ l. found_at (map all_of l) i) c.self.view_is in
+    puts_same (ap (λ f. record_lines i (with_used f c.args.used)) all) c.put.ensures.puts
 
 pub returns-clause-number : goal.returns-clause-number
 returns-clause-number g c =
-    let findings = c.self.inside.findings in
-    let part = c.part_at-part.result in
-    let within = part_is _ _ _ _ c.as_slice.ensures.value c.part_at-part.ensures.within c.self.invariant in
-    let is = c.part_at-part.ensures.is findings ∙ ap (λ l. found_at (found_by_part findings l) c.args.position) c.as_slice.ensures.value
-    ∙ ap (λ l. found_at l c.args.position) c.self.view_is in
-    let size : part.end - part.start ≡ length (found_at c.args.self.now c.args.position) = part_len findings part within ∙ ap length is in
-    c.saturating_add.ensures ∙ ap (λ n. capped (part.end - part.start + n)) c.line_count.ensures
-    ∙ ap (λ n. capped (n + (if c.args.used then 1 else 0))) size
+    let i = c.args.position in
+    let others = c.self.inside.others in
+    let bad = c.bad_at.ensures ∙ ap (λ l. bad_at l i) c.as_slice.ensures.value in
+    let all = ap (with_digest (found_at others i)) bad ∙ sym (each_at others c.self.inside.states.items i c.self.invariant.0)
+    ∙ ap (λ l. found_at (map all_of l) i) c.self.view_is in
+    let size = sym (digest_len (found_at others i) c.bad_at.result (without_at others i c.self.invariant.1)) ∙ ap length all in
+    IfOk-weaker c.put.result _ _ (λ n is. is ∙ ap (λ m. capped (m + (if c.args.used then 1 else 0))) size) c.put.ensures.number

@@ -1,11 +1,11 @@
 use Rattle.std.proofs.Common.{rules, ◌+◌, drop, map, ◌∙◌, ap, ◌++◌}
 use Rattle.std.specs.List.{filter}
 use Rattle.warc_checking.specs.Lines.{record_lines}
-use Rattle.warc_checking.specs.OwnFindings.{finding_in, is_late}
+use Rattle.warc_checking.specs.OwnFindings.{finding_in, is_between}
 use Rattle.warc_checking.specs.declared.own_findings.PackedFinding.{PackedFinding}
 use Rattle.warc_frame.proofs.LawLemmas.{same_out, same_staged}
 use Rattle.warc_checking.proofs.OwnFindingLemmas.{told_more, told_rest}
-use Rattle.warc_checking.proofs.own_findings.put_half.Goals as goal
+use Rattle.warc_checking.proofs.own_findings.put_range.Goals as goal
 
 abbrev any : PackedFinding
 any = record { number = 0; start = 0; end = 0 }
@@ -15,7 +15,7 @@ returns-in_err-put_packed g c = record {
   out = search rules;
   cut = λ start output is.
       let seen = finding_in c.args.names.now in
-      let test = is_late c.args.late in
+      let test = is_between c.args.numbers.above c.args.numbers.below in
       let findings = c.args.findings.now in
       let i = c.putting.packed-index in
       let rest = record_lines c.args.position (filter test (map seen (drop (i + 1) findings))) in
@@ -30,7 +30,7 @@ returns-in_err-put_packed g c = record {
 pub putting-preserved : goal.putting-preserved
 putting-preserved g c = record {
   staged = λ start output is.
-      same_staged (told_more (finding_in c.args.names.now) (is_late c.args.late) c.args.position c.args.findings.now c.putting.packed-index any output c.putting-test.true)
+      same_staged (told_more (finding_in c.args.names.now) (is_between c.args.numbers.above c.args.numbers.below) c.args.position c.args.findings.now c.putting.packed-index any output c.putting-test.true)
       (c.in_ok-put_packed.ensures.out start _ (c.putting.invariant.staged start output is));
   sound = search rules;
 }
