@@ -1,10 +1,9 @@
 -- A record that is judged again: its head is read, and its block.
-use Rattle.std.proofs.Common.{◌≡◌, ◌+◌, ◌≤◌, ℕ, false, List, [], ◌∷◌, ◌++◌, Some, length, map, take, drop, take_all, sym, ap, ◌∙◌, arith}
+use Rattle.std.proofs.Common.{◌≡◌, ◌+◌, ◌≤◌, ℕ, List, [], ◌∷◌, ◌++◌, Some, length, map, take, drop, take_all, sym, ap, ◌∙◌, arith}
 use Rattle.std.proofs.lemmas.List.{length-map}
 use Rattle.std.specs.List.{slice_get}
 use Rattle.warc_field.specs.Area.{Pair}
-use Rattle.warc_value.specs.Digests.{is_bad, verdict_of}
-use Rattle.warc_value.specs.declared.hash.Verdict.{Verdict}
+use Rattle.warc_value.specs.Digests.{verdict_of}
 use Rattle.warc_value.specs.declared.hash.Wanted.{Wanted}
 use Rattle.warc_frame.specs.Effects.{HasRange, ReadsOnly, ReadsRange}
 use Rattle.warc_frame.specs.Seen.{IsInRange, SeenSource}
@@ -19,10 +18,8 @@ use Rattle.warc_reading.specs.Rereading.{AreCheckable, HasHeadOf, HasTextOf, Rea
 use Rattle.warc_reading.specs.Row.{Placed, Row, row_of}
 use Rattle.warc_reading.proofs.ReadLemmas.{reads_block_of, reads_head_of}
 use Rattle.warc_reading.proofs.PlacedLemmas.{take_one}
-use Rattle.warc_record.specs.Findings.{SeenFinding, findings_of}
-use Rattle.warc_checking.specs.Batch.{IsHeadReread, findings_by_check}
+use Rattle.warc_record.specs.Findings.{SeenFinding}
 use Rattle.warc_checking.specs.Judged.{own_findings}
-use Rattle.warc_checking.specs.declared.batch.RereadHead.{RereadHead}
 use Rattle.warc_checking.proofs.OwnFindingLemmas.{own_more}
 
 abbrev pub head_there : (row : Row) (bytes : List ℕ) → HasTextOf row bytes → HasHeadOf row bytes
@@ -58,16 +55,6 @@ reads_again row start len wanted {old} {mid} {new} start_is len_is order head bl
     reads_within (λ q in_. (omega (arith, in_.0, start_is), omega (arith, in_.1, start_is, len_is))) (omega (arith, len_is))
     (reads_judged wanted start len block) in
     reads_both (reads_head_of row head) (reads_block_of row row.block_len order here)
-
--- the findings that it alone shows
-pub own_judged : {A : Type 0} (p : Placed) (row : Row) (h : RereadHead A) (len : ℕ) (verdict : Verdict)
-    → IsHeadReread p.content.fields row.block_len h → row ≡ row_of p → len ≡ row.block_len → verdict ≡ verdict_on p
-    → findings_by_check h.check len (is_bad verdict) ≡ own_findings p.content
-own_judged {A} p row h len verdict head row_is len_is verdict_is =
-    let size : row.block_len ≡ length p.content.block = ap (λ (r : Row). r.block_len) row_is in
-    ap (λ n. findings_by_check h.check n (is_bad verdict)) len_is ∙ head.found_is (is_bad verdict)
-    ∙ ap (λ n. findings_of p.content.fields n (is_bad verdict) false) size
-    ∙ ap (λ v. findings_of p.content.fields (length p.content.block) (is_bad v) false) verdict_is
 
 -- the findings of the first records are those of all where they are so many
 pub all_judged : (bytes : List ℕ) (records : List Placed) (rows : List Row) (n : ℕ) → AreCheckable bytes records rows

@@ -4,6 +4,7 @@ pub mod BatchLemmas
 pub mod CheckLemmas
 pub mod CountLemmas
 pub mod JudgeLemmas
+pub mod JudgingLemmas
 pub mod LevelLemmas
 pub mod NextLemmas
 pub mod OwnFindingLemmas

@@ -1,34 +1,22 @@
 -- Findings in flat lists, and the lines of those that are told.
-use Rattle.std.proofs.Common.{◌≡◌, ◌≢◌, ℕ, zero, suc, ◌+◌, ◌-◌, ◌<◌, ◌≤◌, Bool, ◌&&◌, if◌then◌else◌, List, [], ◌∷◌, ◌++◌, Some, None, length, map, take, drop, set, slice_range, get_or, true, false, append_assoc, length-append, refl, sym, ap, subst, ◌∙◌, arith}
+use Rattle.std.proofs.Common.{◌≡◌, ℕ, zero, suc, ◌+◌, ◌-◌, ◌<◌, ◌≤◌, Bool, ◌&&◌, if◌then◌else◌, List, [], ◌∷◌, ◌++◌, Some, None, length, map, take, drop, set, slice_range, get_or, true, false, append_assoc, length-append, refl, sym, ap, subst, ◌∙◌, arith}
 use Rattle.std.proofs.Math.Seq.{drop-append_seam, take-length}
 use Rattle.std.proofs.lemmas.List.{append-nil, drop-append-le, drop-map, length-drop, length-take-le, map-append, map_more, take-append-drop, take-append-le, take-map, take_all}
 use Rattle.std.proofs.lemmas.List.Elements.{filter-append}
 use Rattle.std.proofs.lemmas.Option.{slice_get_past}
 use Rattle.std.specs.List.{AllByRecursion, filter, slice_get}
 use Rattle.std.specs.Option.{unwrap_or}
-use Rattle.std.specs.Prelude.{option_map}
 use Rattle.warc_reading.specs.Archive.{contents}
 use Rattle.warc_reading.specs.Row.{Placed}
-use Rattle.warc_record.specs.Findings.{SeenFinding, Absent, Forbidden, Repeated, Digest, SegmentNumber, IdUsed, NoContentType, Profile, NotUtf8, BareId, NoOrigin, Empty, finding_field, finding_number, findings_of, once}
-use Rattle.warc_field.specs.Area.{Pair}
-use Rattle.warc_value.specs.Digests.{is_bad}
-use Rattle.warc_value.specs.declared.hash.Verdict.{Verdict}
-use Rattle.warc_value.specs.declared.hash.Wanted.{Wanted}
-use Rattle.warc_frame.specs.Record.{Record}
-use Rattle.warc_quick.specs.Faultless.{IsFaultlessHead}
-use Rattle.warc_record.specs.Blocks.{has_bad_digest}
-use Rattle.warc_record.specs.Kinds.{is_known}
-use Rattle.warc_record.specs.Readings.{kind_of}
-use Rattle.warc_reading.specs.Judging.{IsNextOf}
+use Rattle.warc_record.specs.Findings.{SeenFinding, Absent, Forbidden, Repeated, Digest, SegmentNumber, IdUsed, NoContentType, Profile, NotUtf8, BareId, NoOrigin, Empty, finding_field, finding_number, once}
 use Rattle.warc_checking.specs.Checking.{about_record, line_text}
 use Rattle.warc_checking.specs.Lines.{record_lines}
 use Rattle.warc_checking.specs.Judged.{own_findings}
-use Rattle.warc_checking.specs.OwnFindings.{AreEnds, AreEndsFrom, AreNamed, Found, IsNamed, IsPart, IsWithoutDigest, all_found, all_of, bad_at, each_with, found_at, found_by_part, found_from, found_with, finding_in, findings_of_part, finding_by_number, is_between, is_higher, is_lower, last_end, mark_at, marked, shown_by, shown_faultless, shown_of, state_by, with_bad, with_both, with_digest}
+use Rattle.warc_checking.specs.OwnFindings.{AreEnds, AreEndsFrom, AreNamed, IsNamed, IsPart, IsWithoutDigest, all_found, all_of, bad_at, each_with, found_at, found_by_part, found_from, found_with, finding_in, findings_of_part, finding_by_number, is_between, is_higher, is_lower, last_end, mark_at, marked, state_by, with_bad, with_both, with_digest}
 use Rattle.warc_checking.specs.declared.own_findings.DigestState.{DigestState}
 use Rattle.warc_checking.specs.declared.own_findings.DigestState.TheVariants.{Outside, Unmarked, Marked}
 use Rattle.warc_checking.specs.declared.own_findings.PackedFinding.{PackedFinding}
 use Rattle.warc_checking.specs.declared.own_findings.Part.{Part}
-use Rattle.warc_checking.proofs.AmongLemmas.{all_shown}
 use Rattle.warc_checking.proofs.CheckLemmas.{text_append}
 
 -- a part of a list stays when more follow
@@ -461,70 +449,7 @@ without_at [] i all = refl
 without_at (x ∷ xs) zero (here, all) = here
 without_at (x ∷ xs) (suc i) (here, all) = without_at xs i all
 
--- a mark changes the record at its position, and no other
-pub mark_there : (before : List Found) (f : Found) (after : List Found) → mark_at (before ++ f ∷ after) (length before) ≡ before ++ with_bad f ∷ after
-mark_there [] f after = refl
-mark_there (x ∷ xs) f after = ap (λ l. x ∷ l) (mark_there xs f after)
-
-pub mark_len : (fs : List Found) (i : ℕ) → length (mark_at fs i) ≡ length fs
-mark_len [] i = refl
-mark_len (x ∷ xs) zero = refl
-mark_len (x ∷ xs) (suc i) = ap (λ n. suc n) (mark_len xs i)
-
-pub mark_here : (fs : List Found) (i : ℕ) → slice_get (mark_at fs i) i ≡ option_map with_bad (slice_get fs i)
-mark_here [] i = refl
-mark_here (x ∷ xs) zero = refl
-mark_here (x ∷ xs) (suc i) = mark_here xs i
-
-pub mark_elsewhere : (fs : List Found) (i j : ℕ) → i ≢ j → slice_get (mark_at fs i) j ≡ slice_get fs j
-mark_elsewhere [] i j other = refl
-mark_elsewhere (x ∷ xs) zero zero other = absurd (other refl)
-mark_elsewhere (x ∷ xs) zero (suc j) other = refl
-mark_elsewhere (x ∷ xs) (suc i) zero other = refl
-mark_elsewhere (x ∷ xs) (suc i) (suc j) other = mark_elsewhere xs i j (λ same. other (ap (λ n. suc n) same))
-
--- what a record shows with which nothing is wrong but its digest
-pub all_faultless : (bad : Bool) → all_of (shown_faultless bad) ≡ once Digest bad
-all_faultless true = refl
-all_faultless false = refl
-
 -- what is kept of a record of which nothing is known but its fields
 pub state_shown : (o : List SeenFinding) (known : Bool) → found_with o (state_by known) ≡ record { others = o; known = known; bad = false }
 state_shown o true = refl
 state_shown o false = refl
-
--- the findings of one more record are kept
-pub shown_more : (records : List Placed) (p : Placed) (old new : List Found) (fields : List Pair) (start len : ℕ) (verdict : Verdict) → map all_of old ≡ map own_findings (contents records)
-    → IsNextOf true p fields start len verdict → new ≡ old ++ shown_by fields len (is_bad verdict) ∷ [] → map all_of new ≡ map own_findings (contents (records ++ p ∷ []))
-shown_more records p old new fields start len verdict kept next more =
-    let one : all_of (shown_by fields len (is_bad verdict)) ≡ own_findings p.content =
-    all_shown fields len (is_bad verdict) ∙ ap (λ l. findings_of l len (is_bad verdict) false) next.fields_are
-    ∙ ap (λ n. findings_of p.content.fields n (is_bad verdict) false) next.len_is
-    ∙ ap (λ v. findings_of p.content.fields (length p.content.block) (is_bad v) false) next.verdict_is in
-    ap (map all_of) more ∙ map-append all_of old (shown_by fields len (is_bad verdict) ∷ [])
-    ∙ ap (λ f. map all_of old ++ f ∷ []) one ∙ ap (λ l. l ++ own_findings p.content ∷ []) kept ∙ own_more records p
-
-and_true : (b : Bool) → (b && true) ≡ b
-and_true true = refl
-and_true false = refl
-
-abbrev shown_with : List SeenFinding → Bool → Bool → Found
-shown_with others known bad = record { others = others; known = known; bad = bad && known }
-
--- a faultless head shows nothing else, and its kind is one of the eight
-known_faultless : (known : Bool) → with_digest [] known ≡ Digest ∷ [] → known ≡ true
-known_faultless true is = refl
-known_faultless false is = absurd (cc is)
-
-pub shown_of_faultless : (text : List ℕ) (block_len : ℕ) (wanted : Wanted) (is : IsFaultlessHead text block_len wanted) (bad : Bool)
-    → shown_by is.fields block_len bad ≡ shown_faultless bad
-shown_of_faultless text block_len wanted is bad =
-    let known = is_known (kind_of is.fields) in
-    let none : findings_of is.fields block_len false false ≡ [] = is.found false false in
-    let one = ap (λ l. with_digest l known) (sym none) ∙ all_shown is.fields block_len true ∙ is.found true false in
-    let all : known ≡ true = known_faultless known one in
-    ap (λ l. shown_with l known bad) none ∙ ap (λ k. shown_with [] k bad) all ∙ ap (λ b. record { others = []; known = true; bad = b }) (and_true bad)
-
--- what a record shows is what is found of it alone
-pub all_shown_of : (r : Record) → all_of (shown_of r) ≡ own_findings r
-all_shown_of r = all_shown r.fields (length r.block) (has_bad_digest r)

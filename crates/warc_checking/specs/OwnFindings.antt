@@ -1,10 +1,9 @@
 -- How findings are kept in flat lists, and how a record's are reported with N4 and N6 among them. States of the code:
 -- no public clause cites them.
-use Rattle.std.specs.Prelude.{◌≡◌, ℕ, ◌≤◌, zero, suc, Bool, true, false, nat_lt, ◌&&◌, List, [], ◌∷◌, ◌++◌, map, length, ◌==◌, slice_range, unwrap_or, None, if◌then◌else◌}
+use Rattle.std.specs.Prelude.{◌≡◌, ℕ, ◌≤◌, zero, suc, Bool, true, false, nat_lt, ◌&&◌, List, [], ◌∷◌, ◌++◌, map, ◌==◌, slice_range, unwrap_or, None, if◌then◌else◌}
 use Rattle.std.specs.List.{AllByRecursion, filter, slice_get}
 use Rattle.std.specs.Option.{option_map_or}
 use Rattle.warc_field.specs.Area.{Pair}
-use Rattle.warc_record.specs.Blocks.{has_bad_digest}
 use Rattle.warc_record.specs.Findings.{SeenFinding, Absent, Forbidden, Repeated, Digest, SegmentNumber, IdUsed, NoContentType, Profile, NotUtf8, BareId, NoOrigin, Empty, finding_number, findings_of, once}
 use Rattle.warc_record.specs.Kinds.{is_known}
 use Rattle.warc_record.specs.Readings.{kind_of}
@@ -137,13 +136,9 @@ shown_by fields block_len bad = record {
   bad = bad && is_known (kind_of fields);
 }
 
--- what a record shows with which nothing is wrong but its digest, if that differs
-abbrev pub shown_faultless : Bool → Found
-shown_faultless bad = record { others = []; known = true; bad = bad }
-
--- what a record shows
-abbrev pub shown_of : Record → Found
-shown_of r = shown_by r.fields (length r.block) (has_bad_digest r)
+-- what a record shows with which nothing can be wrong but its digest, which isn't known to differ
+abbrev pub shown_faultless : Found
+shown_faultless = record { others = []; known = true; bad = false }
 
 -- the same, once its digest is known to differ
 abbrev pub with_bad : Found → Found

@@ -1,38 +1,28 @@
-//! Records whose heads were read again, until their blocks are judged. Several wait at a time, so that their blocks are
-//! hashed side by side.
-ghost use Rattle.std.specs.Prelude.{◌≡◌, ◌↔◌, ℕ, ◌+◌, ◌++◌, ◌^◌, ◌<◌, ◌≤◌, true, false, List, [], ◌∷◌, IfOk, OnOk, OnErr, MatchResult, None, Ok, length, map, take, drop};
+//! Blocks that wait until they are hashed, several at a time and side by side.
+ghost use Rattle.std.specs.Prelude.{◌≡◌, ◌↔◌, ℕ, ◌+◌, ◌++◌, ◌^◌, ◌<◌, ◌≤◌, true, false, Bool, List, [], ◌∷◌, IfOk, OnOk, OnErr, length, map, take, drop};
 ghost use Rattle.sha1.specs.Sha1.{sha1};
-ghost use Rattle.warc_value.specs.Digests.{verdict_of};
-ghost use Rattle.warc_frame.specs.Effects.{FailsBy, HasRange, ReadsOnly, ReadsRange};
-ghost use Rattle.warc_frame.specs.Reading.{any_fields, head_of};
-ghost use Rattle.warc_frame.specs.Record.{Record, max_head};
+ghost use Rattle.warc_value.specs.Digests.{is_bad, verdict_of};
+ghost use Rattle.warc_frame.specs.Effects.{FailsBy, HasRange, ReadsRange};
 ghost use Rattle.warc_frame.specs.Seen.{IfHeld};
-ghost use Rattle.warc_record.specs.Heads.{head_fault};
 ghost use Rattle.warc_digest.specs.Judging.{judged_len};
-ghost use Rattle.warc_reading.specs.Placing.{IsInRow};
-ghost use Rattle.warc_reading.specs.Rereading.{HasHeadOf, HasRoomFor, HasTextOf, ReadsHeads, reread_result, row_len};
-ghost use Rattle.warc_checking.specs.Batch.{AreKeptIn, IsHeadReread, all_findings_in, digest_in, findings_with, verdict_with};
-ghost use Rattle.warc_checking.specs.Judged.{own_findings};
-ghost use Rattle.warc_checking.specs.OwnFindings.{all_of};
+ghost use Rattle.warc_reading.specs.Rereading.{reread_result};
+ghost use Rattle.warc_checking.specs.Batch.{AreKeptIn, are_bad_in, digest_in, verdict_with};
 
-use crate::own_findings::OwnFindings;
 use std::alloc::{AllocError, Allocator};
 use std::marker::Model;
 use warc_digest::judge_range;
-use warc_field::Fields;
 use warc_frame::{Source, read_range};
 use warc_lanes::{DIGEST_LEN, digest_each};
-use warc_quick::faultless_head;
-use warc_reading::{RereadFault, Row, good_head_in, reread_text};
-use warc_value::{Verdict, Wanted};
+use warc_reading::RereadFault;
+use warc_value::{Verdict, Wanted, digest};
 
-/// How many records wait at most.
-const MAX_WAITING: usize = 64;
+/// How many blocks wait at most.
+pub(crate) const MAX_WAITING: usize = 64;
 
 /// How many bytes of blocks are kept at most: 1 MiB.
 const MAX_KEPT: usize = 1_048_576;
 
-/// The longest block that is kept, 256 KiB. A longer one is judged as it is read.
+/// The longest block that is kept, 256 KiB. A longer one is judged at once.
 const MAX_KEPT_BLOCK: u64 = 262_144;
 
 /// Makes a buffer at least as long as this. If memory is refused, it stays.
@@ -120,6 +110,19 @@ impl<A: Allocator> Blocks<A> {
         Ok(())
     }
 
+    /// Adds a block that is in memory, for which there is room. If memory is refused, none is added.
+    fn push(&mut self, block: &[u8]) -> Result<(), AllocError>
+        requires { length self.old + length block.now ≤ MAX_KEPT }
+        ensures ok { OnOk result (self.new ≡ self.old ++ block.now) }
+        ensures err { OnErr result (self.new ≡ self.old) }
+    {
+        let end = self.used + block.len();
+        lengthen(&mut self.bytes, end)?;
+        self.bytes[self.used..end].copy_from_slice(block);
+        self.used = end;
+        Ok(())
+    }
+
     /// Forgets all bytes.
     fn clear(&mut self)
         ensures { self.new ≡ [] }
@@ -155,6 +158,27 @@ impl BlockCheck {
     }
 }
 
+/// Keeps a block that is in memory if it has to be hashed and there is room. A longer one is judged at once.
+fn keep_block<A: Allocator>(
+    wanted: &Wanted,
+    block: &[u8],
+    blocks: &mut Blocks<A>,
+) -> Result<BlockCheck, AllocError>
+    ensures more { (more : List ℕ) × (blocks.new ≡ blocks.old ++ more) }
+    ensures verdict { IfOk result (λ check. verdict_with check (sha1 (drop (length blocks.old) blocks.new))
+        ≡ verdict_of wanted.now block.now) }
+{
+    let Wanted::Sha1(wanted) = wanted else {
+        return Ok(BlockCheck::Known(Verdict::Unchecked));
+    };
+    let check = BlockCheck::Compare(*wanted);
+    if !blocks.fits(block.len() as u64) {
+        return Ok(BlockCheck::Known(check.verdict(&digest(block))));
+    }
+    blocks.push(block)?;
+    Ok(check)
+}
+
 /// Reads a block of the source, and keeps it if it has to be hashed and there is room. A longer one is judged as it is
 /// read. If no digest of it can be checked, nothing is read.
 fn read_block<S: Source, A: Allocator>(
@@ -188,250 +212,152 @@ fn read_block<S: Source, A: Allocator>(
     }
 }
 
-/// How a head is checked.
-#[derive(Drop)]
-enum HeadCheck<A: Allocator> {
-    /// Nothing is wrong with it. Only the digest can be.
-    Faultless,
-    /// By its fields.
-    Fields(Fields<A>),
-}
-
-/// A head that was read again, and the digest that it asks for of its block.
-#[derive(Drop)]
-struct RereadHead<A: Allocator> {
-    check: HeadCheck<A>,
-    wanted: Wanted,
-}
-
-/// The good head that a text is, if it is a whole one with a block of this length. Its fields are kept only if more
-/// than the digest can be wrong.
-fn checked_head_in<A: Allocator + Copy>(
-    alloc: A,
-    text: &[u8],
-    block_len: u64,
-) -> Result<RereadHead<A>, RereadFault>
-    ensures { (r : Record) → head_of any_fields text.now
-        ≡ Ok (record { version = r.version; fields = r.fields; len = length text.now; block_len = block_len })
-        → head_fault r.fields ≡ None
-        → MatchResult result (IsHeadReread r.fields block_len) (λ e. e ≡ RereadFault.Memory) }
-{
-    if let Some(wanted) = faultless_head(text, block_len) {
-        return Ok(RereadHead {
-            check: HeadCheck::Faultless,
-            wanted,
-        });
-    }
-    let head = match good_head_in(alloc, text, block_len) {
-        Ok(head) => head,
-        Err(fault) => return Err(fault),
-    };
-    let wanted = head.wanted();
-    Ok(RereadHead {
-        check: HeadCheck::Fields(head.into_fields()),
-        wanted,
-    })
-}
-
-/// Reads the head of a record again, through a buffer that it fits.
-fn reread_checked<S: Source, A: Allocator + Copy>(
-    alloc: A,
-    source: &mut S,
-    row: &Row<'_>,
-    buf: &mut [u8],
-) -> Result<RereadHead<A>, RereadFault>
-    requires { HasRoomFor row.now buf.old }
-    ensures read { IfHeld (S.seen source.old).holds (λ bytes. (is : HasHeadOf row.now bytes) →
-        IfOk result (IsHeadReread is.placed.content.fields row.now.block_len)) }
-    ensures size { IfOk result (λ head. row.now.offset ≤ row.now.block_start) }
-    ensures reads { ReadsHeads (row.now ∷ []) (S.seen source.old) (S.seen source.new) }
-    ensures fails { FailsBy (HasHeadOf row.now) (reread_result result) (S.seen source.old) (S.seen source.new) }
-{
-    let len = match reread_text(source, row, buf) {
-        Ok(len) => len,
-        Err(fault) => return Err(fault),
-    };
-    checked_head_in(alloc, &buf[..len], row.block_len)
-}
-
-/// A record whose block is judged later: how its head is checked, how long its block is, how that is judged, and where
-/// what is kept of the block is among the bytes of all blocks.
-#[derive(Drop)]
-struct Waiting<A: Allocator> {
-    head: HeadCheck<A>,
-    block_len: u64,
+/// A block that waits: how it is judged, and where its bytes are among those that are kept.
+#[derive(Clone, Copy)]
+struct Waiting {
     check: BlockCheck,
     start: usize,
     end: usize,
 }
 
-/// Reads the head of a record again, and its block too if a digest of it can be checked.
-fn read_waiting<S: Source, A: Allocator + Copy>(
-    alloc: A,
-    source: &mut S,
-    row: &Row<'_>,
-    blocks: &mut Blocks<A>,
-    buf: &mut [u8],
-) -> Result<Waiting<A>, RereadFault>
-    requires { max_head ≤ length buf.old }
-    ensures more { (more : List ℕ) × (blocks.new ≡ blocks.old ++ more) }
-    ensures place { IfOk result (λ w. (w.start ≡ length blocks.old) × (w.end ≡ length blocks.new)) }
-    ensures found { IfHeld (S.seen source.old).holds (λ bytes. (is : HasTextOf row.now bytes) → IfOk result (λ w.
-        findings_with w (sha1 (drop (length blocks.old) blocks.new)) ≡ own_findings is.placed.content)) }
-    ensures reads { ReadsOnly (IsInRow row.now) (row_len row.now) (S.seen source.old) (S.seen source.new) }
-    ensures fails { FailsBy (HasTextOf row.now) (reread_result result) (S.seen source.old) (S.seen source.new) }
-{
-    let start = blocks.len();
-    let head = match reread_checked(alloc, source, row, buf) {
-        Ok(head) => head,
-        Err(fault) => return Err(fault),
-    };
-    match read_block(
-        source,
-        row.block_start,
-        row.block_len,
-        &head.wanted,
-        blocks,
-        buf,
-    ) {
-        Ok(check) => Ok(Waiting {
-            head: head.check,
-            block_len: row.block_len,
-            check,
-            start,
-            end: blocks.len(),
-        }),
-        Err(fault) => Err(fault),
+impl Waiting {
+    /// Whether the digest of its block differs from the one that is wanted.
+    fn is_bad(&self, digest: &[u8; DIGEST_LEN]) -> bool
+        ensures { result ≡ is_bad (verdict_with self.now.check digest.now) }
+    {
+        self.check.verdict(digest).is_bad()
     }
 }
 
-/// Reads the head of the next record again, and its block if a digest of it can be checked, and adds it to those that
-/// wait.
-fn add_waiting<S: Source, A: Allocator + Copy>(
-    alloc: A,
-    source: &mut S,
-    row: &Row<'_>,
-    waiting: &mut Vec<Waiting<A>, A>,
+/// Adds a block that is in memory to those that wait. If memory is refused, none is added.
+fn add_block<A: Allocator>(
+    waiting: &mut Vec<Waiting, A>,
     blocks: &mut Blocks<A>,
+    wanted: &Wanted,
+    block: &[u8],
+) -> Result<(), AllocError>
+    requires { AreKeptIn (length blocks.old) waiting.old.items }
+    ensures kept { AreKeptIn (length blocks.new) waiting.new.items }
+    ensures ok { OnOk result (are_bad_in blocks.new waiting.new.items
+        ≡ are_bad_in blocks.old waiting.old.items ++ is_bad (verdict_of wanted.now block.now) ∷ []) }
+    ensures err { OnErr result (are_bad_in blocks.new waiting.new.items
+        ≡ are_bad_in blocks.old waiting.old.items) }
+    ensures count { length waiting.new.items ≤ length waiting.old.items + 1 }
+{
+    waiting.reserve(1)?;
+    let start = blocks.len();
+    let check = keep_block(wanted, block, blocks)?;
+    waiting.push_reserved(Waiting {
+        check,
+        start,
+        end: blocks.len(),
+    });
+    Ok(())
+}
+
+/// Adds a block of the source to those that wait. If it isn't read, or memory is refused, none is added.
+fn add_read_block<S: Source, A: Allocator>(
+    waiting: &mut Vec<Waiting, A>,
+    blocks: &mut Blocks<A>,
+    source: &mut S,
+    at: u64,
+    len: u64,
+    wanted: &Wanted,
     buf: &mut [u8],
 ) -> Result<(), RereadFault>
-    requires room { max_head ≤ length buf.old }
+    requires buf { 0 < length buf.old }
     requires kept { AreKeptIn (length blocks.old) waiting.old.items }
     ensures kept { AreKeptIn (length blocks.new) waiting.new.items }
-    ensures added { IfHeld (S.seen source.old).holds (λ bytes. (is : HasTextOf row.now bytes) → OnOk result
-        (all_findings_in blocks.new waiting.new.items
-        ≡ all_findings_in blocks.old waiting.old.items ++ own_findings is.placed.content ∷ [])) }
-    ensures reads { ReadsOnly (IsInRow row.now) (row_len row.now) (S.seen source.old) (S.seen source.new) }
-    ensures fails { FailsBy (HasTextOf row.now) (reread_result result) (S.seen source.old) (S.seen source.new) }
+    ensures added { IfHeld (S.seen source.old).holds (λ bytes. OnOk result (are_bad_in blocks.new waiting.new.items
+        ≡ are_bad_in blocks.old waiting.old.items ++ is_bad (verdict_of wanted.now (take len (drop at bytes))) ∷ [])) }
+    ensures more { OnOk result ((bad : Bool) × (are_bad_in blocks.new waiting.new.items
+        ≡ are_bad_in blocks.old waiting.old.items ++ bad ∷ [])) }
+    ensures err { OnErr result (are_bad_in blocks.new waiting.new.items
+        ≡ are_bad_in blocks.old waiting.old.items) }
+    ensures count { length waiting.new.items ≤ length waiting.old.items + 1 }
+    ensures reads { ReadsRange at (judged_len wanted.now len) (S.seen source.old) (S.seen source.new) }
+    ensures fails { FailsBy (HasRange at len) (reread_result result) (S.seen source.old) (S.seen source.new) }
 {
     let Ok(()) = waiting.reserve(1) else {
         return Err(RereadFault::Memory);
     };
-    let read = match read_waiting(alloc, source, row, blocks, buf) {
-        Ok(read) => read,
+    let start = blocks.len();
+    let check = match read_block(source, at, len, wanted, blocks, buf) {
+        Ok(check) => check,
         Err(fault) => return Err(fault),
     };
-    waiting.push_reserved(read);
+    waiting.push_reserved(Waiting {
+        check,
+        start,
+        end: blocks.len(),
+    });
     Ok(())
 }
 
-/// What is kept of the block of each record that waits.
-fn messages<'a, A: Allocator + Copy>(
-    alloc: A,
-    waiting: &[Waiting<A>],
-    blocks: &'a [u8],
-) -> Result<Vec<&'a [u8], A>, AllocError>
-    requires { AreKeptIn (length blocks.now) waiting.now }
-    ensures { IfOk result (λ messages. map (λ message. sha1 message.now) messages.items
-        ≡ map (digest_in blocks.now) waiting.now) }
+/// Writes to its place what is kept of each block that waits.
+fn take_messages<'a>(waiting: &[Waiting], blocks: &'a [u8], messages: &mut [&'a [u8]])
+    requires kept { AreKeptIn (length blocks.now) waiting.now }
+    requires places { length messages.old ≡ length waiting.now }
+    ensures { map (λ message. sha1 message.now) messages.new ≡ map (digest_in blocks.now) waiting.now }
 {
-    let mut messages = Vec::new(alloc);
-    'taking: for one in waiting {
-        messages.push(&blocks[one.start..one.end])?;
-    }
-    Ok(messages)
-}
-
-/// Adds the findings of a record, by the digest of its block.
-fn add_one<A: Allocator + Copy>(
-    alloc: A,
-    waiting: &Waiting<A>,
-    digest: &[u8; DIGEST_LEN],
-    findings: &mut OwnFindings<A>,
-) -> Result<(), AllocError>
-    ensures { OnOk result (map all_of findings.new ≡ map all_of findings.old
-        ++ findings_with waiting.now digest.now ∷ []) }
-{
-    let verdict = waiting.check.verdict(digest);
-    match &waiting.head {
-        HeadCheck::Faultless => findings.add_faultless_judged(verdict),
-        HeadCheck::Fields(fields) => findings.add_judged(alloc, fields, waiting.block_len, verdict),
+    'taking: for i in 0..waiting.len() {
+        let one = waiting[i];
+        messages[i] = &blocks[one.start..one.end];
     }
 }
 
-/// Adds the findings of each record, by the digest of its block.
-fn add_each<A: Allocator + Copy>(
-    alloc: A,
-    waiting: &[Waiting<A>],
-    digests: &[[u8; DIGEST_LEN]],
-    findings: &mut OwnFindings<A>,
-) -> Result<(), AllocError>
-    requires { length digests.now ≡ length waiting.now }
+/// Writes to its place whether the digest of each block that waits differs from the one that is wanted.
+fn compare_each(waiting: &[Waiting], digests: &[[u8; DIGEST_LEN]], bad: &mut [bool])
+    requires digests { length digests.now ≡ length waiting.now }
+    requires places { length bad.old ≡ length waiting.now }
     ensures { (blocks : List ℕ) → digests.now ≡ map (digest_in blocks) waiting.now →
-        OnOk result (map all_of findings.new ≡ map all_of findings.old ++ all_findings_in blocks waiting.now) }
+        bad.new ≡ are_bad_in blocks waiting.now }
 {
-    'adding: for i in 0..waiting.len() {
-        add_one(alloc, &waiting[i], &digests[i], findings)?;
+    'comparing: for i in 0..waiting.len() {
+        bad[i] = waiting[i].is_bad(&digests[i]);
     }
-    Ok(())
 }
 
-/// Judges the blocks of the records that wait, and adds what is found of each.
-fn judge_waiting<A: Allocator + Copy>(
-    alloc: A,
-    waiting: &[Waiting<A>],
-    blocks: &[u8],
-    findings: &mut OwnFindings<A>,
-) -> Result<(), AllocError>
-    requires { AreKeptIn (length blocks.now) waiting.now }
-    ensures { OnOk result (map all_of findings.new ≡ map all_of findings.old
-        ++ all_findings_in blocks.now waiting.now) }
+/// Hashes the blocks that wait, side by side, and writes to its place whether the digest of each differs from the one
+/// that is wanted.
+fn judge_each(waiting: &[Waiting], blocks: &[u8], bad: &mut [bool])
+    requires kept { AreKeptIn (length blocks.now) waiting.now }
+    requires few { length waiting.now ≤ MAX_WAITING }
+    requires places { length bad.old ≡ length waiting.now }
+    ensures { bad.new ≡ are_bad_in blocks.now waiting.now }
 {
-    let messages = messages(alloc, waiting, blocks)?;
-    let mut digests = vec![in alloc; [0u8; DIGEST_LEN]; messages.len()]?;
-    digest_each(&messages, &mut digests);
-    add_each(alloc, waiting, &digests, findings)
+    let none: &[u8] = &[];
+    let mut messages = [none; MAX_WAITING];
+    let mut digests = [[0u8; DIGEST_LEN]; MAX_WAITING];
+    let messages = &mut messages[..waiting.len()];
+    let digests = &mut digests[..waiting.len()];
+    take_messages(waiting, blocks, messages);
+    digest_each(messages, digests);
+    compare_each(waiting, digests, bad)
 }
 
-/// Whether no further record, with a block of this length, should wait.
-fn is_full<A: Allocator>(waiting: &[Waiting<A>], blocks: &Blocks<A>, len: u64) -> bool
-    ensures { (result ≡ false) ↔ ((length waiting.now < MAX_WAITING)
-        × ((len ≤ MAX_KEPT_BLOCK) → length blocks.now + len ≤ MAX_KEPT)) }
-{
-    waiting.len() >= MAX_WAITING || (len <= MAX_KEPT_BLOCK && !blocks.fits(len))
-}
-
-/// Records that wait until their blocks are judged. Contracts see the findings that each of them alone shows.
+/// Blocks that wait until they are hashed side by side. Contracts see of each whether its digest differs from the one
+/// that is wanted.
 #[derive(Drop)]
 pub(crate) struct Batch<A: Allocator> {
-    waiting: Vec<Waiting<A>, A>,
+    waiting: Vec<Waiting, A>,
     blocks: Blocks<A>,
 }
 
 impl<A: Allocator> Model for Batch<A> {
-    ghost use Rattle.std.specs.Prelude.{List, length};
-    ghost use Rattle.warc_record.specs.Findings.{SeenFinding};
-    ghost use Rattle.warc_checking.specs.Batch.{AreKeptIn, all_findings_in};
+    ghost use Rattle.std.specs.Prelude.{◌≤◌, Bool, List, length};
+    ghost use Rattle.warc_checking.specs.Batch.{AreKeptIn, are_bad_in};
+    ghost use Rattle.warc_checking.specs.declared.batch.TheConstants.{MAX_WAITING};
 
-    ghost Value = { List (List SeenFinding) };
+    ghost Value = { List Bool };
 
-    ghost view = { λ b. all_findings_in b.blocks b.waiting.items };
+    ghost view = { λ b. are_bad_in b.blocks b.waiting.items };
 
-    ghost invariant = { λ b. AreKeptIn (length b.blocks) b.waiting.items };
+    ghost invariant = { λ b. AreKeptIn (length b.blocks) b.waiting.items × (length b.waiting.items ≤ MAX_WAITING) };
 }
 
 impl<A: Allocator + Copy> Batch<A> {
-    /// Of no records.
+    /// Of no blocks.
     pub(crate) fn new(alloc: A) -> Batch<A>
         ensures { result ≡ [] }
     {
@@ -440,49 +366,88 @@ impl<A: Allocator + Copy> Batch<A> {
             blocks: Blocks::new(alloc),
         }
     }
+}
 
-    /// Judges the blocks of the records that wait, and adds what is found of each. Then none waits.
-    pub(crate) fn judge(
-        &mut self,
-        alloc: A,
-        findings: &mut OwnFindings<A>,
-    ) -> Result<(), AllocError>
-        ensures { OnOk result ((map all_of findings.new ≡ map all_of findings.old ++ self.old) × (self.new ≡ [])) }
+impl<A: Allocator> Batch<A> {
+    /// Whether those that wait are as many as may wait, or have no room for a block of this length, so that they should
+    /// be judged first.
+    pub(crate) fn is_full(&self, len: u64) -> bool
+        ensures { result ≡ false → length self.now < MAX_WAITING }
     {
-        judge_waiting(
-            alloc,
-            self.waiting.as_slice(),
-            self.blocks.bytes(),
-            findings,
-        )?;
-        self.waiting.clear();
-        self.blocks.clear();
+        self.waiting.len() >= MAX_WAITING || (len <= MAX_KEPT_BLOCK && !self.blocks.fits(len))
+    }
+
+    /// Adds a block that is in memory. If memory is refused, none is added.
+    pub(crate) fn add(&mut self, wanted: &Wanted, block: &[u8]) -> Result<(), AllocError>
+        requires { length self.old < MAX_WAITING }
+        ensures ok { OnOk result (self.new ≡ self.old ++ is_bad (verdict_of wanted.now block.now) ∷ []) }
+        ensures err { OnErr result (self.new ≡ self.old) }
+    {
+        add_block(&mut self.waiting, &mut self.blocks, wanted, block)
+    }
+
+    /// Adds a block of the source, which is read now, if a digest of it can be checked. If the read fails, or memory is
+    /// refused, none is added.
+    pub(crate) fn add_read<S: Source>(
+        &mut self,
+        source: &mut S,
+        at: u64,
+        len: u64,
+        wanted: &Wanted,
+        buf: &mut [u8],
+    ) -> Result<(), RereadFault>
+        requires few { length self.old < MAX_WAITING }
+        requires room { 0 < length buf.old }
+        ensures added { IfHeld (S.seen source.old).holds (λ bytes.
+            OnOk result (self.new ≡ self.old ++ is_bad (verdict_of wanted.now (take len (drop at bytes))) ∷ [])) }
+        ensures more { OnOk result ((bad : Bool) × (self.new ≡ self.old ++ bad ∷ [])) }
+        ensures err { OnErr result (self.new ≡ self.old) }
+        ensures reads { ReadsRange at (judged_len wanted.now len) (S.seen source.old) (S.seen source.new) }
+        ensures fails { FailsBy (HasRange at len) (reread_result result) (S.seen source.old) (S.seen source.new) }
+    {
+        add_read_block(
+            &mut self.waiting,
+            &mut self.blocks,
+            source,
+            at,
+            len,
+            wanted,
+            buf,
+        )
+    }
+
+    /// Adds a block whose verdict is known. If memory is refused, none is added.
+    pub(crate) fn add_known(&mut self, verdict: Verdict) -> Result<(), AllocError>
+        requires { length self.old < MAX_WAITING }
+        ensures ok { OnOk result (self.new ≡ self.old ++ is_bad verdict ∷ []) }
+        ensures err { OnErr result (self.new ≡ self.old) }
+    {
+        self.waiting.reserve(1)?;
+        let end = self.blocks.len();
+        self.waiting.push_reserved(Waiting {
+            check: BlockCheck::Known(verdict),
+            start: end,
+            end,
+        });
         Ok(())
     }
 
-    /// Reads the head of the next record again, and its block if a digest of it can be checked. Those that wait are
-    /// judged first if they are many.
-    pub(crate) fn add<S: Source>(
-        &mut self,
-        alloc: A,
-        source: &mut S,
-        row: &Row<'_>,
-        findings: &mut OwnFindings<A>,
-        buf: &mut [u8],
-    ) -> Result<(), RereadFault>
-        requires { max_head ≤ length buf.old }
-        ensures added { IfHeld (S.seen source.old).holds (λ bytes. (is : HasTextOf row.now bytes) → OnOk result
-            (map all_of findings.new ++ self.new ≡ (map all_of findings.old ++ self.old)
-            ++ own_findings is.placed.content ∷ [])) }
-        ensures reads { ReadsOnly (IsInRow row.now) (row_len row.now) (S.seen source.old) (S.seen source.new) }
-        ensures fails { FailsBy (HasTextOf row.now) (reread_result result) (S.seen source.old) (S.seen source.new) }
+    /// Hashes the blocks that wait, side by side, writes of each whether its digest differs from the one that is
+    /// wanted, and returns how many they are. Then none waits. It takes no memory.
+    pub(crate) fn judge(&mut self, bad: &mut [bool; MAX_WAITING]) -> usize
+        ensures bad { take result bad.new ≡ self.old }
+        ensures count { result ≡ length self.old }
+        ensures few { result ≤ MAX_WAITING }
+        ensures none { self.new ≡ [] }
     {
-        if is_full(self.waiting.as_slice(), &self.blocks, row.block_len) {
-            match self.judge(alloc, findings) {
-                Ok(()) => {}
-                Err(_) => return Err(RereadFault::Memory),
-            }
-        }
-        add_waiting(alloc, source, row, &mut self.waiting, &mut self.blocks, buf)
+        let count = self.waiting.len();
+        judge_each(
+            self.waiting.as_slice(),
+            self.blocks.bytes(),
+            &mut bad[..count],
+        );
+        self.waiting.clear();
+        self.blocks.clear();
+        count
     }
 }

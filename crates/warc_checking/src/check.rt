@@ -1,6 +1,6 @@
 //! What is wrong with records that can be read: each is read and judged again, and then a line is written for each
 //! finding.
-ghost use Rattle.std.specs.Prelude.{◌≡◌, ◌++◌, ◌≤◌, List, [], IfOk, OnOk, length, map};
+ghost use Rattle.std.specs.Prelude.{◌≡◌, ◌≤◌, List, [], IfOk, OnOk, length, map};
 ghost use Rattle.warc_frame.specs.Effects.{FailsBy, ReadsOnly};
 ghost use Rattle.warc_frame.specs.Record.{max_head};
 ghost use Rattle.warc_frame.specs.Seen.{IfHeld};
@@ -13,7 +13,7 @@ ghost use Rattle.warc_checking.specs.Checks.{Checks};
 ghost use Rattle.warc_checking.specs.Judged.{own_findings};
 ghost use Rattle.warc_checking.specs.OwnFindings.{all_of};
 
-use crate::batch::Batch;
+use crate::judging::Judging;
 use crate::own_findings::OwnFindings;
 use crate::writing::tell_rows;
 use std::alloc::Allocator;
@@ -66,15 +66,14 @@ fn judge_each<S: Source, A: Allocator + Copy>(
     alloc: A,
     source: &mut S,
     rows: &Rows<A>,
-    findings: &mut OwnFindings<A>,
-    batch: &mut Batch<A>,
+    judging: &mut Judging<A>,
     head: &mut [u8],
 ) -> Result<(), RereadFault>
     requires head { max_head ≤ length head.old }
-    requires none { map all_of findings.old ++ batch.old ≡ [] }
+    requires none { judging.old ≡ [] }
     ensures judged { IfHeld (S.seen source.old).holds (λ bytes. (records : List Placed)
         → AreCheckable bytes records rows.now
-        → OnOk result (map all_of findings.new ≡ map own_findings (contents records))) }
+        → OnOk result (judging.new ≡ map own_findings (contents records))) }
     ensures reads { ReadsRows rows.now (S.seen source.old) (S.seen source.new) }
     ensures fails { FailsBy (HasRecordsOf rows.now) (reread_result result) (S.seen source.old) (S.seen source.new) }
 {
@@ -82,15 +81,12 @@ fn judge_each<S: Source, A: Allocator + Copy>(
         let Some(row) = rows.get(position) else {
             unreachable!()
         };
-        match batch.add(alloc, source, &row, findings, head) {
+        match judging.add_reread(alloc, source, &row, head) {
             Ok(()) => {}
             Err(fault) => return Err(fault),
         }
     }
-    match batch.judge(alloc, findings) {
-        Ok(()) => Ok(()),
-        Err(_) => Err(RereadFault::Memory),
-    }
+    Ok(())
 }
 
 /// The findings that each record alone shows. Each head is read again, and each block whose digest can be checked.
@@ -108,10 +104,9 @@ fn judge_rows<S: Source, A: Allocator + Copy>(
     let Ok(mut head) = head_buffer(alloc) else {
         return Err(RereadFault::Memory);
     };
-    let mut batch = Batch::new(alloc);
-    let mut findings = OwnFindings::new(alloc);
-    match judge_each(alloc, source, rows, &mut findings, &mut batch, &mut head) {
-        Ok(()) => Ok(findings),
+    let mut judging = Judging::new(alloc);
+    match judge_each(alloc, source, rows, &mut judging, &mut head) {
+        Ok(()) => Ok(judging.into_findings()),
         Err(fault) => Err(fault),
     }
 }

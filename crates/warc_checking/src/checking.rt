@@ -7,6 +7,7 @@ ghost use Rattle.warc_reading.specs.Opening.{Opens};
 ghost use Rattle.warc_checking.specs.Checks.{WritesFindings};
 ghost use Rattle.warc_checking.specs.Judged.{IsJudgedOf, judged_of, source_judged};
 
+use crate::judging::Judging;
 use crate::own_findings::OwnFindings;
 use crate::writing::tell_rows;
 use std::alloc::{Allocator, Global};
@@ -54,19 +55,20 @@ impl<S: Source, A: Allocator> Checked<S, A> {
 }
 
 impl<S: Source, A: Allocator + Copy> Checked<S, A> {
-    /// Reads the source as a listing is read, and keeps with each row what its record has wrong: 9 bytes for each
-    /// record, and for each finding but a wrong digest 24 bytes and its field's name.
+    /// Reads the source as a listing is read, 1 MiB at a time, and keeps with each row what its record has wrong:
+    /// 9 bytes for each record, and for each finding but a wrong digest 24 bytes and its field's name. While it reads,
+    /// it keeps at most 1 MiB of blocks, which are hashed side by side.
     pub fn open(alloc: A, source: S) -> Result<Checked<S, A>, (Fault, S)>
         ensures { Opens IsJudgedOf (S.seen source) (S.seen (source_judged result)) (judged_of result) }
     {
         let mut source = source;
-        let findings = OwnFindings::new(alloc);
-        let (answer, rows, findings) = read_on(alloc, &mut source, Rows::new(alloc), findings);
+        let judging = Judging::new(alloc);
+        let (answer, rows, judging) = read_on(alloc, &mut source, Rows::new(alloc), judging);
         match answer {
             Ok(()) => Ok(Checked {
                 source,
                 rows,
-                findings,
+                findings: judging.into_findings(),
             }),
             Err(fault) => Err((fault, source)),
         }

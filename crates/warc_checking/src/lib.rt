@@ -4,6 +4,7 @@
 mod batch;
 mod check;
 mod checking;
+mod judging;
 pub mod laws;
 mod lines;
 mod own_findings;

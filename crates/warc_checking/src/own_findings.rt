@@ -3,14 +3,11 @@ ghost use Rattle.std.specs.Prelude.{◌≡◌, ℕ, ◌+◌, ◌≤◌, ◌<◌,
 ghost use Rattle.std.specs.List.{filter};
 ghost use Rattle.warc_frame.specs.Count.{capped};
 ghost use Rattle.warc_frame.specs.Effects.{Puts};
-ghost use Rattle.warc_reading.specs.Archive.{contents};
 ghost use Rattle.warc_record.specs.Findings.{SeenFinding, finding_seen, findings_of, once};
 ghost use Rattle.warc_record.specs.Kinds.{is_known};
 ghost use Rattle.warc_record.specs.Readings.{kind_of};
 ghost use Rattle.warc_checking.specs.Lines.{record_lines};
-ghost use Rattle.warc_checking.specs.Judged.{own_findings};
 ghost use Rattle.warc_checking.specs.OwnFindings.{AreEnds, AreNamed, Found, IsNamed, IsPart, all_found, all_of, bad_at, each_with, found_at, found_by_part, finding_in, is_between, is_marked, findings_of_part, last_end, finding_by_number, mark_at, marked, shown_by, shown_faultless, state_by, with_both, with_used};
-ghost use Rattle.warc_value.specs.Digests.{is_bad};
 
 use crate::lines::put_finding;
 use std::alloc::{AllocError, Allocator};
@@ -19,10 +16,7 @@ use warc_field::Fields;
 use warc_frame::laws::went_out_of_longer;
 use warc_frame::names::WARC_TYPE;
 use warc_frame::{OutBuffer, SendFault, Sink};
-use warc_quick::{QuickHead, QuickRecord};
-use warc_reading::Keep;
 use warc_record::{ArchiveFacts, Finding, Kind};
-use warc_value::Verdict;
 
 /// The number of the finding that a digest differs: N4.
 const DIGEST_NUMBER: u8 = 4;
@@ -685,26 +679,6 @@ impl<A: Allocator + Copy> OwnFindings<A> {
         self.states.push_reserved(state);
         Ok(())
     }
-
-    /// Adds the findings of the next record, by the fields of its head, the length of its block and the verdict on its
-    /// digest. If memory is refused, none is added.
-    pub(crate) fn add_judged(
-        &mut self,
-        alloc: A,
-        fields: &Fields<A>,
-        block_len: u64,
-        verdict: Verdict,
-    ) -> Result<(), AllocError>
-        ensures ok { OnOk result (self.new ≡ self.old ++ shown_by fields.now block_len (is_bad verdict) ∷ []) }
-        ensures err { OnErr result (self.new ≡ self.old) }
-    {
-        let position = self.len();
-        self.add(alloc, fields, block_len)?;
-        if verdict.is_bad() {
-            self.mark(position);
-        }
-        Ok(())
-    }
 }
 
 impl<A: Allocator> OwnFindings<A> {
@@ -718,26 +692,12 @@ impl<A: Allocator> OwnFindings<A> {
     /// Adds the next record, with which nothing can be wrong but its digest, which isn't known to differ. If memory is
     /// refused, none is added.
     pub(crate) fn add_faultless(&mut self) -> Result<(), AllocError>
-        ensures ok { OnOk result (self.new ≡ self.old ++ shown_faultless false ∷ []) }
+        ensures ok { OnOk result (self.new ≡ self.old ++ shown_faultless ∷ []) }
         ensures err { OnErr result (self.new ≡ self.old) }
     {
         self.states.reserve(1)?;
         self.others.add_none()?;
         self.states.push_reserved(DigestState::Unmarked);
-        Ok(())
-    }
-
-    /// Adds the next record, with which nothing can be wrong but its digest, by the verdict on that. If memory is
-    /// refused, none is added.
-    pub(crate) fn add_faultless_judged(&mut self, verdict: Verdict) -> Result<(), AllocError>
-        ensures ok { OnOk result (self.new ≡ self.old ++ shown_faultless (is_bad verdict) ∷ []) }
-        ensures err { OnErr result (self.new ≡ self.old) }
-    {
-        let position = self.len();
-        self.add_faultless()?;
-        if verdict.is_bad() {
-            self.mark(position);
-        }
         Ok(())
     }
 
@@ -776,48 +736,5 @@ impl<A: Allocator> OwnFindings<A> {
             used_id: used,
         };
         self.others.put(position, facts, buffer, out)
-    }
-}
-
-impl<A: Allocator + Copy> Keep<A> for OwnFindings<A> {
-    ghost keeps = { λ l records. map all_of l ≡ map own_findings (contents records) };
-
-    ghost judges = { true };
-
-    ghost takes = { λ _. false };
-
-    fn judges() -> bool {
-        true
-    }
-
-    fn takes(_head: &QuickHead<'_>) -> bool {
-        false
-    }
-
-    fn keep(
-        &mut self,
-        alloc: A,
-        _position: usize,
-        fields: &Fields<A>,
-        _block_start: u64,
-        block_len: u64,
-        verdict: Verdict,
-    ) -> Result<(), AllocError> {
-        self.add_judged(alloc, fields, block_len, verdict)
-    }
-
-    fn keep_plain(
-        &mut self,
-        _alloc: A,
-        _position: usize,
-        _found: &QuickRecord<'_>,
-        _block_start: u64,
-    ) -> Result<(), AllocError> {
-        // None is taken: blocks are judged.
-        Ok(())
-    }
-
-    fn truncate(&mut self, count: usize) {
-        OwnFindings::truncate(self, count);
     }
 }

@@ -7,21 +7,18 @@ use Rattle.warc_reading.proofs.ReadLemmas.{reads_row, reads_rows}
 use Rattle.warc_checking.proofs.JudgeLemmas.{all_judged, judged_more}
 use Rattle.warc_checking.proofs.check.judge_each.Goals as goal
 
-pub returns-in-Ok-judge-clause-judged : goal.returns-in-Ok-judge-clause-judged
-returns-in-Ok-judge-clause-judged g c = λ bytes held records can.
-    c.in-Ok-judge.ensures.0 ∙ c.judging.invariant.found bytes records held can
+pub returns-clause-judged : goal.returns-clause-judged
+returns-clause-judged g c = λ bytes held records can.
+    c.judging.invariant.found bytes records held can
     ∙ all_judged bytes records c.args.rows.now c.judging.position can (search rules)
 
-pub returns-in-Ok-judge-clause-reads : goal.returns-in-Ok-judge-clause-reads
-returns-in-Ok-judge-clause-reads g c = reads_rows row_len c.args.rows.now c.judging.position c.judging.invariant.texts
-
-pub returns-in-Err-judge-clause-reads : goal.returns-in-Err-judge-clause-reads
-returns-in-Err-judge-clause-reads g c = reads_rows row_len c.args.rows.now c.judging.position c.judging.invariant.texts
+pub returns-clause-reads : goal.returns-clause-reads
+returns-clause-reads g c = reads_rows row_len c.args.rows.now c.judging.position c.judging.invariant.texts
 
 pub returns-in-Err-clause-reads : goal.returns-in-Err-clause-reads
 returns-in-Err-clause-reads g c =
     let row_is : slice_get c.args.rows.now c.judging.position ≡ Some c.in-Some.row = sym c.get.ensures ∙ c.in-Some.is in
-    let more = reads_row row_len c.args.rows.now c.judging.position c.in-Some.row row_is c.judging.invariant.texts c.add.ensures.reads in
+    let more = reads_row row_len c.args.rows.now c.judging.position c.in-Some.row row_is c.judging.invariant.texts c.add_reread.ensures.reads in
     reads_rows row_len c.args.rows.now (c.judging.position + 1) more
 
 pub returns-in-Err-clause-fails : goal.returns-in-Err-clause-fails
@@ -35,12 +32,12 @@ judging-preserved g c =
     let i = c.judging.position in
     let row_is : slice_get c.args.rows.now i ≡ Some c.in-Some.row = sym c.get.ensures ∙ c.in-Some.is in
     record {
-      room = omega (arith, c.judging.invariant.room, c.add.auto.buf);
+      room = omega (arith, c.judging.invariant.room, c.add_reread.auto.buf);
       found = λ bytes records held can.
           let at = record_at bytes records c.args.rows.now i c.in-Some.row can row_is in
           let is : HasTextOf c.in-Some.row bytes = record { placed = at.0; short = can.placed.short; has = at.3; written = can.placed.each i at.0 at.1; row_is = at.2 } in
           judged_more records i at.0 _ _ at.1 (c.in-Ok.ensures.added bytes (c.judging.invariant.texts.kept ∙ held) is)
           (c.judging.invariant.found bytes records held can);
-      texts = reads_row row_len c.args.rows.now i c.in-Some.row row_is c.judging.invariant.texts c.add.ensures.reads;
+      texts = reads_row row_len c.args.rows.now i c.in-Some.row row_is c.judging.invariant.texts c.add_reread.ensures.reads;
       sound = search rules;
     }

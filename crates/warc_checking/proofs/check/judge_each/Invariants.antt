@@ -1,4 +1,4 @@
-use Rattle.std.proofs.Common.{◌≡◌, ◌≤◌, ◌++◌, ℕ, List, Some, length, map, take}
+use Rattle.std.proofs.Common.{◌≡◌, ◌≤◌, ℕ, List, Some, length, map, take}
 use Rattle.std.specs.List.{sum_by}
 use Rattle.warc_frame.specs.Effects.{ReadsOnly}
 use Rattle.warc_frame.specs.Record.{max_head}
@@ -7,7 +7,6 @@ use Rattle.warc_reading.specs.Placing.{IsInAnyRow}
 use Rattle.warc_reading.specs.Rereading.{AreCheckable, row_len}
 use Rattle.warc_reading.specs.Row.{Placed}
 use Rattle.warc_checking.specs.Judged.{own_findings}
-use Rattle.warc_checking.specs.OwnFindings.{all_of}
 use Rattle.warc_checking.proofs.check.judge_each.Given as goal
 
 -- the findings of the records so far are added, and nothing has failed
@@ -15,7 +14,7 @@ abbrev pub invariant-judging : goal.invariant-judging
 invariant-judging g l = record {
   room : max_head ≤ length l.head;
   found : (bytes : List ℕ) (records : List Placed) → (g.S.Source.seen l.fn.source).holds ≡ Some bytes → AreCheckable bytes records l.rows
-      → map all_of l.findings ++ l.batch ≡ map own_findings (contents (take l.position records));
+      → l.judging ≡ map own_findings (contents (take l.position records));
   texts : ReadsOnly (IsInAnyRow l.rows) (sum_by row_len (take l.position l.rows))
       (g.S.Source.seen l.fn.source)
       (g.S.Source.seen l.source);

@@ -1,0 +1,18 @@
+use Rattle.std.proofs.Common.{[], ◌∷◌, ◌++◌, false, ap, ◌∙◌}
+use Rattle.warc_record.specs.Readings.{digest_wanted}
+use Rattle.warc_checking.specs.OwnFindings.{shown_by}
+use Rattle.warc_checking.proofs.JudgingLemmas.{shown_then}
+use Rattle.warc_checking.proofs.judging.add_good_head.Goals as goal
+
+pub returns-in-Ok-add-clause-is : goal.returns-in-Ok-add-clause-is
+returns-in-Ok-add-clause-is g c = λ r reads good.
+    let same = c.in-Ok.ensures.is r reads good in
+    let len = c.args.block_len in (
+      c.wanted.ensures ∙ ap digest_wanted same,
+      record {
+        found = shown_by r.fields len false;
+        new_is = c.in-Ok-add.ensures.ok
+            ∙ ap (λ l. c.args.findings.now ++ shown_by l len false ∷ []) (c.fields.ensures.fields ∙ same);
+        shows = shown_then r.fields len;
+      },
+    )
