@@ -5,7 +5,7 @@ use std::alloc::{AllocError, Global};
 use suites_archives_calls::{opened, source_of};
 use suites_archives_migration::migration::migrate;
 use warc::Archive;
-use warc_commands::{Access, Command, perform};
+use warc_commands::{Command, perform};
 use warc_frame::{Fault, MemSink, MemSource};
 
 /// Each target of an archive as of each of its dates.
@@ -110,7 +110,7 @@ fn converted(alloc: Global, source: MemSource) -> Option<Vec<u8>> {
     let mut out = MemSink::new(Vec::new(alloc));
     let mut err = MemSink::new(Vec::new(alloc));
     let command = Command::Convert { archive: "a.warc" };
-    let (status, _source) = perform(alloc, &command, Access::Random, source, &mut out, &mut err);
+    let (status, _source) = perform(alloc, &command, source, &mut out, &mut err);
     if status == 0 && err.bytes().is_empty() {
         Some(out.into_inner())
     } else {

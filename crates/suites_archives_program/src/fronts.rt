@@ -4,7 +4,7 @@ use crate::lines::tell_count;
 use crate::plain::good_len;
 use crate::runs::{Asked, run_in_pieces};
 use std::alloc::{AllocError, Global};
-use warc_commands::{Access, Command};
+use warc_commands::Command;
 
 /// The command that salvages.
 pub(crate) const SALVAGE: Command<'static> = Command::Salvage { archive: "a.warc" };
@@ -14,7 +14,6 @@ fn is_salvaged(alloc: Global, bytes: &[u8]) -> Result<bool, AllocError> {
     let asked = Asked {
         command: &SALVAGE,
         archive: bytes,
-        access: Access::Random,
     };
     let ended = run_in_pieces(alloc, asked, usize::MAX)?;
     let good = bytes.get(..good_len(alloc, bytes)).unwrap_or(b"");

@@ -2,7 +2,7 @@
 
 use crate::endless::EndlessSource;
 use std::alloc::{AllocError, Allocator, Global};
-use warc_commands::{Access, Command, perform};
+use warc_commands::{Command, perform};
 use warc_frame::{MemSink, MemSource, Sink, Source};
 use warc_stream::StreamSource;
 use warc_vectors::{Break, BrokenSource, BrokenWriter, ChangingSource, RefusingAllocator};
@@ -26,12 +26,11 @@ impl Ended {
     }
 }
 
-/// A command, the archive that it is run over, and how that may be read.
+/// A command, and the archive that it is run over.
 #[derive(Clone, Copy)]
 pub(crate) struct Asked<'a> {
     pub(crate) command: &'a Command<'a>,
     pub(crate) archive: &'a [u8],
-    pub(crate) access: Access,
 }
 
 /// The line, the status and the source of a run whose output goes to a sink. What the program keeps is taken from
@@ -44,7 +43,7 @@ fn told<S: Source + Drop, A: Allocator + Copy, W: Sink>(
     out: &mut W,
 ) -> (Vec<u8>, u8, S) {
     let mut err = MemSink::new(Vec::new(alloc));
-    let (status, source) = perform(heap, asked.command, asked.access, source, out, &mut err);
+    let (status, source) = perform(heap, asked.command, source, out, &mut err);
     (err.into_inner(), status, source)
 }
 
@@ -78,11 +77,7 @@ pub(crate) fn run_in_pieces(
 
 /// The same where its bytes come once, in order.
 pub(crate) fn run_streamed(alloc: Global, asked: Asked<'_>) -> Ended {
-    let streamed = Asked {
-        access: Access::Sequential,
-        ..asked
-    };
-    let (ended, _) = run(alloc, alloc, streamed, StreamSource::new(asked.archive));
+    let (ended, _) = run(alloc, alloc, asked, StreamSource::new(asked.archive));
     ended
 }
 

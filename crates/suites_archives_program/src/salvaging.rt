@@ -6,7 +6,6 @@ use crate::salvaged::{good_in, is_salvaged};
 use crate::turns::{MOST, Stage, tell_reads};
 use std::alloc::{AllocError, Global};
 use suites_script::Case;
-use warc_commands::Access;
 
 /// How far the run comes of which the request for memory of a number is refused. It wrote the records before the one
 /// for which memory was wanted.
@@ -82,7 +81,6 @@ pub(crate) fn answer_salvaging(
     let asked = Asked {
         command: &SALVAGE,
         archive,
-        access: Access::Random,
     };
     match case.text(0) {
         "each-read-salvages" => tell_reads(alloc, asked, case.number(1) as usize, answer)?,

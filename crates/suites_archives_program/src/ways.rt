@@ -9,7 +9,7 @@ use crate::runs::{
 use crate::salvaging::answer_salvaging;
 use crate::turns::{tell_as_alone, tell_reads, tell_requests, tell_writes};
 use crate::usage::answer_usage;
-use crate::words::{access_of, command_of, is_command, words_from};
+use crate::words::{command_of, is_command, words_from};
 use std::alloc::{AllocError, Global};
 use suites_script::Case;
 use warc_vectors::Break;
@@ -56,7 +56,6 @@ pub fn answer(
             let asked = Asked {
                 command: &command,
                 archive,
-                access: access_of(&words),
             };
             answer_run(alloc, case, asked, answer)?;
             Ok(true)

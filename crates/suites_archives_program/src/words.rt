@@ -2,7 +2,7 @@
 
 use std::alloc::{AllocError, Global};
 use suites_script::Case;
-use warc_commands::{Access, Command, Draft};
+use warc_commands::{Command, Draft};
 
 /// What commands call their archive.
 const PATH: &str = "a.warc";
@@ -69,14 +69,7 @@ fn content_type_of<'a>(words: &'a [String], case: &'a Case<'_>) -> &'a str {
 /// How few words a command has, itself among them, and how many; nothing where it is no command.
 fn counts_of(command: &str, gives: bool) -> Option<(usize, usize)> {
     match command {
-        "list"
-        | "check"
-        | "check-once"
-        | "rewrite"
-        | "convert"
-        | "fixity"
-        | "salvage"
-        | "summary" => Some((1, 1)),
+        "list" | "check" | "rewrite" | "convert" | "fixity" | "salvage" | "summary" => Some((1, 1)),
         "extract" | "split" | "head" | "block" | "explain" => Some((2, 2)),
         "body" => Some((2, 3)),
         "captures" => Some((1, 3)),
@@ -112,14 +105,6 @@ fn are_words(words: &[String], gives: bool) -> bool {
     }
 }
 
-/// How a command may read its archive: `check-once` is `check` that may read each byte once, in order.
-pub(crate) fn access_of(words: &[String]) -> Access {
-    match word(words, 0) {
-        "check-once" => Access::Sequential,
-        _ => Access::Random,
-    }
-}
-
 /// The command that the words of a case name, as on the command line but for the archive; nothing where there is a word
 /// too many or too few.
 pub(crate) fn command_of<'a>(words: &'a [String], case: &'a Case<'_>) -> Option<Command<'a>> {
@@ -129,7 +114,7 @@ pub(crate) fn command_of<'a>(words: &'a [String], case: &'a Case<'_>) -> Option<
     let archive = PATH;
     Some(match word(words, 0) {
         "list" => Command::List { archive },
-        "check" | "check-once" => Command::Check { archive },
+        "check" => Command::Check { archive },
         "extract" => Command::Extract {
             archive,
             id: word(words, 1),

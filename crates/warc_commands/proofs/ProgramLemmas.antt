@@ -1,5 +1,5 @@
 -- How a run ends, from what its calls answered.
-use Rattle.std.proofs.Common.{◌≡◌, ℕ, List, [], ◌∷◌, length, min, Ok, Err, refl, sym, ap, subst, ◌∙◌, ◌⊎◌, arith}
+use Rattle.std.proofs.Common.{◌≡◌, ℕ, List, [], ◌∷◌, length, min, Ok, Err, refl, sym, subst, ◌∙◌, arith}
 use Rattle.std.specs.List.{flat_map}
 use Rattle.warc_frame.specs.FaultText.{out_fault_text}
 use Rattle.warc_frame.specs.Record.{Record}
@@ -8,12 +8,11 @@ use Rattle.std.specs.Prelude.{Result}
 use Rattle.warc_frame.specs.declared.fault.Fault.{Fault}
 use Rattle.warc_frame.specs.declared.fault.OutFault.{OutFault}
 use Rattle.warc_reading.specs.Archive.{IsArchiveOf, contents}
-use Rattle.warc_checking.specs.Checking.{Line, findings_of_archive}
-use Rattle.warc_checking.specs.Checks.{Checks}
+use Rattle.warc_checking.specs.Checking.{Line}
 use Rattle.warc_frame.specs.Failing.{HasFailedBy, MayHaveFailedBy}
 use Rattle.warc_commands.specs.Devices.{devices}
 use Rattle.warc_reading.specs.Opening.{Opens}
-use Rattle.warc_commands.specs.Program.{AreGoodRecordsOf, IsCheckCutOff, IsChecked, IsCutOff, IsNotOpened, IsWritten, Tells, fault_line, status_of_findings, status_of_kind, told_line}
+use Rattle.warc_commands.specs.Program.{AreGoodRecordsOf, IsCutOff, IsNotOpened, IsWritten, Tells, fault_line, status_of_findings, status_of_kind, told_line}
 use Rattle.warc_reading.specs.Row.{Row}
 use Rattle.warc_frame.specs.Seen.{Seen, SeenSource}
 use Rattle.warc_reading.proofs.StreamLemmas.{spells_all}
@@ -107,47 +106,3 @@ told_as {line} {other} {old} {new} same told = let P : List ℕ → Type 0 = λ 
 pub status_by : (ls : List Line) → min (length ls) 1 ≡ status_of_findings ls
 status_by [] = refl
 status_by (l ∷ ls) = omega arith
-
--- an archive of which all findings were written
-pub all_checked : {rows : List Row} {old mid last new : SeenSource} {before after err : Seen} {status : ℕ} (n : ℕ)
-    → Opens IsArchiveOf old mid (Ok rows) → Checks rows mid last before after (Ok n) → new.faults ≡ last.faults
-    → status ≡ min n 1 → (status ≡ 0) ⊎ (status ≡ 1) → IsChecked (devices old before err) (devices new after err) status
-all_checked n opened checks same is cases = record {
-  is = λ bytes held.
-      let archive = opened.accepted bytes held in
-      let still = opened.reads.kept ∙ held in
-      record {
-        records = contents archive.are.records;
-        are = good_records_of archive;
-        told = checks.told bytes still archive;
-        status_is = is ∙ ap (λ n. min n 1) (checks.number bytes still archive) ∙ status_by (findings_of_archive (contents archive.are.records));
-      };
-  unfailed = checks.cause;
-  sound = same ∙ checks.fails.may ∙ opened.reads.cause;
-  silent = refl;
-  status_in = cases;
-}
-
--- an archive of which a front of the findings was written
-pub part_checked : {rows : List Row} {old mid last new : SeenSource} {before after err told : Seen} {status : ℕ} (e : OutFault)
-    → Opens IsArchiveOf old mid (Ok rows) → Checks rows mid last before after (Err e) → new.faults ≡ last.faults
-    → Tells (told_line (out_fault_text e)) err told → status ≡ 3 → IsCheckCutOff (devices old before err) (devices new after told) status
-part_checked e opened checks same tells is = record {
-  cut = record {
-    fault = e;
-    is = λ bytes held.
-        let archive = opened.accepted bytes held in
-        let still = opened.reads.kept ∙ held in
-        record {
-          records = contents archive.are.records;
-          are = good_records_of archive;
-          front = checks.cut bytes still archive;
-          source = has_failed e _ _ _ _ opened.reads.cause (sym same) (checks.fails.failed bytes still archive);
-        };
-    source = may_have_failed e _ _ _ _ opened.reads.cause (sym same) checks.fails.may;
-    failed = checks.cause;
-    told = tells;
-    status_is = is;
-  };
-  unsent = checks.unsent;
-}

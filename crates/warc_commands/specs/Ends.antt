@@ -19,29 +19,28 @@ use Rattle.warc_commands.specs.Summaries.{SummaryEnds}
 use Rattle.warc_commands.specs.Uris.{UriEnds, uri_listed}
 use Rattle.warc_arguments.specs.declared.words.Command.{Command}
 use Rattle.warc_arguments.specs.declared.words.Command.TheVariants as command
-use Rattle.warc_commands.specs.declared.access.Access.{Access}
 
 -- how a run of the command ends, by how its source may be read
-abbrev pub Ends : Access → Command → Devices → Devices → ℕ → Type 0
-Ends access (command.List archive) old new status = ListEnds old new status
-Ends access (command.Check archive) old new status = CheckEnds access old new status
-Ends access (command.Extract archive id) old new status = ExtractEnds id.now old new status
-Ends access (command.Replay archive uri date hex) old new status =
+abbrev pub Ends : Command → Devices → Devices → ℕ → Type 0
+Ends (command.List archive) old new status = ListEnds old new status
+Ends (command.Check archive) old new status = CheckEnds old new status
+Ends (command.Extract archive id) old new status = ExtractEnds id.now old new status
+Ends (command.Replay archive uri date hex) old new status =
     UriEnds (λ bytes. ReplayEnds bytes (instant_of date.now)) (uri_named hex uri.now) old new status
-Ends access (command.Body archive position false) old new status = BodyEnds (position_of position.now) old new status
-Ends access (command.Body archive position true) old new status = StoredEnds (position_of position.now) old new status
-Ends access (command.Captures archive uri hex) old new status =
+Ends (command.Body archive position false) old new status = BodyEnds (position_of position.now) old new status
+Ends (command.Body archive position true) old new status = StoredEnds (position_of position.now) old new status
+Ends (command.Captures archive uri hex) old new status =
     UriEnds CapturesEnds (uri_listed hex (option_map (λ u. u.now) uri)) old new status
-Ends access (command.Rewrite archive) old new status = WriteEnds (texts_as Canonical) old new status
-Ends access (command.Convert archive) old new status = WriteEnds (texts_as Converted) old new status
-Ends access (command.Split archive size) old new status = SplitEnds (size_of size.now) old new status
-Ends access (command.Write draft file) old new status = MakeEnds draft old new status
-Ends access (command.Head archive position) old new status = PartEnds Head (position_of position.now) old new status
-Ends access (command.Block archive position) old new status = PartEnds Block (position_of position.now) old new status
-Ends access (command.Fixity archive) old new status = FixityEnds old new status
-Ends access (command.Salvage archive) old new status = SalvageEnds old new status
-Ends access (command.Summary archive) old new status = SummaryEnds old new status
-Ends access (command.Explain number) old new status = ExplainEnds (explained number.now) old new status
+Ends (command.Rewrite archive) old new status = WriteEnds (texts_as Canonical) old new status
+Ends (command.Convert archive) old new status = WriteEnds (texts_as Converted) old new status
+Ends (command.Split archive size) old new status = SplitEnds (size_of size.now) old new status
+Ends (command.Write draft file) old new status = MakeEnds draft old new status
+Ends (command.Head archive position) old new status = PartEnds Head (position_of position.now) old new status
+Ends (command.Block archive position) old new status = PartEnds Block (position_of position.now) old new status
+Ends (command.Fixity archive) old new status = FixityEnds old new status
+Ends (command.Salvage archive) old new status = SalvageEnds old new status
+Ends (command.Summary archive) old new status = SummaryEnds old new status
+Ends (command.Explain number) old new status = ExplainEnds (explained number.now) old new status
 
 -- the exit statuses of a command
 abbrev pub IsStatusOf : Command → ℕ → Type 0

@@ -37,8 +37,6 @@ use Rattle.warc_frame.specs.Failing.{HasFailedBy, MayHaveFailedBy, failed_by, fa
 use Rattle.warc.specs.Listing.{listing}
 use Rattle.warc_reading.specs.Row.{Row}
 use Rattle.warc_commands.specs.Devices.{Devices}
-use Rattle.warc_commands.specs.declared.access.Access.{Access}
-use Rattle.warc_commands.specs.declared.access.Access.TheVariants.{Random, Sequential}
 use Rattle.warc_frame.specs.Seen.{IfHeld, Seen}
 
 -- a text as a line of the program
@@ -141,28 +139,17 @@ pub record IsCutOff (text : List Record → List ℕ) (old new : Devices) (statu
   pub told : Tells (told_line (out_fault_text fault)) old.err new.err
   pub status_is : status ≡ 3
 
--- a read, a write or a growth of the memory failed after the archive was opened for `check`. All reads come before the
--- first write: nothing went out where one failed
+-- a write or a growth of the memory failed after an archive was opened for `check`. All was read before that, so no
+-- read failed, and the source has failed as often as before
 pub record IsCheckCutOff (old new : Devices) (status : ℕ) : Type 0 where
-  pub cut : IsCutOff check_text old new status
-  pub unsent : is_read cut.fault ≡ true → (sent_of cut.fault ≡ 0) × (new.out ≡ old.out)
-
--- the same of an archive that is read once: no read failed, since all was read before, so that the source has failed as
--- often as before
-pub record IsCheckOnceCutOff (old new : Devices) (status : ℕ) : Type 0 where
   pub cut : IsCutOff check_text old new status
   pub unread : is_read cut.fault ≡ false
   pub sound : new.source.faults ≡ old.source.faults
 
--- how `check` is cut off, by how its source may be read
-abbrev pub CheckIsCutOff : Access → Devices → Devices → ℕ → Type 0
-CheckIsCutOff Random old new status = IsCheckCutOff old new status
-CheckIsCutOff Sequential old new status = IsCheckOnceCutOff old new status
-
 -- how `check` ends
-abbrev pub CheckEnds : Access → Devices → Devices → ℕ → Type 0
-CheckEnds access old new status =
-    IsChecked old new status ⊎ (IsNotOpened old new status ⊎ CheckIsCutOff access old new status)
+abbrev pub CheckEnds : Devices → Devices → ℕ → Type 0
+CheckEnds old new status =
+    IsChecked old new status ⊎ (IsNotOpened old new status ⊎ IsCheckCutOff old new status)
 
 -- a line was written, or none
 abbrev pub TellsIf : Option (List ℕ) → Seen → Seen → Type 0

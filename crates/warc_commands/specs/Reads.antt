@@ -4,8 +4,6 @@ use Rattle.warc_frame.specs.Record.{max_archive, max_block}
 use Rattle.warc_frame.specs.Seen.{AsksOnly, IfHeld, SeenSource}
 use Rattle.warc_arguments.specs.declared.words.Command.{Command}
 use Rattle.warc_arguments.specs.declared.words.Command.TheVariants as command
-use Rattle.warc_commands.specs.declared.access.Access.{Access}
-use Rattle.warc_commands.specs.declared.access.Access.TheVariants.{Random, Sequential}
 
 -- no byte above offset 2^48 is asked for
 abbrev pub AsksNear : SeenSource → SeenSource → Type 0
@@ -27,28 +25,23 @@ pub record ReadsForRecord (old new : SeenSource) : Type 0 where
   pub close : IfHeld old.holds (λ bytes. AsksOnly (λ at. at ≤ 2 * length bytes + file_piece) old new)
   pub cost : IfHeld old.holds (λ bytes. new.reads ≤ old.reads + 2 * length bytes + 2)
 
--- how often `check` reads a byte of its archive at most: to list its record and to check it, or once for both
-abbrev pub check_times : Access → ℕ
-check_times Random = 2
-check_times Sequential = 1
-
 -- what a run of the command reads: an archive is opened in one read for each byte, and one; what is written of it is
 -- read again, once, and twice the joined blocks of a body, of which the first time to judge them. A block that is split
 -- is read three times: to judge it, for the digests of its segments, and to be copied
-abbrev pub CommandReads : Access → Command → SeenSource → SeenSource → Type 0
-CommandReads access (command.List archive) old new = ReadsTimes 1 old new
-CommandReads access (command.Check archive) old new = ReadsTimes (check_times access) old new
-CommandReads access (command.Fixity archive) old new = ReadsTimes 1 old new
-CommandReads access (command.Summary archive) old new = ReadsTimes 1 old new
-CommandReads access (command.Extract archive id) old new = ReadsTimes 2 old new
-CommandReads access (command.Head archive position) old new = ReadsTimes 2 old new
-CommandReads access (command.Block archive position) old new = ReadsTimes 2 old new
-CommandReads access (command.Rewrite archive) old new = ReadsTimes 2 old new
-CommandReads access (command.Convert archive) old new = ReadsTimes 2 old new
-CommandReads access (command.Split archive size) old new = ReadsTimes 4 old new
-CommandReads access (command.Replay archive uri date hex) old new = ReadsTimes 3 old new
-CommandReads access (command.Body archive position stored) old new = ReadsTimes 3 old new
-CommandReads access (command.Write draft file) old new = ReadsForRecord old new
-CommandReads access (command.Captures archive uri hex) old new = AsksNear old new
-CommandReads access (command.Salvage archive) old new = ReadsTimes 2 old new
-CommandReads access (command.Explain number) old new = new ≡ old
+abbrev pub CommandReads : Command → SeenSource → SeenSource → Type 0
+CommandReads (command.List archive) old new = ReadsTimes 1 old new
+CommandReads (command.Check archive) old new = ReadsTimes 1 old new
+CommandReads (command.Fixity archive) old new = ReadsTimes 1 old new
+CommandReads (command.Summary archive) old new = ReadsTimes 1 old new
+CommandReads (command.Extract archive id) old new = ReadsTimes 2 old new
+CommandReads (command.Head archive position) old new = ReadsTimes 2 old new
+CommandReads (command.Block archive position) old new = ReadsTimes 2 old new
+CommandReads (command.Rewrite archive) old new = ReadsTimes 2 old new
+CommandReads (command.Convert archive) old new = ReadsTimes 2 old new
+CommandReads (command.Split archive size) old new = ReadsTimes 4 old new
+CommandReads (command.Replay archive uri date hex) old new = ReadsTimes 3 old new
+CommandReads (command.Body archive position stored) old new = ReadsTimes 3 old new
+CommandReads (command.Write draft file) old new = ReadsForRecord old new
+CommandReads (command.Captures archive uri hex) old new = AsksNear old new
+CommandReads (command.Salvage archive) old new = ReadsTimes 2 old new
+CommandReads (command.Explain number) old new = new ≡ old

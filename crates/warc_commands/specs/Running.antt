@@ -13,8 +13,6 @@ use Rattle.warc_arguments.specs.Parsed.{IsParsed}
 use Rattle.warc_commands.specs.Devices.{devices}
 use Rattle.warc_commands.specs.Ends.{Ends, IsStatusOf, writes_front}
 use Rattle.warc_commands.specs.Program.{FaultEnds, IsNotRead, Tells, told_line}
-use Rattle.warc_commands.specs.declared.access.Access.{Access}
-use Rattle.warc_commands.specs.declared.access.Access.TheVariants.{Random, Sequential}
 use Rattle.warc_commands.specs.declared.running.Place.{Place}
 use Rattle.warc_commands.specs.declared.running.Place.TheVariants.{File, Memory as InMemory, Input, Nowhere}
 use Rattle.warc_arguments.specs.declared.words.Command.{Command}
@@ -60,12 +58,11 @@ pub record IsStopped (why : List ℕ) (old new : Outputs) (status : ℕ) : Type 
   pub told : Tells (told_line why) old.err new.err
   pub status_is : status ≡ 3
 
--- a command was done over a source that may be read so
-pub record IsRunOver (access : Access) (command : Command) (source : SeenSource) (old new : Outputs) (status : ℕ)
-    : Type 0 where
+-- a command was done over a source
+pub record IsRunOver (command : Command) (source : SeenSource) (old new : Outputs) (status : ℕ) : Type 0 where
   pub last : SeenSource
   pub kept : last.holds ≡ source.holds
-  pub ends : Ends access command (devices source old.out old.err) (devices last new.out new.err) status
+  pub ends : Ends command (devices source old.out old.err) (devices last new.out new.err) status
   pub silent : writes_front command ≡ false → status ≡ 2
       → (new.out.tells ≡ old.out.tells) × (new.out.faults ≡ old.out.faults)
   pub answers : IsStatusOf command status
@@ -74,7 +71,7 @@ pub record IsRunOver (access : Access) (command : Command) (source : SeenSource)
 pub record ReadsFile (gives : Offer → Type 0) (command : Command) (old new : Outputs) (status : ℕ) : Type 0 where
   pub file : Result SeenSource Error
   pub given : gives (opened (path_word command) file)
-  pub ends : MatchResult file (λ source. IsRunOver Random command source old new status)
+  pub ends : MatchResult file (λ source. IsRunOver command source old new status)
       (λ error. IsStopped (stop_text (codes "open failed") (error_kind error)) old new status)
 
 -- a source of bytes in memory, which nobody has read
@@ -92,7 +89,7 @@ in_memory bytes = record {
 
 -- a command over bytes in memory, if they are few enough
 abbrev pub MemoryEnds : Bool → List ℕ → Command → List ℕ → Outputs → Outputs → ℕ → Type 0
-MemoryEnds true long command bytes old new status = IsRunOver Random command (in_memory bytes) old new status
+MemoryEnds true long command bytes old new status = IsRunOver command (in_memory bytes) old new status
 MemoryEnds false long command bytes old new status = IsStopped long old new status
 
 -- a command was done over all bytes of a source, which were read into memory, or stopped since they are too long
@@ -116,7 +113,7 @@ pub record ReadsMemory (gives : Offer → Type 0) (long : List ℕ) (command : C
 pub record ReadsStream (gives : Offer → Type 0) (command : Command) (old new : Outputs) (status : ℕ) : Type 0 where
   pub source : SeenSource
   pub given : gives (streamed source)
-  pub ends : IsRunOver Sequential command source old new status
+  pub ends : IsRunOver command source old new status
 
 abbrev pub too_long : List ℕ
 too_long = codes "standard input is too long for this command; write it to a file first"
@@ -131,14 +128,14 @@ pub record ReadsInput (gives : Offer → Type 0) (command : Command) (old new : 
   pub file : Option SeenSource
   pub given : gives (redirected file)
   pub ends : MatchOption file (PipeEnds (reads_once command) gives command old new status)
-      (λ source. IsRunOver Random command source old new status)
+      (λ source. IsRunOver command source old new status)
 
 -- how a command ends, by where its bytes are
 abbrev pub PlaceEnds : Place → (Offer → Type 0) → Command → Outputs → Outputs → ℕ → Type 0
 PlaceEnds File gives command old new status = ReadsFile gives command old new status
 PlaceEnds InMemory gives command old new status = ReadsMemory gives (codes "read failed after 0") command old new status
 PlaceEnds Input gives command old new status = ReadsInput gives command old new status
-PlaceEnds Nowhere gives command old new status = IsRunOver Random command (in_memory []) old new status
+PlaceEnds Nowhere gives command old new status = IsRunOver command (in_memory []) old new status
 
 -- how a run ends whose words are texts
 pub record WordsEnd (gives : Offer → Type 0) (words : List (List ℕ)) (old new : Outputs) (status : ℕ) : Type 0 where

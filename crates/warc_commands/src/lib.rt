@@ -1,7 +1,6 @@
 //! The commands of the program `warc`: what each does with a source and two sinks.
 #![tactic(auto)]
 
-mod access;
 mod bodies;
 mod captures;
 mod checking;
@@ -18,7 +17,6 @@ mod stored;
 mod summary;
 mod uris;
 
-pub use access::Access;
 pub use program::{perform, refuse};
 pub use running::{System, run};
 

@@ -8,7 +8,6 @@ ghost use Rattle.warc_commands.specs.Devices.{devices};
 ghost use Rattle.warc_commands.specs.Reads.{CommandReads, ReadsTimes};
 ghost use Rattle.warc.specs.Forms.{texts_as};
 
-use crate::access::Access;
 use crate::bodies::body;
 use crate::captures::captures;
 use crate::checking::check;
@@ -50,12 +49,11 @@ pub(crate) const LINE: usize = 128;
 /// a write or a growth of the memory failed; 4 some block can't be checked. A date, a size and a position are judged
 /// before the source is read, and a number is explained without it.
 ///
-/// `access` says how the source may be read. `check` reads an archive twice where it may, and else once; no other
-/// command asks. Where `Command::reads_once` is false, the command needs random access.
+/// Where `Command::reads_once` is false, the source must let any offset be read, as often as wanted. Else each byte is
+/// read once, in order.
 pub fn perform<A, S, W, E>(
     alloc: A,
     command: &Command<'_>,
-    access: Access,
     source: S,
     out: &mut W,
     err: &mut E,
@@ -65,14 +63,14 @@ where
     S: Source + Drop,
     W: Sink,
     E: Sink,
-    ensures ends { Ends access command.now (devices (S.seen source) (W.seen out.old) (E.seen err.old)) (devices
+    ensures ends { Ends command.now (devices (S.seen source) (W.seen out.old) (E.seen err.old)) (devices
         (S.seen result.1) (W.seen out.new) (E.seen err.new)) result.0 }
 
     // The source still holds what it held.
     ensures kept { (S.seen result.1).holds ≡ (S.seen source).holds }
 
     // What it asks of the source.
-    ensures reads { CommandReads access command.now (S.seen source) (S.seen result.1) }
+    ensures reads { CommandReads command.now (S.seen source) (S.seen result.1) }
 
     // Nothing is written where the archive is refused, whatever the source holds, but by `salvage`.
     ensures refused { writes_front command.now ≡ false → result.0 ≡ 2 → ((W.seen out.new).tells ≡
@@ -81,7 +79,7 @@ where
 {
     match command {
         Command::List { archive: _ } => list(alloc, source, out, err),
-        Command::Check { archive: _ } => check(alloc, access, source, out, err),
+        Command::Check { archive: _ } => check(alloc, source, out, err),
         Command::Extract { archive: _, id } => extract(alloc, id, source, out, err),
         Command::Replay {
             archive: _,

@@ -8,7 +8,6 @@ ghost use Rattle.warc_commands.specs.Running.{Offer, IsRunOver, MemoryEnds, Pipe
 ghost use Rattle.warc_commands.specs.Running.{command_place, in_memory, max_input, opened, outputs, place_at, redirected, stop_text, streamed};
 ghost use Rattle.warc_arguments.specs.Command.{reads_once};
 
-use crate::access::Access;
 use crate::making::read_front;
 use crate::program::{FAILED, line_of, perform, refuse, tell, tell_cut};
 use std::alloc::Global;
@@ -139,13 +138,12 @@ fn run_over_nothing<W: Sink, E: Sink>(
     out: &mut W,
     err: &mut E,
 ) -> u8
-    ensures { IsRunOver Access.Random command.now (in_memory []) (outputs (W.seen out.old) (E.seen err.old)) (outputs
+    ensures { IsRunOver command.now (in_memory []) (outputs (W.seen out.old) (E.seen err.old)) (outputs
         (W.seen out.new) (E.seen err.new)) result }
 {
     run_over(
         alloc,
         command,
-        Access::Random,
         MemSource::new(Vec::new(alloc), usize::MAX),
         out,
         err,
@@ -179,7 +177,7 @@ where
         (W.seen out.new) (E.seen err.new)) result }
 {
     match system.open(command.path()) {
-        Ok(file) => run_over(alloc, command, Access::Random, file, out, err),
+        Ok(file) => run_over(alloc, command, file, out, err),
         Err(error) => stop(&error, "open failed", err),
     }
 }
@@ -200,7 +198,7 @@ where
         (W.seen out.new) (E.seen err.new)) result }
 {
     match system.redirected() {
-        Some(file) => run_over(alloc, command, Access::Random, file, out, err),
+        Some(file) => run_over(alloc, command, file, out, err),
         None => run_pipe(alloc, system, command, out, err),
     }
 }
@@ -221,14 +219,7 @@ where
         (E.seen err.old)) (outputs (W.seen out.new) (E.seen err.new)) result }
 {
     if command.reads_once() {
-        run_over(
-            alloc,
-            command,
-            Access::Sequential,
-            system.stream(),
-            out,
-            err,
-        )
+        run_over(alloc, command, system.stream(), out, err)
     } else {
         run_memory(alloc, system, command, TOO_LONG, out, err)
     }
@@ -273,24 +264,16 @@ fn run_bytes<W: Sink, E: Sink>(
         (W.seen out.old) (E.seen err.old)) (outputs (W.seen out.new) (E.seen err.new)) result }
 {
     if bytes.len() as u64 <= MOST_INPUT {
-        run_over(
-            alloc,
-            command,
-            Access::Random,
-            MemSource::new(bytes, usize::MAX),
-            out,
-            err,
-        )
+        run_over(alloc, command, MemSource::new(bytes, usize::MAX), out, err)
     } else {
         tell_stop(long, err)
     }
 }
 
-/// Does what a command says, over a source that may be read so.
+/// Does what a command says, over a source.
 fn run_over<S, W, E>(
     alloc: Global,
     command: &Command<'_>,
-    access: Access,
     source: S,
     out: &mut W,
     err: &mut E,
@@ -299,10 +282,10 @@ where
     S: Source + Drop,
     W: Sink,
     E: Sink,
-    ensures { IsRunOver access command.now (S.seen source) (outputs (W.seen out.old) (E.seen err.old)) (outputs
+    ensures { IsRunOver command.now (S.seen source) (outputs (W.seen out.old) (E.seen err.old)) (outputs
         (W.seen out.new) (E.seen err.new)) result }
 {
-    let (status, _) = perform(alloc, command, access, source, out, err);
+    let (status, _) = perform(alloc, command, source, out, err);
     status
 }
 

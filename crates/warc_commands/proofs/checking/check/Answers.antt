@@ -4,7 +4,7 @@ use Rattle.warc_checking.specs.Checking.{findings_of_archive}
 use Rattle.warc_commands.proofs.ProgramLemmas.{good_records_of, not_opened, status_by}
 use Rattle.warc_checking.proofs.RecordsLemmas.{unread}
 use Rattle.warc_commands.proofs.ReadLemmas.{opened}
-use Rattle.warc_commands.proofs.checking.check_once.Goals as goal
+use Rattle.warc_commands.proofs.checking.check.Goals as goal
 
 pub returns-in-Err-clause-ends : goal.returns-in-Err-clause-ends
 returns-in-Err-clause-ends g c = inr (inl (not_opened _ _ _ _ _ _ c.in-Err.fault _ c.in-Err.ensures c.tell_refusal.ensures.told c.tell_refusal.ensures.status))
