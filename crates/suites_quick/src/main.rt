@@ -7,8 +7,10 @@ use std::io::{self, Read, Write};
 use std::process::ExitCode;
 use suites_script::{Case, Trial, try_script};
 use warc_frame::{Head, read_head};
-use warc_quick::{QuickHead, QuickRecord, faultless_head, judged_record, quick_head, type_alone};
-use warc_record::{HeadTexts, findings, id_key, judge_head, uuid_id_key};
+use warc_quick::{
+    AloneHead, QuickHead, QuickRecord, faultless_head, judged_record, quick_head, type_alone,
+};
+use warc_record::{HeadTexts, findings, id_key, judge_head, type_head, uuid_id_key};
 use warc_value::Wanted;
 
 /// The text that cases speak of which give none.
@@ -71,6 +73,17 @@ fn tell_head(alloc: Global, answer: &mut Vec<u8>, text: &[u8]) -> Result<(), All
     }
 }
 
+/// Whether the reading that keeps the fields gives the same kind, id and instant.
+fn is_confirmed_alone(alloc: Global, text: &[u8], quick: &AloneHead<Global>) -> bool {
+    let Ok(head) = read_head(alloc, text) else {
+        return false;
+    };
+    match type_head(alloc, &head.fields) {
+        Ok(full) => full.kind == quick.kind && full.id == quick.id && full.moment == quick.moment,
+        Err(_) => false,
+    }
+}
+
 /// Adds whether the head at the front of a text is alone, if it is read in place. Such a head is typed.
 fn tell_alone(alloc: Global, answer: &mut Vec<u8>, text: &[u8]) -> Result<(), AllocError> {
     let Some(quick) = quick_head(text) else {
@@ -79,11 +92,13 @@ fn tell_alone(alloc: Global, answer: &mut Vec<u8>, text: &[u8]) -> Result<(), Al
     if !quick.is_alone {
         return answer.extend_from_slice(b"not alone\n");
     }
-    let typed = type_alone(alloc, &quick)?;
+    if !is_confirmed_alone(alloc, text, &type_alone(alloc, &quick)?) {
+        return answer.extend_from_slice(b"read in two ways\n");
+    }
     answer.extend_from_slice(b"alone")?;
-    if let Some(digest) = &typed.payload_digest {
+    if !quick.payload_digest.is_empty() {
         answer.push(b' ')?;
-        answer.extend_from_slice(digest.bytes())?;
+        answer.extend_from_slice(quick.payload_digest)?;
     }
     answer.push(b'\n')?;
     Ok(())

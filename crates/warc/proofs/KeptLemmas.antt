@@ -160,7 +160,7 @@ record_short n p =
     let origin = first_value (codes "WARC-Segment-Origin-ID") fields in
     omega (
       arith,
-      id_len n (kind_mark r) r.id,
+      id_len n (kind_mark r.kind) r.id,
       key_len (first_value (codes "WARC-Record-ID") fields),
       capture_len (is_capture r.kind) n r,
       bare_len (option_and_then unless_empty target),

@@ -283,7 +283,7 @@ id_says_of p mark None e is = cc
 id_says_of p mark (Some key) e is = let same : e ≡ entry_of key mark p = (cc) in ap (λ (f : Entry). f.position) same
 
 pub id_says : SaysPosition id_entry
-id_says p r e is = id_says_of p (kind_mark r) r.id e is
+id_says p r e is = id_says_of p (kind_mark r.kind) r.id e is
 
 one_below : (o : Option Entry) (p : ℕ) → ((e : Entry) → o ≡ Some e → e.position ≡ p) →
     All (λ (e : Entry). e.position < p + 1) (option_to_list o)
@@ -318,12 +318,13 @@ drop_one (Some e) p says =
     rw miss refl
 
 -- one more taken back
-pub taken_back : (entry : ℕ → Indexed → Option Entry) → SaysPosition entry → (es : List Entry) (p : ℕ) (r : Indexed) →
-    IsBelow p es → filter (λ e. nat_lt e.position p) (es ++ option_to_list (entry p r)) ≡ es
-taken_back entry says es p r below =
-    filter-append (λ (e : Entry). nat_lt e.position p) es (option_to_list (entry p r))
-    ∙ (ap (λ us. us ++ filter (λ (e : Entry). nat_lt e.position p) (option_to_list (entry p r))) (keep_all es p below)
-    ∙ (ap (λ us. es ++ us) (drop_one (entry p r) p (λ e is. says p r e is)) ∙ append-nil es))
+pub entry_taken_back : (es : List Entry) (p : ℕ) (e : Entry) → e.position ≡ p → IsBelow p es
+    → filter (λ e. nat_lt e.position p) (es ++ e ∷ []) ≡ es
+entry_taken_back es p e at below =
+    filter-append (λ (e : Entry). nat_lt e.position p) es (e ∷ [])
+    ∙ (ap (λ us. us ++ filter (λ (e : Entry). nat_lt e.position p) (e ∷ [])) (keep_all es p below)
+    ∙ (ap (λ us. es ++ us) (drop_one (Some e) p (λ f is. let same : f ≡ e = (cc) in ap (λ (f : Entry). f.position) same ∙ at))
+    ∙ append-nil es))
 
 keep_one : (o : Option Entry) (p n : ℕ) → p < n → ((e : Entry) → o ≡ Some e → e.position ≡ p) →
     filter (λ (e : Entry). nat_lt e.position n) (option_to_list o) ≡ option_to_list o
@@ -440,7 +441,7 @@ position_none t (x ∷ all) miss =
 pub record IsIdEntry (p : ℕ) (r : Indexed) (e : Entry) : Type 0 where
   pub key : List ℕ
   pub has_id : r.id ≡ Some key
-  pub is : e ≡ entry_of key (kind_mark r) p
+  pub is : e ≡ entry_of key (kind_mark r.kind) p
 
 id_is_of : (p : ℕ) (mark : Mark) (o : Option (List ℕ)) (e : Entry) → id_entry_of p mark o ≡ Some e →
     (key : List ℕ) × (o ≡ Some key) × (e ≡ entry_of key mark p)
@@ -448,12 +449,12 @@ id_is_of p mark None e is = cc
 id_is_of p mark (Some key) e is = let same : e ≡ entry_of key mark p = (cc) in (key, refl, same)
 
 id_is : (p : ℕ) (r : Indexed) (e : Entry) → id_entry p r ≡ Some e → IsIdEntry p r e
-id_is p r e is = let w = id_is_of p (kind_mark r) r.id e is in record { key = w.0; has_id = w.1; is = w.2 }
+id_is p r e is = let w = id_is_of p (kind_mark r.kind) r.id e is in record { key = w.0; has_id = w.1; is = w.2 }
 
-captures_mark : (r : Indexed) → is_capture r.kind ≡ true → kind_mark r ≡ record { major = 0; minor = 0 }
+captures_mark : (r : Indexed) → is_capture r.kind ≡ true → kind_mark r.kind ≡ record { major = 0; minor = 0 }
 captures_mark r e = ap (λ b. record { major = if b then 0 else 1; minor = 0 }) e
 
-others_mark : (r : Indexed) → is_capture r.kind ≡ false → kind_mark r ≡ record { major = 1; minor = 0 }
+others_mark : (r : Indexed) → is_capture r.kind ≡ false → kind_mark r.kind ≡ record { major = 1; minor = 0 }
 others_mark r e = ap (λ b. record { major = if b then 0 else 1; minor = 0 }) e
 
 -- a capture with an id has its entry
@@ -463,7 +464,7 @@ key_stands all key q r at hit =
     let both = and_parts (is_capture r.kind) (is_text key r.id) hit in
     let z : 0 + q ≡ q = omega arith in
     entry_stands id_entry 0 all q r (entry_of key (record { major = 0; minor = 0 }) q) at
-    (ap (λ n. id_entry n r) z ∙ (ap (id_entry_of q (kind_mark r)) (text_found key r.id both.1)
+    (ap (λ n. id_entry n r) z ∙ (ap (id_entry_of q (kind_mark r.kind)) (text_found key r.id both.1)
     ∙ ap (λ m. Some (entry_of key m q)) (captures_mark r both.0)))
 
 least_from : (key : List ℕ) (q : ℕ) → IsFrom key (record { major = 0; minor = 0 }) (entry_of key (record {
@@ -487,7 +488,7 @@ first_key all key e first zero1 =
     let w : IsEntryOf id_entry 0 all e = entry_in id_entry 0 all e first.stands in
     let c : IsIdEntry (0 + w.place) w.it e = id_is (0 + w.place) w.it e w.is in
     let z : 0 + w.place ≡ w.place = omega arith in
-    let is : e ≡ entry_of c.key (kind_mark w.it) w.place = c.is ∙ ap (entry_of c.key (kind_mark w.it)) z in
+    let is : e ≡ entry_of c.key (kind_mark w.it.kind) w.place = c.is ∙ ap (entry_of c.key (kind_mark w.it.kind)) z in
     let there : e.position ≡ w.place = ap (λ (f : Entry). f.position) is in
     let same : c.key ≡ key = sym (ap (λ (f : Entry). f.text) is) ∙ first.passes.text_is in
     elim (cases_Bool (is_capture w.it.kind)) [
@@ -554,11 +555,11 @@ no_key all key none =
 
 -- a record with an id has its entry
 id_stands : (all : List Indexed) (key : List ℕ) (q : ℕ) (r : Indexed) → slice_get all q ≡ Some r →
-    is_text key r.id ≡ true → Contains (entries_from id_entry 0 all) (entry_of key (kind_mark r) q)
+    is_text key r.id ≡ true → Contains (entries_from id_entry 0 all) (entry_of key (kind_mark r.kind) q)
 id_stands all key q r at hit =
     let z : 0 + q ≡ q = omega arith in
-    entry_stands id_entry 0 all q r (entry_of key (kind_mark r) q) at
-    (ap (λ n. id_entry n r) z ∙ ap (id_entry_of q (kind_mark r)) (text_found key r.id hit))
+    entry_stands id_entry 0 all q r (entry_of key (kind_mark r.kind) q) at
+    (ap (λ n. id_entry n r) z ∙ ap (id_entry_of q (kind_mark r.kind)) (text_found key r.id hit))
 
 later_at : (key : List ℕ) (m : Mark) (j : ℕ) (e : Entry) → mark_lt e.mark m ≡ false → j < e.position →
     comes_later e (entry_of key m j) ≡ true
@@ -573,7 +574,7 @@ later_at key m j e not_below h =
 
 before_first : (all : List Indexed) (key : List ℕ) (m : Mark) (e : Entry) →
     IsFirst (entries_from id_entry 0 all) (IsFrom key m) e → mark_lt m m ≡ false → (j : ℕ) (r : Indexed) →
-    slice_get all j ≡ Some r → is_text key r.id ≡ true → kind_mark r ≡ m → j < e.position → ⊥
+    slice_get all j ≡ Some r → is_text key r.id ≡ true → kind_mark r.kind ≡ m → j < e.position → ⊥
 before_first all key m e first itself j r at hit same h =
     let there : Contains (entries_from id_entry 0 all) (entry_of key m j) =
     subst (λ w. Contains (entries_from id_entry 0 all) (entry_of key w j)) same (id_stands all key j r at hit) in
@@ -678,10 +679,10 @@ pub none_with : (all : List Indexed) (key : List ℕ) → IsNone (entries_from i
 })) → first_with all key ≡ None
 none_with all key none =
     position_none (λ r. is_text key r.id) all (λ j r at. elim (cases_Bool (is_text key r.id)) [
-      | inl hit ↦ absurd (none (entry_of key (kind_mark r) j) (id_stands all key j r at hit) (record {
+      | inl hit ↦ absurd (none (entry_of key (kind_mark r.kind) j) (id_stands all key j r at hit) (record {
         text_is =
             refl;
-        from = least_mark (kind_mark r);
+        from = least_mark (kind_mark r.kind);
       }))
       | inr miss ↦ miss
     ])

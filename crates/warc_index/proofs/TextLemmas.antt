@@ -76,7 +76,7 @@ all_size p (r ∷ all) timed =
       entries_more capture_entry p r all,
       sum_by-cons link_bytes (link_of r) (map link_of all),
       sum_by-cons kept_size r all,
-      id_size p (kind_mark r) r.id,
+      id_size p (kind_mark r.kind) r.id,
       capture_size (is_capture r.kind) p r now,
       link_size r.kind r now,
       all_size (p + 1) all (All-tail (λ (x : Indexed). IsSome x.instant) r all timed),

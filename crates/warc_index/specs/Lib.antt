@@ -1,8 +1,10 @@
 pub mod UnfoundText
 pub mod Walks
 pub mod Captures
+pub mod Alone
 pub mod Referents
 pub mod Links
 pub mod Linked
 pub mod Orders
+pub mod Kept
 pub mod Texts

@@ -4,6 +4,7 @@ use Rattle.std.specs.Prelude.{◌≡◌, ℕ, ◌+◌, ◌<◌, List, [], ◌∷
 use Rattle.std.specs.Option.{option_to_list}
 use Rattle.std.specs.List.{sum_by}
 use Rattle.warc_value.specs.Dates.{Instant}
+use Rattle.warc_record.specs.declared.types.Kind.{Kind}
 use Rattle.warc_order.specs.declared.mark.Mark.{Mark}
 use Rattle.warc_order.specs.Entries.{Entry, entry_of}
 use Rattle.warc_index.specs.Captures.{Indexed, is_capture}
@@ -13,8 +14,8 @@ use Rattle.warc_index.specs.Links.{Link, link_bytes}
 use Rattle.warc_index.specs.Linked.{instant_mark, link_of}
 
 -- captures come first
-abbrev pub kind_mark : Indexed → Mark
-kind_mark r = record { major = if is_capture r.kind then 0 else 1; minor = 0 }
+abbrev pub kind_mark : Kind → Mark
+kind_mark kind = record { major = if is_capture kind then 0 else 1; minor = 0 }
 
 -- the entry of a record in the order by id, and in the order by target and instant
 abbrev pub id_entry_of : ℕ → Mark → Option (List ℕ) → Option Entry
@@ -22,7 +23,7 @@ id_entry_of p mark None = None
 id_entry_of p mark (Some key) = Some (entry_of key mark p)
 
 abbrev pub id_entry : ℕ → Indexed → Option Entry
-id_entry p r = id_entry_of p (kind_mark r) r.id
+id_entry p r = id_entry_of p (kind_mark r.kind) r.id
 
 abbrev pub target_entry : ℕ → Option (List ℕ) → Option Instant → Option Entry
 target_entry p None instant = None

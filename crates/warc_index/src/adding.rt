@@ -1,70 +1,73 @@
 //! Records that are added to two lists of entries and to what is kept for revisits: to all of them or to none.
 
-ghost use Rattle.std.specs.Prelude.{◌≡◌, ◌<◌, [], ◌∷◌, ◌++◌, length, take, filter, nat_lt, OnOk, OnErr, All};
+ghost use Rattle.std.specs.Prelude.{◌≡◌, ◌<◌, [], ◌∷◌, ◌++◌, length, take, filter, nat_lt, option_map, OnOk, OnErr, All};
 ghost use Rattle.std.specs.Option.{option_to_list};
-ghost use Rattle.warc_order.specs.Entries.{entry_of};
 ghost use Rattle.warc_record.specs.Seen.{said};
 ghost use Rattle.warc_index.specs.Captures.{indexed_of};
-ghost use Rattle.warc_index.specs.Linked.{link_of};
-ghost use Rattle.warc_index.specs.Orders.{id_entry, capture_entry};
+ghost use Rattle.warc_index.specs.Kept.{IsPutOf, key_entry};
+ghost use Rattle.warc_index.specs.Links.{link_seen};
 
-use crate::key::{capture_key, id_key};
-use crate::link::Links;
+use crate::key::{Key, capture_key, id_key};
+use crate::link::{Link, Links};
 use crate::linked::link_of;
 use std::alloc::{AllocError, Allocator};
 use warc_order::EntryList;
 use warc_record::Typed;
 
-/// Adds a record to the entries by id.
-fn add_id<O: EntryList, B: Allocator>(
-    order: &mut O,
-    position: usize,
-    typed: &Typed<B>,
-) -> Result<(), AllocError>
-    requires { All (λ e. e.position < position) (O.entries order.old) }
-    ensures ok { OnOk result (O.entries order.new ≡ O.entries order.old ++ option_to_list (id_entry position
-        (indexed_of (said typed.now)))) }
-    ensures err { OnErr result (O.entries order.new ≡ O.entries order.old) }
-{
-    let key = id_key(typed);
-    order.add(key.text, key.mark, position)
+/// What is kept of a record: its entry by id, its entry by target and instant if it is a capture with a target, and
+/// what leads from it to another record.
+#[derive(Clone, Copy)]
+pub(crate) struct Kept<'a> {
+    pub(crate) id: Key<'a>,
+    pub(crate) capture: Option<Key<'a>>,
+    pub(crate) link: Link<'a>,
 }
 
-/// Adds a record to the entries by target and instant, if it is a capture with a target.
-fn add_capture<O: EntryList, B: Allocator>(
+/// What is kept of a record whose head says this.
+pub(crate) fn kept_of<A: Allocator>(typed: &Typed<A>) -> Kept<'_>
+    ensures { IsPutOf (indexed_of (said typed.now)) result }
+{
+    Kept {
+        id: id_key(typed),
+        capture: capture_key(typed),
+        link: link_of(typed),
+    }
+}
+
+/// Adds an entry, if there is one.
+fn add_present<O: EntryList>(
     order: &mut O,
     position: usize,
-    typed: &Typed<B>,
+    key: Option<Key<'_>>,
 ) -> Result<(), AllocError>
     requires { All (λ e. e.position < position) (O.entries order.old) }
-    ensures ok { OnOk result (O.entries order.new ≡ O.entries order.old ++ option_to_list (capture_entry position
-        (indexed_of (said typed.now)))) }
+    ensures ok { OnOk result (O.entries order.new
+        ≡ O.entries order.old ++ option_to_list (option_map (key_entry position) key.entry)) }
     ensures err { OnErr result (O.entries order.new ≡ O.entries order.old) }
 {
-    match capture_key(typed) {
+    match key {
         Some(key) => order.add(key.text, key.mark, position),
         None => Ok(()),
     }
 }
 
-/// Adds a record to both.
-fn add_entries<O: EntryList, B: Allocator>(
+/// Adds the entries of a record.
+fn add_entries<O: EntryList>(
     by_id: &mut O,
     by_target: &mut O,
     position: usize,
-    typed: &Typed<B>,
+    kept: &Kept<'_>,
 ) -> Result<(), AllocError>
     requires ids { All (λ e. e.position < position) (O.entries by_id.old) }
     requires captures { All (λ e. e.position < position) (O.entries by_target.old) }
-    ensures ids { OnOk result (O.entries by_id.new ≡ O.entries by_id.old ++ option_to_list (id_entry position
-        (indexed_of (said typed.now)))) }
-    ensures captures { OnOk result (O.entries by_target.new ≡ O.entries by_target.old ++ option_to_list
-        (capture_entry position (indexed_of (said typed.now)))) }
+    ensures ids { OnOk result (O.entries by_id.new ≡ O.entries by_id.old ++ key_entry position kept.now.id ∷ []) }
+    ensures captures { OnOk result (O.entries by_target.new
+        ≡ O.entries by_target.old ++ option_to_list (option_map (key_entry position) kept.now.capture)) }
     ensures err_ids { OnErr result (O.entries by_id.new ≡ O.entries by_id.old) }
     ensures err_captures { OnErr result (O.entries by_target.new ≡ O.entries by_target.old) }
 {
-    add_id(by_id, position, typed)?;
-    match add_capture(by_target, position, typed) {
+    by_id.add(kept.id.text, kept.id.mark, position)?;
+    match add_present(by_target, position, kept.capture) {
         Ok(()) => Ok(()),
         Err(refused) => {
             // What was added is taken back, which takes no memory.
@@ -74,28 +77,28 @@ fn add_entries<O: EntryList, B: Allocator>(
     }
 }
 
-/// Adds a record to both and to what is kept for revisits. `Err`: no memory for it; then nothing changes.
-pub(crate) fn add_record<O: EntryList, A: Allocator + Copy, B: Allocator>(
+/// Adds a record to both lists of entries and to what is kept for revisits. `Err`: no memory for it; then nothing
+/// changes.
+pub(crate) fn add_record<O: EntryList, A: Allocator + Copy>(
     by_id: &mut O,
     by_target: &mut O,
     links: &mut Links<A>,
     position: usize,
-    typed: &Typed<B>,
+    kept: &Kept<'_>,
 ) -> Result<(), AllocError>
     requires ids { All (λ e. e.position < position) (O.entries by_id.old) }
     requires captures { All (λ e. e.position < position) (O.entries by_target.old) }
     requires links { length links.old ≡ position }
-    ensures ids { OnOk result (O.entries by_id.new ≡ O.entries by_id.old ++ option_to_list (id_entry position
-        (indexed_of (said typed.now)))) }
-    ensures captures { OnOk result (O.entries by_target.new ≡ O.entries by_target.old ++ option_to_list
-        (capture_entry position (indexed_of (said typed.now)))) }
-    ensures links { OnOk result (links.new ≡ links.old ++ link_of (indexed_of (said typed.now)) ∷ []) }
+    ensures ids { OnOk result (O.entries by_id.new ≡ O.entries by_id.old ++ key_entry position kept.now.id ∷ []) }
+    ensures captures { OnOk result (O.entries by_target.new
+        ≡ O.entries by_target.old ++ option_to_list (option_map (key_entry position) kept.now.capture)) }
+    ensures links { OnOk result (links.new ≡ links.old ++ link_seen kept.now.link ∷ []) }
     ensures err_ids { OnErr result (O.entries by_id.new ≡ O.entries by_id.old) }
     ensures err_captures { OnErr result (O.entries by_target.new ≡ O.entries by_target.old) }
     ensures err_links { OnErr result (links.new ≡ links.old) }
 {
-    links.add(&link_of(typed))?;
-    match add_entries(by_id, by_target, position, typed) {
+    links.add(&kept.link)?;
+    match add_entries(by_id, by_target, position, kept) {
         Ok(()) => Ok(()),
         Err(refused) => {
             links.truncate(position);

@@ -7,6 +7,8 @@ ghost use Rattle.std.specs.Option.{option_to_list};
 ghost use Rattle.warc_value.specs.Dates.{Instant};
 ghost use Rattle.warc_record.specs.Seen.{said};
 ghost use Rattle.warc_index.specs.declared.unfound.Unfound.TheVariants.{NoReference, Unresolved};
+ghost use Rattle.warc_index.specs.Alone.{alone_seen};
+ghost use Rattle.warc_index.specs.Kept.{IsPutOf};
 ghost use Rattle.warc_index.specs.Captures.{AreCapturesOf, Indexed, indexed_of, is_capture, chosen_of};
 ghost use Rattle.warc_index.specs.Referents.{by_key, by_pair, by_payload, first_with, is_revisit_at};
 ghost use Rattle.warc_index.specs.Referents.{referent_of, origin_of};
@@ -15,7 +17,8 @@ ghost use Rattle.warc_index.specs.Linked.{instant_mark, revisit_link};
 ghost use Rattle.warc_index.specs.Orders.{IsIndexOf, IsBelow, id_entry, capture_entry, text_bytes};
 ghost use Rattle.warc_index.specs.Orders.{step_of};
 
-use crate::adding::{add_record, truncate_all};
+use crate::adding::{Kept, add_record, kept_of, truncate_all};
+use crate::alone::AloneRecord;
 use crate::key::OTHERS;
 use crate::link::{FIRST, Link, Links, Role};
 use crate::linked::mark_at;
@@ -65,10 +68,10 @@ impl<O: HasEntries, A: Allocator> Model for RecordIndex<O, A> {
 }
 
 impl<O: EntryList, A: Allocator + Copy> RecordIndex<O, A> {
-    /// Adds the next record. `Err`: no memory for it, and for putting it in order if it waits; then nothing changes.
-    pub fn add<B: Allocator>(&mut self, typed: &Typed<B>) -> Result<(), AllocError>
-        ensures ok { (all : List Indexed) → IsIndexOf all self.old →
-            OnOk result (IsIndexOf (all ++ indexed_of (said typed.now) ∷ []) self.new) }
+    /// Adds what is kept of the next record. `Err`: no memory for it; then nothing changes.
+    fn put(&mut self, kept: &Kept<'_>) -> Result<(), AllocError>
+        ensures ok { (all : List Indexed) (r : Indexed) → IsIndexOf all self.old → IsPutOf r kept.now →
+            OnOk result (IsIndexOf (all ++ r ∷ []) self.new) }
         ensures err { OnErr result (self.new ≡ self.old) }
     {
         let position = self.count;
@@ -80,10 +83,28 @@ impl<O: EntryList, A: Allocator + Copy> RecordIndex<O, A> {
             &mut self.by_target,
             &mut self.links,
             position,
-            typed,
+            kept,
         )?;
         self.count = count;
         Ok(())
+    }
+
+    /// Adds the next record. `Err`: no memory for it, and for putting it in order if it waits; then nothing changes.
+    pub fn add<B: Allocator>(&mut self, typed: &Typed<B>) -> Result<(), AllocError>
+        ensures ok { (all : List Indexed) → IsIndexOf all self.old →
+            OnOk result (IsIndexOf (all ++ indexed_of (said typed.now) ∷ []) self.new) }
+        ensures err { OnErr result (self.new ≡ self.old) }
+    {
+        self.put(&kept_of(typed))
+    }
+
+    /// Adds the next record, which names no other. `Err`: as of `add`.
+    pub fn add_alone(&mut self, record: &AloneRecord<'_>) -> Result<(), AllocError>
+        ensures ok { (all : List Indexed) → IsIndexOf all self.old →
+            OnOk result (IsIndexOf (all ++ alone_seen record.now ∷ []) self.new) }
+        ensures err { OnErr result (self.new ≡ self.old) }
+    {
+        self.put(&record.kept())
     }
 
     /// Keeps the first `count` records. It takes no memory.

@@ -23,24 +23,27 @@ pub(crate) struct Key<'a> {
 }
 
 /// Whether a record of this kind can answer: a response, a resource or a revisit.
-fn is_capture(kind: Kind) -> bool
+pub(crate) fn is_capture(kind: Kind) -> bool
     ensures { result ≡ is_capture kind }
 {
     matches!(kind, Kind::Response | Kind::Resource | Kind::Revisit)
 }
 
-/// The entry of a record in the order by id: captures come first.
+/// The mark of a record of this kind in the order by id: captures come first.
+pub(crate) fn kind_mark(kind: Kind) -> Mark
+    ensures { result ≡ kind_mark kind }
+{
+    if is_capture(kind) { FIRST } else { OTHERS }
+}
+
+/// The entry of a record in the order by id.
 pub(crate) fn id_key<A: Allocator>(typed: &Typed<A>) -> Key<'_>
     ensures text { result.text.now ≡ typed.now.id }
-    ensures mark { result.mark ≡ kind_mark (indexed_of (said typed.now)) }
+    ensures mark { result.mark ≡ kind_mark typed.now.kind }
 {
     Key {
         text: typed.id.bytes(),
-        mark: if is_capture(typed.kind) {
-            FIRST
-        } else {
-            OTHERS
-        },
+        mark: kind_mark(typed.kind),
     }
 }
 

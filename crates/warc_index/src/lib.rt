@@ -2,6 +2,7 @@
 #![tactic(auto)]
 
 mod adding;
+mod alone;
 mod index;
 mod key;
 pub mod laws;
@@ -10,5 +11,6 @@ mod linked;
 mod lookup;
 mod unfound;
 
+pub use alone::AloneRecord;
 pub use index::{Index, RecordIndex, UnorderedIndex};
 pub use unfound::Unfound;

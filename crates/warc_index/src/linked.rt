@@ -1,9 +1,10 @@
 //! What is kept of a record for the chain of referents.
 
-ghost use Rattle.std.specs.Prelude.{◌≡◌, Some};
+ghost use Rattle.std.specs.Prelude.{◌≡◌, [], Some};
 ghost use Rattle.warc_record.specs.Seen.{said};
 ghost use Rattle.warc_index.specs.Captures.{indexed_of};
-ghost use Rattle.warc_index.specs.Links.{link_seen};
+ghost use Rattle.warc_index.specs.Links.{first_mark, link, link_seen};
+ghost use Rattle.warc_index.specs.declared.link.Role.TheVariants.{Digested};
 ghost use Rattle.warc_index.specs.Linked.{instant_mark, payload_link, unnamed_link, revisit_link, link_of};
 
 use crate::link::{FIRST, Link, Role, bare};
@@ -22,17 +23,24 @@ pub(crate) fn mark_at(moment: &Moment) -> Mark
     }
 }
 
+/// What is kept of a response or a resource that states this payload digest.
+pub(crate) fn digested(digest: &[u8]) -> Link<'_>
+    ensures { link_seen result ≡ link Digested digest.now [] first_mark }
+{
+    Link {
+        role: Role::Digested,
+        first: digest,
+        second: &[],
+        mark: FIRST,
+    }
+}
+
 /// What is kept of a response or a resource.
 fn payload_link<A: Allocator>(typed: &Typed<A>) -> Link<'_>
     ensures { link_seen result ≡ payload_link typed.now.payload_digest }
 {
     match &typed.payload_digest {
-        Some(digest) => Link {
-            role: Role::Digested,
-            first: digest.bytes(),
-            second: &[],
-            mark: FIRST,
-        },
+        Some(digest) => digested(digest.bytes()),
         None => bare(Role::Payload),
     }
 }

@@ -7,45 +7,14 @@ use Rattle.warc_value.specs.Dates.{instant_of}
 use Rattle.warc_frame.specs.Names.{warc_type, warc_record_id, warc_date, warc_target_uri, warc_payload_digest}
 use Rattle.warc_record.specs.Ids.{bare_text, id_key}
 use Rattle.warc_record.specs.Kinds.{kind_named}
-use Rattle.warc_record.specs.Readings.{Reading, bare_present, reading_of, unless_empty}
+use Rattle.warc_record.specs.Readings.{Reading, bare_present, no_segment, nothing_named, reading_of, unless_empty}
 use Rattle.warc_record.specs.Good.{SaysAll}
 use Rattle.warc_record.proofs.GoodLemmas.{good_heads_read}
 use Rattle.warc_record.proofs.LawLemmas.{bare_texts_are_values}
 use Rattle.warc_value.specs.Digests.{wanted_digest}
 use Rattle.warc_quick.specs.declared.head.QuickHead.{QuickHead}
-use Rattle.warc_quick.specs.Quick.{Says, no_segment, nothing_named}
+use Rattle.warc_quick.specs.Quick.{Says}
 use Rattle.warc_quick.proofs.HeadLemmas.{some_bytes, target_is}
-
--- the value of the first field of a name is a value
-first_is_value : (name : List ℕ) (fields : List Pair) (value : List ℕ) → AreFields fields → first_value name fields ≡ Some value
-    → is_value value ≡ true
-first_is_value name [] value are is = absurd (cc)
-first_is_value name (field ∷ fields) value are is = by (same field.0 name) (first_is_value name fields value are.1) is
-  where
-    by : (b : Bool) → (first_value name fields ≡ Some value → is_value value ≡ true)
-        → option_map (λ (x : Pair). x.1) (cond b (Some field) (find (λ (x : Pair). same x.0 name) fields)) ≡ Some value
-        → is_value value ≡ true
-    by true rest hit = let here : field.1 ≡ value = cc in ap is_value (sym here) ∙ are.0.1
-    by false rest miss = rest miss
-
-nothing_is_value : is_value [] ≡ true
-unfolding is_value
-nothing_is_value = refl
-
--- a text that is there is a value, and empty where none is there
-present_is_value : (found : Option (List ℕ)) (text : List ℕ) → ((value : List ℕ) → found ≡ Some value → is_value value ≡ true)
-    → option_and_then unless_empty found ≡ unless_empty text → is_value text ≡ true
-present_is_value found [] values is = nothing_is_value
-present_is_value None (b ∷ bs) values is = let some = some_bytes b bs in absurd (cc)
-present_is_value (Some []) (b ∷ bs) values is = let some = some_bytes b bs in absurd (cc)
-present_is_value (Some (c ∷ cs)) (b ∷ bs) values is =
-    let same : (c ∷ cs) ≡ (b ∷ bs) = (let some = some_bytes b bs in let other = some_bytes c cs in cc) in
-    ap is_value (sym same) ∙ values (c ∷ cs) refl
-
-bare_is_value : (found : Option (List ℕ)) → ((value : List ℕ) → found ≡ Some value → is_value value ≡ true)
-    → is_value (bare_text (unwrap_or found [])) ≡ true
-bare_is_value None values = bare_texts_are_values [] nothing_is_value
-bare_is_value (Some value) values = bare_texts_are_values value (values value refl)
 
 -- an empty text is absent
 absent_or : (text : List ℕ) → unless_empty (unwrap_or (unless_empty text) []) ≡ unless_empty text
@@ -97,33 +66,11 @@ module _ (fields : List Pair) (found : QuickHead) (says : Says fields found) whe
   date_is : found.texts.date.now ≡ read.date_text
   date_is = stated _ _ _ read.date_text_is says.texts.date
 
-  value_of : (name text value : List ℕ) → text ≡ value → first_value name fields ≡ Some value → is_value text ≡ true
-  value_of name text value same is = ap is_value same ∙ first_is_value name fields value says.values is
-
-  pub kind_value : is_value found.texts.kind.now ≡ true
-  kind_value = value_of warc_type _ _ kind_is read.type_is
-
-  pub id_value : is_value found.texts.id.now ≡ true
-  id_value = value_of warc_record_id _ _ id_is read.id_text_is
-
-  pub date_value : is_value found.texts.date.now ≡ true
-  date_value = value_of warc_date _ _ date_is read.date_text_is
-
   pub id_found : id_key found.texts.id.now ≡ Some read.id
   id_found = ap id_key id_is ∙ read.id_reads
 
   pub date_found : instant_of found.texts.date.now ≡ Some read.instant
   date_found = ap instant_of date_is ∙ read.date_reads
-
-  pub target_value : is_value found.texts.target.now ≡ true
-  target_value =
-      ap is_value (says.texts.target ∙ target_is (first_value warc_target_uri fields))
-      ∙ bare_is_value (first_value warc_target_uri fields) (λ value. first_is_value warc_target_uri fields value says.values)
-
-  pub digest_value : is_value found.payload_digest.now ≡ true
-  digest_value =
-      present_is_value (first_value warc_payload_digest fields) found.payload_digest.now
-      (λ value. first_is_value warc_payload_digest fields value says.values) says.payload
 
   -- a reading of these texts is all that the fields say
   pub reads_all : (typed : Reading) → typed.kind ≡ kind_named found.texts.kind.now → typed.type_text ≡ Some found.texts.kind.now

@@ -25,7 +25,7 @@ use Rattle.warc_frame.proofs.ReadLemmas.{head-from}
 use Rattle.warc_frame.proofs.SpellLemmas.{head-spelled}
 use Rattle.warc_record.specs.Heads.{is_date}
 use Rattle.warc_record.specs.Ids.{bare_text, is_id}
-use Rattle.warc_record.specs.Readings.{bare_present, reference_of, segment_reading, unless_empty}
+use Rattle.warc_record.specs.Readings.{bare_present, no_segment, nothing_named, reference_of, segment_reading, unless_empty}
 use Rattle.warc_record.proofs.GoodLemmas.{good_heads_have_no_fault}
 use Rattle.warc_quick.specs.declared.head.QuickHead.{QuickHead}
 use Rattle.warc_quick.specs.declared.names.QuickName.{QuickName}
@@ -33,7 +33,7 @@ use Rattle.warc_quick.specs.declared.names.QuickName.TheVariants.{«Type», Reco
 use Rattle.warc_quick.specs.Names.{quick_name}
 use Rattle.warc_quick.specs.Faultless.{AreFaultless}
 use Rattle.warc_quick.specs.Fronts.{BeginsWithFields, IsHeadWith, IsValueOf}
-use Rattle.warc_quick.specs.Quick.{AreAlone, Says, max_quick_head, no_segment, nothing_named}
+use Rattle.warc_quick.specs.Quick.{AreAlone, Says, max_quick_head}
 use Rattle.warc_quick.proofs.ValueLemmas.{some_counts}
 
 -- the number of the only `Content-Length`

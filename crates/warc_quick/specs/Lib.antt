@@ -1,4 +1,5 @@
 pub mod Quick
+pub mod Alone
 pub mod Names
 pub mod Places
 pub mod Fronts

@@ -10,8 +10,7 @@ use Rattle.warc_frame.specs.Reading.{any_fields, head_of}
 use Rattle.warc_frame.specs.Record.{Record, block_len}
 use Rattle.warc_frame.specs.Spelling.{Spells}
 use Rattle.warc_record.specs.Heads.{head_fault}
-use Rattle.warc_record.specs.Readings.{Reading, ReferenceReading, SegmentReading, digest_wanted, present_value, reading_of, reference_of, segment_reading, unless_empty}
-use Rattle.warc_record.specs.declared.readings.SegmentNumber.TheVariants.{Absent}
+use Rattle.warc_record.specs.Readings.{Reading, digest_wanted, no_segment, nothing_named, present_value, reading_of, reference_of, segment_reading, unless_empty}
 use Rattle.warc_record.specs.declared.head.HeadTexts.{HeadTexts}
 use Rattle.warc_quick.specs.Faultless.{AreFaultless}
 use Rattle.warc_quick.specs.declared.head.QuickHead.{QuickHead}
@@ -28,13 +27,6 @@ pub record AreTexts (head : Reading) (texts : HeadTexts) : Type 0 where
   pub id : texts.id.now ≡ unwrap_or head.id_text []
   pub target : texts.target.now ≡ unwrap_or head.target []
   pub truncated : texts.is_truncated ≡ head.truncated
-
--- no other record is named, and nothing is said of segments
-abbrev pub nothing_named : ReferenceReading
-nothing_named = record { known_profile = false; named_id = None; named_pair = None }
-
-abbrev pub no_segment : SegmentReading
-no_segment = record { number = Absent; origin = None; total = None }
 
 -- fields that name no other record and say nothing of segments
 pub record AreAlone (fields : List Pair) : Type 0 where

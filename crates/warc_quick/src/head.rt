@@ -8,10 +8,10 @@ ghost use Rattle.warc_frame.specs.declared.version.Version.{Version};
 ghost use Rattle.warc_frame.specs.VersionLine.{version_line};
 ghost use Rattle.warc_record.specs.Heads.{is_date};
 ghost use Rattle.warc_record.specs.Ids.{is_id};
-ghost use Rattle.warc_record.specs.Readings.{reference_of, segment_reading};
+ghost use Rattle.warc_record.specs.Readings.{no_segment, nothing_named, reference_of, segment_reading};
 ghost use Rattle.warc_frame.specs.Record.{block_number, max_block};
 ghost use Rattle.warc_quick.specs.Fronts.{AreValues, BeginsWithFields, IsHeadWith};
-ghost use Rattle.warc_quick.specs.Quick.{Says, IsQuickHead, max_quick_head, no_segment, nothing_named};
+ghost use Rattle.warc_quick.specs.Quick.{Says, IsQuickHead, max_quick_head};
 
 use crate::dates::is_plain_date;
 use crate::lines::first_line;

@@ -1,5 +1,5 @@
 //! The head of a WARC record, read in place, line by line. Reading takes no memory, and copies no name and no value.
-//! Only `type_alone` copies values, and may ask for memory.
+//! Only `type_alone` may ask for memory, for an id that isn't a UUID.
 //!
 //! Most heads are plain: each field is on a line of its own, and each name of the standard is spelled as there and
 //! occurs at most once, if it may not repeat. These are read here. Any other head is left to `warc_frame` and
@@ -17,7 +17,7 @@ mod plain;
 mod runs;
 mod values;
 
-pub use alone::type_alone;
+pub use alone::{AloneHead, type_alone};
 pub use canonical::is_canonical_head;
 pub use faultless::faultless_head;
 pub use head::{QuickHead, quick_head};

@@ -12,7 +12,7 @@ ghost use Rattle.warc_reading.specs.Row.{Placed};
 
 use std::alloc::{AllocError, Allocator};
 use warc_field::Fields;
-use warc_index::{Index, RecordIndex, UnorderedIndex};
+use warc_index::{AloneRecord, Index, RecordIndex, UnorderedIndex};
 use warc_order::{EntryList, HasEntries, Order, Unordered};
 use warc_quick::{QuickHead, QuickRecord, type_alone};
 use warc_record::{Typed, type_head};
@@ -193,25 +193,38 @@ fn add_head<O: EntryList, A: Allocator + Copy>(
     add(index, parts, position, &typed, place)
 }
 
-/// Keeps the next record, whose plain head is alone, by its position and where its block begins.
+/// Keeps the next record, whose plain head is alone, by its position. Nothing of it joins other blocks, so the place of
+/// its block isn't kept.
 fn add_plain<O: EntryList, A: Allocator + Copy>(
     alloc: A,
     index: &mut RecordIndex<O, A>,
     parts: &mut Parts<A>,
     position: usize,
-    found: &QuickRecord<'_>,
-    block_start: u64,
+    head: &QuickHead<'_>,
 ) -> Result<(), AllocError>
-    requires alone { found.now.head.is_alone ≡ true }
-    requires next { (p : Placed) × IsNextPlain p found.now block_start }
+    requires alone { head.now.is_alone ≡ true }
+    requires says { (fields : List Pair) × Says fields head.now }
     ensures ok { (records : List Placed) (p : Placed) → AreOf records index.old parts.old →
-        IsNextPlain p found.now block_start → OnOk result (AreOf (records ++ p ∷ []) index.new parts.new) }
+        Says p.content.fields head.now → OnOk result (AreOf (records ++ p ∷ []) index.new parts.new) }
     ensures err { (records : List Placed) → AreOf records index.old parts.old →
         position ≡ length records → OnErr result (AreOf records index.new parts.new) }
 {
-    let typed = type_alone(alloc, &found.head)?;
-    let place = place_of(&typed, block_start, found.head.block_len);
-    add(index, parts, position, &typed, place)
+    let typed = type_alone(alloc, head)?;
+    index.add_alone(&AloneRecord {
+        kind: typed.kind,
+        id: typed.id.bytes(),
+        moment: typed.moment,
+        target: head.texts.target,
+        payload_digest: head.payload_digest,
+    })?;
+    match parts.add_unsegmented() {
+        Ok(()) => Ok(()),
+        Err(refused) => {
+            // What was added is taken back, which takes no memory.
+            index.truncate(position);
+            Err(refused)
+        }
+    }
 }
 
 /// Keeps the first `count` records. It takes no memory.
@@ -315,7 +328,7 @@ impl<O: EntryList, A: Allocator + Copy> Keep<A> for RecordLookup<O, A> {
         alloc: A,
         position: usize,
         found: &QuickRecord<'_>,
-        block_start: u64,
+        _block_start: u64,
     ) -> Result<(), AllocError> {
         if !found.head.is_alone {
             return Ok(());
@@ -325,8 +338,7 @@ impl<O: EntryList, A: Allocator + Copy> Keep<A> for RecordLookup<O, A> {
             &mut self.index,
             &mut self.parts,
             position,
-            found,
-            block_start,
+            &found.head,
         )
     }
 

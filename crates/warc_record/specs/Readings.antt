@@ -80,6 +80,10 @@ reference_of fields = record {
       both (present_bare warc_refers_to_target_uri fields) (instant_in warc_refers_to_date fields);
 }
 
+-- no other record is named; a date alone names none
+abbrev pub nothing_named : ReferenceReading
+nothing_named = record { known_profile = false; named_id = None; named_pair = None }
+
 -- no number, a number, or a value that isn't one
 abbrev pub segment_number : List Pair → SegmentNumber
 segment_number fields = number_by (present_value warc_segment_number fields)
@@ -100,6 +104,10 @@ segment_reading fields = record {
   origin = key_in warc_segment_origin_id fields;
   total = number_in warc_segment_total_length fields;
 }
+
+-- nothing is said of segments
+abbrev pub no_segment : SegmentReading
+no_segment = record { number = Absent; origin = None; total = None }
 
 -- the digest that the block should have
 abbrev pub digest_wanted : List Pair → Wanted

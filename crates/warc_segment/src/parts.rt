@@ -1,4 +1,5 @@
 ghost use Rattle.std.specs.Prelude.{◌≡◌, ◌⊎◌, ◌+◌, ◌≤◌, ◌^◌, ℕ, ◌++◌, [], ◌∷◌, List, length, take, sum_by, map, OnOk, OnErr, IfOk, IsSome};
+ghost use Rattle.warc_record.specs.Readings.{no_segment};
 ghost use Rattle.warc_record.specs.Seen.{said};
 ghost use Rattle.warc_segment.specs.Joined.{PlacedRecord, joined_places};
 ghost use Rattle.warc_segment.specs.Kept.{kept_in, kept_of};
@@ -69,6 +70,17 @@ fn places_of<A: Allocator + Copy>(
     Ok(places)
 }
 
+/// One more than a count, if that is less than 2^64.
+fn one_more(count: usize) -> Result<usize, AllocError>
+    ensures ok { IfOk result (λ more. more ≡ count + 1) }
+    ensures err { OnErr result (2 ^ 64 ≤ count + 1) }
+{
+    match count.checked_add(1) {
+        Some(more) => Ok(more),
+        None => Err(AllocError),
+    }
+}
+
 impl<A: Allocator + Copy> Parts<A> {
     /// No records.
     pub fn new(alloc: A) -> Parts<A>
@@ -92,11 +104,20 @@ impl<A: Allocator + Copy> Parts<A> {
         ensures needed { let added : PlacedRecord = record { head = said typed.now; place = place } in
             OnErr result (IsSome (kept_of (self.old.count, added)) ⊎ (2 ^ 64 ≤ self.old.count + 1)) }
     {
-        let Some(count) = self.count.checked_add(1) else {
-            return Err(AllocError);
-        };
+        let count = one_more(self.count)?;
         put(&mut self.order, &mut self.facts, self.count, typed, place)?;
         self.count = count;
+        Ok(())
+    }
+
+    /// Adds the next record of the archive, whose head says nothing of segments. It takes no memory. It is refused only
+    /// if 2^64 - 1 records were added before; then nothing changes.
+    pub fn add_unsegmented(&mut self) -> Result<(), AllocError>
+        ensures ok { (all : List PlacedRecord) (added : PlacedRecord) → self.old ≡ kept_in all
+            → added.head.segment ≡ no_segment → OnOk result (self.new ≡ kept_in (all ++ added ∷ [])) }
+        ensures err { OnErr result ((self.new ≡ self.old) × (2 ^ 64 ≤ self.old.count + 1)) }
+    {
+        self.count = one_more(self.count)?;
         Ok(())
     }
 
