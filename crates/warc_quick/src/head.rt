@@ -102,6 +102,7 @@ fn is_plain_id(value: &[u8]) -> bool
 }
 
 /// Whether a value holds an id.
+#[inline(always)]
 fn holds_id(value: &[u8]) -> bool
     ensures { result ≡ is_id value.now }
 {
@@ -109,6 +110,7 @@ fn holds_id(value: &[u8]) -> bool
 }
 
 /// Whether a value is a date.
+#[inline(always)]
 fn holds_date(value: &[u8]) -> bool
     ensures { result ≡ is_date value.now }
 {
@@ -147,6 +149,7 @@ fn has_no_segment(values: &Values<'_>) -> bool
 }
 
 /// What the fields of these values say, if their head is good.
+#[inline(always)]
 fn good_head<'a>(len: usize, values: &Values<'a>) -> Option<QuickHead<'a>>
     ensures lengths { IfSome result (λ head. (head.len ≡ len) × (head.block_len ≤ max_block)) }
     ensures says { (fields : List Pair) → AreFields fields → AreValues fields values.now.values
@@ -203,6 +206,7 @@ pub(crate) fn head_with_values<'a>(text: &'a [u8], values: &mut Values<'a>) -> O
 ///
 /// A head is plain if each field is on one line, no value has a control character other than tabs, the names of the
 /// standard are spelled as there and occur at most once, but for `WARC-Concurrent-To`, and it has at most 32,768 bytes.
+#[inline(always)]
 pub fn quick_head(text: &[u8]) -> Option<QuickHead<'_>>
     ensures head { IfSome result (IsQuickHead text.now) }
     ensures bounds { IfSome result (λ head. (0 < head.len) × (head.len ≤ max_quick_head)

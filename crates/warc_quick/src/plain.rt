@@ -27,6 +27,7 @@ pub struct QuickRecord<'a> {
 }
 
 /// The block of `block_len` bytes after a head, if it is there and closed.
+#[inline(always)]
 #[tactic(auto, unfolding(warc_frame::specs::Reading::block_at))]
 fn closed_block(head_len: usize, block_len: u64, text: &[u8]) -> Option<&[u8]>
     requires head { head_len ≤ length text.now }
@@ -64,6 +65,7 @@ fn with_block<'a>(text: &'a [u8], head: QuickHead<'a>) -> Option<QuickRecord<'a>
 
 /// The good record at the front of a text, if its head is plain and all of it is there. `None` says nothing of the
 /// text. Whether the head is faultless isn't looked at.
+#[inline(always)]
 pub fn quick_record(text: &[u8]) -> Option<QuickRecord<'_>>
     ensures { IfSome result (IsQuickRecord text.now) }
 {

@@ -281,6 +281,7 @@ impl<A: Allocator + Copy, L: Keep<A> + Drop> Reading<A, L> {
 /// The record that a piece begins with, if it can be read in place: the decoder stands between records, the head is
 /// plain, and the record ends within the piece and within the limit of an archive. Where blocks are judged, it is asked
 /// too whether the head is faultless.
+#[inline(always)]
 fn plain_record<'a, A: Allocator + Copy>(
     decoder: &Decoder<A>,
     piece: &'a [u8],

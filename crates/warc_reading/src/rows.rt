@@ -220,6 +220,7 @@ fn texts_len(row: &Row<'_>) -> Option<usize>
 }
 
 /// Appends a text for which there is room, and returns where it ends.
+#[inline(always)]
 fn put<A: Allocator>(text: &[u8], texts: &mut Vec<u8, A>) -> usize
     requires { vec_len texts.old + length text.now ≤ vec_capacity texts.old }
     ensures items { texts.new.items ≡ texts.old.items ++ text.now }
@@ -247,6 +248,7 @@ impl<A: Allocator + Copy> Rows<A> {
 
     /// Adds a row after the others. If memory is refused, no row is added, and no part of its text. A row that
     /// doesn't fit an entry is refused in the same way; each row of an archive fits (law `rows_fit`).
+    #[inline(always)]
     pub fn push(&mut self, row: &Row<'_>) -> Result<(), AllocError>
         ensures ok { OnOk result (self.new ≡ self.old ++ row.now ∷ []) }
         ensures err { OnErr result (self.new ≡ self.old) }
