@@ -8,11 +8,16 @@ ghost use Rattle.warc_answer.specs.Giving.{IsFront, any_bad_at};
 ghost use Rattle.warc_answer.specs.Origins.{ReadsToJudge};
 ghost use Rattle.warc_answer.specs.Places.{IsPlacedText, LieIn, ReadsPlaces, bytes_at, len_of, text_at};
 
+use crate::replay::total;
 use warc_digest::update_range;
 use warc_frame::laws::went_out_of_longer;
 use warc_frame::{OutBuffer, OutFault, PIECE, ReadFault, Sink, Source, put_range, read_range};
 use warc_segment::Place;
 use warc_value::{Running, Verdict, Wanted};
+
+/// The length of the buffer through which blocks are read that are no longer together. Clearing a longer one would take
+/// as long as reading them.
+const SHORT: usize = 512;
 
 /// Fills the buffer with the bytes at an offset. It fails where a read does, where the source ends too early, and where
 /// the bytes don't end before offset 2^64.
@@ -95,7 +100,7 @@ fn judge_each<S: Source>(
     Ok(Some(filled))
 }
 
-/// The same, through a buffer of its own.
+/// The same, through a buffer of its own, which is short where the joined blocks are.
 pub(crate) fn judge_blocks<S: Source>(
     source: &mut S,
     places: &[Place],
@@ -108,6 +113,10 @@ pub(crate) fn judge_blocks<S: Source>(
     ensures checked { length front.old ≡ 0 → ReadsToJudge false places.now (S.seen source.old) (S.seen source.new) }
     ensures fails { FailsBy (LieIn places.now) (read_result result) (S.seen source.old) (S.seen source.new) }
 {
+    if total(places) <= SHORT as u64 {
+        let mut scratch = [0; SHORT];
+        return judge_each(source, places, front, &mut scratch);
+    }
     let mut scratch = [0; PIECE];
     judge_each(source, places, front, &mut scratch)
 }
@@ -153,6 +162,30 @@ fn put_blocks<S: Source, W: Sink>(
     Ok(())
 }
 
+/// Writes the joined blocks, without their first `skip` bytes, through `scratch`.
+fn send_through<S: Source, W: Sink>(
+    source: &mut S,
+    places: &[Place],
+    skip: u64,
+    scratch: &mut [u8],
+    out: &mut W,
+) -> Result<(), OutFault>
+    requires { 0 < length scratch.old }
+    ensures sends { Sends (IsPlacedText places.now skip) (S.seen source.old) (S.seen source.new) (W.seen out.old)
+        (W.seen out.new) result }
+    ensures device { IfErr result IsOfDevice }
+    ensures reads { ReadsPlaces places.now (len_of places.now) (S.seen source.old) (S.seen source.new) }
+{
+    let mut buffer = OutBuffer::new();
+    if let Err(fault) = put_blocks(source, places, skip, scratch, &mut buffer, out) {
+        return Err(fault);
+    }
+    match buffer.flush(out) {
+        Ok(()) => Ok(()),
+        Err(fault) => Err(OutFault::Write(fault.sent)),
+    }
+}
+
 /// Writes the joined blocks, without their first `skip` bytes.
 pub fn send_blocks<S: Source, W: Sink>(
     source: &mut S,
@@ -165,13 +198,10 @@ pub fn send_blocks<S: Source, W: Sink>(
     ensures device { IfErr result IsOfDevice }
     ensures reads { ReadsPlaces places.now (len_of places.now) (S.seen source.old) (S.seen source.new) }
 {
+    if total(places) <= SHORT as u64 {
+        let mut scratch = [0; SHORT];
+        return send_through(source, places, skip, &mut scratch, out);
+    }
     let mut scratch = [0; PIECE];
-    let mut buffer = OutBuffer::new();
-    if let Err(fault) = put_blocks(source, places, skip, &mut scratch, &mut buffer, out) {
-        return Err(fault);
-    }
-    match buffer.flush(out) {
-        Ok(()) => Ok(()),
-        Err(fault) => Err(OutFault::Write(fault.sent)),
-    }
+    send_through(source, places, skip, &mut scratch, out)
 }

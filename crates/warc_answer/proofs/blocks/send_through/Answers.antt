@@ -1,5 +1,5 @@
 use Rattle.std.proofs.Common.{rules, []}
-use Rattle.warc_answer.proofs.blocks.send_blocks.Goals as goal
+use Rattle.warc_answer.proofs.blocks.send_through.Goals as goal
 
 pub returns-in-Err-clause-sends : goal.returns-in-Err-clause-sends
 returns-in-Err-clause-sends g c = record {
