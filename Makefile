@@ -8,6 +8,7 @@
 # make check        the quick check while editing: the whole tree, over what earlier checks kept
 # make test-docs    runs the command lines of README.md and docs/PROGRAM.md, and compares what they write
 # make lint         checks the text of the tree: words, headers, widths, edits, numbers, and the pages
+# make lint-code    checks the code that isn't proved: types, layout, warnings; leaves out what isn't installed
 # make lint-docs    compares README's code with the example crates, and looks for what the pages may not hold
 # make numbers      makes docs/NUMBERS.md from the table of numbers
 # make man          makes the manual pages and the completions under out/
@@ -26,7 +27,7 @@ DESTDIR ?=
 JOBS ?= $(shell nproc)
 VERSION := $(shell sed -n 's/^const VERSION: &str = "\(.*\)";$$/\1/p' crates/warc_arguments/src/words.rt)
 
-.PHONY: all try test check lint test-docs lint-docs man install uninstall dist verify-dist test-package stress bench clean
+.PHONY: all try test check lint lint-code test-docs lint-docs man install uninstall dist verify-dist test-package stress bench clean
 .PHONY: lib python rust test-callers page test-page numbers
 
 all:
@@ -65,8 +66,11 @@ bin/warc:
 test-docs: bin/warc
 	@python3 tools/test_docs.py bin/warc README.md docs/PROGRAM.md
 
-lint: lint-docs
+lint: lint-docs lint-code
 	@python3 tools/lint.py
+
+lint-code:
+	@python3 tools/lint_code.py
 
 lint-docs:
 	@python3 tools/lint_docs.py

@@ -1,0 +1,60 @@
+#!/usr/bin/env python3
+"""Checks the code that isn't proved: its types, its layout, and the tools' own warnings.
+
+Each check names the programs and the Python modules that it needs. Where one isn't installed, the check is left out, and
+a line says so. A check that runs and fails ends this script with 1, after all others have run.
+"""
+from __future__ import annotations
+
+import dataclasses
+import importlib.util
+import shutil
+import subprocess
+import sys
+
+from shared import TOP
+
+
+@dataclasses.dataclass(frozen=True)
+class Check:
+    """One command, run in the top folder."""
+
+    name: str
+    words: tuple[str, ...]
+    modules: tuple[str, ...] = ()
+
+    def lacks(self) -> list[str]:
+        """Which of the programs and modules that it needs aren't here."""
+        programs = [] if shutil.which(self.words[0]) else [self.words[0]]
+        return programs + [name for name in self.modules if importlib.util.find_spec(name) is None]
+
+    def passes(self) -> bool:
+        """Runs it, and prints what it wrote if it failed."""
+        run = subprocess.run(self.words, cwd=TOP, capture_output=True, text=True, check=False)
+        print(f"{self.name}: {'passed' if run.returncode == 0 else 'FAILED'}", flush=True)
+        if run.returncode:
+            print(run.stdout + run.stderr, end="", flush=True)
+        return run.returncode == 0
+
+
+# Debian's programs work with Debian's Python, so each is called by its own name.
+CHECKS = [
+    Check("types of tools/lint_code.py", ("mypy", "--strict", "--follow-imports=silent", "tools/lint_code.py")),
+    Check("layout of tools/lint_code.py", ("black", "--quiet", "--check", "--line-length=120", "tools/lint_code.py")),
+]
+
+
+def main() -> int:
+    """Runs all checks."""
+    failed = 0
+    for check in CHECKS:
+        lacking = check.lacks()
+        if lacking:
+            print(f"{check.name}: left out, since {' and '.join(lacking)} isn't installed", flush=True)
+        else:
+            failed += not check.passes()
+    return 1 if failed else 0
+
+
+if __name__ == "__main__":
+    sys.exit(main())
