@@ -116,9 +116,6 @@ memory_may {X} (Err e) n is = subst (λ (f : OutFault). MayHaveFailedBy {X = X} 
 
 -- ---- what is read
 
-pub preserves_both : {old mid new : SeenSource} → Preserves old mid → Preserves mid new → Preserves old new
-preserves_both first then = record { kept = then.kept ∙ first.kept; watched = then.watched ∙ first.watched }
-
 pub fault_may : (X Y : Type 0) (e : OutFault) (old mid new : ℕ) → mid ≡ old → MayHaveFailedBy {X = X} (Err e) mid new → MayHaveFailedBy {X = Y} (Err e) old new
 fault_may X Y e old mid new same is = out_may X Y e old new (subst (λ (n : ℕ). MayHaveFailedBy {X = X} (Err e) n new) same is)
 

@@ -6,6 +6,7 @@ pub mod FixityLemmas
 pub mod FrontLemmas
 pub mod LawLemmas
 pub mod LineLemmas
+pub mod OriginLemmas
 pub mod ReplayLemmas
 pub mod BodyLemmas
 pub mod LocatingLemmas

@@ -31,6 +31,7 @@ module _ (rows : List Row) (index : Indexes) (parts : Parts) (position : ℕ) wh
   no_record_there s none = record {
     located = λ bytes held is are. none_there bytes rows position is none;
     reads = λ bytes held is are. reads_nothing;
+    inside = λ bytes is off. refl;
     keeps = keeps_same s;
     fails = record { may = refl; failed = λ bytes held is. refl };
   }
@@ -40,6 +41,7 @@ module _ (rows : List Row) (index : Indexes) (parts : Parts) (position : ℕ) wh
   no_capture_there s has = record {
     located = λ bytes held is are. other_there bytes rows position is has;
     reads = λ bytes held is are. reads_nothing;
+    inside = λ bytes is off. refl;
     keeps = keeps_same s;
     fails = record { may = refl; failed = λ bytes held is. refl };
   }
@@ -57,6 +59,7 @@ module _ (rows : List Row) (index : Indexes) (parts : Parts) (position : ℕ) wh
       ),
     );
     reads = λ bytes held is are. reads_nothing;
+    inside = λ bytes is off. refl;
     keeps = keeps_same s;
     fails = record { may = refl; failed = λ bytes held is. refl };
   }
@@ -68,6 +71,7 @@ module _ (rows : List Row) (index : Indexes) (parts : Parts) (position : ℕ) wh
   body_there path body old new found by = record {
     located = λ bytes held is are. (capture_there bytes rows position is found.0, (by.held bytes held is are).located);
     reads = λ bytes held is are. (by.held bytes held is are).reads;
+    inside = by.inside;
     keeps = by.keeps;
     fails = record { may = by.fails.may; failed = by.fails.failed };
   }
@@ -79,6 +83,7 @@ module _ (rows : List Row) (index : Indexes) (parts : Parts) (position : ℕ) wh
   fault_there path fault old new found by = record {
     located = λ bytes held is are. (capture_there bytes rows position is found.0, (by.held bytes held is are).located);
     reads = λ bytes held is are. (by.held bytes held is are).reads;
+    inside = by.inside;
     keeps = by.keeps;
     fails = record { may = by.fails.may; failed = by.fails.failed };
   }

@@ -5,7 +5,7 @@ use Rattle.std.specs.List.{slice_get}
 use Rattle.std.specs.Option.{option_map_or}
 use Rattle.warc_frame.specs.Effects.{FailsBy, ReadsOnly}
 use Rattle.warc_frame.specs.Failing.{MayHaveFailedBy, failed_by}
-use Rattle.warc_frame.proofs.EffectLemmas.{fails_as, fails_more, reads_both, reads_within}
+use Rattle.warc_frame.proofs.EffectLemmas.{fails_as, fails_more}
 use Rattle.warc_frame.specs.Record.{Record, max_archive}
 use Rattle.warc_frame.specs.Seen.{Seen, SeenSource}
 use Rattle.warc_frame.specs.Send.{WentOut, sent_of}
@@ -13,7 +13,7 @@ use Rattle.warc_frame.specs.declared.fault.OutFault.{OutFault}
 use Rattle.warc_frame.specs.declared.fault.OutFault.TheVariants as outs
 use Rattle.warc_index.specs.Orders.{Indexes}
 use Rattle.warc_index.specs.declared.unfound.Unfound.{Unfound}
-use Rattle.warc_segment.specs.Joined.{ArePlacesOf, ReadRecord, joined_records}
+use Rattle.warc_segment.specs.Joined.{ArePlacesOf, PlacesAreOfRecords, ReadRecord, joined_records}
 use Rattle.warc_segment.specs.Kept.{Kept as Parts}
 use Rattle.warc_segment.specs.declared.gap.Gap.{Gap}
 use Rattle.warc_segment.specs.declared.place.Place.{Place}
@@ -21,7 +21,7 @@ use Rattle.std.specs.declared.vec.Vec.{Vec}
 use Rattle.warc_answer.specs.Answers.{path_at}
 use Rattle.warc_answer.specs.Laws.{PathsEndInside}
 use Rattle.warc_answer.specs.Payloads.{read_record, whole_block}
-use Rattle.warc_answer.specs.Places.{IsInOne, ReadsPlaces, len_of}
+use Rattle.warc_answer.specs.Places.{ReadsPlaces, len_of}
 use Rattle.warc_answer.specs.Replays.{out_result}
 use Rattle.warc_answer.specs.Seen.{IsEarly, IsJudged, stored_seen}
 use Rattle.warc_answer.specs.Stored.{IsStoredAt, IsStoredBy, IsStoredOn, StoredBody, joined_text, joined_text_at, joined_to}
@@ -32,22 +32,21 @@ use Rattle.warc_answer.specs.declared.answer.ReplayFault.{ReplayFault}
 use Rattle.warc_answer.specs.declared.answer.ReplayFault.TheVariants.{Reason, Out}
 use Rattle.warc_answer.specs.declared.stored.Stored.{Stored}
 use Rattle.warc_answer.proofs.GiveLemmas.{places_lie, places_text}
-use Rattle.warc_reading.specs.Rereading.{ended_by}
-use Rattle.warc_reading.specs.declared.rereading.RereadFault.{RereadFault}
-use Rattle.warc_reading.specs.declared.rereading.RereadFault.TheVariants.{Read, Memory}
-use Rattle.warc_reading.specs.Archive.{IsArchiveOf, contents}
+use Rattle.warc_reading.specs.Archive.{IsArchiveOf, SpellsFrom, contents}
 use Rattle.warc_reading.specs.Indexed.{AreOf}
 use Rattle.warc_reading.specs.Row.{Placed, Row}
 use Rattle.warc.specs.Finding.{IsFoundAt, IsOtherRow}
-use Rattle.warc.specs.Looking.{ArePlacesIn, AsksWithin, IsLook, IsSent, Judges, Looks, ReadsOrigin, SendsStored}
+use Rattle.warc.specs.Looking.{AsksWithin, IsLook, IsSent, Judges, Looks, ReadsOrigin, SendsStored}
+use Rattle.warc.specs.Origins.{IsOriginFound}
 use Rattle.warc.specs.Outcomes.{GivesStoredAt, CaptureSeen, IsOutcome, JudgesAt, StoredAnswer, judged_seen, origin_on}
-use Rattle.warc.specs.Replaying.{IsJoined, IsOfOrigin, IsOnPath, ReadsPath, origin_joined, origin_reads, path_reads, reads_of}
+use Rattle.warc.specs.Replaying.{IsOnPath, ReadsPath, path_reads}
 use Rattle.warc.specs.declared.bodies.Found.TheVariants.{Capture}
 use Rattle.warc.specs.declared.fault.BodyFault.TheVariants.{NoRecord, NoCapture, Replay}
 use Rattle.warc.specs.declared.looking.Look.{Look}
 use Rattle.warc.specs.declared.outcome.Outcome.{Outcome}
 use Rattle.warc.proofs.BodyLemmas.{below_there, capture_there, none_there, other_there}
-use Rattle.warc.proofs.ReplayLemmas.{path_by_links, read_all, reads_nothing, then_inside}
+use Rattle.warc.proofs.OriginLemmas.{early_sent, read_less, then_read}
+use Rattle.warc.proofs.ReplayLemmas.{gap_is, path_by_links, read_all, reads_nothing, then_inside}
 
 -- the record at a position of a list
 content_there : (records : List Placed) (i : ℕ) (p : Placed) → slice_get records i ≡ Some p → slice_get (contents records) i ≡ Some p.content
@@ -86,6 +85,13 @@ pub look_failed : (A B : Type 0) (bytes : List ℕ) (records : List Placed) (i :
 look_failed A B bytes records i p joined (Reason why) there same is = stored_by records i p (Ok joined) (Err why) there same is
 look_failed A B bytes records i p joined (Out e) there same is = tt
 
+-- where the origin isn't found
+pub gap_looked : (A B : Type 0) (bytes : List ℕ) (records : List Placed) (i : ℕ) (fault : ReplayFault) → SpellsFrom 0 records bytes → PlacesAreOfRecords → IsOriginFound {A = A} records i (Err fault)
+    → IsLook {A = B} bytes (contents records) i (Err fault)
+gap_looked A B bytes records i (Reason why) spelled law (gap, says, at) =
+    subst (λ (w : Why). IsStoredAt (contents records) i (Err w)) (sym says) (stored_gap records i at.placed gap at.there (gap_is bytes records i at.placed spelled at.there gap law at.gap_is))
+gap_looked A B bytes records i (Out e) spelled law at = tt
+
 -- a fault of the same kind, of another answer
 pub fault_fails : (X Y : Type 0) (fault : ReplayFault) {Expected : List ℕ → Type 0} {old new : SeenSource}
     → FailsBy Expected (out_result {X = X} (Err fault)) old new → FailsBy Expected (out_result {X = Y} (Err fault)) old new
@@ -97,39 +103,17 @@ out_may X Y (outs.Read n) old new is = is
 out_may X Y (outs.Write n) old new is = is
 out_may X Y (outs.Memory n) old new is = is
 
--- before anything went out
-pub early_sent : (e : OutFault) → IsEarly (Out e) → sent_of e ≡ 0
-early_sent (outs.Read n) is = is
-early_sent (outs.Write n) is = absurd is
-early_sent (outs.Memory n) is = is
-
 pub early_sound : (fault : ReplayFault) (n : ℕ) → IsEarly fault → failed_by (out_result {X = Unit {0}} (Err fault)) n ≡ n
 early_sound (Reason why) n is = refl
 early_sound (Out (outs.Read sent)) n is = refl
 early_sound (Out (outs.Write sent)) n is = absurd is
 early_sound (Out (outs.Memory sent)) n is = refl
 
-pub ended_early : (fault : RereadFault) → IsEarly (Out (ended_by fault 0))
-ended_early Read = refl
-ended_early Memory = refl
-
 -- ---- what is read
-
-once_twice : (all : List Placed) (found : Option Placed) {old new : SeenSource} → ReadsOnly (IsOfOrigin all found) (reads_of 1 all found) old new → ReadsOnly (IsOfOrigin all found) (origin_reads all found) old new
-once_twice all None has = has
-once_twice all (Some p) has = reads_within (λ at in_. in_) (omega arith) has
-
-then_sent : (all : List Placed) (found : Option Placed) (items places : List Place) {old mid new : SeenSource} → ReadsOnly (IsOfOrigin all found) (reads_of 1 all found) old mid → ArePlacesIn all found items
-    → places ≡ items → ReadsPlaces places (len_of places) mid new → ReadsOnly (IsOfOrigin all found) (origin_reads all found) old new
-then_sent all None items places first are same then = absurd are
-then_sent all (Some p) items places {old} {mid} {new} first are same then =
-    let second : ReadsOnly (IsOfOrigin all (Some p)) (origin_joined all p) mid new =
-    reads_within (λ at in_. inr (subst (λ r. IsJoined r at) (sym are.are) (subst (λ (l : List Place). IsInOne l at) same in_))) (omega (arith, ap len_of same, are.long)) then in
-    reads_within (λ at in_. in_) (omega arith) (reads_both first second)
 
 module _ {A : Type 0} {rows : List Row} {parts : Parts} {position : ℕ} {old mid : SeenSource} {answer : Result (Look A) ReplayFault} (looks : Looks rows parts position old mid answer) where
   pub origin_read : ReadsOrigin rows parts position old mid
-  origin_read = λ bytes held is are. once_twice is.are.records (slice_get is.are.records position) (looks.reads bytes held is are).reads
+  origin_read = λ bytes held is are. read_less 1 2 (λ n. omega arith) is.are.records (slice_get is.are.records position) (looks.reads bytes held is are).reads
 
   pub asked_within : AsksWithin rows parts old mid
   asked_within = λ bytes is are. (looks.inside bytes is are).asks
@@ -167,7 +151,7 @@ module _ {A : Type 0} {rows : List Row} {parts : Parts} {position : ℕ} {old mi
   pub sent_read : ReadsOrigin rows parts position old new
   sent_read = λ bytes held is are.
       let looked = looks.reads bytes held is are in
-      then_sent is.are.records (slice_get is.are.records position) look.places.items places looked.reads looked.places same then
+      then_read 1 1 2 (λ n. omega arith) is.are.records (slice_get is.are.records position) look.places.items places (len_of places) looked.reads looked.places same (omega arith) then
 
   pub sent_within : AsksWithin rows parts old new
   sent_within = λ bytes is are.
@@ -360,8 +344,3 @@ front_sent A records i s e text old new is same went =
 pub all_sent : {A : Type 0} (records : List Record) (i : ℕ) (s : Stored A) (text : List ℕ) (old new : Option (List ℕ)) → IsStoredAt records i (Ok (stored_seen s))
     → text ≡ joined_text_at records i → new ≡ append_known old (drop s.head_len text) → IsSent records i (Ok s) old new
 all_sent records i s text old new is same went = (is, went ∙ ap (λ (t : List ℕ). append_known old (drop s.head_len t)) same)
-
-pub absent_after : {X : Type 0} (xs : List X) (i : ℕ) → i < length xs → slice_get xs i ≡ None → ⊥
-absent_after [] i low is = omega (arith, low)
-absent_after (x ∷ xs) zero low is = cc is
-absent_after (x ∷ xs) (suc i) low is = absent_after xs i (omega (arith, low)) is

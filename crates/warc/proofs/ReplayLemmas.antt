@@ -1,15 +1,15 @@
 -- What a replay gives over the bytes of an archive.
-use Rattle.std.proofs.Common.{◌≡◌, inl, inr, Bool, false, ℕ, zero, suc, ◌+◌, ◌-◌, ◌*◌, ◌<◌, ◌≤◌, List, [], ◌∷◌, length, map, Option, Some, None, Ok, Err, refl, sym, ap, subst, ◌∙◌, arith}
+use Rattle.std.proofs.Common.{◌≡◌, inl, Bool, false, ℕ, zero, suc, ◌+◌, ◌-◌, ◌*◌, ◌<◌, ◌≤◌, List, [], ◌∷◌, length, map, Option, Some, None, Ok, Err, refl, sym, ap, subst, ◌∙◌, arith}
 use Rattle.std.specs.Prelude.{Result}
 use Rattle.std.specs.List.{slice_get}
 use Rattle.std.proofs.lemmas.List.Sums.{sum_by-cons}
 use Rattle.warc_value.specs.Dates.{Instant}
 use Rattle.warc_value.specs.declared.hash.Wanted.{Wanted}
 use Rattle.warc_frame.specs.Effects.{ReadsOnly}
-use Rattle.warc_frame.proofs.EffectLemmas.{reads_both, reads_none, reads_within}
+use Rattle.warc_frame.proofs.EffectLemmas.{reads_none, reads_within}
 use Rattle.warc_frame.specs.Seen.{AsksOnly, Seen, SeenSource}
 use Rattle.warc_frame.specs.Send.{sent_of}
-use Rattle.warc_record.specs.Readings.{Reading, reading_of}
+use Rattle.warc_record.specs.Readings.{reading_of}
 use Rattle.std.proofs.lemmas.List.{length-append, length-map}
 use Rattle.std.proofs.lemmas.List.Elements.{All-cons, All-contains, All-head, All-nil, All-tail}
 use Rattle.std.specs.List.{All, cons_option, filter_map}
@@ -25,7 +25,7 @@ use Rattle.warc_segment.specs.declared.place.Place.{Place}
 use Rattle.warc_answer.specs.Answers.{index_of, path_at, path_for, path_from, path_of}
 use Rattle.warc_answer.specs.Laws.{EndsInside, IsFound, PlacesAreAsLong}
 use Rattle.warc_answer.specs.Payloads.{read_record}
-use Rattle.warc_answer.specs.Places.{IsInOne, ReadsPlaces, len_of}
+use Rattle.warc_answer.specs.Places.{IsInOne}
 use Rattle.warc_answer.specs.Replays.{WritesLate}
 use Rattle.warc_answer.specs.declared.answer.ReplayFault.TheVariants.{Out}
 use Rattle.warc_answer.specs.declared.answer.Path.{Path}
@@ -33,10 +33,8 @@ use Rattle.warc_reading.specs.Archive.{SpellsFrom, contents}
 use Rattle.warc_reading.specs.Rereading.{IsInHead, ReadsHeads, ended_by, heads_len}
 use Rattle.warc_reading.specs.Indexed.{indexed_record, place_of, placed_record}
 use Rattle.warc.specs.Looking.{ArePlacesFor}
-use Rattle.warc.specs.Replaying.{IsJoined, IsJoinedTo, IsOfOrigin, IsOnPath, joined_len, origin_joined, origin_reads, path_reads, reads_of}
+use Rattle.warc.specs.Replaying.{IsOfOrigin, joined_len, origin_joined, reads_of}
 use Rattle.warc_reading.specs.Row.{Placed, Row, row_of}
-use Rattle.warc.specs.Standing.{IsAtEnd, IsOrigin, IsReached, IsRowAtEnd}
-use Rattle.warc_segment.specs.Kept.{Kept as Parts}
 use Rattle.warc_reading.specs.Placing.{IsPlacedIn}
 use Rattle.warc_reading.specs.declared.rereading.RereadFault.{RereadFault}
 use Rattle.warc_reading.specs.declared.rereading.RereadFault.TheVariants.{Read, Memory}
@@ -67,72 +65,53 @@ read_at [] i p is = absurd (cc is)
 read_at (x ∷ xs) zero p is = let same : x ≡ p = cc is in ap (λ (q : Placed). Some (read_record q.content)) same
 read_at (x ∷ xs) (suc i) p is = read_at xs i p is
 
-module _ (bytes : List ℕ) (records : List Placed) (found : Result Path Unfound) (path : Path) (p : Placed) (is : IsOrigin bytes records found path p) where
-  there : IsPlacedIn bytes p
-  there = written bytes records is.spelled path.given p is.stands
+-- what is found at the end of a path
+pub found_as : (records : List Placed) (found : Result Path Unfound) (path : Path) (p : Placed) → found ≡ Ok path → slice_get records path.given ≡ Some p → (joined : Result (List ReadRecord) Gap)
+    → joined_records (read_all records) (read_record p.content) ≡ joined → IsFound (read_all records) found path (read_record p.content) joined
+found_as records found path p is at joined same = record {
+  path_is = is;
+  stands = read_at records path.given p at;
+  joined_is = same;
+}
 
-  joined_as : (q : PlacedRecord) → q.head ≡ reading_of p.content.fields → q.place ≡ place_of p → PlacesAreOfRecords
-      → ArePlacesJoined bytes (joined_places (map placed_record records) q) (joined_records (read_all records) (read_record p.content))
-  joined_as q head place law =
-      law bytes (map placed_record records) (read_all records) q (read_record p.content) (stored_by bytes records (λ i r at. written bytes records is.spelled i r at)) head
-      (subst (λ (x : Place). IsPlaceOf bytes x (read_record p.content)) (sym place) (place_here bytes p there))
+-- what a record's own head and place join is what a head and a place that are the same join
+pub as_placed : (records : List Placed) (p : Placed) (q : PlacedRecord) (joined : Result (List Place) Gap) → q.head ≡ reading_of p.content.fields → q.place ≡ place_of p
+    → joined_places (map placed_record records) q ≡ joined → joined_places (map placed_record records) (placed_record p) ≡ joined
+as_placed records p q joined head place is =
+    let by_head : ◌≡◌ {A = PlacedRecord} q (record { head = reading_of p.content.fields; place = q.place }) = ap (λ h. let x : PlacedRecord = record { head = h; place = q.place } in x) head in
+    let by_place : ◌≡◌ {A = PlacedRecord} (record { head = reading_of p.content.fields; place = q.place }) (placed_record p) = ap (λ y. let x : PlacedRecord = record { head = reading_of p.content.fields; place = y } in x) place in
+    ap (joined_places (map placed_record records)) (sym (by_head ∙ by_place)) ∙ is
 
-  pub found_as : (joined : Result (List ReadRecord) Gap) → joined_records (read_all records) (read_record p.content) ≡ joined → IsFound (read_all records) found path (read_record p.content) joined
-  found_as joined same = record {
-    path_is = is.path_is;
-    stands = read_at records path.given p is.stands;
-    joined_is = same;
-  }
+by_gap : (bytes : List ℕ) (r : Result (List ReadRecord) Gap) (gap : Gap) → ArePlacesJoined bytes (Err gap) r → r ≡ Err gap
+by_gap bytes (Ok records) gap is = absurd is
+by_gap bytes (Err other) gap is = ap Err (sym is)
 
-  by_gap : (r : Result (List ReadRecord) Gap) (gap : Gap) → ArePlacesJoined bytes (Err gap) r → r ≡ Err gap
-  by_gap (Ok records) gap is = absurd is
-  by_gap (Err other) gap is = ap Err (sym is)
+by_places : (bytes : List ℕ) (r : Result (List ReadRecord) Gap) (places : List Place) → ArePlacesJoined bytes (Ok places) r → (joined : List ReadRecord) × (r ≡ Ok joined) × ArePlacesOf bytes places joined
+by_places bytes (Ok joined) places is = (joined, refl, is)
+by_places bytes (Err gap) places is = absurd is
 
-  pub gap_is : (q : PlacedRecord) (gap : Gap) → q.head ≡ reading_of p.content.fields → q.place ≡ place_of p → PlacesAreOfRecords → joined_places (map placed_record records) q ≡ Err gap
-      → joined_records (read_all records) (read_record p.content) ≡ Err gap
-  gap_is q gap head place law same =
-      by_gap _ gap (subst (λ x. ArePlacesJoined bytes x (joined_records (read_all records) (read_record p.content))) same (joined_as q head place law))
+module _ (bytes : List ℕ) (records : List Placed) (position : ℕ) (p : Placed) (spelled : SpellsFrom 0 records bytes) (there : slice_get records position ≡ Some p) where
+  joined_as : PlacesAreOfRecords → ArePlacesJoined bytes (joined_places (map placed_record records) (placed_record p)) (joined_records (read_all records) (read_record p.content))
+  joined_as law =
+      law bytes (map placed_record records) (read_all records) (placed_record p) (read_record p.content) (stored_by bytes records (λ i r at. written bytes records spelled i r at)) refl
+      (place_here bytes p (written bytes records spelled position p there))
 
-  by_places : (r : Result (List ReadRecord) Gap) (places : List Place) → ArePlacesJoined bytes (Ok places) r → (joined : List ReadRecord) × (r ≡ Ok joined) × ArePlacesOf bytes places joined
-  by_places (Ok joined) places is = (joined, refl, is)
-  by_places (Err gap) places is = absurd is
+  pub gap_is : (gap : Gap) → PlacesAreOfRecords → joined_places (map placed_record records) (placed_record p) ≡ Err gap → joined_records (read_all records) (read_record p.content) ≡ Err gap
+  gap_is gap law same =
+      by_gap bytes _ gap (subst (λ x. ArePlacesJoined bytes x (joined_records (read_all records) (read_record p.content))) same (joined_as law))
 
-  pub places_are : (q : PlacedRecord) (places : List Place) → q.head ≡ reading_of p.content.fields → q.place ≡ place_of p → PlacesAreOfRecords
-      → joined_places (map placed_record records) q ≡ Ok places
+  pub places_are : (places : List Place) → PlacesAreOfRecords → joined_places (map placed_record records) (placed_record p) ≡ Ok places
       → (joined : List ReadRecord) × (joined_records (read_all records) (read_record p.content) ≡ Ok joined) × ArePlacesOf bytes places joined
-  places_are q places head place law same =
-      by_places _ places (subst (λ x. ArePlacesJoined bytes x (joined_records (read_all records) (read_record p.content))) same (joined_as q head place law))
+  places_are places law same =
+      by_places bytes _ places (subst (λ x. ArePlacesJoined bytes x (joined_records (read_all records) (read_record p.content))) same (joined_as law))
 
-  -- the places that are joined by a head and a place, which are the record's
-  as_placed : (q : PlacedRecord) (items : List Place) → q.head ≡ reading_of p.content.fields → q.place ≡ place_of p
-      → joined_places (map placed_record records) q ≡ Ok items → joined_places (map placed_record records) (placed_record p) ≡ Ok items
-  as_placed q items head place is =
-      let by_head : ◌≡◌ {A = PlacedRecord} q (record { head = reading_of p.content.fields; place = q.place }) = ap (λ h. let x : PlacedRecord = record { head = h; place = q.place } in x) head in
-      let by_place : ◌≡◌ {A = PlacedRecord} (record { head = reading_of p.content.fields; place = q.place }) (placed_record p) = ap (λ y. let x : PlacedRecord = record { head = reading_of p.content.fields; place = y } in x) place in
-      ap (joined_places (map placed_record records)) (sym (by_head ∙ by_place)) ∙ is
-
-  in_joined : (q : PlacedRecord) (items places : List Place) (at : ℕ) → q.head ≡ reading_of p.content.fields → q.place ≡ place_of p
-      → joined_places (map placed_record records) q ≡ Ok items → places ≡ items → IsInOne places at → IsJoinedTo records p at
-  in_joined q items places at head place is same in_ =
-      subst (λ r. IsJoined r at) (sym (as_placed q items head place is)) (subst (λ (l : List Place). IsInOne l at) same in_)
-
-  -- the places are those of what is joined to the origin
-  pub places_for : (q : PlacedRecord) (items : List Place) (joined : List ReadRecord) → q.head ≡ reading_of p.content.fields → q.place ≡ place_of p
-      → joined_places (map placed_record records) q ≡ Ok items → PlacesAreAsLong → joined_records (read_all records) (read_record p.content) ≡ Ok joined → ArePlacesOf bytes items joined
-      → ArePlacesFor records p items
-  places_for q items joined head place is law whole are = record {
-    are = as_placed q items head place is;
-    long = law bytes items joined are ∙ ap joined_len (sym whole);
-  }
-
-  -- what is read at the places is what is joined to the origin
-  pub reads_joined : (times : ℕ) (q : PlacedRecord) (items places : List Place) (joined : List ReadRecord) (most : ℕ) {old new : SeenSource}
-      → q.head ≡ reading_of p.content.fields → q.place ≡ place_of p → joined_places (map placed_record records) q ≡ Ok items → places ≡ items
-      → PlacesAreAsLong → joined_records (read_all records) (read_record p.content) ≡ Ok joined → ArePlacesOf bytes places joined
-      → most ≤ times * len_of places → ReadsPlaces places most old new → ReadsOnly (IsJoinedTo records p) (times * origin_joined records p) old new
-  reads_joined times q items places joined most {old} {new} head place from same law whole are within has =
-      let size : len_of places ≡ joined_len (joined_records (read_all records) (read_record p.content)) = law bytes places joined are ∙ ap joined_len (sym whole) in
-      reads_within (λ at in_. in_joined q items places at head place from same in_) (subst (λ (n : ℕ). most ≤ times * n) size within) has
+-- the places are those of what is joined to the origin
+pub places_for : (bytes : List ℕ) (records : List Placed) (p : Placed) (items : List Place) (joined : List ReadRecord) → joined_places (map placed_record records) (placed_record p) ≡ Ok items → PlacesAreAsLong
+    → joined_records (read_all records) (read_record p.content) ≡ Ok joined → ArePlacesOf bytes items joined → ArePlacesFor records p items
+places_for bytes records p items joined is law whole are = record {
+  are = is;
+  long = law bytes items joined are ∙ ap joined_len (sym whole);
+}
 
 -- the place that a row and the digest that a head asks for say
 abbrev pub place_in : Row → Wanted → Place
@@ -142,29 +121,6 @@ place_in row wanted = record { start = row.block_start; len = row.block_len; wan
 pub place_by_row : (p : Placed) (row : Row) (wanted : Wanted) → row ≡ row_of p → wanted ≡ (reading_of p.content.fields).wanted
     → place_in row wanted ≡ place_of p
 place_by_row p row wanted same asks = ap (λ (r : Row). place_in r wanted) same ∙ ap (place_in (row_of p)) asks
-
--- a record at the end of a path by its row, whatever its head is read as
-abbrev pub at_by_row : (bytes : List ℕ) (path : Path) (parts : Parts) (row here : Row) (wanted : Wanted)
-    → IsRowAtEnd bytes path parts row → here ≡ row → IsAtEnd bytes path parts (place_in here wanted)
-at_by_row bytes path parts row here wanted at same = record {
-  records = at.records;
-  found = at.found;
-  placed = at.placed;
-  origin = at.origin;
-  parts_are = at.parts_are;
-  start_is = ap (λ (r : Row). r.block_start) (same ∙ at.row_is);
-  len_is = ap (λ (r : Row). r.block_len) (same ∙ at.row_is);
-}
-
--- and by its head
-abbrev pub reached_by_row : (bytes : List ℕ) (path : Path) (parts : Parts) (row here : Row) (head : Reading)
-    (at : IsRowAtEnd bytes path parts row) → here ≡ row → head ≡ reading_of at.placed.content.fields
-    → IsReached bytes path parts head (place_in here head.wanted)
-reached_by_row bytes path parts row here head at same says = record {
-  at = at_by_row bytes path parts row here head.wanted at same;
-  head_is = says;
-  place_is = place_by_row at.placed here head.wanted (same ∙ at.row_is) (ap (λ (h : Reading). h.wanted) says);
-}
 
 -- a head that isn't read again, as the end of an output
 pub ended_sent : (fault : RereadFault) → sent_of (ended_by fault 0) ≡ 0
@@ -180,13 +136,6 @@ pub in_list : {X : Type 0} (xs : List X) (i : ℕ) (x : X) → slice_get xs i �
 in_list [] i x is = absurd (cc is)
 in_list (y ∷ ys) zero x is = omega arith
 in_list (y ∷ ys) (suc i) x is = let lt = in_list ys i x is in omega (arith, lt)
-
--- an origin stands among the records
-pub origin_inside : (bytes : List ℕ) (records : List Placed) (found : Result Path Unfound) (path : Path) (p : Placed) → IsOrigin bytes records found path p → EndsInside (contents records) found
-origin_inside bytes records found path p is other same =
-    let one : path ≡ other = (let f : Ok path ≡ Ok other = sym is.path_is ∙ same in cc f) in
-    let low = in_list records path.given p is.stands in
-    subst (λ (x : Path). x.given < length (contents records)) one (omega (arith, low, length-map records (λ (q : Placed). q.content)))
 
 -- the path that an index finds is that of the records
 pub path_by_index : (records : List Placed) (uri : List ℕ) (moment : Instant) → path_of (map indexed_record records) uri moment ≡ path_for (contents records) uri moment
@@ -236,25 +185,6 @@ pub reads_of_head : (times : ℕ) (records : List Placed) (p : Placed) (row : Ro
 reads_of_head times records p row {old} {new} same has =
     reads_within (λ at in_. inl (in_own_head p row at same in_)) (no_more (times * origin_joined records p) (head_len_of p row same)) has
 
--- the head, and then the joined blocks
-pub reads_of_origin : (times : ℕ) (records : List Placed) (p : Placed) (row : Row) {old mid new : SeenSource} → row ≡ row_of p → ReadsHeads (row ∷ []) old mid
-    → ReadsOnly (IsJoinedTo records p) (times * origin_joined records p) mid new
-    → ReadsOnly (IsOfOrigin records (Some p)) (reads_of times records (Some p)) old new
-reads_of_origin times records p row {old} {mid} {new} same head joined =
-    let first : ReadsOnly (IsOfOrigin records (Some p)) (heads_len (row ∷ [])) old mid =
-    reads_within (λ at in_. inl (in_own_head p row at same in_)) (omega arith) head in
-    let second : ReadsOnly (IsOfOrigin records (Some p)) (times * origin_joined records p) mid new =
-    reads_within (λ at in_. inr in_) (no_less (times * origin_joined records p)) joined in
-    reads_within (λ at in_. in_) (both_less (times * origin_joined records p) (head_len_of p row same)) (reads_both first second)
-
--- what is read for the origin is read on the path
-pub reads_on_path : (records : List Placed) (found : Result Path Unfound) (path : Path) (p : Placed) {old new : SeenSource} → found ≡ Ok path
-    → slice_get records path.given ≡ Some p → ReadsOnly (IsOfOrigin records (Some p)) (origin_reads records (Some p)) old new
-    → ReadsOnly (IsOnPath records found) (path_reads records found) old new
-reads_on_path records found path p {old} {new} is there has =
-    let whole : path_reads records found ≡ origin_reads records (Some p) = ap (path_reads records) is ∙ ap (origin_reads records) there in
-    reads_within (λ at in_. subst (λ r. IsOnPath records r at) (sym is) (subst (λ o. IsOfOrigin records o at) (sym there) in_)) (omega (arith, whole)) has
-
 -- nothing is read
 pub reads_nothing : {These : ℕ → Type 0} {most : ℕ} {s : SeenSource} → ReadsOnly These most s s
 reads_nothing {These} {most} {s} = reads_within (λ at in_. in_) (omega arith) reads_none
@@ -297,23 +227,18 @@ all_end q n (p ∷ ps) text (front, rest, one, at, start, whole, more) short =
 in_all : (n q : ℕ) (places : List Place) → All (EndsBy n) places → IsInOne places q → q < n
 in_all n q places all (p, here, from, to) = omega (arith, to, All-contains (EndsBy n) places p all here)
 
-module _ (bytes : List ℕ) (records : List Placed) (found : Result Path Unfound) (path : Path) (p : Placed) (is : IsOrigin bytes records found path p) where
-  -- what is joined to the origin lies among the bytes, whatever its head is read as
+module _ (bytes : List ℕ) (records : List Placed) (position : ℕ) (p : Placed) (spelled : SpellsFrom 0 records bytes) (there : slice_get records position ≡ Some p) where
+  -- what is joined to a record lies among the bytes, whatever its head is read as
   pub joined_end : (q : PlacedRecord) (items : List Place) → q.place.start ≡ p.block_start → q.place.len ≡ length p.content.block → joined_places (map placed_record records) q ≡ Ok items → All (EndsBy (length bytes)) items
   joined_end q items start len joined =
-      let has = written bytes records is.spelled path.given p is.stands in
+      let has = written bytes records spelled position p there in
       let own : EndsBy (length bytes) q.place = omega (arith, has.end, has.within, start, len) in
-      joined_all (EndsBy (length bytes)) _ q.place _ items (all_end 0 (length bytes) records bytes is.spelled (omega arith)) own joined
-
-  pub joined_inside : (q : PlacedRecord) (items places : List Place) (watches : ℕ → Bool) (old new : ℕ) → q.place.start ≡ p.block_start → q.place.len ≡ length p.content.block → joined_places (map placed_record records) q ≡ Ok items → places ≡ items
-      → Asks (IsInOne places) watches old new → Asks (λ at. at < length bytes) watches old new
-  joined_inside q items places watches old new start len joined same near =
-      λ off. near (λ at in_. off at (in_all (length bytes) at items (joined_end q items start len joined) (subst (λ (l : List Place). IsInOne l at) same in_)))
+      joined_all (EndsBy (length bytes)) _ q.place _ items (all_end 0 (length bytes) records bytes spelled (omega arith)) own joined
 
   -- and so does its head
   pub head_inside : (row : Row) (old new : SeenSource) → row ≡ row_of p → ReadsHeads (row ∷ []) old new → AsksOnly (λ at. at < length bytes) old new
   head_inside row old new same head =
-      let has = written bytes records is.spelled path.given p is.stands in
+      let has = written bytes records spelled position p there in
       λ off. head.near (λ at in_. off at (omega (arith, has.end, has.within, (in_own_head p row at same in_).1)))
 
 -- the head, and then what is joined

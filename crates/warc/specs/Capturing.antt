@@ -17,7 +17,8 @@ use Rattle.warc_answer.specs.declared.stored.Stored.{Stored}
 use Rattle.warc_reading.specs.Archive.{IsArchiveOf, contents}
 use Rattle.warc_reading.specs.Indexed.{AreOf}
 use Rattle.warc_reading.specs.Row.{Row}
-use Rattle.warc.specs.Looking.{ArePartsOf, AsksWithin}
+use Rattle.warc.specs.Looking.{AsksWithin}
+use Rattle.warc.specs.Origins.{ArePartsOf}
 use Rattle.warc.specs.Outcomes.{CaptureSeen, IsOutcome, judged_seen, outcome_seen}
 use Rattle.warc.specs.Replaying.{AsksInside}
 use Rattle.warc.specs.declared.outcome.Outcome.{Outcome}

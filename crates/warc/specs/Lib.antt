@@ -14,6 +14,7 @@ pub mod Judged
 pub mod Laws
 pub mod Listing
 pub mod Looking
+pub mod Origins
 pub mod Outcomes
 pub mod Locating
 pub mod Parts

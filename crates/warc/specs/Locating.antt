@@ -17,7 +17,7 @@ use Rattle.warc_reading.specs.Archive.{IsArchiveOf, contents}
 use Rattle.warc_reading.specs.Indexed.{AreOf}
 use Rattle.warc_reading.specs.Row.{Placed, Row}
 use Rattle.warc.specs.Bodies.{IsCaptureAt, IsOtherAt}
-use Rattle.warc.specs.Replaying.{IsIndexedBy, IsOnPath, ReadsPath, path_reads}
+use Rattle.warc.specs.Replaying.{AsksInside, IsIndexedBy, IsOnPath, ReadsPath, path_reads}
 use Rattle.warc.specs.declared.fault.BodyFault.{BodyFault}
 use Rattle.warc.specs.declared.fault.BodyFault.TheVariants.{NoRecord, NoCapture, Replay}
 
@@ -33,6 +33,7 @@ pub record LocatesOn (rows : List Row) (index : Indexes) (parts : Parts) (way : 
     (old new : SeenSource) (answer : Result Location ReplayFault) : Type 0 where
   pub held : IfHeld old.holds (λ bytes. (is : IsArchiveOf bytes rows) → AreOf is.are.records index parts
       → Locates bytes is.are.records (way (contents is.are.records)) old new answer)
+  pub inside : AsksInside rows index parts old new
   pub keeps : Preserves old new
   pub fails : FailsBy (IsIndexedBy rows index parts) (out_result answer) old new
 
@@ -63,5 +64,6 @@ pub record LocatesAt (rows : List Row) (index : Indexes) (parts : Parts) (positi
   pub located : IfHeld old.holds (λ bytes. (is : IsArchiveOf bytes rows) → AreOf is.are.records index parts
       → IsLocatedAt bytes (contents is.are.records) position answer)
   pub reads : ReadsPath rows index parts (λ records. path_at records position) old new
+  pub inside : AsksInside rows index parts old new
   pub keeps : Preserves old new
   pub fails : FailsBy (IsIndexedBy rows index parts) (location_result answer) old new

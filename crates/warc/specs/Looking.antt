@@ -1,5 +1,5 @@
 -- What is stored of an origin, and where. States of the code: no public clause cites them.
-use Rattle.std.specs.Prelude.{◌≡◌, ℕ, ◌+◌, ◌<◌, ◌≤◌, List, length, map, slice_get, All, Option, Some, None, Result, Ok, Err, IfErr, IfOk, ⊤}
+use Rattle.std.specs.Prelude.{◌≡◌, ℕ, ◌<◌, List, length, map, slice_get, Option, Some, None, Result, Ok, Err, IfErr, IfOk, ⊤}
 use Rattle.std.specs.Io.KnownBytes.{append_known}
 use Rattle.warc_frame.specs.Effects.{FailsBy, Preserves, ReadsOnly}
 use Rattle.warc_frame.specs.Failing.{failed_by}
@@ -8,7 +8,7 @@ use Rattle.warc_frame.specs.Seen.{AsksOnly, IfHeld, Seen, SeenSource}
 use Rattle.warc_frame.specs.Send.{sent_of}
 use Rattle.warc_frame.specs.declared.fault.OutFault.{OutFault}
 use Rattle.warc_segment.specs.Joined.{joined_places}
-use Rattle.warc_segment.specs.Kept.{Kept as Parts, kept_in}
+use Rattle.warc_segment.specs.Kept.{Kept as Parts}
 use Rattle.warc_segment.specs.declared.place.Place.{Place}
 use Rattle.warc_answer.specs.Places.{LieIn, len_of, text_at}
 use Rattle.warc_answer.specs.Replays.{out_result}
@@ -21,6 +21,7 @@ use Rattle.warc_answer.specs.declared.stored.Stored.{Stored}
 use Rattle.warc_reading.specs.Archive.{IsArchiveOf, contents}
 use Rattle.warc_reading.specs.Indexed.{placed_record}
 use Rattle.warc_reading.specs.Row.{Placed, Row}
+use Rattle.warc.specs.Origins.{ArePartsOf, IsRecordAt, StaysInside}
 use Rattle.warc.specs.Outcomes.{IsFrontAt, judged_seen, stored_text}
 use Rattle.warc.specs.Replaying.{IsOfOrigin, origin_joined, origin_reads, reads_of}
 use Rattle.warc.specs.declared.looking.Look.{Look}
@@ -33,15 +34,6 @@ IsLook bytes records position (Ok l) =
     × (text_at l.places.items bytes ≡ joined_text_at records position) × LieIn l.places.items bytes
 IsLook bytes records position (Err (Reason why)) = IsStoredAt records position (Err why)
 IsLook bytes records position (Err (Out e)) = ⊤
-
--- the parts are those of these records
-abbrev pub ArePartsOf : List Placed → Parts → Type 0
-ArePartsOf records parts = parts ≡ kept_in (map placed_record records)
-
--- the rows and the parts are those of an archive of these bytes, and the position is that of a record
-abbrev pub IsRecordAt : List Row → Parts → ℕ → List ℕ → Type 0
-IsRecordAt rows parts position bytes = (is : IsArchiveOf bytes rows) × ArePartsOf is.are.records parts
-    × (position < length (contents is.are.records))
 
 -- these are the places of the blocks that are joined to an origin
 pub record ArePlacesFor (all : List Placed) (p : Placed) (places : List Place) : Type 0 where
@@ -59,12 +51,6 @@ pub record LooksOn {A : Type 0} (all : List Placed) (found : Option Placed) (old
     (answer : Result (Look A) ReplayFault) : Type 0 where
   pub reads : ReadsOnly (IsOfOrigin all found) (reads_of 1 all found) old new
   pub places : IfOk answer (λ l. ArePlacesIn all found l.places.items)
-
--- over any source: no byte after the archive's was asked for, and the places that are given end before it does
-pub record LooksInside {A : Type 0} (bytes : List ℕ) (old new : SeenSource) (answer : Result (Look A) ReplayFault)
-    : Type 0 where
-  pub asks : AsksOnly (λ at. at < length bytes) old new
-  pub ends : IfOk answer (λ l. All (λ p. p.start + p.len ≤ length bytes) l.places.items)
 
 -- the head of the record at the position and the blocks that are joined to it are read, where the source holds the
 -- archive's bytes
@@ -89,7 +75,7 @@ pub record Looks {A : Type 0} (rows : List Row) (parts : Parts) (position : ℕ)
   pub reads : IfHeld old.holds (λ bytes. (is : IsArchiveOf bytes rows) → ArePartsOf is.are.records parts
       → LooksOn is.are.records (slice_get is.are.records position) old new answer)
   pub inside : (bytes : List ℕ) (is : IsArchiveOf bytes rows) → ArePartsOf is.are.records parts
-      → LooksInside bytes old new answer
+      → StaysInside (λ l. l.places.items) bytes old new answer
   pub early : IfErr answer IsEarly
   pub keeps : Preserves old new
   pub fails : FailsBy (IsRecordAt rows parts position) (out_result answer) old new

@@ -17,6 +17,7 @@ mod judging;
 pub mod laws;
 mod locating;
 mod looking;
+mod origin;
 mod outcome;
 mod part;
 mod reader;

@@ -1,7 +1,8 @@
 use Rattle.std.proofs.Common.{◌++◌, ◌∷◌, [], length, map, refl, sym, ap, subst, take_all, ◌∙◌}
 use Rattle.warc_reading.specs.Archive.{contents}
 use Rattle.warc.specs.Capturing.{AreSlots, AreSoFar, Recalls}
-use Rattle.warc.proofs.CaptureLemmas.{asks_on, chosen_more, chosen_seen, fault_may, more_slots, more_so_far, preserves_both, take_next}
+use Rattle.warc.proofs.CaptureLemmas.{asks_on, chosen_more, chosen_seen, fault_may, more_slots, more_so_far, take_next}
+use Rattle.warc.proofs.OriginLemmas.{preserves_both}
 use Rattle.warc.proofs.capturing.judge_all.Goals as goal
 
 pub judging-preserved : goal.judging-preserved

@@ -1,56 +1,58 @@
-use Rattle.std.proofs.Common.{inl, refl, sym, ap, ◌∙◌}
-use Rattle.std.specs.List.{slice_get}
-use Rattle.warc_frame.specs.declared.fault.OutFault.TheVariants as outs
+use Rattle.std.proofs.Common.{Ok, sym, subst, ◌∙◌, arith}
+use Rattle.warc_frame.proofs.EffectLemmas.{fails_after, fails_more}
+use Rattle.warc_segment.specs.Joined.{ArePlacesOf}
+use Rattle.warc_answer.specs.Payloads.{read_record}
 use Rattle.warc_reading.specs.Archive.{contents}
-use Rattle.warc.specs.Standing.{IsOrigin}
-use Rattle.warc_reading.proofs.PlaceLemmas.{checkable_archive}
-use Rattle.warc_reading.proofs.PlacedLemmas.{placed}
-use Rattle.warc_frame.proofs.EffectLemmas.{fails_more}
-use Rattle.warc.proofs.ReplayLemmas.{reads_nothing, row_missing}
+use Rattle.warc.proofs.LookLemmas.{fault_fails}
+use Rattle.warc.proofs.OriginLemmas.{fault_replayed, places_in, on_path, preserves_both, read_less, then_read}
+use Rattle.warc.proofs.ReplayLemmas.{found_as, places_are, then_inside}
 use Rattle.warc.proofs.locating.locate_on.Goals as goal
 
-pub returns-in_default-buffer_for : goal.returns-in_default-buffer_for
-returns-in_default-buffer_for g c = λ way leads. record {
-  held = λ bytes held is are. record {
-    located = λ tells. c.fails_before_all.ensures (contents is.are.records) (way (contents is.are.records)) tells (outs.Memory 0) (leads.ends bytes is are) refl;
-    reads = reads_nothing;
-  };
-  keeps = record { kept = refl; watched = refl };
-  fails = record { may = refl; failed = λ bytes held is. refl };
-}
-
-pub returns-in_default : goal.returns-in_default
-returns-in_default g c = λ way leads. record {
-  held = λ bytes held is are. record {
-    located = λ tells. c.fails_before_all.ensures (contents is.are.records) (way (contents is.are.records)) tells (outs.Read 0) (leads.ends bytes is are) refl;
-    reads = reads_nothing;
-  };
-  keeps = record { kept = refl; watched = refl };
-  fails = record {
-    may = inl refl;
-    failed = λ bytes held is.
-        absurd (row_missing is.0.are.records _ c.args.path (leads.is bytes is.0 is.1) (leads.ends bytes is.0 is.1)
-        (ap (λ l. slice_get l c.args.path.given) (sym is.0.are.rows_are) ∙ sym c.get.ensures ∙ c.in_default.is));
-  };
-}
+pub returns-in-Err : goal.returns-in-Err
+returns-in-Err g c = λ way leads.
+    let found = c.in-Err.ensures in
+    record {
+      held = λ bytes held is are. record {
+        located = λ tells.
+            fault_replayed (Unit {0}) c.reasons_are_answers.ensures c.fails_before_all.ensures c.places_are_of_records.ensures bytes is.are.records (way (contents is.are.records)) c.args.path c.in-Err.fault tells
+            is.are.spelled (leads.is bytes is are) (leads.ends bytes is are) found.early (found.told bytes held is are.parts_are);
+        reads = on_path is.are.records _ c.args.path (leads.is bytes is are) (read_less 0 2 (λ n. omega arith) is.are.records _ (found.reads bytes held is are.parts_are));
+      };
+      inside = λ bytes (is, are). (found.inside bytes is are.parts_are).asks;
+      keeps = found.keeps;
+      fails = fails_more (λ bytes held (is, are). (is, are.parts_are, leads.ends bytes is are c.args.path (leads.is bytes is are))) (fault_fails (Unit {0}) (Unit {0}) c.in-Err.fault found.fails);
+    }
 
 pub returns : goal.returns
-returns g c = λ way leads. record {
-  held = λ bytes held is are.
-      let (p, there, same) = placed is.are.records c.args.path.given c.in-Some.row (ap (λ l. slice_get l c.args.path.given) (sym is.are.rows_are) ∙ sym c.get.ensures ∙ c.in-Some.is) in
-      let can = checkable_archive c.head_of_spelled.ensures bytes c.args.rows.now is c.args.rows.now refl in
-      let origin : IsOrigin bytes is.are.records (way (contents is.are.records)) c.args.path p = record { short = is.short; spelled = is.are.spelled; path_is = leads.is bytes is are; stands = there } in
-      c.locate_row.ensures.located bytes held (record {
-        at = record { records = is.are.records; found = way (contents is.are.records); placed = p; origin = origin; parts_are = are.parts_are; row_is = same };
-        has = can.heads c.args.path.given p there;
-      });
-  keeps = c.locate_row.ensures.keeps;
-  fails = fails_more (λ bytes held (is, are).
-      let (p, there, same) = placed is.are.records c.args.path.given c.in-Some.row (ap (λ l. slice_get l c.args.path.given) (sym is.are.rows_are) ∙ sym c.get.ensures ∙ c.in-Some.is) in
-      let can = checkable_archive c.head_of_spelled.ensures bytes c.args.rows.now is c.args.rows.now refl in
-      let origin : IsOrigin bytes is.are.records (way (contents is.are.records)) c.args.path p = record { short = is.short; spelled = is.are.spelled; path_is = leads.is bytes is are; stands = there } in
-      record {
-        at = record { records = is.are.records; found = way (contents is.are.records); placed = p; origin = origin; parts_are = are.parts_are; row_is = same };
-        has = can.heads c.args.path.given p there;
-      }) c.locate_row.ensures.fails;
-}
+returns g c = λ way leads.
+    let found = c.in-Ok.ensures in
+    let given = c.locate_joined.ensures in
+    let items = c.in-Ok.origin.places.items in
+    record {
+      held = λ bytes held is are.
+          let at = found.told bytes held is are.parts_are in
+          let (joined, whole, places) = places_are bytes is.are.records c.args.path.given at.placed is.are.spelled at.there items c.places_are_of_records.ensures at.places_are in
+          record {
+            located = given.located bytes (found.keeps.kept ∙ held) (contents is.are.records) (way (contents is.are.records)) (record {
+              origin = read_record at.placed.content;
+              joined = joined;
+              short = is.short;
+              leads = found_as is.are.records (way (contents is.are.records)) c.args.path at.placed (leads.is bytes is are) at.there (Ok joined) whole;
+              head_is = at.head_is;
+              places_are = subst (λ l. ArePlacesOf bytes l joined) (sym c.deref.ensures.value) places;
+            });
+            reads =
+                on_path is.are.records _ c.args.path (leads.is bytes is are)
+                (then_read 0 1 2 (λ n. omega arith) is.are.records _ items c.deref.result.now _ (found.reads bytes held is are.parts_are)
+                (places_in bytes is.are.records c.args.path.given is.are.spelled items at c.places_are_of_records.ensures c.places_are_as_long.ensures) c.deref.ensures.value (omega arith) given.reads);
+          };
+      inside = λ bytes (is, are).
+          let stays = found.inside bytes is are.parts_are in
+          then_inside bytes items c.deref.result.now (g.S.Source.seen c.args.source.now) (g.S.Source.seen c.origin_at.new.source) (g.S.Source.seen c.locate_joined.new.source) found.keeps.watched stays.asks stays.ends c.deref.ensures.value given.reads.near;
+      keeps = preserves_both found.keeps (record { kept = given.reads.kept; watched = given.reads.watched });
+      fails = fails_after found.keeps.kept found.fails.may
+          (fails_more (λ bytes held (is, are).
+          let at = found.told bytes (sym found.keeps.kept ∙ held) is are.parts_are in
+          let (joined, whole, places) = places_are bytes is.are.records c.args.path.given at.placed is.are.spelled at.there items c.places_are_of_records.ensures at.places_are in
+          record { joined = joined; short = is.short; places_are = subst (λ l. ArePlacesOf bytes l joined) (sym c.deref.ensures.value) places }) given.fails);
+    }

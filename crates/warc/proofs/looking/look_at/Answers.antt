@@ -1,77 +1,95 @@
-use Rattle.std.proofs.Common.{inl, Option, Ok, refl, sym, ap, subst, ◌∙◌}
-use Rattle.std.specs.List.{slice_get}
+use Rattle.std.proofs.Common.{Ok, refl, sym, ap, subst, ◌∙◌, arith}
+use Rattle.warc_frame.proofs.EffectLemmas.{fails_after, fails_more}
+use Rattle.warc_segment.specs.Joined.{ArePlacesOf}
+use Rattle.warc_answer.specs.Stored.{own_type}
 use Rattle.warc_answer.specs.declared.answer.Path.{Path}
 use Rattle.warc_reading.specs.Archive.{contents}
-use Rattle.warc_reading.specs.Row.{Placed}
-use Rattle.warc.specs.Looking.{LooksOn}
-use Rattle.warc.specs.Standing.{IsOrigin}
-use Rattle.warc_reading.proofs.PlaceLemmas.{checkable_archive}
-use Rattle.warc_reading.proofs.PlacedLemmas.{placed}
-use Rattle.warc.proofs.BodyLemmas.{none_there}
-use Rattle.warc.proofs.ReplayLemmas.{reads_nothing}
-use Rattle.warc_frame.proofs.EffectLemmas.{fails_more}
-use Rattle.warc.proofs.LookLemmas.{absent_after}
+use Rattle.warc.proofs.LookLemmas.{fault_fails, gap_looked, look_failed, look_made}
+use Rattle.warc.proofs.OriginLemmas.{places_in, preserves_both, read_less, then_read}
+use Rattle.warc.proofs.ReplayLemmas.{found_as, places_are, then_inside}
 use Rattle.warc.proofs.looking.look_at.Goals as goal
 
-pub returns-in_default-buffer_for : goal.returns-in_default-buffer_for
-returns-in_default-buffer_for g c = record {
-  told = λ bytes held is parts. tt;
-  reads = λ bytes held is parts. record { reads = reads_nothing; places = tt };
-  inside = λ bytes is parts. record { asks = λ off. refl; ends = tt };
-  early = refl;
-  keeps = record { kept = refl; watched = refl };
-  fails = record { may = refl; failed = λ bytes held is. refl };
-}
+pub returns-in-Err : goal.returns-in-Err
+returns-in-Err g c =
+    let found = c.in-Err.ensures in
+    record {
+      told = λ bytes held is parts. gap_looked (Unit {0}) (Unit {0}) bytes is.are.records c.args.position c.in-Err.fault is.are.spelled c.places_are_of_records.ensures (found.told bytes held is parts);
+      reads = λ bytes held is parts. record { reads = read_less 0 1 (λ n. omega arith) is.are.records _ (found.reads bytes held is parts); places = tt };
+      inside = λ bytes is parts. record { asks = (found.inside bytes is parts).asks; ends = tt };
+      early = found.early;
+      keeps = found.keeps;
+      fails = fault_fails (Unit {0}) (Unit {0}) c.in-Err.fault found.fails;
+    }
 
-pub returns-in_default : goal.returns-in_default
-returns-in_default g c = record {
-  told = λ bytes held is parts. tt;
-  reads = λ bytes held is parts. record { reads = reads_nothing; places = tt };
-  inside = λ bytes is parts. record { asks = λ off. refl; ends = tt };
-  early = refl;
-  keeps = record { kept = refl; watched = refl };
-  fails = record {
-    may = inl refl;
-    failed = λ bytes held (is, parts, within).
-        absurd (absent_after (contents is.are.records) c.args.position within (none_there bytes c.args.rows.now c.args.position is (sym c.get.ensures ∙ c.in_default.is)));
-  };
-}
-
-pub returns : goal.returns
-returns g c =
+pub returns-in-Err-judge_joined : goal.returns-in-Err-judge_joined
+returns-in-Err-judge_joined g c =
+    let found = c.in-Ok.ensures in
+    let given = c.in-Err-judge_joined.ensures in
+    let items = c.in-Ok.origin.places.items in
     let path : Path = record { chosen = c.args.position; given = c.args.position } in
     record {
       told = λ bytes held is parts.
-          let (p, there, same) = placed is.are.records c.args.position c.in-Some.row (ap (λ l. slice_get l c.args.position) (sym is.are.rows_are) ∙ sym c.get.ensures ∙ c.in-Some.is) in
-          let can = checkable_archive c.head_of_spelled.ensures bytes c.args.rows.now is c.args.rows.now refl in
-          let origin : IsOrigin bytes is.are.records (Ok path) path p = record { short = is.short; spelled = is.are.spelled; path_is = refl; stands = there } in
-          c.look_row.ensures.told bytes held path (record {
-            at = record { records = is.are.records; found = Ok path; placed = p; origin = origin; parts_are = parts; row_is = same };
-            has = can.heads c.args.position p there;
-          });
-      reads = λ bytes held is parts.
-          let (p, there, same) = placed is.are.records c.args.position c.in-Some.row (ap (λ l. slice_get l c.args.position) (sym is.are.rows_are) ∙ sym c.get.ensures ∙ c.in-Some.is) in
-          let can = checkable_archive c.head_of_spelled.ensures bytes c.args.rows.now is c.args.rows.now refl in
-          let origin : IsOrigin bytes is.are.records (Ok path) path p = record { short = is.short; spelled = is.are.spelled; path_is = refl; stands = there } in
-          subst (λ (o : Option Placed). LooksOn is.are.records o (g.S.Source.seen c.args.source.now) (g.S.Source.seen c.look_row.new.source) c.look_row.result) (sym there)
-          (c.look_row.ensures.reads bytes held path (record {
-            at = record { records = is.are.records; found = Ok path; placed = p; origin = origin; parts_are = parts; row_is = same };
-            has = can.heads c.args.position p there;
-          }));
+          let at = found.told bytes held is parts in
+          let (joined, whole, places) = places_are bytes is.are.records c.args.position at.placed is.are.spelled at.there items c.places_are_of_records.ensures at.places_are in
+          look_failed (Unit {0}) (Unit {0}) bytes is.are.records c.args.position at.placed joined c.in-Err-judge_joined.fault at.there whole
+          (given.judged bytes (found.keeps.kept ∙ held) at.placed.content joined (record {
+            records = contents is.are.records;
+            found = Ok path;
+            path = path;
+            short = is.short;
+            leads = found_as is.are.records (Ok path) path at.placed refl at.there (Ok joined) whole;
+            places_are = subst (λ l. ArePlacesOf bytes l joined) (sym c.deref.ensures.value) places;
+          }) at.head_is (c.own_type-own.ensures ∙ ap own_type at.fields_are));
+      reads = λ bytes held is parts. record {
+        reads =
+            let at = found.told bytes held is parts in
+            then_read 0 1 1 (λ n. omega arith) is.are.records _ items c.deref.result.now _ (found.reads bytes held is parts)
+            (places_in bytes is.are.records c.args.position is.are.spelled items at c.places_are_of_records.ensures c.places_are_as_long.ensures) c.deref.ensures.value (omega arith) given.reads;
+        places = tt;
+      };
       inside = λ bytes is parts.
-          let (p, there, same) = placed is.are.records c.args.position c.in-Some.row (ap (λ l. slice_get l c.args.position) (sym is.are.rows_are) ∙ sym c.get.ensures ∙ c.in-Some.is) in
-          let origin : IsOrigin bytes is.are.records (Ok path) path p = record { short = is.short; spelled = is.are.spelled; path_is = refl; stands = there } in
-          c.look_row.ensures.inside bytes path (record { records = is.are.records; found = Ok path; placed = p; origin = origin; parts_are = parts; row_is = same });
-      early = c.look_row.ensures.early;
-      keeps = c.look_row.ensures.keeps;
-      fails = fails_more (λ bytes held (is, parts, within).
-          let (p, there, same) = placed is.are.records c.args.position c.in-Some.row (ap (λ l. slice_get l c.args.position) (sym is.are.rows_are) ∙ sym c.get.ensures ∙ c.in-Some.is) in
-          let can = checkable_archive c.head_of_spelled.ensures bytes c.args.rows.now is c.args.rows.now refl in
-          let origin : IsOrigin bytes is.are.records (Ok path) path p = record { short = is.short; spelled = is.are.spelled; path_is = refl; stands = there } in (
-            path,
-            record {
-              at = record { records = is.are.records; found = Ok path; placed = p; origin = origin; parts_are = parts; row_is = same };
-              has = can.heads c.args.position p there;
-            },
-          )) c.look_row.ensures.fails;
+          let stays = found.inside bytes is parts in
+          record { asks = then_inside bytes items c.deref.result.now (g.S.Source.seen c.args.source.now) (g.S.Source.seen c.origin_at.new.source) (g.S.Source.seen c.judge_joined.new.source) found.keeps.watched stays.asks stays.ends c.deref.ensures.value given.reads.near; ends = tt };
+      early = given.early;
+      keeps = preserves_both found.keeps (record { kept = given.reads.kept; watched = given.reads.watched });
+      fails = fails_after found.keeps.kept found.fails.may
+          (fails_more (λ bytes held (is, parts, within).
+          let at = found.told bytes (sym found.keeps.kept ∙ held) is parts in
+          let (joined, whole, places) = places_are bytes is.are.records c.args.position at.placed is.are.spelled at.there items c.places_are_of_records.ensures at.places_are in
+          record { joined = joined; short = is.short; places_are = subst (λ l. ArePlacesOf bytes l joined) (sym c.deref.ensures.value) places })
+          (fault_fails (Unit {0}) (Unit {0}) c.in-Err-judge_joined.fault given.fails));
+    }
+
+pub returns-in-Ok-judge_joined : goal.returns-in-Ok-judge_joined
+returns-in-Ok-judge_joined g c =
+    let found = c.in-Ok.ensures in
+    let given = c.in-Ok-judge_joined.ensures in
+    let items = c.in-Ok.origin.places.items in
+    let path : Path = record { chosen = c.args.position; given = c.args.position } in
+    record {
+      told = λ bytes held is parts.
+          let at = found.told bytes held is parts in
+          let (joined, whole, places) = places_are bytes is.are.records c.args.position at.placed is.are.spelled at.there items c.places_are_of_records.ensures at.places_are in
+          look_made bytes is.are.records c.args.position at.placed joined c.in-Ok-judge_joined.stored c.in-Ok.origin.places is.short at.there whole places
+          (given.judged bytes (found.keeps.kept ∙ held) at.placed.content joined (record {
+            records = contents is.are.records;
+            found = Ok path;
+            path = path;
+            short = is.short;
+            leads = found_as is.are.records (Ok path) path at.placed refl at.there (Ok joined) whole;
+            places_are = subst (λ l. ArePlacesOf bytes l joined) (sym c.deref.ensures.value) places;
+          }) at.head_is (c.own_type-own.ensures ∙ ap own_type at.fields_are));
+      reads = λ bytes held is parts.
+          let at = found.told bytes held is parts in
+          let places = places_in bytes is.are.records c.args.position is.are.spelled items at c.places_are_of_records.ensures c.places_are_as_long.ensures in
+          record {
+            reads = then_read 0 1 1 (λ n. omega arith) is.are.records _ items c.deref.result.now _ (found.reads bytes held is parts) places c.deref.ensures.value (omega arith) given.reads;
+            places = places;
+          };
+      inside = λ bytes is parts.
+          let stays = found.inside bytes is parts in
+          record { asks = then_inside bytes items c.deref.result.now (g.S.Source.seen c.args.source.now) (g.S.Source.seen c.origin_at.new.source) (g.S.Source.seen c.judge_joined.new.source) found.keeps.watched stays.asks stays.ends c.deref.ensures.value given.reads.near; ends = stays.ends };
+      early = tt;
+      keeps = preserves_both found.keeps (record { kept = given.reads.kept; watched = given.reads.watched });
+      fails = record { may = given.fails.may ∙ found.fails.may; failed = λ bytes held is. given.fails.may ∙ found.fails.may };
     }

@@ -1,69 +1,60 @@
-use Rattle.std.proofs.Common.{inl, refl, sym, ap, ◌∙◌}
-use Rattle.std.specs.List.{slice_get}
-use Rattle.warc_frame.specs.declared.fault.OutFault.TheVariants as outs
+use Rattle.std.proofs.Common.{Ok, sym, subst, ◌∙◌, arith}
+use Rattle.warc_frame.proofs.EffectLemmas.{fails_after, fails_more}
+use Rattle.warc_record.specs.Seen.{said}
+use Rattle.warc_segment.specs.Joined.{ArePlacesOf}
+use Rattle.warc_answer.specs.Payloads.{is_http_response, read_record}
+use Rattle.warc_answer.proofs.JudgeLemmas.{body_within}
 use Rattle.warc_reading.specs.Archive.{contents}
-use Rattle.warc.specs.Standing.{IsOrigin}
-use Rattle.warc_reading.proofs.PlaceLemmas.{checkable_archive}
-use Rattle.warc_reading.proofs.PlacedLemmas.{placed}
-use Rattle.warc_frame.proofs.EffectLemmas.{fails_more}
-use Rattle.warc.proofs.ReplayLemmas.{reads_nothing, reads_on_path, row_missing}
+use Rattle.warc.proofs.LookLemmas.{fault_fails}
+use Rattle.warc.proofs.OriginLemmas.{early_late, fault_replayed, places_in, on_path, preserves_both, read_less, then_read}
+use Rattle.warc.proofs.ReplayLemmas.{found_as, places_are, then_inside}
 use Rattle.warc.proofs.replay.replay_on.Goals as goal
 
-pub returns-in_default-buffer_for : goal.returns-in_default-buffer_for
-returns-in_default-buffer_for g c = λ way leads. record {
-  told = λ bytes held is are. c.fails_before_all.ensures (contents is.are.records) (way (contents is.are.records)) ((g.W.Sink.seen c.args.out.now).tells) (outs.Memory 0) (leads.ends bytes is are) refl;
-  reads = λ bytes held is are. reads_nothing;
-  inside = λ bytes is off. refl;
-  keeps = record { kept = refl; watched = refl };
-  late = record { silent = (refl, refl); cause = refl };
-  fails = record { may = refl; failed = λ bytes held is. refl };
-}
-
-pub returns-in_default : goal.returns-in_default
-returns-in_default g c = λ way leads. record {
-  told = λ bytes held is are. c.fails_before_all.ensures (contents is.are.records) (way (contents is.are.records)) ((g.W.Sink.seen c.args.out.now).tells) (outs.Read 0) (leads.ends bytes is are) refl;
-  reads = λ bytes held is are. reads_nothing;
-  inside = λ bytes is off. refl;
-  keeps = record { kept = refl; watched = refl };
-  late = record { silent = tt; cause = refl };
-  fails = record {
-    may = inl refl;
-    failed = λ bytes held is.
-        absurd (row_missing is.0.are.records _ c.args.path (leads.is bytes is.0 is.1) (leads.ends bytes is.0 is.1)
-        (ap (λ l. slice_get l c.args.path.given) (sym is.0.are.rows_are) ∙ sym c.get.ensures ∙ c.in_default.is));
-  };
-}
+pub returns-in-Err : goal.returns-in-Err
+returns-in-Err g c = λ way leads.
+    let found = c.in-Err.ensures in
+    record {
+      told = λ bytes held is are.
+          fault_replayed (Unit {0}) c.reasons_are_answers.ensures c.fails_before_all.ensures c.places_are_of_records.ensures bytes is.are.records (way (contents is.are.records)) c.args.path c.in-Err.fault _
+          is.are.spelled (leads.is bytes is are) (leads.ends bytes is are) found.early (found.told bytes held is are.parts_are);
+      reads = λ bytes held is are. on_path is.are.records _ c.args.path (leads.is bytes is are) (read_less 0 2 (λ n. omega arith) is.are.records _ (found.reads bytes held is are.parts_are));
+      inside = λ bytes (is, are). (found.inside bytes is are.parts_are).asks;
+      keeps = found.keeps;
+      late = early_late c.in-Err.fault _ found.early;
+      fails = fails_more (λ bytes held (is, are). (is, are.parts_are, leads.ends bytes is are c.args.path (leads.is bytes is are))) (fault_fails (Unit {0}) (Unit {0}) c.in-Err.fault found.fails);
+    }
 
 pub returns : goal.returns
-returns g c = λ way leads. record {
-  told = λ bytes held is are.
-      let (p, there, same) = placed is.are.records c.args.path.given c.in-Some.row (ap (λ l. slice_get l c.args.path.given) (sym is.are.rows_are) ∙ sym c.get.ensures ∙ c.in-Some.is) in
-      let origin : IsOrigin bytes is.are.records (way (contents is.are.records)) c.args.path p = record { short = is.short; spelled = is.are.spelled; path_is = leads.is bytes is are; stands = there } in
-      let can = checkable_archive c.head_of_spelled.ensures bytes c.args.rows.now is c.args.rows.now refl in
-      c.replay_row.ensures.told bytes held (record {
-        at = record { records = is.are.records; found = way (contents is.are.records); placed = p; origin = origin; parts_are = are.parts_are; row_is = same };
-        has = can.heads c.args.path.given p there;
-      });
-  reads = λ bytes held is are.
-      let (p, there, same) = placed is.are.records c.args.path.given c.in-Some.row (ap (λ l. slice_get l c.args.path.given) (sym is.are.rows_are) ∙ sym c.get.ensures ∙ c.in-Some.is) in
-      let origin : IsOrigin bytes is.are.records (way (contents is.are.records)) c.args.path p = record { short = is.short; spelled = is.are.spelled; path_is = leads.is bytes is are; stands = there } in
-      let can = checkable_archive c.head_of_spelled.ensures bytes c.args.rows.now is c.args.rows.now refl in
-      reads_on_path is.are.records _ c.args.path p origin.path_is there (c.replay_row.ensures.reads bytes held (record {
-        at = record { records = is.are.records; found = way (contents is.are.records); placed = p; origin = origin; parts_are = are.parts_are; row_is = same };
-        has = can.heads c.args.path.given p there;
-      }));
-  inside = λ bytes (is, are).
-      let (p, there, same) = placed is.are.records c.args.path.given c.in-Some.row (ap (λ l. slice_get l c.args.path.given) (sym is.are.rows_are) ∙ sym c.get.ensures ∙ c.in-Some.is) in
-      let origin : IsOrigin bytes is.are.records (way (contents is.are.records)) c.args.path p = record { short = is.short; spelled = is.are.spelled; path_is = leads.is bytes is are; stands = there } in
-      c.replay_row.ensures.inside bytes (record { records = is.are.records; found = way (contents is.are.records); placed = p; origin = origin; parts_are = are.parts_are; row_is = same });
-  keeps = c.replay_row.ensures.keeps;
-  late = c.replay_row.ensures.late;
-  fails = fails_more (λ bytes held (is, are).
-      let (p, there, same) = placed is.are.records c.args.path.given c.in-Some.row (ap (λ l. slice_get l c.args.path.given) (sym is.are.rows_are) ∙ sym c.get.ensures ∙ c.in-Some.is) in
-      let origin : IsOrigin bytes is.are.records (way (contents is.are.records)) c.args.path p = record { short = is.short; spelled = is.are.spelled; path_is = leads.is bytes is are; stands = there } in
-      let can = checkable_archive c.head_of_spelled.ensures bytes c.args.rows.now is c.args.rows.now refl in
-      record {
-        at = record { records = is.are.records; found = way (contents is.are.records); placed = p; origin = origin; parts_are = are.parts_are; row_is = same };
-        has = can.heads c.args.path.given p there;
-      }) c.replay_row.ensures.fails;
-}
+returns g c = λ way leads.
+    let found = c.in-Ok.ensures in
+    let given = c.replay_joined.ensures in
+    let items = c.in-Ok.origin.places.items in
+    record {
+      told = λ bytes held is are.
+          let at = found.told bytes held is are.parts_are in
+          let (joined, whole, places) = places_are bytes is.are.records c.args.path.given at.placed is.are.spelled at.there items c.places_are_of_records.ensures at.places_are in
+          given.replayed bytes (found.keeps.kept ∙ held) (contents is.are.records) (way (contents is.are.records)) (record {
+            origin = read_record at.placed.content;
+            joined = joined;
+            short = is.short;
+            leads = found_as is.are.records (way (contents is.are.records)) c.args.path at.placed (leads.is bytes is are) at.there (Ok joined) whole;
+            head_is = at.head_is;
+            places_are = subst (λ l. ArePlacesOf bytes l joined) (sym c.deref.ensures.value) places;
+          });
+      reads = λ bytes held is are.
+          let at = found.told bytes held is are.parts_are in
+          let places = places_in bytes is.are.records c.args.path.given is.are.spelled items at c.places_are_of_records.ensures c.places_are_as_long.ensures in
+          on_path is.are.records _ c.args.path (leads.is bytes is are)
+          (then_read 0 2 2 (λ n. omega arith) is.are.records _ items c.deref.result.now _ (found.reads bytes held is are.parts_are) places c.deref.ensures.value
+          (body_within (is_http_response (said c.in-Ok.origin.head.typed)) c.deref.result.now) given.reads);
+      inside = λ bytes (is, are).
+          let stays = found.inside bytes is are.parts_are in
+          then_inside bytes items c.deref.result.now (g.S.Source.seen c.args.source.now) (g.S.Source.seen c.origin_at.new.source) (g.S.Source.seen c.replay_joined.new.source) found.keeps.watched stays.asks stays.ends c.deref.ensures.value given.reads.near;
+      keeps = preserves_both found.keeps (record { kept = given.reads.kept; watched = given.reads.watched });
+      late = given.late;
+      fails = fails_after found.keeps.kept found.fails.may
+          (fails_more (λ bytes held (is, are).
+          let at = found.told bytes (sym found.keeps.kept ∙ held) is are.parts_are in
+          let (joined, whole, places) = places_are bytes is.are.records c.args.path.given at.placed is.are.spelled at.there items c.places_are_of_records.ensures at.places_are in
+          record { joined = joined; short = is.short; places_are = subst (λ l. ArePlacesOf bytes l joined) (sym c.deref.ensures.value) places }) given.fails);
+    }
