@@ -6,8 +6,7 @@ use Rattle.std.proofs.lemmas.List.{append-nil, take_more, take-append-drop}
 use Rattle.std.proofs.lemmas.Option.{slice_get_within}
 use Rattle.std.specs.List.{AllByRecursion, concat, slice_get}
 use Rattle.std.proofs.Math.ListN.{set}
-use Rattle.warc_frame.specs.Effects.{Preserves}
-use Rattle.warc_frame.specs.Failing.{MayHaveFailedBy}
+use Rattle.warc_frame.specs.Effects.{FailsBy, Preserves}
 use Rattle.warc_frame.specs.Record.{Record}
 use Rattle.warc_frame.specs.Seen.{SeenSource}
 use Rattle.warc_frame.specs.declared.fault.OutFault.{OutFault}
@@ -15,21 +14,24 @@ use Rattle.warc_frame.specs.declared.fault.OutFault.TheVariants as outs
 use Rattle.warc_index.specs.Orders.{Indexes}
 use Rattle.warc_index.specs.declared.unfound.Unfound.{Unfound}
 use Rattle.warc_segment.specs.Kept.{Kept as Parts}
-use Rattle.warc_answer.specs.Answers.{path_at}
+use Rattle.warc_answer.specs.Answers.{path_at, path_from}
+use Rattle.warc_answer.specs.Laws.{PathsEndInside}
 use Rattle.warc_answer.specs.Seen.{IsEarly}
 use Rattle.warc_answer.specs.Stored.{IsStoredAt, IsStoredOn}
 use Rattle.warc_answer.specs.declared.answer.Path.{Path}
 use Rattle.warc_answer.specs.declared.answer.ReplayFault.TheVariants.{Out}
-use Rattle.warc_reading.specs.Row.{Row}
+use Rattle.warc_reading.specs.Archive.{contents}
+use Rattle.warc_reading.specs.Indexed.{AreOf, indexed_record}
+use Rattle.warc_reading.specs.Row.{Placed, Row}
+use Rattle.warc.specs.Origins.{IsRecordAt}
 use Rattle.warc_answer.specs.declared.answer.Reason.{Reason as Why}
 use Rattle.warc.specs.Captures.{capture_line, captures_text, columns_line, columns_of, date_front, full_date, number_shown, reason_shown}
 use Rattle.warc.specs.Listing.{shown}
-use Rattle.warc.specs.Capturing.{AreSlots, AreSoFar, JudgesNext, Remembers}
+use Rattle.warc.specs.Capturing.{AreSlots, AreSoFar, IsIndexedAt, JudgesNext, Remembers}
 use Rattle.warc.specs.Outcomes.{CaptureSeen, IsOutcome, judged_seen, origin_on, outcome_seen}
 use Rattle.warc.specs.Replaying.{AsksInside}
 use Rattle.warc.specs.declared.outcome.Outcome.{Outcome}
-use Rattle.warc.proofs.LookLemmas.{out_may}
-use Rattle.warc.proofs.ReplayLemmas.{asks_both}
+use Rattle.warc.proofs.ReplayLemmas.{asks_both, path_by_links}
 
 -- what is found in a list with one more element
 appended : {X : Type 0} (xs : List X) (x : X) (k : ℕ) (o : X) → slice_get (xs ++ x ∷ []) k ≡ Some o → (slice_get xs k ≡ Some o) ⊎ ((k ≡ length xs) × (o ≡ x))
@@ -110,14 +112,18 @@ pub memory_early : {X : Type 0} (r : Result X OutFault) → IfErr r (λ fault. f
 memory_early (Ok x) is = tt
 memory_early (Err e) is = subst (λ (f : OutFault). IsEarly (Out f)) (sym is) refl
 
-pub memory_may : {X : Type 0} (r : Result X OutFault) (n : ℕ) → IfErr r (λ fault. fault ≡ outs.Memory 0) → MayHaveFailedBy r n n
-memory_may (Ok x) n is = refl
-memory_may {X} (Err e) n is = subst (λ (f : OutFault). MayHaveFailedBy {X = X} (Err f) n n) (sym is) refl
+pub memory_fails : {X : Type 0} {Expected : List ℕ → Type 0} (r : Result X OutFault) (s : SeenSource) → IfErr r (λ fault. fault ≡ outs.Memory 0) → FailsBy Expected r s s
+memory_fails (Ok x) s is = record { may = refl; failed = λ bytes held expected. refl }
+memory_fails {X} {Expected} (Err e) s is =
+    subst (λ (f : OutFault). FailsBy {X = X} Expected (Err f) s s) (sym is) (record { may = refl; failed = λ bytes held expected. refl })
 
 -- ---- what is read
 
-pub fault_may : (X Y : Type 0) (e : OutFault) (old mid new : ℕ) → mid ≡ old → MayHaveFailedBy {X = X} (Err e) mid new → MayHaveFailedBy {X = Y} (Err e) old new
-fault_may X Y e old mid new same is = out_may X Y e old new (subst (λ (n : ℕ). MayHaveFailedBy {X = X} (Err e) n new) same is)
+-- the origin of the record at a position is one of the records
+pub record_at : PathsEndInside → (rows : List Row) (index : Indexes) (parts : Parts) (position : ℕ) (path : Path) → ((records : List Placed) → AreOf records index parts → Ok path ≡ path_from (map indexed_record records) position)
+    → (bytes : List ℕ) → IsIndexedAt rows index parts position bytes → IsRecordAt rows parts path.given bytes
+record_at inside rows index parts position path found bytes (is, are, low) =
+    (is, are.parts_are, (inside (contents is.are.records)).1 position low path (sym (path_by_links is.are.records position) ∙ sym (found is.are.records are)))
 
 pub asks_on : {A : Type 0} {rows : List Row} {index : Indexes} {parts : Parts} {position : ℕ} {slots : List ℕ} {outcomes : List (Outcome A)} {old mid new : SeenSource} {answer : Result (Outcome A) OutFault}
     → Preserves old mid → AsksInside rows index parts old mid → JudgesNext rows index parts position slots outcomes mid new answer → AsksInside rows index parts old new

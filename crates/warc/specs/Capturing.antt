@@ -1,8 +1,7 @@
 -- The outcomes of captures, of which each origin is judged once.
-use Rattle.std.specs.Prelude.{◌≡◌, ◌⊎◌, ℕ, ◌+◌, ◌≤◌, List, map, slice_get, Option, Some, Result, IfErr, IfOk}
-use Rattle.std.specs.List.{AllByRecursion}
-use Rattle.warc_frame.specs.Effects.{Preserves}
-use Rattle.warc_frame.specs.Failing.{MayHaveFailedBy}
+use Rattle.std.specs.Prelude.{◌≡◌, ◌⊎◌, ℕ, ◌+◌, ◌<◌, ◌≤◌, List, length, map, slice_get, Option, Some, Result, IfErr, IfOk}
+use Rattle.std.specs.List.{AllByRecursion, Contains}
+use Rattle.warc_frame.specs.Effects.{FailsBy, Preserves}
 use Rattle.warc_frame.specs.Record.{Record}
 use Rattle.warc_frame.specs.Seen.{IfHeld, SeenSource}
 use Rattle.warc_frame.specs.declared.fault.OutFault.{OutFault}
@@ -18,7 +17,7 @@ use Rattle.warc_reading.specs.Archive.{IsArchiveOf, contents}
 use Rattle.warc_reading.specs.Indexed.{AreOf}
 use Rattle.warc_reading.specs.Row.{Row}
 use Rattle.warc.specs.Looking.{AsksWithin}
-use Rattle.warc.specs.Origins.{ArePartsOf}
+use Rattle.warc.specs.Origins.{ArePartsOf, IsRecordAt}
 use Rattle.warc.specs.Outcomes.{CaptureSeen, IsOutcome, judged_seen, outcome_seen}
 use Rattle.warc.specs.Replaying.{AsksInside}
 use Rattle.warc.specs.declared.outcome.Outcome.{Outcome}
@@ -31,6 +30,11 @@ pub record AreOutcomes (records : List Record) (positions : List ℕ) (captures 
 abbrev pub outcomes_seen : {A B : Type 0} → Vec (Outcome A) B → List CaptureSeen
 outcomes_seen outcomes = map outcome_seen outcomes.items
 
+-- the rows, the index and the parts are those of an archive of these bytes, and each position is that of a record
+abbrev pub AreIndexedAt : List Row → Indexes → Parts → List ℕ → List ℕ → Type 0
+AreIndexedAt rows index parts positions bytes = (is : IsArchiveOf bytes rows) × AreOf is.are.records index parts
+    × ((p : ℕ) → Contains positions p → p < length (contents is.are.records))
+
 -- What is answered of the captures at positions, by rows, an index and parts. Where the archive's source holds its
 -- bytes, these are the outcomes of its records. A fault comes before anything is written
 pub record JudgesAll {A B : Type 0} (rows : List Row) (index : Indexes) (parts : Parts) (positions : List ℕ)
@@ -40,7 +44,7 @@ pub record JudgesAll {A B : Type 0} (rows : List Row) (index : Indexes) (parts :
   pub early : IfErr answer (λ e. IsEarly (Out e))
   pub inside : AsksInside rows index parts old new
   pub keeps : Preserves old new
-  pub may : MayHaveFailedBy answer old.faults new.faults
+  pub fails : FailsBy (AreIndexedAt rows index parts positions) answer old new
 
 -- ---- on the way: which outcome each origin was judged for. States of the code
 
@@ -65,7 +69,12 @@ pub record JudgesOne {A : Type 0} (rows : List Row) (parts : Parts) (origin : �
   pub early : IfErr answer (λ e. IsEarly (Out e))
   pub inside : AsksWithin rows parts old new
   pub keeps : Preserves old new
-  pub may : MayHaveFailedBy answer old.faults new.faults
+  pub fails : FailsBy (IsRecordAt rows parts origin) answer old new
+
+-- the rows, the index and the parts are those of an archive of these bytes, and the position is that of a record
+abbrev pub IsIndexedAt : List Row → Indexes → Parts → ℕ → List ℕ → Type 0
+IsIndexedAt rows index parts position bytes = (is : IsArchiveOf bytes rows) × AreOf is.are.records index parts
+    × (position < length (contents is.are.records))
 
 pub record JudgesNext {A : Type 0} (rows : List Row) (index : Indexes) (parts : Parts) (position : ℕ) (slots : List ℕ)
     (outcomes : List (Outcome A)) (old new : SeenSource) (answer : Result (Outcome A) OutFault) : Type 0 where
@@ -76,7 +85,7 @@ pub record JudgesNext {A : Type 0} (rows : List Row) (index : Indexes) (parts : 
   pub early : IfErr answer (λ e. IsEarly (Out e))
   pub inside : AsksInside rows index parts old new
   pub keeps : Preserves old new
-  pub may : MayHaveFailedBy answer old.faults new.faults
+  pub fails : FailsBy (IsIndexedAt rows index parts position) answer old new
 
 -- each slot is 0 or names one of `count` outcomes
 abbrev pub AreSlots : ℕ → List ℕ → Type 0

@@ -1,7 +1,6 @@
 //! The captures of an archive, and their outcomes, of which each origin is judged once.
 ghost use Rattle.std.specs.Prelude.{◌≡◌, ◌+◌, ◌++◌, ◌∷◌, [], length, IfErr, IfOk, IfSome, OnOk};
 ghost use Rattle.warc_record.specs.Kinds.{kind_named};
-ghost use Rattle.warc_frame.specs.Failing.{MayHaveFailedBy};
 ghost use Rattle.warc.specs.Captures.{capture_positions, position_if};
 ghost use Rattle.warc.specs.Capturing.{IsRecalled, JudgesAll, JudgesNext, JudgesOne, Remembers};
 ghost use Rattle.warc.specs.Looking.{Judges};
@@ -13,6 +12,7 @@ use crate::looking::judge_origin;
 use crate::outcome::Outcome;
 use crate::replay::path_from;
 use std::alloc::{AllocError, Allocator};
+use warc_answer::laws::paths_end_inside;
 use warc_answer::{Reason, Stored};
 use warc_frame::{OutFault, Source};
 use warc_reading::{Lookup, Rows};
@@ -127,6 +127,7 @@ fn outcome_once<S: Source, A: Allocator + Copy>(
     ensures { JudgesNext rows.now lookup.now.index lookup.now.parts position slots.now outcomes.now
         (S.seen source.old) (S.seen source.new) result }
 {
+    paths_end_inside();
     match path_from(lookup, position) {
         Ok(path) => match judge_once(source, rows, lookup, path.given, slots, outcomes) {
             Ok(stored) => Ok(Outcome {

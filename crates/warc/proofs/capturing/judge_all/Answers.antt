@@ -1,7 +1,9 @@
 use Rattle.std.proofs.Common.{◌++◌, ◌∷◌, [], length, map, refl, sym, ap, subst, take_all, ◌∙◌}
 use Rattle.warc_reading.specs.Archive.{contents}
 use Rattle.warc.specs.Capturing.{AreSlots, AreSoFar, Recalls}
-use Rattle.warc.proofs.CaptureLemmas.{asks_on, chosen_more, chosen_seen, fault_may, more_slots, more_so_far, take_next}
+use Rattle.warc_frame.proofs.EffectLemmas.{fails_after, fails_as, fails_more, fails_never}
+use Rattle.std.proofs.lemmas.List.Elements.{Contains-get_or}
+use Rattle.warc.proofs.CaptureLemmas.{asks_on, chosen_more, chosen_seen, more_slots, more_so_far, take_next}
 use Rattle.warc.proofs.OriginLemmas.{preserves_both}
 use Rattle.warc.proofs.capturing.judge_all.Goals as goal
 
@@ -25,7 +27,7 @@ judging-preserved g c =
           ∙ take_next c.args.positions.now c.judging.position-index c.in-Ok-outcome_once.outcome.chosen c.judging-test.true next.chosen;
       inside = asks_on old.keeps old.inside next;
       keeps = preserves_both old.keeps next.keeps;
-      sound = next.may ∙ old.sound;
+      sound = next.fails.may ∙ old.sound;
     }
 
 pub returns : goal.returns
@@ -37,7 +39,7 @@ returns g c = record {
   early = tt;
   inside = c.judging.invariant.inside;
   keeps = c.judging.invariant.keeps;
-  may = c.judging.invariant.sound;
+  fails = fails_never c.judging.invariant.sound;
 }
 
 pub returns-in-Err : goal.returns-in-Err
@@ -49,7 +51,8 @@ returns-in-Err g c =
       early = next.early;
       inside = asks_on old.keeps old.inside next;
       keeps = preserves_both old.keeps next.keeps;
-      may = fault_may (Unit {0}) (Unit {0}) c.in-Err.fault _ _ _ old.sound next.may;
+      fails = fails_after old.keeps.kept old.sound
+          (fails_more (λ bytes held (is, are, low). (is, are, low _ (Contains-get_or c.args.positions.now c.judging.position-index 0 c.judging-test.true))) (fails_as _ _ next.fails));
     }
 
 pub returns-in_default-push_outcome : goal.returns-in_default-push_outcome
@@ -61,5 +64,5 @@ returns-in_default-push_outcome g c =
       early = refl;
       inside = asks_on old.keeps old.inside next;
       keeps = preserves_both old.keeps next.keeps;
-      may = next.may ∙ old.sound;
+      fails = record { may = next.fails.may ∙ old.sound; failed = λ bytes held is. next.fails.may ∙ old.sound };
     }

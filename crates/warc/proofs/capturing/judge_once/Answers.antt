@@ -2,7 +2,7 @@ use Rattle.std.proofs.Common.{refl, sym, subst}
 use Rattle.std.proofs.lemmas.Result.{IfOk-weaker}
 use Rattle.warc_answer.specs.Stored.{IsStoredAt}
 use Rattle.warc_reading.specs.Archive.{contents}
-use Rattle.warc.proofs.CaptureLemmas.{memory_early, memory_may}
+use Rattle.warc.proofs.CaptureLemmas.{memory_early, memory_fails}
 use Rattle.warc.proofs.capturing.judge_once.Goals as goal
 
 pub returns-in-Some : goal.returns-in-Some
@@ -13,7 +13,7 @@ returns-in-Some g c = record {
   early = memory_early _ c.judged_again.ensures.memory;
   inside = λ bytes is parts off. refl;
   keeps = record { kept = refl; watched = refl };
-  may = memory_may _ _ c.judged_again.ensures.memory;
+  fails = memory_fails c.judged_again.result _ c.judged_again.ensures.memory;
 }
 
 pub returns-in-None : goal.returns-in-None
@@ -22,5 +22,5 @@ returns-in-None g c = record {
   early = c.judge_origin.ensures.early;
   inside = c.judge_origin.ensures.inside;
   keeps = c.judge_origin.ensures.keeps;
-  may = c.judge_origin.ensures.fails.may;
+  fails = c.judge_origin.ensures.fails;
 }

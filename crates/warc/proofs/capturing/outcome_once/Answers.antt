@@ -2,7 +2,9 @@ use Rattle.std.proofs.Common.{Ok, Err, Some, None, refl, sym, ◌∙◌}
 use Rattle.warc_answer.specs.declared.answer.Reason.TheVariants.{NotFound}
 use Rattle.warc_reading.specs.Archive.{contents}
 use Rattle.warc.specs.Outcomes.{judged_seen}
-use Rattle.warc.proofs.LookLemmas.{out_may, outcome_made}
+use Rattle.warc_frame.proofs.EffectLemmas.{fails_as, fails_more, fails_never}
+use Rattle.warc.proofs.CaptureLemmas.{record_at}
+use Rattle.warc.proofs.LookLemmas.{outcome_made}
 use Rattle.warc.proofs.ReplayLemmas.{path_by_links}
 use Rattle.warc.proofs.capturing.outcome_once.Goals as goal
 
@@ -16,7 +18,8 @@ returns-in-Ok-judge_once g c = record {
   early = tt;
   inside = λ bytes (is, are). c.in-Ok-judge_once.ensures.inside bytes is are.parts_are;
   keeps = c.in-Ok-judge_once.ensures.keeps;
-  may = c.in-Ok-judge_once.ensures.may;
+  fails = fails_more (λ bytes held is. record_at c.paths_end_inside.ensures _ _ _ _ c.in-Ok.path c.in-Ok.ensures bytes is)
+      (record { may = c.in-Ok-judge_once.ensures.fails.may; failed = c.in-Ok-judge_once.ensures.fails.failed });
 }
 
 pub returns-in-Err-judge_once : goal.returns-in-Err-judge_once
@@ -26,7 +29,8 @@ returns-in-Err-judge_once g c = record {
   early = c.in-Err-judge_once.ensures.early;
   inside = λ bytes (is, are). c.in-Err-judge_once.ensures.inside bytes is are.parts_are;
   keeps = c.in-Err-judge_once.ensures.keeps;
-  may = out_may (Unit {0}) (Unit {0}) c.in-Err-judge_once.fault _ _ c.in-Err-judge_once.ensures.may;
+  fails = fails_more (λ bytes held is. record_at c.paths_end_inside.ensures _ _ _ _ c.in-Ok.path c.in-Ok.ensures bytes is)
+      (fails_as _ _ c.in-Err-judge_once.ensures.fails);
 }
 
 pub returns-in-Err : goal.returns-in-Err
@@ -38,5 +42,5 @@ returns-in-Err g c = record {
   early = tt;
   inside = λ bytes is off. refl;
   keeps = record { kept = refl; watched = refl };
-  may = refl;
+  fails = fails_never refl;
 }
