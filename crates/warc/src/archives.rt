@@ -213,8 +213,8 @@ impl<S: Source, A: Allocator + Copy> Archive<S, A> {
     }
 
     /// Where the body lies that `replay` writes: its answer, and the spans of the source whose bytes, one after
-    /// another, are the body. The source is read for the origin's head, and for the first 65,536 bytes of the joined
-    /// blocks where an HTTP head is looked for. It is refused as `replay` is before anything is written.
+    /// another, are the body. The origin's head is read, and each byte of the joined blocks at most once, to judge
+    /// their digests and to find the HTTP head. It is refused as `replay` is before anything is written.
     pub fn locate(&mut self, uri: &[u8], moment: &Moment) -> Result<Located<A>, ReplayFault>
         ensures locates { LocatesFor self.old.listing.rows self.old.index self.old.parts uri.now moment.now
             (S.seen self.old.listing.source) (S.seen self.new.listing.source) result }
@@ -279,7 +279,7 @@ impl<S: Source, A: Allocator + Copy> Archive<S, A> {
 
     /// What the capture at a position gives, as `replay_at` judges it, without the body: the position of its origin,
     /// and what is said of what is stored there, coded or not, or the reason P3 to P9. Of the origin its head is read
-    /// again, and at most 65,536 bytes of the joined blocks. `Memory` and `Read` come without a byte written.
+    /// again, and each byte of the joined blocks at most once. `Memory` and `Read` come without a byte written.
     pub fn outcome_at(&mut self, position: usize) -> Result<Outcome<A>, BodyFault>
         ensures judges { JudgesAt self.old.listing.rows self.old.index self.old.parts position
             (S.seen self.old.listing.source) (S.seen self.new.listing.source) result }

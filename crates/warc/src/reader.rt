@@ -403,7 +403,8 @@ impl<S: Source, A: Allocator + Copy> Listing<S, A> {
 
     /// Writes the records anew, in their order, each split into segments of `size` bytes, the last one shorter or
     /// equal. A record whose block has no more bytes, or which `warc_write::split` refuses but for want of memory, is
-    /// written whole, in canonical form. No block is kept: each piece is read twice, for its digest and to be copied.
+    /// written whole, in canonical form. No block is kept: each piece is read three times, to judge its block, for
+    /// its own digest, and to be copied.
     ///
     /// A read that fails, or a source that no longer gives what it gave at opening, is `Read`; a write that fails is
     /// `Write`, and a refused growth of the memory `Memory`. Each says how many bytes went out, which are the first of
