@@ -10,7 +10,7 @@ use Rattle.warc.proofs.FrontLemmas.{front_begins}
 use Rattle.warc_commands.specs.Devices.{devices}
 use Rattle.warc_commands.specs.Program.{Tells, told_line}
 use Rattle.warc_commands.specs.Salvage.{IsSalvageCutOff, IsSalvaged, TellsAmount, salvage_status}
-use Rattle.warc_commands.proofs.ProgramLemmas.{may_have_failed}
+use Rattle.warc_commands.proofs.ProgramLemmas.{has_failed, may_have_failed}
 
 -- what was reported of the records that stay
 pub amount_as : (found given kept : Option Fault) (n : ℕ) (rows was : List Row) (bytes : ℕ) (err told : Seen) → found ≡ given → given ≡ kept → n ≡ length rows → rows ≡ was → TellsAmount found n bytes err told
@@ -37,6 +37,7 @@ module _ {S : Type 0} (front : Fronted S) (old mid last new : SeenSource) (befor
         let short : length (text ++ more) < 2 ^ 64 = omega (arith, few, ap length whole) in
         let (out, size) = copies.told text more (opened.opens.reads.kept ∙ held ∙ ap Some whole) short archive in
         record { text = text; front = record { front = opened.rows_are bytes held; is = archive }; told = out; size_is = size };
+    unfailed = copies.cause;
     sound = same ∙ copies.may;
     told = tells;
     status_is = is;
@@ -54,7 +55,13 @@ module _ {S : Type 0} (front : Fronted S) (old mid last new : SeenSource) (befor
         let (text, more, whole, archive) = front_begins bytes front.fault front.listing.rows (opened.rows_are bytes held) in
         let short : length (text ++ more) < 2 ^ 64 = omega (arith, few, ap length whole) in
         record { text = text; front = record { front = opened.rows_are bytes held; is = archive }; out = copies.cut text more (opened.opens.reads.kept ∙ held ∙ ap Some whole) short archive };
-    source = may_have_failed e _ _ _ _ refl (sym same) copies.may;
+    fails = record {
+      may = may_have_failed e _ _ _ _ refl (sym same) copies.may;
+      failed = λ bytes held few.
+          let (text, more, whole, archive) = front_begins bytes front.fault front.listing.rows (opened.rows_are bytes (sym opened.opens.reads.kept ∙ held)) in
+          let short : length (text ++ more) < 2 ^ 64 = omega (arith, few, ap length whole) in
+          has_failed e _ _ _ _ refl (sym same) (copies.failed text more (held ∙ ap Some whole) short archive);
+    };
     failed = copies.cause;
     told = tells;
     status_is = is;

@@ -1,8 +1,8 @@
 -- How `captures` ends.
-use Rattle.std.specs.Prelude.{◌≡◌, ℕ, ◌⊎◌, List, [], ◌∷◌, map, codes, Option, Some, None, Result, Ok, Err, IfErr, IfOk}
+use Rattle.std.specs.Prelude.{◌≡◌, ℕ, ◌⊎◌, List, [], ◌∷◌, map, codes, Option, Some, None, Result, Ok, Err, IfErr, IfOk, ⊤}
 use Rattle.std.specs.Io.KnownBytes.{append_known}
 use Rattle.warc_frame.specs.Count.{raised}
-use Rattle.warc_frame.specs.Failing.{MayHaveFailedBy}
+use Rattle.warc_frame.specs.Effects.{FailsBy}
 use Rattle.warc_frame.specs.FaultText.{out_fault_text}
 use Rattle.warc_frame.specs.Seen.{IfHeld, Seen, SeenSource}
 use Rattle.warc_frame.specs.Send.{WentOut}
@@ -44,7 +44,7 @@ pub record JudgesListed {S A B : Type 0} (old new : Archived S) (uri : Option (L
   pub early : IfErr answer (λ e. IsEarly (Out e))
   pub inside : AsksInside old.listing.rows old.index old.parts before after
   pub kept : after.holds ≡ before.holds
-  pub may : MayHaveFailedBy answer before.faults after.faults
+  pub fails : FailsBy (λ bytes. IsIndexed bytes old) answer before after
   pub rows : new.listing.rows ≡ old.listing.rows
 
 -- where no capture is listed that is reported, and the status is 1
@@ -55,7 +55,8 @@ CountEnds (c ∷ cs) old new status = (new ≡ old) × (status ≡ 0)
 -- how writing the lines of captures ends: all of them went out, or a write failed and a front of them did
 abbrev pub LinesEnd : List Row → List CaptureSeen → Seen → Seen → Seen → Seen → ℕ → Type 0
 LinesEnd rows captures out out' err err' status =
-    ((out'.tells ≡ append_known out.tells (captures_text rows captures)) × CountEnds captures err err' status)
+    ((out'.tells ≡ append_known out.tells (captures_text rows captures)) × (out'.faults ≡ out.faults)
+    × CountEnds captures err err' status)
     ⊎ ((sent : ℕ) × WentOut out.tells (captures_text rows captures) out'.tells sent × (out'.faults ≡ raised out.faults)
     × Tells (told_line (out_fault_text (Write sent))) err err' × (status ≡ 3))
 
@@ -71,6 +72,7 @@ pub record IsCapturesTold (uri : Option (List ℕ)) (old new : Devices) (status 
   pub captures : List CaptureSeen
   pub are : IfHeld old.source.holds (λ bytes. AreCapturesIn uri bytes rows captures)
   pub told : new.out.tells ≡ append_known old.out.tells (captures_text rows captures)
+  pub unfailed : new.out.faults ≡ old.out.faults
   pub sound : new.source.faults ≡ old.source.faults
   pub ends : CountEnds captures old.err new.err status
 
@@ -90,7 +92,7 @@ pub record IsCapturesCutOff (uri : Option (List ℕ)) (old new : Devices) (statu
 pub record IsUnjudged (old new : Devices) (status : ℕ) : Type 0 where
   pub fault : OutFault
   pub early : IsEarly (Out fault)
-  pub source : MayHaveFailedBy {X = ℕ} (Err fault) old.source.faults new.source.faults
+  pub fails : FailsBy {X = ℕ} (λ bytes. ⊤) (Err fault) old.source new.source
   pub untouched : new.out ≡ old.out
   pub told : Tells (told_line (out_fault_text fault)) old.err new.err
   pub status_is : status ≡ 3

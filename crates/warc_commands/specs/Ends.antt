@@ -26,11 +26,11 @@ Ends (command.List archive) old new status = ListEnds old new status
 Ends (command.Check archive) old new status = CheckEnds old new status
 Ends (command.Extract archive id) old new status = ExtractEnds id.now old new status
 Ends (command.Replay archive uri date hex) old new status =
-    UriEnds (λ bytes. ReplayEnds bytes (instant_of date.now)) (uri_named hex uri.now) old new status
+    UriEnds (λ bytes. ReplayEnds bytes (instant_of date.now)) hex (uri_named hex uri.now) old new status
 Ends (command.Body archive position false) old new status = BodyEnds (position_of position.now) old new status
 Ends (command.Body archive position true) old new status = StoredEnds (position_of position.now) old new status
 Ends (command.Captures archive uri hex) old new status =
-    UriEnds CapturesEnds (uri_listed hex (option_map (λ u. u.now) uri)) old new status
+    UriEnds CapturesEnds hex (uri_listed hex (option_map (λ u. u.now) uri)) old new status
 Ends (command.Rewrite archive) old new status = WriteEnds (texts_as Canonical) old new status
 Ends (command.Convert archive) old new status = WriteEnds (texts_as Converted) old new status
 Ends (command.Split archive size) old new status = SplitEnds (size_of size.now) old new status

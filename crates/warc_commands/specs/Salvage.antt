@@ -1,7 +1,8 @@
 -- How `salvage` ends.
 use Rattle.std.specs.Prelude.{◌≡◌, ℕ, ◌^◌, ◌<◌, ◌⊎◌, List, ◌++◌, length, codes, decimal, Option, Some, None, Err}
 use Rattle.std.specs.Io.KnownBytes.{append_known}
-use Rattle.warc_frame.specs.Failing.{MayHaveFailedBy, failed_with}
+use Rattle.warc_frame.specs.Effects.{FailsBy}
+use Rattle.warc_frame.specs.Failing.{failed_with}
 use Rattle.warc_frame.specs.FaultText.{out_fault_text}
 use Rattle.warc_frame.specs.Seen.{IfHeld, Seen, SeenSource}
 use Rattle.warc_frame.specs.Send.{WentOut, sent_of}
@@ -59,6 +60,7 @@ pub record IsSalvaged (old new : Devices) (status : ℕ) : Type 0 where
   pub mid : SeenSource
   pub opens : Opens IsArchiveOf old.source mid (refused_by found rows)
   pub is : IfHeld old.source.holds (λ bytes. length bytes < 2 ^ 64 → IsSalvageOf bytes found rows size old.out new.out)
+  pub unfailed : new.out.faults ≡ old.out.faults
   pub sound : new.source.faults ≡ mid.faults
   pub told : TellsAmount found (length rows) size old.err new.err
   pub status_is : status ≡ salvage_status found
@@ -72,7 +74,7 @@ pub record IsSalvageCutOff (old new : Devices) (status : ℕ) : Type 0 where
   pub fault : OutFault
   pub is : IfHeld old.source.holds (λ bytes. length bytes < 2 ^ 64
       → IsSalvageFront bytes found rows (sent_of fault) old.out new.out)
-  pub source : MayHaveFailedBy {X = ℕ} (Err fault) mid.faults new.source.faults
+  pub fails : FailsBy {X = ℕ} (λ bytes. length bytes < 2 ^ 64) (Err fault) mid new.source
   pub failed : new.out.faults ≡ failed_with fault old.out.faults
   pub told : Tells (told_line (out_fault_text fault)) old.err new.err
   pub status_is : status ≡ 3

@@ -21,10 +21,16 @@ pub record IsStarved (old new : Devices) (status : ℕ) : Type 0 where
   pub told : Tells (told_line (out_fault_text (Memory 0))) old.err new.err
   pub status_is : status ≡ 3
 
--- how a command ends, by the URI that its word names; digits may want memory
-abbrev pub UriEnds : {X : Type 0} → (X → Devices → Devices → ℕ → Type 0) → Option X → Devices → Devices → ℕ → Type 0
-UriEnds ends None old new status = IsBadWord (codes "bad hex") old new status ⊎ IsStarved old new status
-UriEnds ends (Some uri) old new status = ends uri old new status ⊎ IsStarved old new status
+-- of digits alone
+abbrev pub StarvesOn : Bool → Devices → Devices → ℕ → Type 0
+StarvesOn false old new status = ⊥
+StarvesOn true old new status = IsStarved old new status
+
+-- how a command ends, by the URI that its word names; digits, and nothing else, may want memory
+abbrev pub UriEnds : {X : Type 0} → (X → Devices → Devices → ℕ → Type 0) → Bool → Option X → Devices → Devices → ℕ
+    → Type 0
+UriEnds ends in_hex None old new status = IsBadWord (codes "bad hex") old new status ⊎ StarvesOn in_hex old new status
+UriEnds ends in_hex (Some uri) old new status = ends uri old new status ⊎ StarvesOn in_hex old new status
 
 abbrev pub uri_fault_text : UriFault → List ℕ
 uri_fault_text Digits = codes "bad hex"

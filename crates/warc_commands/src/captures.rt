@@ -30,7 +30,7 @@ where
     S: Source + Drop,
     W: Sink,
     E: Sink,
-    ensures ends { UriEnds CapturesEnds (uri_listed in_hex (option_map (λ u. u.now) uri.entry))
+    ensures ends { UriEnds CapturesEnds in_hex (uri_listed in_hex (option_map (λ u. u.now) uri.entry))
         (devices (S.seen source) (W.seen out.old) (E.seen err.old))
         (devices (S.seen result.1) (W.seen out.new) (E.seen err.new)) result.0 }
 
@@ -60,8 +60,9 @@ where
     S: Source + Drop,
     W: Sink,
     E: Sink,
-    ensures ends { UriEnds CapturesEnds (uri_listed true (option_map (λ u. u.now) uri.entry)) (devices (S.seen source)
-        (W.seen out.old) (E.seen err.old)) (devices (S.seen result.1) (W.seen out.new) (E.seen err.new)) result.0 }
+    ensures ends { UriEnds CapturesEnds true (uri_listed true (option_map (λ u. u.now) uri.entry))
+        (devices (S.seen source) (W.seen out.old) (E.seen err.old))
+        (devices (S.seen result.1) (W.seen out.new) (E.seen err.new)) result.0 }
 
     // The source still holds what it held.
     ensures kept { (S.seen result.1).holds ≡ (S.seen source).holds }

@@ -42,7 +42,7 @@ where
     S: Source + Drop,
     W: Sink,
     E: Sink,
-    ensures ends { UriEnds (λ bytes. ReplayEnds bytes (instant_of date.now)) (uri_named in_hex uri.now) (devices
+    ensures ends { UriEnds (λ bytes. ReplayEnds bytes (instant_of date.now)) in_hex (uri_named in_hex uri.now) (devices
         (S.seen source) (W.seen out.old) (E.seen err.old)) (devices (S.seen result.1) (W.seen out.new)
         (E.seen err.new)) result.0 }
 
@@ -70,7 +70,7 @@ where
     S: Source + Drop,
     W: Sink,
     E: Sink,
-    ensures ends { UriEnds (λ bytes. ReplayEnds bytes (instant_of date.now)) (uri_named true uri.now) (devices
+    ensures ends { UriEnds (λ bytes. ReplayEnds bytes (instant_of date.now)) true (uri_named true uri.now) (devices
         (S.seen source) (W.seen out.old) (E.seen err.old)) (devices (S.seen result.1) (W.seen out.new)
         (E.seen err.new)) result.0 }
 

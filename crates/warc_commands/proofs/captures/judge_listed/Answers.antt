@@ -1,4 +1,6 @@
-use Rattle.std.proofs.Common.{refl, subst}
+use Rattle.std.proofs.Common.{Contains, refl, subst}
+use Rattle.warc_frame.proofs.EffectLemmas.{fails_more}
+use Rattle.warc_commands.proofs.CaptureLemmas.{listed_inside}
 use Rattle.std.proofs.lemmas.Result.{IfOk-weaker}
 use Rattle.warc.specs.Capturing.{AreOutcomes, outcomes_seen}
 use Rattle.warc_reading.specs.Archive.{contents}
@@ -10,7 +12,7 @@ returns-in_default g c = record {
   early = refl;
   inside = λ bytes is off. refl;
   kept = refl;
-  may = refl;
+  fails = record { may = refl; failed = λ bytes held is. refl };
   rows = refl;
 }
 
@@ -28,6 +30,10 @@ returns g c = record {
   early = c.outcomes.ensures.judges.early;
   inside = c.outcomes.ensures.judges.inside;
   kept = c.outcomes.ensures.judges.keeps.kept;
-  may = c.outcomes.ensures.judges.may;
+  fails = fails_more (λ bytes held is. (
+    is.listed,
+    is.kept,
+    λ p in_. listed_inside _ is.listed.are.records c.in-Ok.positions.items (c.in-Ok.ensures bytes is) p (subst (λ l. Contains l p) c.deref.ensures.value in_),
+  )) c.outcomes.ensures.judges.fails;
   rows = c.outcomes.ensures.rows;
 }

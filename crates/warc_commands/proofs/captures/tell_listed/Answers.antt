@@ -6,7 +6,7 @@ use Rattle.warc_commands.proofs.ProgramLemmas.{told_as}
 use Rattle.warc_commands.proofs.captures.tell_listed.Goals as goal
 
 pub returns-in-Ok : goal.returns-in-Ok
-returns-in-Ok g c = inl (c.in-Ok.ensures.told, c.tell_count.ensures)
+returns-in-Ok g c = inl (c.in-Ok.ensures.told, c.in-Ok.ensures.cause, c.tell_count.ensures)
 
 pub returns-in-Err : goal.returns-in-Err
 returns-in-Err g c = inr (
