@@ -1,6 +1,8 @@
 //! The good front of a source: the records before its first fault.
-ghost use Rattle.std.specs.Prelude.{◌≡◌, length, slice_get};
+ghost use Rattle.std.specs.Prelude.{◌≡◌, ◌≤◌, ℕ, List, length, slice_get};
 ghost use Rattle.warc_frame.specs.Effects.{SendsText};
+ghost use Rattle.warc_frame.specs.Record.{max_archive};
+ghost use Rattle.warc_reading.specs.Archive.{IsArchiveOf};
 ghost use Rattle.warc.specs.Front.{CopiesFront, OpensFront};
 ghost use Rattle.warc.specs.Listing.{listing};
 
@@ -61,6 +63,14 @@ impl<S: Source, A: Allocator> Front<S, A> {
         ensures { result ≡ slice_get self.now.listing.rows position }
     {
         self.listing.row(position)
+    }
+
+    /// The offset after the last good record, at most 2^48: how many bytes the good records are.
+    pub fn end(&self) -> u64
+        ensures limit { result ≤ max_archive }
+        ensures end { (bytes : List ℕ) → IsArchiveOf bytes self.now.listing.rows → result ≡ length bytes }
+    {
+        self.listing.rows.end()
     }
 
     /// The fault after the good records: `None` where the whole source is an archive.

@@ -1,5 +1,13 @@
--- The texts of rows, one more at a time.
-use Rattle.std.proofs.Common.{◌≡◌, ℕ, ◌+◌, List, [], ◌∷◌, ◌++◌, take, get_or, sym, ap, ◌∙◌, Some}
+-- The texts of rows, one more at a time, and the fault after them.
+use Rattle.std.proofs.Common.{◌≡◌, inr, ℕ, ◌+◌, List, [], ◌∷◌, ◌++◌, take, get_or, refl, sym, ap, ◌∙◌, Option, Some, None}
+use Rattle.warc_frame.specs.Seen.{SeenSource}
+use Rattle.warc_frame.specs.declared.fault.Fault.{Fault}
+use Rattle.warc_reading.specs.Archive.{IsArchiveOf}
+use Rattle.warc_reading.specs.Opening.{Opens, faults_after}
+use Rattle.warc_reading.specs.Row.{Row}
+use Rattle.warc.specs.Front.{refused_by}
+use Rattle.warc_lent.proofs.TextLemmas.{refused_for}
+use Rattle.warc_page.specs.Shown.{StopsFor}
 use Rattle.std.proofs.lemmas.List.{append-nil, take_more}
 use Rattle.std.proofs.lemmas.List.Concat.{flat_map-append}
 use Rattle.std.proofs.lemmas.Option.{get_or_from_slice_get, slice_get_within}
@@ -11,3 +19,10 @@ pub texts_next : {X A : Type 0} (f : X → List A) (xs : List X) (i : ℕ) (x : 
 texts_next f xs i x is =
     let more = ap (flat_map f) (take_more xs i x (slice_get_within xs i x is)) ∙ flat_map-append f (take i xs) (get_or xs i x ∷ []) in
     sym (more ∙ ap (λ l. flat_map f (take i xs) ++ l) (append-nil (f (get_or xs i x)) ∙ ap f (get_or_from_slice_get xs i x x is)))
+
+-- the fault after a front, of bytes that a source without failures holds
+pub stops_for : (bytes : List ℕ) (old new : SeenSource) (stop : Option Fault) (rows : List Row) → old.holds ≡ Some bytes → new.faults ≡ 0 → old.faults ≡ 0 → Opens IsArchiveOf old new (refused_by stop rows)
+    → StopsFor bytes stop
+stops_for bytes old new None rows held sound before opens = tt
+stops_for bytes old new (Some f) rows held sound before opens =
+    inr (f, refl, refused_for f.kind bytes old new f (sym sound ∙ opens.reads.cause ∙ ap (faults_after f.kind) before) (opens.refused bytes held))

@@ -1,12 +1,15 @@
 -- What a call puts into the page's buffers, and how it ends: in state 0, in state 1 where there is no result and a text
 -- says why, or in state 2 where memory doesn't suffice. This project's own notion.
-use Rattle.std.specs.Prelude.{◌≡◌, ◌⊎◌, ℕ, List, length, map, Option, Some, None, Result, Ok, Err}
+use Rattle.std.specs.Prelude.{◌≡◌, ◌⊎◌, ℕ, List, length, map, Option, Some, None, Result, Ok, Err, ⊤}
 use Rattle.std.specs.List.{flat_map}
+use Rattle.warc_value.specs.Dates.{Instant}
 use Rattle.warc_value.specs.Digests.{verdict_of}
 use Rattle.warc_frame.specs.Count.{capped}
 use Rattle.warc_frame.specs.Reading.{Head, any_fields, head_of}
 use Rattle.warc_frame.specs.declared.fault.Fault.{Fault}
 use Rattle.warc_record.specs.Readings.{digest_wanted}
+use Rattle.warc_index.specs.Captures.{Indexed, chosen_of}
+use Rattle.warc_index.specs.declared.unfound.Unfound.{Unfound}
 use Rattle.warc_reading.specs.Archive.{IsArchiveOf}
 use Rattle.warc_reading.specs.Row.{Row}
 use Rattle.warc.specs.Front.{AreRowsOfFront}
@@ -14,6 +17,7 @@ use Rattle.warc_lent.specs.Buffers.{HoldsFront}
 use Rattle.warc_lent.specs.Problems.{problem_text}
 use Rattle.warc_lent.specs.Rows.{row_numbers, row_texts, verdict_number}
 use Rattle.warc_lent.specs.Texts.{AreFindingsOf, IsTextPut, IsRefusedFor, PutsSome}
+use Rattle.warc_lent.specs.declared.bodies.AnswerNumbers.{AnswerNumbers}
 use Rattle.warc_lent.specs.declared.problem.Problem.{Problem}
 use Rattle.warc_lent.specs.declared.problem.Problem.TheVariants as problems
 use Rattle.warc_lent.specs.declared.rows.RowNumbers.{RowNumbers}
@@ -29,17 +33,24 @@ abbrev pub EndsFront : Option Fault → ℕ → ℕ → List ℕ → Type 0
 EndsFront None state size text = state ≡ 0
 EndsFront (Some fault) state size text = EndsBy (problems.Fault fault) state size text
 
--- the rows of the longest good front of the bytes, and their texts, as far as there is room; how many they are; and the
--- text of the first fault after them, if there is one
+-- the fault after the good front is the one for which the whole is refused
+abbrev pub StopsFor : List ℕ → Option Fault → Type 0
+StopsFor bytes None = ⊤
+StopsFor bytes (Some fault) = IsRefusedFor bytes (problems.Fault fault)
+
+-- the rows of the longest good front of the bytes, and their texts, as far as there is room; how many they are, and
+-- where they end; and the text of the fault after them, if there is one
 pub record PutsFront (bytes : List ℕ) (rows : List RowNumbers) (texts fault : List ℕ) (outcome : PageFront)
     : Type 0 where
   pub kept : List Row
   pub stop : Option Fault
   pub are : AreRowsOfFront bytes stop kept
+  pub refused : StopsFor bytes stop
   pub rows_are : HoldsFront (map row_numbers kept) rows
   pub texts_are : HoldsFront (flat_map row_texts kept) texts
   pub records_is : outcome.records ≡ length kept
   pub texts_is : outcome.texts ≡ capped (length (flat_map row_texts kept))
+  pub end_is : (text : List ℕ) → IsArchiveOf text kept → outcome.end ≡ length text
   pub ends : EndsFront stop outcome.state outcome.length fault
 
 -- the lines of all findings, or the problem for which the bytes are refused
@@ -65,6 +76,22 @@ pub record Replies (Puts : Result ℕ Problem → Type 0) (outcome : PageOutcome
   pub answered : Result ℕ Problem
   pub puts : Puts answered
   pub ends : EndsWith answered outcome text
+
+-- the position of the capture that is chosen is put, if one is
+abbrev pub IsChosenPut : Result ℕ Unfound → AnswerNumbers → AnswerNumbers → Type 0
+IsChosenPut (Ok chosen) old new = new ≡ record {
+  chosen = chosen;
+  given = old.given;
+  length = old.length;
+  status = old.status;
+  is_truncated = old.is_truncated;
+}
+IsChosenPut (Err unfound) old new = new ≡ old
+
+-- of records, for a URI as of a moment, if the date is one
+abbrev pub PutsChosen : List Indexed → List ℕ → Option Instant → AnswerNumbers → AnswerNumbers → Type 0
+PutsChosen all uri None old new = new ≡ old
+PutsChosen all uri (Some moment) old new = IsChosenPut (chosen_of all uri moment) old new
 
 -- how a block compares with the digest that a head asks for, or 3
 abbrev pub IsVerdictOn : List ℕ → List ℕ → ℕ → Type 0

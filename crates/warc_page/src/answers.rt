@@ -1,11 +1,12 @@
 //! What an open archive gives for the page's questions: where a body lies, or why there is none.
-ghost use Rattle.std.specs.Prelude.{◌≡◌};
+ghost use Rattle.std.specs.Prelude.{◌≡◌, List, map};
 ghost use Rattle.warc_value.specs.Dates.{instant_of};
 ghost use Rattle.warc_frame.specs.Seen.{IfHeld};
 ghost use Rattle.warc_reading.specs.Archive.{contents};
-ghost use Rattle.warc_reading.specs.Indexed.{IsIndexed};
+ghost use Rattle.warc_reading.specs.Indexed.{AreOf, IsIndexed, indexed_record};
+ghost use Rattle.warc_reading.specs.Row.{Placed};
 ghost use Rattle.warc_lent.specs.Bodies.{PutsAt, PutsReplay};
-ghost use Rattle.warc_page.specs.Shown.{Replies, EndsWith};
+ghost use Rattle.warc_page.specs.Shown.{EndsWith, PutsChosen, Replies};
 
 use crate::archive::PageArchive;
 use crate::ending::{end_by, ended};
@@ -68,7 +69,10 @@ fn put_chosen<S: Source, A: Allocator + Copy>(
     uri: &[u8],
     date: &[u8],
     answer: &mut AnswerNumbers,
-) {
+)
+    ensures { (records : List Placed) → AreOf records archive.now.index archive.now.parts →
+        PutsChosen (map indexed_record records) uri.now (instant_of date.now) answer.old answer.new }
+{
     let Some(moment) = read_date(date) else {
         return;
     };

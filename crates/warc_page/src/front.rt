@@ -9,7 +9,7 @@ ghost use Rattle.warc_page.specs.Shown.{EndsFront, PutsFront};
 use crate::ending::{end_by, ended};
 use crate::shapes::{DONE, PageFront, PageOutcome};
 use std::alloc::Allocator;
-use warc::{Front, Row, open_front};
+use warc::{Front, open_front};
 use warc_frame::{Fault, SliceSource, Source};
 use warc_heap::{Heap, Memory};
 use warc_lent::{Problem, RowNumbers, put_row_texts, row_numbers};
@@ -23,19 +23,16 @@ fn put_row(row: RowNumbers, index: usize, rows: &mut [RowNumbers])
     }
 }
 
-/// Puts the rows as numbers into the page's buffer, as far as there is room, and returns where the last record ends.
-fn put_rows<S: Source, A: Allocator>(front: &Front<S, A>, rows: &mut [RowNumbers]) -> u64
-    ensures rows { HoldsFront (map row_numbers front.now.listing.rows) rows.new }
+/// Puts the rows as numbers into the page's buffer, as far as there is room.
+fn put_rows<S: Source, A: Allocator>(front: &Front<S, A>, rows: &mut [RowNumbers])
+    ensures { HoldsFront (map row_numbers front.now.listing.rows) rows.new }
 {
-    let mut end = 0;
     'putting: for position in 0..front.count() {
         let Some(row) = front.row(position) else {
             unreachable!()
         };
         put_row(row_numbers(&row), position, rows);
-        end = end_of(&row);
     }
-    end
 }
 
 /// Puts the texts of the rows into the page's buffer, as far as there is room, and returns their length.
@@ -53,13 +50,6 @@ fn put_texts<S: Source, A: Allocator>(front: &Front<S, A>, texts: &mut [u8]) -> 
     taken
 }
 
-/// Where a record ends: after its block and CRLF CRLF.
-fn end_of(row: &Row<'_>) -> u64 {
-    row.block_start
-        .saturating_add(row.block_len)
-        .saturating_add(4)
-}
-
 /// Puts the text of the fault that follows, if one does, and says how the call ends.
 fn put_fault<A: Allocator>(alloc: A, fault: Option<Fault>, text: &mut [u8]) -> PageOutcome
     ensures { EndsFront fault result.state result.length text.new }
@@ -71,8 +61,8 @@ fn put_fault<A: Allocator>(alloc: A, fault: Option<Fault>, text: &mut [u8]) -> P
 }
 
 /// Puts what is kept of the records before the first fault of these bytes into the page's buffers: a row for each
-/// record, and the texts of its type, date, id and target one after another. Puts the text of the fault that follows,
-/// if one does.
+/// record, and the texts of its type, date, id and target one after another. Says where these records end. Puts the
+/// text of the fault that follows, if one does: the one by which the whole is refused.
 #[unsafe(no_mangle)]
 pub extern "C" fn page_front(
     memory: Memory,
@@ -88,13 +78,13 @@ pub extern "C" fn page_front(
 {
     let heap = Heap::new(memory, units);
     let front = open_front(&heap, SliceSource::new(bytes));
-    let end = put_rows(&front, rows);
+    put_rows(&front, rows);
     let length = put_texts(&front, texts);
     let outcome_of_fault = put_fault(&heap, front.fault(), fault);
     *outcome = PageFront {
         records: front.count() as u64,
         texts: length as u64,
-        end,
+        end: front.end(),
         state: outcome_of_fault.state,
         length: outcome_of_fault.length,
     };
