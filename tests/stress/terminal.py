@@ -5,6 +5,8 @@
 
 Standard error is a terminal of its own, and the reads are made slow by strace or by a pipe that is fed slowly. What a
 terminal shows at the end must be the fixed lines, and after them the lines for people; output and status don't change.
+What an archive or a path holds can't control the terminal: it gets no control character but those of a line, and words
+that a hint suggests are those that a shell reads.
 Prints a line for each kind of trial, each surprise, and last the totals. The exit status is 1 if there was a surprise.
 """
 import gzip
@@ -12,6 +14,7 @@ import os
 import pty
 import re
 import select
+import shlex
 import shutil
 import subprocess
 import sys
@@ -79,12 +82,12 @@ class Terminal:
         return self.data
 
 
-def run(stress, words, before=(), stdin=subprocess.DEVNULL, is_out_shown=False):
-    """Runs the program with standard error on a terminal. Returns the result and the seconds."""
+def run(stress, words, before=(), stdin=subprocess.DEVNULL, is_out_shown=False, folder=None):
+    """Runs the program in a folder with standard error on a terminal. Returns the result and the seconds."""
     terminal = Terminal()
     begun = time.monotonic()
     with open(stress.path("out"), "wb") as out:
-        done = subprocess.run([*before, stress.program, *words], stdin=stdin, check=False,
+        done = subprocess.run([*before, stress.program, *words], stdin=stdin, check=False, cwd=folder,
                               stdout=terminal.theirs if is_out_shown else out, stderr=terminal.theirs)
     seconds = time.monotonic() - begun
     return Result(contents(stress.path("out")), terminal.close(), done.returncode), seconds
@@ -176,8 +179,8 @@ def lines_for_people(stress):
         if command[0] != "write":
             at = b"warc: F13 Read at 0"
             cases += [(stress.folder, at, 3, "%s: Is a directory (os error 21)" % stress.folder)]
-            cases += [(packed, b"warc: F1 Version at 0", 2, "this looks like gzip: gunzip -c %s | warc %s -" % (
-                packed, command[0]))]
+            line = "this looks like gzip: zwarc %s" % shlex.join(words_for(command, packed))
+            cases += [(packed, b"warc: F1 Version at 0", 2, line)]
         for path, line, status, hint in cases:
             words = words_for(command, path)
             seen, _ = run(stress, words)
@@ -191,7 +194,101 @@ def lines_for_people(stress):
     stress.end()
 
 
-KINDS = (system.plain_runs, progress, piped_progress, no_progress, lines_for_people)
+HOSTILE_TEXTS = ("http://a.example/\u009b31mred", "http://a.example/\u202egpj.exe", "http://a.example/\u2066\u2069",
+                 "http://a.example/\u061c\u200e\u200f\u2028\u2029", "http://a.example/\\u{9b}", "http://a.example/\x80\xff")
+HOSTILE_BYTES = (b"http://a.example/\x9b31m", b"http://a.example/\xe2\x82", b"http://a.example/\xe2\x82\xe2\x82\xac",
+                 b"http://a.example/\xf0\x9f\x98", b"http://a.example/\xc0\x80\xed\xa0\x80\xf5")
+HOSTILE_BLOCK = (b"HTTP/1.1 200 OK\r\nContent-Encoding: x\xc2\x9b31m\xe2\x80\xae\x9b\r\n\r\n"
+                 b"\x1b]0;owned\x07\x00\x7f\r\r\n\rover\n\x9b\xe2\x82\r")
+HOSTILE_ID = "urn:x:hostile"
+NAMES = ("x; id >owned #.warc", "it's", "two  words", "$(id)`id`", "a\nwarc: forged", "\x1b]0;owned\x07", "\u009b31m",
+         "\u202egpj.exe", "\\033", "-a.warc", "~", "é", "a\tb", "*", "'\x1b'\\")
+
+
+def hostile_archive():
+    """Targets that would control a terminal, and multibyte characters that the program's writes cut at each place."""
+    texts = [text.encode() for text in HOSTILE_TEXTS] + list(HOSTILE_BYTES)
+    texts += [b"http://a.example/" + b"-" * (count % 7) + "\u20ac\U0001f600\u00e9\u009b".encode() * 40
+              for count in range(60)]
+    data = b""
+    for number, text in enumerate(texts):
+        head = system.record_text("resource", "urn:x:%d" % number, b"").replace(system.TARGET.encode(), text)
+        data += head
+    more = (("Content-Type", "application/http; msgtype=response"),)
+    return data + system.record_text("response", HOSTILE_ID, HOSTILE_BLOCK, more)
+
+
+def shown(data):
+    """The bytes that a terminal gets of a text."""
+    text = data.decode("utf-8", "backslashreplace").replace("\r\n", "\ue000")
+
+    def escaped(match):
+        return "\\u{%x}" % ord(match[0])
+
+    text = re.sub("[\x00-\x08\x0b-\x1f\x7f-\x9f\u061c\u200e\u200f\u2028-\u202e\u2066-\u2069]", escaped, text)
+    return text.replace("\ue000", "\r\n").encode().replace(b"\n", b"\r\n")
+
+
+def hostile_contents(stress):
+    """On a terminal what an archive holds is escaped, but for the commands that give what was captured."""
+    stress.begin("hostile contents")
+    path = stress.file("hostile.warc", hostile_archive())
+    last = str(len(HOSTILE_TEXTS) + len(HOSTILE_BYTES) + 60)
+    for words in (("list",), ("check",), ("captures",), ("fixity",), ("summary",), ("head", "0"), ("head", "6"),
+                  ("rewrite",), ("convert",), ("salvage",), ("split", "9")):
+        plain = stress.run(words_for(words, path))
+        seen, _ = run(stress, words_for(words, path), is_out_shown=True)
+        stress.judge(seen.message == shown(plain.out) + shown(plain.message), (*words, "escaped"), seen)
+        stress.judge(len(plain.out) > 0 and seen.status == plain.status, (*words, "status"), seen)
+    for words in (("block", last), ("extract", HOSTILE_ID), ("body", last, "--stored")):
+        plain = stress.run(words_for(words, path))
+        seen, _ = run(stress, words_for(words, path), is_out_shown=True)
+        stress.judge(seen.message == plain.out.replace(b"\n", b"\r\n") + shown(plain.message), (*words, "as it is"), seen)
+    stress.end()
+
+
+def hostile_messages(stress):
+    """On a terminal a message that quotes an archive or a word is escaped."""
+    stress.begin("hostile messages")
+    path = stress.file("hostile.warc", hostile_archive())
+    last = str(len(HOSTILE_TEXTS) + len(HOSTILE_BYTES) + 60)
+    for words in (("body", path, last, "--stored"), ("list", path, "x\u009b31m\x1b[2J\u202e"), ("\u009b\x1b[2J", path)):
+        plain = stress.run(words)
+        seen, _ = run(stress, words)
+        is_right = seen.message == shown(plain.message) and seen.out == plain.out
+        stress.judge(is_right and b"\xc2\x9b" in plain.message, words, seen)
+    stress.end()
+
+
+def read_by_shell(line, folder):
+    """The words that bash reads in a line. A wrong line may do anything in the folder."""
+    done = subprocess.run(["bash", "-c", "printf '%%s\\0' %s" % line], capture_output=True, check=False, cwd=folder)
+    return done.stdout.split(b"\0")[:-1]
+
+
+def hostile_names(stress):
+    """The words of a hint are those that the program was run with, and nothing in them controls the terminal."""
+    stress.begin("hostile names")
+    for name in NAMES:
+        path = stress.file(name, gzip.compress(stress.data))
+        for words in (("list", path), ("list", "--", name), ("replay", "--quiet", path, name.lstrip("-"), "9999")):
+            seen, _ = run(stress, words, folder=stress.folder)
+            line = seen.message.split(b"\r\n")[1]
+            begin = b"this looks like gzip: zwarc "
+            read = read_by_shell(line[len(begin):].decode(), stress.folder)
+            is_right = line.startswith(begin) and read == list(map(os.fsencode, words))
+            stress.judge(is_right and shown(line) == line, words, seen)
+        seen, _ = run(stress, ("list", path + "/missing"))
+        line = seen.message.split(b"\r\n")[1]
+        reason = b": Not a directory (os error 20)"
+        read = read_by_shell(line[:-len(reason)].decode(), stress.folder)
+        is_right = line.endswith(reason) and read == [os.fsencode(path + "/missing")]
+        stress.judge(is_right and shown(line) == line, (path, "missing"), seen)
+    stress.end()
+
+
+KINDS = (system.plain_runs, progress, piped_progress, no_progress, lines_for_people, hostile_contents, hostile_messages,
+         hostile_names)
 
 
 def main(program):

@@ -1,7 +1,8 @@
 //! The words of the command line, and the lines for people that follow a run.
 
-use std::{env, io};
-use warc_arguments::parse;
+use crate::shown::is_escaped;
+use std::{env, fmt, io};
+use warc_arguments::{Command, Request, parse};
 
 /// The exit status where the archive was refused, and where a run failed.
 const REFUSED: u8 = 2;
@@ -13,12 +14,43 @@ pub fn words(rt: &HostRuntime) -> io::Result<Vec<String>> {
     Ok(env::args(rt)?.collect(rt.alloc())?)
 }
 
-/// Whether the words ask for no progress.
-pub fn is_quiet(rt: &HostRuntime, words: &io::Result<Vec<String>>) -> bool {
+/// What the words ask for, if they name a command.
+pub fn request<'a>(rt: &HostRuntime, words: &'a io::Result<Vec<String>>) -> Option<Request<'a>> {
     match words {
-        Ok(words) => matches!(parse(rt.alloc(), words.as_slice()), Ok(request) if request.quiet),
-        Err(_) => false,
+        Ok(words) => parse(rt.alloc(), words.as_slice()).ok(),
+        Err(_) => None,
     }
+}
+
+/// Whether a command's output is the bytes that were captured, which a terminal gets as they are.
+pub fn gives_bytes(command: &Command<'_>) -> bool {
+    match command {
+        Command::Block {
+            archive: _,
+            position: _,
+        } => true,
+        Command::Body {
+            archive: _,
+            position: _,
+            stored: _,
+        } => true,
+        Command::Extract { archive: _, id: _ } => true,
+        Command::Replay {
+            archive: _,
+            uri: _,
+            date: _,
+            in_hex: _,
+        } => true,
+        _ => false,
+    }
+}
+
+/// How a run ended: its status, the compression that its input looks like, and the number of the system's last error.
+#[derive(Clone, Copy)]
+pub struct Ended {
+    pub status: u8,
+    pub packing: Option<&'static str>,
+    pub reason: Option<i32>,
 }
 
 /// Writes a line for people on standard error, if there is more to say: how a compressed archive is read, or the path
@@ -26,29 +58,91 @@ pub fn is_quiet(rt: &HostRuntime, words: &io::Result<Vec<String>>) -> bool {
 pub fn hint(
     rt: &HostRuntime,
     words: &[String],
-    status: u8,
-    is_gzip: bool,
-    reason: Option<i32>,
+    request: &Request<'_>,
+    ended: Ended,
 ) -> io::Result<()> {
-    let Ok(request) = parse(rt.alloc(), words) else {
-        return Ok(());
-    };
-    let path = request.command.path();
-    if status == REFUSED && is_gzip && words.len() > 1 {
-        let name = words[1].as_str();
-        return eprintln!(rt; "this looks like gzip: gunzip -c {path} | warc {name} -");
-    }
-    match reason {
-        Some(code) => hint_reason(rt, path, status, code),
-        None => Ok(()),
+    match (ended.packing, ended.reason) {
+        (Some(packing), _) if ended.status == REFUSED => hint_packing(rt, words, packing),
+        (_, Some(code)) if ended.status == FAILED => {
+            let path = Quoted(request.command.path());
+            let error = io::Error::from_raw_os_error(code);
+            eprintln!(rt; "{path}: {error}")
+        }
+        _ => Ok(()),
     }
 }
 
-/// Writes the path and the system's reason, where a run failed.
-fn hint_reason(rt: &HostRuntime, path: &str, status: u8, code: i32) -> io::Result<()> {
-    if status != FAILED {
-        return Ok(());
+/// Writes how an archive is read that looks compressed: by the same words after another name.
+fn hint_packing(rt: &HostRuntime, words: &[String], packing: &str) -> io::Result<()> {
+    eprint!(rt; "this looks like {packing}: zwarc")?;
+    for word in words.iter().skip(1) {
+        let word = Quoted(word.as_str());
+        eprint!(rt; " {word}")?;
     }
-    let error = io::Error::from_raw_os_error(code);
-    eprintln!(rt; "{path}: {error}")
+    eprintln!(rt; "")
+}
+
+/// A word as a shell reads it. If it has control characters or marks of direction, these are octal in `$'..'`.
+#[derive(Clone, Copy)]
+struct Quoted<'a>(&'a str);
+
+impl fmt::Display for Quoted<'_> {
+    fn fmt<W: fmt::Write>(&self, f: &mut fmt::Formatter<W>) -> fmt::Result {
+        let word = self.0;
+        if !word.is_empty() && word.bytes().all(is_plain) {
+            return write!(f, "{word}");
+        }
+        if word.chars().any(is_hidden) {
+            write_escaped(word, f)
+        } else {
+            write_quoted(word, f)
+        }
+    }
+}
+
+/// Whether a shell reads a byte as it is, wherever it is in a word.
+fn is_plain(byte: u8) -> bool {
+    byte.is_ascii_alphanumeric() || b"_@%+:,./-".contains(&byte)
+}
+
+/// Whether a character isn't shown as it is in a line.
+fn is_hidden(c: char) -> bool {
+    c.is_control() || is_escaped(c)
+}
+
+/// Writes a word in single quotes.
+fn write_quoted<W: fmt::Write>(word: &str, f: &mut fmt::Formatter<W>) -> fmt::Result {
+    write!(f, "'")?;
+    for c in word.chars() {
+        if c == '\'' {
+            write!(f, "'\\''")?;
+        } else {
+            write!(f, "{c}")?;
+        }
+    }
+    write!(f, "'")
+}
+
+/// Writes a word in `$'..'`.
+fn write_escaped<W: fmt::Write>(word: &str, f: &mut fmt::Formatter<W>) -> fmt::Result {
+    write!(f, "$'")?;
+    for c in word.chars() {
+        if is_hidden(c) {
+            write_octal(c, f)?;
+        } else if c == '\'' || c == '\\' {
+            write!(f, "\\{c}")?;
+        } else {
+            write!(f, "{c}")?;
+        }
+    }
+    write!(f, "'")
+}
+
+/// Writes the bytes of a character as octal numbers.
+fn write_octal<W: fmt::Write>(c: char, f: &mut fmt::Formatter<W>) -> fmt::Result {
+    let mut room = [0; 4];
+    for byte in c.encode_utf8(&mut room).bytes() {
+        write!(f, "\\{byte:03o}")?;
+    }
+    Ok(())
 }

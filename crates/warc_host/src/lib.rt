@@ -5,7 +5,9 @@
 mod files;
 mod hints;
 mod progress;
+mod shown;
 
 pub use files::{Host, HostFile, HostStream, Noted};
-pub use hints::{hint, is_quiet, words};
+pub use hints::{Ended, gives_bytes, hint, request, words};
 pub use progress::{ErasingSink, Progress};
+pub use shown::ShownSink;

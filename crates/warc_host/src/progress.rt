@@ -31,7 +31,7 @@ pub struct Progress<'a> {
     read: Cell<u64>,
     due: Cell<u64>,
     is_shown: Cell<bool>,
-    is_gzip: Cell<bool>,
+    packing: Cell<Option<&'static str>>,
 }
 
 impl<'a> Progress<'a> {
@@ -49,7 +49,7 @@ impl<'a> Progress<'a> {
             read: Cell::new(0),
             due: Cell::new(FIRST),
             is_shown: Cell::new(false),
-            is_gzip: Cell::new(false),
+            packing: Cell::new(None),
         }
     }
 
@@ -58,9 +58,9 @@ impl<'a> Progress<'a> {
         self.total.set(total);
     }
 
-    /// Whether the first two bytes that were read are those of a gzip file.
-    pub fn is_gzip(&self) -> bool {
-        self.is_gzip.get()
+    /// The compression that the first bytes that were read look like.
+    pub fn packing(&self) -> Option<&'static str> {
+        self.packing.get()
     }
 
     /// Removes the line, where one is shown.
@@ -93,6 +93,17 @@ impl<'a> Progress<'a> {
     }
 }
 
+/// The compression whose output begins like these bytes.
+fn packing_of(bytes: &[u8]) -> Option<&'static str> {
+    if bytes.starts_with(&[0x1f, 0x8b]) {
+        Some("gzip")
+    } else if bytes.starts_with(&[0x28, 0xb5, 0x2f, 0xfd]) {
+        Some("zstd")
+    } else {
+        None
+    }
+}
+
 /// The line: the position in megabytes, of how many, the megabytes a second, and the seconds left.
 fn line_of(position: u64, total: u64, read: u64, millis: u64) -> ArrayString<LINE> {
     let speed = read / millis.max(1);
@@ -117,8 +128,8 @@ fn line_of(position: u64, total: u64, read: u64, millis: u64) -> ArrayString<LIN
 
 impl<'a> Watcher for Progress<'a> {
     fn see(&self, at: u64, bytes: &[u8]) {
-        if at == 0 && bytes.starts_with(&[0x1f, 0x8b]) {
-            self.is_gzip.set(true);
+        if at == 0 {
+            self.packing.set(packing_of(bytes));
         }
         let count = bytes.len() as u64;
         self.read.set(self.read.get().saturating_add(count));

@@ -8,17 +8,21 @@ use std::cell::Cell;
 use std::io::IsTerminal;
 use std::process::ExitCode;
 use warc_commands::run;
-use warc_frame::OutSink;
-use warc_host::{ErasingSink, Host, Progress, hint, is_quiet, words};
+use warc_host::{Ended, ErasingSink, Host, Progress, ShownSink, gives_bytes, hint, request, words};
+
+/// The exit status where a write failed.
+const FAILED: u8 = 3;
 
 /// Runs the program over the words, the files and the outputs of the system.
 pub fn run_program(rt: &HostRuntime) -> ExitCode {
     let words = words(rt);
-    let progress = Progress::new(rt, is_quiet(rt, &words));
+    let request = request(rt, &words);
+    let progress = Progress::new(rt, request.is_some_and(|it| it.quiet));
     let reason = Cell::new(None);
-    let mut out = OutSink::new(rt.stdout());
+    let is_text = !request.is_some_and(|it| gives_bytes(&it.command));
+    let mut out = ShownSink::new(rt.stdout(), is_text && rt.stdout().is_terminal());
     let mut err = ErasingSink {
-        sink: OutSink::new(rt.stderr()),
+        sink: ShownSink::new(rt.stderr(), rt.stderr().is_terminal()),
         progress: &progress,
     };
     let files = Files {
@@ -29,17 +33,18 @@ pub fn run_program(rt: &HostRuntime) -> ExitCode {
         },
     };
     let status = run(rt.alloc(), &files, &words, &mut out, &mut err);
+    let status = if out.end() { status } else { FAILED };
+    err.sink.end();
     progress.erase();
-    if let Ok(words) = &words
+    if let (Ok(words), Some(request)) = (&words, &request)
         && rt.stderr().is_terminal()
     {
-        let _ = hint(
-            rt,
-            words.as_slice(),
+        let ended = Ended {
             status,
-            progress.is_gzip(),
-            reason.get(),
-        );
+            packing: progress.packing(),
+            reason: reason.get(),
+        };
+        let _ = hint(rt, words.as_slice(), request, ended);
     }
     ExitCode::from(status)
 }
