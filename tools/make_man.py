@@ -1,6 +1,6 @@
 #!/usr/bin/env python3
-"""Makes the manual pages from docs/: warc.1 and a page for each command from PROGRAM.md, warc.5 from FORMAT.md, and
-warc-collection.1 from COLLECTIONS.md.
+"""Makes the manual pages from docs/: warc.1, a page for each command and zwarc.1 from PROGRAM.md, warc.5 from FORMAT.md,
+and warc-collection.1 from COLLECTIONS.md.
 
 Usage: make_man.py FOLDER
 
@@ -154,7 +154,7 @@ def main_page(front, common, commands):
     rows = "".join(f"| `{title}` | {summary} |\n" for title, summary, _ in commands)
     intro = front.replace(usage, "").strip()
     text = f"# Synopsis\n\n{usage}\n# Description\n\n{intro}\n\n# Commands\n\n| Command | Does |\n|---|---|\n{rows}\n"
-    also = [*(f"{title.replace(' ', '-')}(1)" for title, _, _ in commands), "warc(5)"]
+    also = [*(f"{title.replace(' ', '-')}(1)" for title, _, _ in commands), "zwarc(1)", "warc(5)"]
     return page("warc", 1, "reads, checks, replays and writes web archives", text + deeper(common), also)
 
 
@@ -177,7 +177,9 @@ def main():
         name = title.replace(" ", "-")
         short = summary[0].lower() + summary[1:].partition(": ")[0].rstrip(".")
         write(folder, name, 1, page(name, 1, short, synopsis(text), ["warc(1)", "warc(5)"]))
-    shared = [part for part in parts if not part[0].startswith("warc ")]
+    shared = [part for part in parts if not part[0].startswith("warc ") and part[0] != "zwarc"]
+    zwarc = synopsis(dict(parts)["zwarc"])
+    write(folder, "zwarc", 1, page("zwarc", 1, "runs warc over a compressed archive", zwarc, ["warc(1)", "gzip(1)", "zstd(1)"]))
     common = shared[0][1] + "".join(f"### {title}\n{text}" for title, text in shared[1:])
     write(folder, "warc", 1, main_page(front, common, commands))
     first, rules = sections(read("docs/FORMAT.md"))

@@ -39,7 +39,7 @@ def commands(block):
 def run(block, folder, program):
     """What each command of a block writes."""
     script = "".join(f"{words}s=$?; printf '%s\\n' '{END}'; (exit $s)\n" for words, _ in commands(block))
-    path = f"{os.path.dirname(os.path.abspath(program))}:{os.environ['PATH']}"
+    path = f"{os.path.dirname(os.path.abspath(program))}:{TOP}/shell:{os.environ['PATH']}"
     ran = subprocess.run(
         ["bash", "-c", script],
         cwd=folder,
