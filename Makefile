@@ -1,4 +1,5 @@
-# make try          runs the program in about a minute: compiled with checks, not proved
+# make try          runs the program in about a minute: compiled with checks, not proved. FILE=my.warc lists a file, and
+#                   RUN="check my.warc" runs a command
 # make              proves the program's crates, several at a time, and builds bin/warc
 # make test         everything that must pass, from nothing; the last line is 'N passed, M failed'
 # make lib          proves the crates that C calls, and puts libwarc.a, libwarc.so and warc.h under out/lib
@@ -12,30 +13,42 @@
 # make lint-docs    compares README's code with the example crates, and looks for what the pages may not hold
 # make numbers      makes docs/NUMBERS.md from the table of numbers
 # make man          makes the manual pages and the completions under out/
-# make install      installs the program, the library, pages, completions, docs and examples; make uninstall removes them
-# make dist         makes dist/warc-VERSION-x86_64-linux.tar.gz, the source tarball, and their SHA-256
+# make install      copies what is built to PREFIX: the program, pages, completions, docs, examples, and the library, the
+#                   reading room and the Rust crate where they are built; LIBDIR and DESTDIR are heeded; make uninstall
+#                   removes what was installed
+# make install-python   copies the Python package to PYTHONDIR, or where Debian's Python looks; make uninstall-python
+# make dist         makes the tarballs of a release under dist/ (program and library, Python, Rust, source), the reading
+#                   room, and their SHA-256
 # make verify-dist FILE=..   builds from this folder, and compares with such a tarball byte for byte
 # make stress       runs bin/warc over generated archives, and where the system fails it; minutes; before a release
-# make test-package makes a Debian package of that tarball, installs it, runs it and removes it (as root)
+# make test-package makes the Debian packages, and tries them (as root)
 # make page         proves and builds the library for WebAssembly, and writes zogwedu.html, the reading room
 # make test-page    tries the reading room in headless Chromium (needs chromium and wget); minutes
 # make bench        measures; docs/SPEED.md has the figures
 # make clean        drops what was built and kept
 
-PREFIX ?= /usr/local
-DESTDIR ?=
-JOBS ?= $(shell nproc)
-VERSION := $(shell sed -n 's/^const VERSION: &str = "\(.*\)";$$/\1/p' crates/warc_arguments/src/words.rt)
+# One prover at a time works in out/build, so nothing here runs side by side, whatever -j says.
+.NOTPARALLEL:
 
-.PHONY: all try test check lint lint-code test-docs lint-docs man install uninstall dist verify-dist test-package stress bench clean
-.PHONY: lib python rust test-callers page test-page numbers
+# The scripts read these in the environment, so that each may hold spaces and quotes.
+PREFIX ?= /usr/local
+export PREFIX LIBDIR DESTDIR PYTHONDIR FILE RUN
+JOBS ?= $(shell nproc)
+
+.PHONY: all try test check lint lint-code test-docs lint-docs man install uninstall install-python uninstall-python dist verify-dist
+.PHONY: test-package stress bench clean lib python rust test-callers page test-page numbers
+
+define PAGES
+@python3 tools/make_man.py out/man
+@python3 tools/make_completions.py bin/warc out/completions
+endef
 
 all:
 	@python3 tools/build.py $(JOBS)
+	$(PAGES)
 
 try:
-	@echo "warc list examples/abc.warc, compiled with checks, not proved:"
-	@cd crates/warc_tool && rt try --data abc.warc=../../examples/abc.warc -- list abc.warc
+	@python3 tools/try_program.py
 
 test:
 	@rt ci
@@ -79,23 +92,20 @@ numbers:
 	@python3 tools/make_numbers.py
 
 man: bin/warc
-	@python3 tools/make_man.py out/man
-	@python3 tools/make_completions.py bin/warc out/completions
+	$(PAGES)
 
-install: all lib man
-	@python3 tools/install.py install $(DESTDIR)$(PREFIX)
+# These copy what is built, and build nothing: proving as root would leave root's files here.
+install uninstall install-python uninstall-python:
+	@python3 tools/install.py $@
 
-uninstall:
-	@python3 tools/install.py uninstall $(DESTDIR)$(PREFIX)
-
-dist: all lib man
+dist: all lib python page
 	@python3 tools/dist.py make
 
-verify-dist: all lib man
-	@python3 tools/dist.py verify $(FILE)
+verify-dist: all lib python page
+	@python3 tools/dist.py verify
 
-test-package: dist
-	@bash packaging/test.sh dist/warc-$(VERSION)-x86_64-linux.tar.gz
+test-package: bin/warc out/lib/libwarc.so python zogwedu.html man
+	@bash packaging/test.sh
 
 stress: bin/warc
 	@bash tests/stress/run.sh

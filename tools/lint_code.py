@@ -37,10 +37,24 @@ class Check:
         return run.returncode == 0
 
 
+# The scripts that install, pack and try the program, and their tests.
+MACHINE = (
+    "tools/install.py",
+    "tools/dist.py",
+    "tools/make_completions.py",
+    "tools/try_program.py",
+    "tests/tools/test_install.py",
+    "tests/stress/zwarc.py",
+)
+
 # Debian's programs work with Debian's Python, so each is called by its own name.
 CHECKS = [
     Check("types of tools/lint_code.py", ("mypy", "--strict", "--follow-imports=silent", "tools/lint_code.py")),
     Check("layout of tools/lint_code.py", ("black", "--quiet", "--check", "--line-length=120", "tools/lint_code.py")),
+    Check("shell scripts", ("shellcheck", "shell/zwarc", "packaging/test.sh")),
+    Check("types of scripts for the machine", ("mypy", "--strict", "--follow-imports=silent", *MACHINE)),
+    Check("layout of scripts for the machine", ("black", "--quiet", "--check", "--line-length=120", *MACHINE)),
+    Check("tools/install.py, tried", ("python3", "tests/tools/test_install.py")),
 ]
 
 

@@ -6,6 +6,8 @@ Usage: make_numbers.py
 `make lint-docs` fails where the page isn't the table's, where the table isn't in order, or where docs/FORMAT.md names
 another number or another name.
 """
+from __future__ import annotations
+
 import re
 
 from shared import TOP, read
@@ -13,7 +15,7 @@ from shared import TOP, read
 TABLE = "crates/warc_arguments/src/numbers.rt"
 PAGE = "docs/NUMBERS.md"
 ENTRY = re.compile(r'^    \(\n        "(\w+)",\n        "([^"]*)",\n    \),$', re.MULTILINE)
-COMMAND = re.compile(r"'((?:warc|gunzip|cat|-)[^']*|-)'")
+COMMAND = re.compile(r"'((?:z?warc|gunzip|cat|-)[^']*|-)'")
 TITLES = {
     "F": ("Why an archive is refused", "An offset follows, and for F4 and F5 the name of a field before it."),
     "G": ("Why segments don't join", "For G1, G3 and G4 the number of a segment follows."),
@@ -32,7 +34,7 @@ This page is made from `crates/warc_arguments/src/numbers.rt`: change that, and 
 """
 
 
-def entries():
+def entries() -> list[tuple[str, str, str, str]]:
     """The table: (number, name, what it means, what to do)."""
     found = []
     for number, text in ENTRY.findall(read(TABLE)):

@@ -7,20 +7,20 @@ TOP = os.path.dirname(os.path.dirname(os.path.abspath(__file__)))
 WORDS = f"{TOP}/crates/warc_arguments/src/words.rt"
 
 
-def read(path):
+def read(path: str) -> str:
     """The text of a file of the project."""
     with open(f"{TOP}/{path}", encoding="utf-8") as text:
         return text.read()
 
 
-def put_copy(source, to, mode=0o755):
+def put_copy(source: str, to: str, mode: int = 0o755) -> None:
     """Puts a copy of a file in the place of another, which may be a program that runs: it goes on as it was."""
     shutil.copyfile(source, f"{to}.new")
     os.chmod(f"{to}.new", mode)
     os.replace(f"{to}.new", to)
 
 
-def version():
+def version() -> str:
     """The version of the program, which is written in one place alone."""
     with open(WORDS, encoding="utf-8") as text:
         return re.search(r'^const VERSION: &str = "(.*)";$', text.read(), re.MULTILINE)[1]
