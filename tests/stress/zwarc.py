@@ -15,6 +15,7 @@ import dataclasses
 import functools
 import gzip
 import http.server
+import itertools
 import os
 import shutil
 import signal
@@ -28,7 +29,7 @@ from collections.abc import Iterator, Sequence
 HERE = os.path.dirname(os.path.abspath(__file__))
 TOP = os.path.dirname(os.path.dirname(HERE))
 SECONDS = 120
-MOST_CALLS = 40
+MOST_CALLS = 8
 TARGET = "http://a.example/x"
 UUID = "00000000-0000-4000-8000-000000000001"
 SHELLS = (("dash",), ("bash", "--posix"), ("busybox", "sh"), ("ksh",), ("mksh",))
@@ -356,7 +357,7 @@ def no_room(trials: Trials) -> None:
         done = subprocess.run(words, capture_output=True, check=False, env=environment)
         seen = Result(done.stdout, done.stderr, done.returncode)
         trials.judge((seen.out, seen.status) == (b"", 3) and seen.message != b"", words, seen)
-    for name in ("sh", "od", "sed", "rm", "mktemp", "dd", "tr", "gzip", "cat", "mkfifo"):
+    for name in ("sh", "od", "sed", "rm", "mktemp", "tr", "gzip", "cat", "mkfifo"):
         os.symlink(str(shutil.which(name)), f"{trials.bin}/{name}")
     packed = trials.file("archive.zst", zstd(PLAIN))
     done = subprocess.run(["zwarc", "list", packed], capture_output=True, check=False, env={"PATH": trials.bin})
@@ -420,26 +421,38 @@ def closed_output(trials: Trials) -> None:
             trials.judge(seen.message.startswith(message) and seen.message.endswith(b"\n3\n"), (script,), seen)
 
 
+def wrap(trials: Trials, name: str, call: str, error: str, count: int) -> None:
+    """Puts a program in front of another whose call of the system fails once."""
+    real = shutil.which(name, path="/usr/bin:/bin")
+    inject = f"-e trace={call} -e inject={call}:error={error}:when={count}"
+    with open(f"{trials.bin}/{name}", "w", encoding="utf-8") as out:
+        out.write(f'#!/bin/sh\nexec strace -o {trials.folder}/log {inject} {real} "$@"\n')
+    os.chmod(out.name, 0o755)
+
+
 def failing_calls(trials: Trials) -> None:
-    """Each of the first calls of the system fails in turn, in the shell, the decompressor and warc."""
+    """Calls of the system fail in turn in each program that the script runs: no other status than 0 and 3, no output but
+    that of warc, and with 0 all of it."""
     path = trials.file("archive.gz", b"".join(MEMBERS))
     wanted = trials.run(["warc", "list", trials.file("plain", PLAIN)])
-    for call, error in (
-        ("read", "EIO"),
-        ("write", "ENOSPC"),
-        ("openat", "EMFILE"),
-        ("pread64", "EIO"),
-        ("lseek", "EIO"),
+    calls = {"gzip": ("read", "write", "openat"), "od": ("read", "write"), "mktemp": ("openat",)}
+    for name, kinds in (
+        *calls.items(),
+        ("cat", ("read", "write")),
+        ("mkfifo", ("mknodat",)),
     ):
-        for words, standard in ((("list", path), None), (("list", "-"), path), (("--stream", "list", path), None)):
-            for count in range(1, MOST_CALLS):
-                inject = ["-e", f"trace={call}", "-e", f"inject={call}:error={error}:when={count}"]
-                seen = trials.run(
-                    ["strace", "-f", "-o", f"{trials.folder}/log", *inject, "zwarc", *words], standard=standard
-                )
-                is_whole = seen.out == wanted.out and seen.status in (0, 3)
-                is_right = is_whole or (seen.status not in (0, 1, 2) and wanted.out.startswith(seen.out))
-                trials.judge(is_right, (call, str(count), *words), seen)
+        for call, count in itertools.product(kinds, range(1, MOST_CALLS)):
+            wrap(trials, name, call, "ENOSPC" if call == "write" else "EIO", count)
+            for words, piped in (
+                (("list", path), None),
+                (("list", "-"), b"".join(MEMBERS)),
+                (("--stream", "list", path), None),
+            ):
+                seen = trials.run(["zwarc", *words], piped=piped)
+                is_whole = seen == wanted
+                is_failed = seen.status == 3 and (seen.out == b"" or words[0] == "--stream")
+                trials.judge(is_whole or is_failed, (name, call, str(count), *words), seen)
+        os.remove(f"{trials.bin}/{name}")
 
 
 class Site(http.server.BaseHTTPRequestHandler):
