@@ -22,6 +22,7 @@ import tempfile
 import threading
 import time
 
+import generate
 import system
 from system import COMMANDS, Result, Stress, contents, words_for
 
@@ -287,8 +288,70 @@ def hostile_names(stress):
     stress.end()
 
 
+def revisit_archive(stated, revisited):
+    """A resource and a revisit of it, each with a payload digest or with none."""
+    first = [("WARC-Payload-Digest", stated)] if stated else []
+    second = [("WARC-Payload-Digest", revisited)] if revisited else []
+    profile = [("WARC-Profile", generate.PROFILES[0]), ("WARC-Refers-To", "<%s>" % system.FIRST_ID)]
+    return (system.record_text("resource", system.FIRST_ID, b"abc", first)
+            + system.record_text("revisit", system.LAST_ID, b"", profile + second))
+
+
+def hints_wanted(stress):
+    """Words, standard input, and the line that a hint adds, or none."""
+    packed = stress.file("packed.warc.gz", gzip.compress(stress.data))
+    missing = stress.path("missing")
+    earliest = "the earliest capture of this URI is of 2020-01-01"
+    in_hex = ("--uri-hex", system.TARGET.encode().hex())
+    yield ("list", "--hints", missing), None, "%s: No such file or directory (os error 2)" % missing
+    yield ("check", packed, "--hints"), None, "this looks like gzip: zwarc check %s --hints --quiet" % packed
+    yield ("list", "--hints", stress.archive), None, None
+    yield ("replay", "--hints", stress.archive, system.TARGET, "1999"), None, earliest
+    yield ("replay", "--hints", stress.archive, *in_hex, "1999"), None, earliest
+    yield ("replay", "--hints", "-", system.TARGET, "1999"), stress.archive, earliest
+    yield ("replay", "--hints", stress.archive, "http://nowhere.example/", "1999"), None, None
+    for count, (stated, revisited) in enumerate((("sha1:A", "sha1:B"), ("sha1:A", "sha1:A"), ("sha1:A", ""), ("", "sha1:B"))):
+        path = stress.file("revisit%d.warc" % count, revisit_archive(stated, revisited))
+        line = "record 1 states another payload digest than record 0, whose body was given" if count == 0 else None
+        yield ("body", "--hints", path, "1"), None, line
+        yield ("body", "--hints", path, "0"), None, None
+        yield ("replay", "--hints", path, system.TARGET, "9999"), None, line
+
+
+def hints_flag(stress):
+    """With --hints the lines for people are written also where standard error is no terminal, and else only on one."""
+    stress.begin("hints")
+    for words, standard, line in hints_wanted(stress):
+        words = [*words, "--quiet"]
+        plain_words = [word for word in words if word != "--hints"]
+        results = []
+        for tried in (words, plain_words):
+            with open(standard or os.devnull, "rb") as source:
+                results.append(stress.run(tried, stdin=source))
+        hinted, plain = results
+        added = (line + "\n").encode() if line else b""
+        stress.judge(hinted == plain._replace(message=plain.message + added), words, hinted)
+        with open(standard or os.devnull, "rb") as source:
+            seen, _ = run(stress, plain_words, stdin=source)
+        added = added.replace(b" --hints", b"")
+        shows = (plain.message + added).replace(b"\n", b"\r\n")
+        stress.judge(seen == plain._replace(message=shows), plain_words, seen)
+    stress.end()
+
+
+def help_texts(stress):
+    """Each line of help fits into 78 columns."""
+    stress.begin("help")
+    for command in [(), *sorted({command[:1] for command in COMMANDS}), ("explain",)]:
+        seen = stress.run([*command, "--help"])
+        widest = max(map(len, seen.out.decode().splitlines()))
+        stress.judge(seen.status == 0 and widest <= 78, (*command, "--help", "%d columns" % widest), seen)
+    stress.end()
+
+
 KINDS = (system.plain_runs, progress, piped_progress, no_progress, lines_for_people, hostile_contents, hostile_messages,
-         hostile_names)
+         hostile_names, hints_flag, help_texts)
+
 
 
 def main(program):

@@ -37,12 +37,13 @@ fn tell_request(
 ) -> Result<(), AllocError> {
     let command = request.command;
     let manner = if request.quiet { " quietly" } else { "" };
+    let hints = if request.hints { " with hints" } else { "" };
     let path = if command.opens_nothing() {
         "nothing"
     } else {
         command.path()
     };
-    let line = format!(in alloc; "{command:?} reads {path}{manner}\n")?;
+    let line = format!(in alloc; "{command:?} reads {path}{manner}{hints}\n")?;
     answer.extend_from_slice(line.as_bytes())
 }
 

@@ -71,12 +71,13 @@ told_by kinds k (Usage text asked) said memory (inr among) =
     (k, among, elim said.1 [ inl same ↦ said.2 ∙ ap is_request same | inr none ↦ absurd none ])
 
 -- what a command and its flags say is what clap read
-pub asked_is : (name : Text) (rows : List Row) {command : Text × List Text} {flags : List Bool} {quiet : Bool} → command ≡ named name rows → flags ≡ flags_in name rows
-    → quiet ≡ is_flagged rows (codes "quiet") → ◌≡◌ {A = Asked} (record { command = command; flags = flags; quiet = quiet }) (asked_in name rows)
-asked_is name rows {command} {flags} {quiet} one two three =
-    ap (λ (x : Text × List Text). let a : Asked = record { command = x; flags = flags; quiet = quiet } in a) one
-    ∙ ap (λ (x : List Bool). let a : Asked = record { command = named name rows; flags = x; quiet = quiet } in a) two
-    ∙ ap (λ (x : Bool). let a : Asked = record { command = named name rows; flags = flags_in name rows; quiet = x } in a) three
+pub asked_is : (name : Text) (rows : List Row) {command : Text × List Text} {flags : List Bool} {quiet hints : Bool} → command ≡ named name rows → flags ≡ flags_in name rows
+    → quiet ≡ is_flagged rows (codes "quiet") → hints ≡ is_flagged rows (codes "hints") → ◌≡◌ {A = Asked} (record { command = command; flags = flags; quiet = quiet; hints = hints }) (asked_in name rows)
+asked_is name rows {command} {flags} {quiet} {hints} one two three four =
+    ap (λ (x : Text × List Text). let a : Asked = record { command = x; flags = flags; quiet = quiet; hints = hints } in a) one
+    ∙ ap (λ (x : List Bool). let a : Asked = record { command = named name rows; flags = x; quiet = quiet; hints = hints } in a) two
+    ∙ ap (λ (x : Bool). let a : Asked = record { command = named name rows; flags = flags_in name rows; quiet = x; hints = hints } in a) three
+    ∙ ap (λ (x : Bool). let a : Asked = record { command = named name rows; flags = flags_in name rows; quiet = is_flagged rows (codes "quiet"); hints = x } in a) four
 
 -- a subcommand that was met, by its name and its rows
 by_parts : (o : Option (Text × List Row)) (name : Text) (rows : List Row) (asked : Asked) → Some name ≡ option_map (λ (p : Text × List Row). p.0) o → Some rows ≡ option_map (λ (p : Text × List Row). p.1) o

@@ -9,7 +9,7 @@ use Rattle.warc_arguments.specs.CommandLine.{asked_of, warc_app}
 
 -- a command with these texts, and without a flag
 abbrev plainly : List ℕ → List (List ℕ) → Option Asked
-plainly name texts = Some (record { command = (name, texts); flags = []; quiet = false })
+plainly name texts = Some (record { command = (name, texts); flags = []; quiet = false; hints = false })
 
 -- warc list a.warc
 list_names : asked_of (codes "warc" ∷ codes "list" ∷ codes "a.warc" ∷ []) ≡ plainly (codes "list") (codes "a.warc" ∷ [])
@@ -33,14 +33,22 @@ minus_faults : fault_of warc_app (codes "warc" ∷ codes "list" ∷ codes "-a" �
 unfolding clap_on_literals
 minus_faults = refl
 
--- the flag of every command, before or after its words
-quiet_asked : asked_of (codes "warc" ∷ codes "list" ∷ codes "a.warc" ∷ codes "--quiet" ∷ []) ≡ Some (record { command = (codes "list", codes "a.warc" ∷ []); flags = []; quiet = true })
+-- the flags of every command, before or after its words
+quiet_asked : asked_of (codes "warc" ∷ codes "list" ∷ codes "a.warc" ∷ codes "--quiet" ∷ []) ≡ Some (record { command = (codes "list", codes "a.warc" ∷ []); flags = []; quiet = true; hints = false })
 unfolding clap_on_literals
 quiet_asked = refl
 
-quiet_first : asked_of (codes "warc" ∷ codes "split" ∷ codes "--quiet" ∷ codes "a.warc" ∷ codes "2" ∷ []) ≡ Some (record { command = (codes "split", codes "a.warc" ∷ codes "2" ∷ []); flags = []; quiet = true })
+quiet_first : asked_of (codes "warc" ∷ codes "split" ∷ codes "--quiet" ∷ codes "a.warc" ∷ codes "2" ∷ []) ≡ Some (record { command = (codes "split", codes "a.warc" ∷ codes "2" ∷ []); flags = []; quiet = true; hints = false })
 unfolding clap_on_literals
 quiet_first = refl
+
+hints_asked : asked_of (codes "warc" ∷ codes "list" ∷ codes "--hints" ∷ codes "a.warc" ∷ []) ≡ Some (record { command = (codes "list", codes "a.warc" ∷ []); flags = []; quiet = false; hints = true })
+unfolding clap_on_literals
+hints_asked = refl
+
+both_asked : asked_of (codes "warc" ∷ codes "list" ∷ codes "--hints" ∷ codes "a.warc" ∷ codes "--quiet" ∷ []) ≡ Some (record { command = (codes "list", codes "a.warc" ∷ []); flags = []; quiet = true; hints = true })
+unfolding clap_on_literals
+both_asked = refl
 
 -- requests
 help_faults : fault_of warc_app (codes "warc" ∷ codes "--help" ∷ []) ≡ DisplayHelp ∷ []

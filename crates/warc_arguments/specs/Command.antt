@@ -31,7 +31,7 @@ view_of (command.Salvage archive) = (codes "salvage", archive.now ∷ [])
 view_of (command.Summary archive) = (codes "summary", archive.now ∷ [])
 view_of (command.Explain number) = (codes "explain", number.now ∷ [])
 
--- whether each of its flags is given, in order; `--quiet`, which every command has, isn't one of them
+-- whether each of its flags is given, in order; `--quiet` and `--hints`, which every command has, aren't among them
 abbrev pub flags_of : Command → List Bool
 flags_of (command.Replay archive uri date hex) = hex ∷ []
 flags_of (command.Body archive position stored) = stored ∷ []
@@ -43,9 +43,10 @@ pub record Asked : Type 0 where
   pub command : Text × List Text
   pub flags : List Bool
   pub quiet : Bool
+  pub hints : Bool
 
 abbrev pub asked_by : Request → Asked
-asked_by r = record { command = view_of r.command; flags = flags_of r.command; quiet = r.quiet }
+asked_by r = record { command = view_of r.command; flags = flags_of r.command; quiet = r.quiet; hints = r.hints }
 
 -- the path of the file that it reads; empty if it reads none
 abbrev pub path_word : Command → Text

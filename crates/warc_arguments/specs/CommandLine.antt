@@ -105,11 +105,13 @@ rule_as Flag name = record (new_rule name) { long = Some name; action = Some Set
 abbrev pub with_rules : Form → App → List Text → App
 with_rules form app words = fold (λ a word. with_rule a (rule_as form word)) app words
 
--- a command by itself; the last flag of each is `--quiet`
+-- a command by itself; the last flags of each are `--quiet` and `--hints`
 abbrev pub layout_app : Layout → App
 layout_app l = with_rule
+    (with_rule
     (with_rules Flag (with_rules Optional (with_rules Required (new_app l.name) l.words) l.optional) l.flags)
-    (rule_as Flag (codes "quiet"))
+    (rule_as Flag (codes "quiet")))
+    (rule_as Flag (codes "hints"))
 
 -- the program with one more command
 abbrev pub with_layout : App → Layout → App
@@ -155,6 +157,7 @@ asked_in name rows = record {
   command = named name rows;
   flags = flags_in name rows;
   quiet = is_flagged rows (codes "quiet");
+  hints = is_flagged rows (codes "hints");
 }
 
 -- what the words ask for, the program's name being the first word

@@ -9,7 +9,7 @@ pub const EXPLANATIONS: [(&str, &str); 56] = [
 A record begins at the offset, and the bytes there are no version line, WARC/1.0 or WARC/1.1.
 At 0 the file is compressed, an ARC file or WARC 0.x, or has LF where CRLF belongs. Later there is an empty line
 after a record, or the file is filled up with zero bytes.
-What to do: decompress the file, as by 'gunzip -c a.warc.gz | warc list -', or remove those bytes. 'warc salvage'
+What to do: read a compressed file as by 'zwarc list a.warc.gz', or remove those bytes. 'warc salvage'
 writes the records before them.
 ",
     ),

@@ -202,11 +202,13 @@ impl fmt::Display for CommandFault {
     }
 }
 
-/// What words ask for: a command, and whether no progress is to be shown.
+/// What words ask for: a command, whether no progress is to be shown, and whether the lines for people are to be
+/// written also if standard error is no terminal.
 #[derive(Clone, Copy, Debug, PartialEq, Eq)]
 pub struct Request<'a> {
     pub command: Command<'a>,
     pub quiet: bool,
+    pub hints: bool,
 }
 
 /// A word of a command, or a flag: its name in the usage, and what it is.
@@ -241,180 +243,216 @@ struct Entry {
 
 const VERSION: &str = "0.2.0";
 
-const NOTES: &str =
-    "An archive is one file of uncompressed records, WARC/1.0 or WARC/1.1. The path '-' is standard input, so a
-compressed archive is read like this:
-  gunzip -c a.warc.gz | warc list -
+const NOTES: &str = "An archive is one file of uncompressed records, WARC/1.0 or WARC/1.1. The
+path '-' is standard input. A compressed archive is read by zwarc:
+  zwarc list a.warc.gz
 
-Exit status: 0 done; 1 'check' found something, or what was asked for isn't there; 2 the archive is refused,
-with the first fault and its offset, and nothing was written (but for 'salvage'); 3 the words are wrong, the
-file doesn't open, or a read, a write or memory failed.
+Exit status: 0 done; 1 'check' or 'fixity' found something, or what was asked
+for isn't there; 2 the archive is refused, with the first fault and its
+offset, and nothing was written (but for 'salvage'); 3 the words are wrong,
+the file doesn't open, or a read, a write or memory failed; 4 'fixity' can't
+check a block.
 
 Example: warc list examples/abc.warc";
 
 const LIST_NOTES: &str =
-    "A line has seven columns, with a tab between two: the record's position from 0, its offset in bytes,
-the length of its block, its type, date, id and target; '-' for no target.
+    "A line has seven columns, with a tab between two: the record's position from
+0, its offset in bytes, the length of its block, its type, date, id and
+target; '-' for no target.
 
-Exit status: 0 listed; 2 the archive is refused, and nothing was written; 3 see 'warc --help'.
+Exit status: 0 listed; 2 the archive is refused, and nothing was written;
+3 see 'warc --help'.
 
 Example: warc list examples/abc.warc";
 
 const CHECK_NOTES: &str =
-    "A line has the position of the record, the finding's number N1 to N12 and the name of the field that it is
-about, if it is about one; '- N12' is an archive of no records. A digest that can't be checked is no finding.
+    "A line has the position of the record, the finding's number N1 to N12 and the
+name of the field that it is about, if it is about one; '- N12' is an archive
+of no records. A digest that can't be checked is no finding.
 
-Exit status: 0 nothing was found; 1 something was; 2 the archive is refused, and nothing was written;
-3 see 'warc --help'.
+Exit status: 0 nothing was found; 1 something was; 2 the archive is refused,
+and nothing was written; 3 see 'warc --help'.
 
 Example: warc check examples/findings.warc";
 
 const EXTRACT_NOTES: &str =
-    "The block is written as it stands: it isn't joined to its segments, and nothing in it is decoded. The id
-is written in brackets or without, as <urn:uuid:..> or urn:uuid:...
+    "The block is written as it is stored: it isn't joined to its segments, and
+nothing in it is decoded. The id is written in brackets or without, as
+<urn:uuid:..> or urn:uuid:...
 
-Exit status: 0 written; 1 no record has the id, and nothing was written; 2 the archive is refused, and nothing
-was written; 3 see 'warc --help'.
+Exit status: 0 written; 1 no record has the id, and nothing was written;
+2 the archive is refused, and nothing was written; 3 see 'warc --help'.
 
-Example: warc extract examples/abc.warc urn:uuid:00000000-0000-4000-8000-000000000001";
+Example:
+  warc extract examples/abc.warc urn:uuid:00000000-0000-4000-8000-000000000001";
 
 const REPLAY_NOTES: &str =
-    "The body is that of the latest capture of the URI that isn't later than the date: its segments joined, and
-of an HTTP response what stands behind its head. A date is YYYY, YYYY-MM, YYYY-MM-DD, YYYY-MM-DDThh:mmZ or
-YYYY-MM-DDThh:mm:ssZ, also with a fraction of a second, and names its first instant: 2010 is before everything
-of 2010. With --uri-hex the URI is written as hexadecimal digits, as for one that isn't UTF-8. A line on standard error
-tells the positions of the chosen record and of the one whose body is given, the status of the HTTP response
-or '-', whether a record is marked as truncated, and the length of the body in bytes.
+    "The body is that of the latest capture of the URI that isn't later than the
+date: its segments joined, and of an HTTP response what follows its head. A
+date is YYYY, YYYY-MM, YYYY-MM-DD, YYYY-MM-DDThh:mmZ or YYYY-MM-DDThh:mm:ssZ,
+also with a fraction of a second, and names its first instant: 2010 is before
+everything of 2010. With --uri-hex the URI is written as hexadecimal digits,
+as for one that isn't UTF-8. A line on standard error has the positions of the
+chosen record and of the one whose body is given, the status of the HTTP
+response or '-', whether a record is marked as truncated, and the length of
+the body in bytes.
 
-Exit status: 0 written; 1 there is no body, for one of the reasons P1 to P10, and nothing was written;
-2 the archive is refused, and nothing was written; 3 the date isn't one, or see 'warc --help'.
+Exit status: 0 written; 1 there is no body, for one of the reasons P1 to P10,
+and nothing was written; 2 the archive is refused, and nothing was written;
+3 the date isn't one, or see 'warc --help'.
 
 Example: warc replay examples/abc.warc http://a.example/x 2021";
 
 const BODY_NOTES: &str =
-    "The body is the one that 'warc replay' gives where it chooses this capture: of a revisit that of the record
-to which it leads, its segments joined, and of an HTTP response what follows its head. Positions are those of
-'warc list', from 0. The line on standard error is that of 'warc replay'. With --stored a coded body is written
-too, as it is stored after the HTTP head; then the line ends with 'coded' and the fields that name the codings,
-as 'coded transfer-encoding=chunked content-encoding=gzip'.
+    "The body is the one that 'warc replay' gives if it chooses this capture: of a
+revisit that of the record to which it leads, its segments joined, and of an
+HTTP response what follows its head. Positions are those of 'warc list', from
+0. The line on standard error is that of 'warc replay'. With --stored a coded
+body is written too, as it is stored after the HTTP head; then the line ends
+with 'coded' and the fields that name the codings, as
+'coded transfer-encoding=chunked content-encoding=gzip'.
 
-Exit status: 0 written; 1 nothing was written: there is no body, for the reason P3 to P10 that is named, no
-record is at the position (E1), or the record there is no capture (E2), as a request or a metadata record;
-2 the archive is refused, and nothing was written; 3 the position isn't a number, or see 'warc --help'.
+Exit status: 0 written; 1 nothing was written: there is no body, for the
+reason P3 to P10 that is named, no record is at the position (E1), or the
+record there is no capture (E2), as a request or a metadata record; 2 the
+archive is refused, and nothing was written; 3 the position isn't a number, or
+see 'warc --help'.
 
 Example: warc body examples/revisit.warc 1";
 
 const CAPTURES_NOTES: &str =
-    "Without URI every capture is listed, by position; of a URI its captures, by instant and then by position. A
-line has ten columns, with a tab between two: the capture's position, its date as written, its instant to the
-nanosecond, its type, the position of the record whose body it gives, the status of the HTTP response, the
-media type, the length of the body in bytes, the reason why there is no body, as 'warc replay' names it, and
-the target; '-' where there is none. A coded body (P10) has a status and a media type, and no length.
-With --uri-hex the URI is written as hexadecimal digits, as for one that isn't UTF-8.
+    "Without URI every capture is listed, by position; of a URI its captures, by
+instant and then by position. A line has ten columns, with a tab between two:
+the capture's position, its date as written, its instant to the nanosecond,
+its type, the position of the record whose body it gives, the status of the
+HTTP response, the media type, the length of the body in bytes, the reason why
+there is no body, as 'warc replay' names it, and the target; '-' if there is
+none. A coded body (P10) has a status and a media type, and no length. With
+--uri-hex the URI is written as hexadecimal digits, as for one that isn't
+UTF-8.
 
-Exit status: 0 listed; 1 there is no capture (P1); 2 the archive is refused, and nothing was written; 3 the
-digits of --uri-hex are odd or wrong, or see 'warc --help'.
+Exit status: 0 listed; 1 there is no capture (P1); 2 the archive is refused,
+and nothing was written; 3 the digits of --uri-hex are odd or wrong, or see
+'warc --help'.
 
 Example: warc captures examples/crawl.warc http://127.0.0.1:8765/";
 
 const REWRITE_NOTES: &str =
-    "Each record is written in canonical form: folded values in one line, one space behind each colon. Names,
-the order of fields, versions and blocks stay.
+    "Each record is written in canonical form: folded values in one line, one space
+after each colon. Names, the order of fields, versions and blocks stay.
 
-Exit status: 0 written; 2 the archive is refused, and nothing was written; 3 see 'warc --help'.
+Exit status: 0 written; 2 the archive is refused, and nothing was written;
+3 see 'warc --help'.
 
 Example: warc rewrite examples/folded.warc";
 
 const CONVERT_NOTES: &str =
-    "Each record is written in canonical form as one of WARC/1.1: its target stands without < and >. All else
-stays.
+    "Each record is written in canonical form as one of WARC/1.1, and its target
+without < and >. All else stays.
 
-Exit status: 0 written; 2 the archive is refused, and nothing was written; 3 see 'warc --help'.
+Exit status: 0 written; 2 the archive is refused, and nothing was written;
+3 see 'warc --help'.
 
 Example: warc convert examples/abc.warc";
 
 const SPLIT_NOTES: &str =
-    "A record whose block has more bytes than the size is written as its segments, each of the size, the
-last one shorter or equal, with the digest of its bytes. Any other record is written as by 'warc rewrite': a
-short one, and one that can't be split, as a record of another kind, one without a target, one that is a
-segment, one whose id is no UUID, or one whose digest is wrong.
+    "A record whose block has more bytes than the size is written as its segments,
+each of the size, the last one shorter or equal, with the digest of its bytes.
+Any other record is written as by 'warc rewrite': a short one, and one that
+can't be split, as a record of another kind, one without a target, one that is
+a segment, one whose id is no UUID, or one whose digest is wrong.
 
-Exit status: 0 written; 2 the archive is refused, and nothing was written; 3 the size isn't a number from 1 to
-1099511627776, or see 'warc --help'.
+Exit status: 0 written; 2 the archive is refused, and nothing was written;
+3 the size isn't a number from 1 to 1099511627776, or see 'warc --help'.
 
 Example: warc split examples/abc.warc 2";
 
 const WRITE_NOTES: &str =
-    "The record is one of WARC/1.1 with the digest of its block, which is all of the file. A record that can't be
-made is refused for one of the reasons M1 to M5 (docs/FORMAT.md), and nothing is written.
+    "The record is one of WARC/1.1 with the digest of its block, which is all of
+the file. A record that can't be made is refused for one of the reasons M1 to
+M5 (docs/FORMAT.md), and nothing is written.
 
 Exit status: 0 written; 3 the record isn't made, or see 'warc --help'.
 
-Example: warc write resource http://a.example/x 2020-01-01T00:00:00Z 00000000-0000-4000-8000-000000000001 \
-  text/plain page.txt > page.warc";
+Example: warc write resource http://a.example/x 2020-01-01T00:00:00Z \\
+  00000000-0000-4000-8000-000000000001 text/plain page.txt > page.warc";
 
 const HEAD_NOTES: &str =
-    "The head is written byte for byte as the archive has it, from its version line to its empty line. Positions
-count from 0, as 'warc list' prints them in its first column.
+    "The head is written byte for byte as the archive has it, from its version line
+to its empty line. Positions count from 0, as 'warc list' prints them in its
+first column.
 
-Exit status: 0 written; 1 no record is at the position, and nothing was written; 2 the archive is refused, and
-nothing was written; 3 the position isn't a number from 0 to 281474976710656, or see 'warc --help'.
+Exit status: 0 written; 1 no record is at the position, and nothing was
+written; 2 the archive is refused, and nothing was written; 3 the position
+isn't a number from 0 to 281474976710656, or see 'warc --help'.
 
 Example: warc head examples/abc.warc 0";
 
 const BLOCK_NOTES: &str =
-    "The block is written byte for byte as the archive has it: it isn't joined to its segments, and nothing in
-it is decoded. Positions count from 0, as 'warc list' prints them in its first column.
+    "The block is written byte for byte as the archive has it: it isn't joined to
+its segments, and nothing in it is decoded. Positions count from 0, as
+'warc list' prints them in its first column.
 
-Exit status: 0 written; 1 no record is at the position, and nothing was written; 2 the archive is refused, and
-nothing was written; 3 the position isn't a number from 0 to 281474976710656, or see 'warc --help'.
+Exit status: 0 written; 1 no record is at the position, and nothing was
+written; 2 the archive is refused, and nothing was written; 3 the position
+isn't a number from 0 to 281474976710656, or see 'warc --help'.
 
 Example: warc block examples/abc.warc 0";
 
 const FIXITY_NOTES: &str =
-    "Every block is compared with the block digest that its head states. A line for each one that isn't good has
-four columns, with a tab between two: the record's position from 0, 'bad' or 'unchecked', its id without
-brackets, and the digest as the head states it; '-' for none. A block is unchecked where no digest is stated or
-it isn't SHA-1 in base32. The last line counts all records: 'records 60 good 58 bad 0 unchecked 2'.
+    "Every block is compared with the block digest that its head states. A line for
+each one that isn't good has four columns, with a tab between two: the
+record's position from 0, 'bad' or 'unchecked', its id without brackets, and
+the digest as the head states it; '-' for none. A block is unchecked if no
+digest is stated or it isn't SHA-1 in base32. The last line counts all
+records: 'records 60 good 58 bad 0 unchecked 2'.
 
-Exit status: 0 all blocks are good; 1 some block is bad; 4 none is bad, and some can't be checked; 2 the archive
-is refused, and nothing was written; 3 see 'warc --help'.
+Exit status: 0 all blocks are good; 1 some block is bad; 4 none is bad, and
+some can't be checked; 2 the archive is refused, and nothing was written;
+3 see 'warc --help'.
 
 Example: warc fixity examples/abc.warc";
 
 const SALVAGE_NOTES: &str =
-    "The records before the first fault are written byte for byte as the archive has them: nothing is skipped
-and nothing is mended. What is written is an archive. Standard error tells the fault, and then how much was
-written: 'warc: salvaged 59 records, 14352 bytes'; of a good archive 'warc: good 60 records, 15000 bytes'.
+    "The records before the first fault are written byte for byte as the archive
+has them: nothing is skipped and nothing is mended. What is written is an
+archive. Standard error has the fault, and then how much was written:
+'warc: salvaged 59 records, 14352 bytes'; of a good archive
+'warc: good 60 records, 15000 bytes'.
 
-Exit status: 0 the archive is good; 2 it isn't, and the records before the first fault were written; 3 a read or
-memory failed (F13, F14), and the records before it were written, or see 'warc --help'. There is no status 1.
+Exit status: 0 the archive is good; 2 it isn't, and the records before the
+first fault were written; 3 a read or memory failed (F13, F14), and the
+records before it were written, or see 'warc --help'. There is no status 1.
 
 Example: warc salvage examples/damaged.warc > good.warc";
 
 const SUMMARY_NOTES: &str =
-    "A line is a name, a tab and a value, in this order: records, bytes, then how many records there are of each type
-(warcinfo, response, resource, request, metadata, revisit, conversion, continuation, other), captures (responses,
-resources and revisits), how many blocks are good, bad and unchecked by their digests, how many records are marked
-as truncated and are segments, and the first and the last date as written, by instant; '-' where there is none.
+    "A line is a name, a tab and a value, in this order: records, bytes, then how
+many records there are of each type (warcinfo, response, resource, request,
+metadata, revisit, conversion, continuation, other), captures (responses,
+resources and revisits), how many blocks are good, bad and unchecked by their
+digests, how many records are marked as truncated and are segments, and the
+first and the last date as written, by instant; '-' if there is none.
 
-Exit status: 0 written; 2 the archive is refused, and nothing was written; 3 see 'warc --help'. There is no
-status 1.
+Exit status: 0 written; 2 the archive is refused, and nothing was written;
+3 see 'warc --help'. There is no status 1.
 
 Example: warc summary examples/crawl.warc";
 
-const EXPLAIN_NOTES: &str =
-    "The number is one that the program prints: F1 to F14, why an archive is refused; G1 to G6, why segments don't
-join; P1 to P10, why there is no body; M1 to M5 and S1 to S7, why a record isn't made or split; E1 and E2, what
-isn't there; N1 to N12, what 'warc check' finds. Its letter may be in lower case. Nothing is opened.
+const EXPLAIN_NOTES: &str = "The number is one that the program prints: F1 to F14, why an archive is
+refused; G1 to G6, why segments don't join; P1 to P10, why there is no body;
+M1 to M5 and S1 to S7, why a record isn't made or split; E1 and E2, what isn't
+there; N1 to N12, what 'warc check' finds. Its letter may be in lower case.
+Nothing is opened.
 
-Exit status: 0 written; 3 the number isn't one of these, or see 'warc --help'. There is no status 1 or 2.
+Exit status: 0 written; 3 the number isn't one of these, or see 'warc --help'.
+There is no status 1 or 2.
 
 Example: warc explain F10";
 
 const ARCHIVE: Word = Word {
     name: "archive",
-    help: "The path of the archive; '-' is standard input, also a pipe, as from 'gunzip -c a.warc.gz'",
+    help: "The path of the archive; '-' is standard input",
 };
 
 const ID: Word = Word {
@@ -424,7 +462,7 @@ const ID: Word = Word {
 
 const URI: Word = Word {
     name: "uri",
-    help: "The URI, byte for byte as the archive's records have it, without brackets",
+    help: "The URI, byte for byte as 'warc list' shows it",
 };
 
 const DATE: Word = Word {
@@ -485,10 +523,15 @@ const DRAFT: [Word; 6] = [
     },
 ];
 
-/// The flag that every command has.
+/// The flags that every command has.
 const QUIET: Word = Word {
     name: "quiet",
     help: "Shows no progress",
+};
+
+const HINTS: Word = Word {
+    name: "hints",
+    help: "Writes lines for people, also if this is no terminal",
 };
 
 /// The first commands, in the order in which help lists them.
@@ -503,7 +546,7 @@ const FIRST_COMMANDS: [Entry; 6] = [
     },
     Entry {
         name: "check",
-        about: "Prints a line for each finding: what is wrong with records that can be read",
+        about: "Prints what is wrong with records that can be read",
         notes: CHECK_NOTES,
         words: &[ARCHIVE],
         optional: &[],
@@ -595,7 +638,7 @@ const OTHER_COMMANDS: [Entry; 10] = [
     },
     Entry {
         name: "fixity",
-        about: "Prints a line for each block that its digest doesn't fit, or that can't be checked",
+        about: "Prints each block that its digest doesn't fit",
         notes: FIXITY_NOTES,
         words: &[ARCHIVE],
         optional: &[],
@@ -611,7 +654,7 @@ const OTHER_COMMANDS: [Entry; 10] = [
     },
     Entry {
         name: "summary",
-        about: "Prints what the archive holds: records, bytes, types, captures, verdicts and dates",
+        about: "Prints how many records there are, of which types, and dates",
         notes: SUMMARY_NOTES,
         words: &[ARCHIVE],
         optional: &[],
@@ -685,7 +728,8 @@ fn with_command<'a>(
     let required = with_words(plain, alloc, Form::Required, entry.words)?;
     let optional = with_words(required, alloc, Form::Optional, entry.optional)?;
     let flagged = with_words(optional, alloc, Form::Flag, entry.flags)?;
-    let command = with_word(flagged, alloc, Form::Flag, QUIET.name, QUIET.help)?;
+    let quiet = with_word(flagged, alloc, Form::Flag, QUIET.name, QUIET.help)?;
+    let command = with_word(quiet, alloc, Form::Flag, HINTS.name, HINTS.help)?;
     parser.subcommand(command)
 }
 
@@ -833,7 +877,7 @@ fn read_command<'a>(name: &str, texts: &ArgMatches<'a>) -> Command<'a>
     }
 }
 
-/// What the command that was met is asked to do, and whether it is to be quiet.
+/// What the command that was met is asked to do, and which of the flags of every command are given.
 fn read<'a>(matches: &ArgMatches<'a>) -> Option<Request<'a>>
     ensures { option_map asked_by result
         ≡ option_map (λ p. asked_in p.0 p.1) (subcommand_rows_of matches.now) }
@@ -842,6 +886,7 @@ fn read<'a>(matches: &ArgMatches<'a>) -> Option<Request<'a>>
     Some(Request {
         command: read_command(name, texts),
         quiet: is_given(texts, QUIET.name),
+        hints: is_given(texts, HINTS.name),
     })
 }
 
@@ -862,9 +907,9 @@ fn refusal(alloc: Global, error: &clap::Error) -> CommandFault
     }
 }
 
-/// The command and the texts that the words name, and whether `--quiet` is among them, the program's name being the
-/// first word. Words that `clap` refuses are a `Usage` with its text, and so are `help`, `--help` and `--version`,
-/// which ask for one.
+/// The command and the texts that the words name, and whether `--quiet` and `--hints` are among them, the program's
+/// name being the first word. Words that `clap` refuses are a `Usage` with its text, and so are `help`, `--help` and
+/// `--version`, which ask for one.
 pub fn parse<'a, S: AsStr>(alloc: Global, words: &'a [S]) -> Result<Request<'a>, CommandFault>
     ensures named { IfOk result (λ r. Some (asked_by r) ≡ asked_of (map S.text words.entry.now)) }
     ensures accepted { IfOk result (λ _. fault_of warc_app (map S.text words.entry.now) ≡ []) }

@@ -61,15 +61,19 @@ pub fn hint(
     request: &Request<'_>,
     ended: Ended,
 ) -> io::Result<()> {
-    match (ended.packing, ended.reason) {
-        (Some(packing), _) if ended.status == REFUSED => hint_packing(rt, words, packing),
-        (_, Some(code)) if ended.status == FAILED => {
-            let path = Quoted(request.command.path());
-            let error = io::Error::from_raw_os_error(code);
-            eprintln!(rt; "{path}: {error}")
-        }
-        _ => Ok(()),
+    if ended.status == REFUSED
+        && let Some(packing) = ended.packing
+    {
+        return hint_packing(rt, words, packing);
     }
+    if ended.status == FAILED
+        && let Some(code) = ended.reason
+    {
+        let path = Quoted(request.command.path());
+        let error = io::Error::from_raw_os_error(code);
+        return eprintln!(rt; "{path}: {error}");
+    }
+    Ok(())
 }
 
 /// Writes how an archive is read that looks compressed: by the same words after another name.

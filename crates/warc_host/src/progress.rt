@@ -1,6 +1,6 @@
 //! The line on standard error that shows how far a long reading is.
 
-use arrayvec::ArrayString;
+use arrayvec::{ArrayString, ArrayVec};
 use itoa::Buffer;
 use std::cell::Cell;
 use std::io::IsTerminal;
@@ -139,11 +139,34 @@ impl<'a> Watcher for Progress<'a> {
     }
 }
 
-/// A sink before whose writes the line is removed. Contracts see the sink alone.
+/// The most bytes of a report that are kept.
+const REPORT: usize = 64;
+
+/// A sink before whose writes the line is removed. The beginning of what goes to it is kept. Contracts see the sink
+/// alone.
 #[derive(Drop)]
 pub struct ErasingSink<'a, W> {
     pub sink: W,
     pub progress: &'a Progress<'a>,
+    pub report: ArrayVec<u8, REPORT>,
+}
+
+impl<'a, W> ErasingSink<'a, W> {
+    /// Nothing was written yet.
+    pub fn new(sink: W, progress: &'a Progress<'a>) -> ErasingSink<'a, W> {
+        ErasingSink {
+            sink,
+            progress,
+            report: ArrayVec::new(),
+        }
+    }
+}
+
+/// Keeps a piece of a report, as far as there is room.
+fn keep(report: &mut ArrayVec<u8, REPORT>, piece: &[u8]) {
+    for byte in piece {
+        let _ = report.try_push(*byte);
+    }
 }
 
 impl<'a, W: Sink> Sink for ErasingSink<'a, W> {
@@ -152,6 +175,7 @@ impl<'a, W: Sink> Sink for ErasingSink<'a, W> {
     /// It answers what the sink answers.
     fn write(&mut self, piece: &[u8]) -> Result<usize, WriteFault> {
         self.progress.erase();
+        keep(&mut self.report, piece);
         self.sink.write(piece)
     }
 }

@@ -1,8 +1,10 @@
 //! What `main` of the program calls: a run over the words, the files and the outputs of the system.
 #![tactic(auto)]
 
+mod answers;
 mod files;
 
+use answers::hint_answer;
 use files::Files;
 use std::cell::Cell;
 use std::io::IsTerminal;
@@ -21,10 +23,8 @@ pub fn run_program(rt: &HostRuntime) -> ExitCode {
     let reason = Cell::new(None);
     let is_text = !request.is_some_and(|it| gives_bytes(&it.command));
     let mut out = ShownSink::new(rt.stdout(), is_text && rt.stdout().is_terminal());
-    let mut err = ErasingSink {
-        sink: ShownSink::new(rt.stderr(), rt.stderr().is_terminal()),
-        progress: &progress,
-    };
+    let is_terminal = rt.stderr().is_terminal();
+    let mut err = ErasingSink::new(ShownSink::new(rt.stderr(), is_terminal), &progress);
     let files = Files {
         host: Host {
             rt,
@@ -37,7 +37,7 @@ pub fn run_program(rt: &HostRuntime) -> ExitCode {
     err.sink.end();
     progress.erase();
     if let (Ok(words), Some(request)) = (&words, &request)
-        && rt.stderr().is_terminal()
+        && (is_terminal || request.hints)
     {
         let ended = Ended {
             status,
@@ -45,6 +45,8 @@ pub fn run_program(rt: &HostRuntime) -> ExitCode {
             reason: reason.get(),
         };
         let _ = hint(rt, words.as_slice(), request, ended);
+        let _ = hint_answer(&files.host, request, err.report.as_slice());
+        progress.erase();
     }
     ExitCode::from(status)
 }

@@ -1,0 +1,116 @@
+//! Lines for people about an answer. Each takes one more reading of the archive.
+
+use std::io;
+use std::str::FromStr;
+use warc::{Archive, Listing};
+use warc_arguments::{Command, Request, bytes_of};
+use warc_host::{Host, HostFile};
+
+/// The field whose text tells whether two records have one payload.
+const PAYLOAD_DIGEST: &[u8] = b"WARC-Payload-Digest";
+
+/// Writes a line if there is more to say of what a run reported on standard error: the date of the earliest capture
+/// after `P2`, and that the digests differ after a body was given of another record than the chosen one.
+pub fn hint_answer(host: &Host<'_>, request: &Request<'_>, report: &[u8]) -> io::Result<()> {
+    let path = request.command.path();
+    if report.starts_with(b"warc: P2 ") {
+        return match (uri_of(host.rt, &request.command), reopened(host, path)) {
+            (Some(uri), Some(file)) => hint_earliest(host, file, uri.as_slice()),
+            _ => Ok(()),
+        };
+    }
+    match positions_of(report) {
+        Some((chosen, given)) if chosen != given => match reopened(host, path) {
+            Some(file) => hint_digests(host, file, chosen, given),
+            None => Ok(()),
+        },
+        _ => Ok(()),
+    }
+}
+
+/// The archive again, if it is a file.
+fn reopened<'a>(host: &Host<'a>, path: &str) -> Option<HostFile<'a>> {
+    match path {
+        "-" | "/dev/stdin" => host.redirected(),
+        _ => host.open(path).ok(),
+    }
+}
+
+/// The URI that a replay asks for.
+fn uri_of(rt: &HostRuntime, command: &Command<'_>) -> Option<Vec<u8>> {
+    match command {
+        Command::Replay {
+            archive: _,
+            uri,
+            date: _,
+            in_hex: true,
+        } => bytes_of(rt.alloc(), uri).ok(),
+        Command::Replay {
+            archive: _,
+            uri,
+            date: _,
+            in_hex: false,
+        } => {
+            let mut bytes = Vec::new(rt.alloc());
+            bytes.extend_from_slice(uri.as_bytes()).ok()?;
+            Some(bytes)
+        }
+        _ => None,
+    }
+}
+
+/// The positions of the chosen record and of the one whose body was given, from the line that says so.
+fn positions_of(report: &[u8]) -> Option<(usize, usize)> {
+    let rest = str::from_utf8(report).ok()?.strip_prefix("chosen ")?;
+    let (chosen, rest) = rest.split_once(" given ")?;
+    let (given, _) = rest.split_once(" ")?;
+    Some((usize::from_str(chosen).ok()?, usize::from_str(given).ok()?))
+}
+
+/// Writes the date of the earliest capture of a URI.
+fn hint_earliest(host: &Host<'_>, file: HostFile<'_>, uri: &[u8]) -> io::Result<()> {
+    let Ok(archive) = Archive::open(host.rt.alloc(), file) else {
+        return Ok(());
+    };
+    let Ok(positions) = archive.captures_of(uri) else {
+        return Ok(());
+    };
+    match positions.first() {
+        Some(first) => match archive.row(*first) {
+            Some(row) => {
+                let date = str::from_utf8(row.date).unwrap_or("-");
+                host.progress.erase();
+                eprintln!(host.rt; "the earliest capture of this URI is of {date}")
+            }
+            None => Ok(()),
+        },
+        None => Ok(()),
+    }
+}
+
+/// Writes that two records state different payload digests, if both state one.
+fn hint_digests(
+    host: &Host<'_>,
+    file: HostFile<'_>,
+    chosen: usize,
+    given: usize,
+) -> io::Result<()> {
+    let Ok(mut listing) = Listing::open(host.rt.alloc(), file) else {
+        return Ok(());
+    };
+    let (Ok(first), Ok(second)) = (listing.head(chosen), listing.head(given)) else {
+        return Ok(());
+    };
+    match (
+        first.fields.first(PAYLOAD_DIGEST),
+        second.fields.first(PAYLOAD_DIGEST),
+    ) {
+        (Some(one), Some(other)) if one.bytes() != other.bytes() => {
+            host.progress.erase();
+            eprintln!(host.rt;
+                "record {chosen} states another payload digest than record {given}, whose body was given"
+            )
+        }
+        _ => Ok(()),
+    }
+}
