@@ -102,7 +102,7 @@ dist: all lib python page
 	@python3 tools/dist.py make
 
 verify-dist: all lib python page
-	@python3 tools/dist.py verify
+	@python3 tools/dist.py verify "$$FILE"
 
 test-package: bin/warc out/lib/libwarc.so python zogwedu.html man
 	@bash packaging/test.sh
@@ -112,6 +112,9 @@ stress: bin/warc
 
 page:
 	@python3 tools/build_page.py
+
+out/python/zogwedu/libwarc.so: out/lib/libwarc.so
+	@bash tests/callers/python.sh
 
 # Takes a built page as it is. Build anew with `make page`.
 zogwedu.html:

@@ -1,19 +1,18 @@
 #!/usr/bin/env bash
-# Makes the Debian package of a tarball, has lintian judge it, installs it, runs the program and removes it. As root.
+# Makes the Debian packages, has lintian judge them, installs them, runs their own tests, and removes them. As root.
 # On Debian it installs what it needs and isn't there.
-# Usage: test.sh TARBALL
+# Usage: test.sh
 set -euo pipefail
 here=$(dirname "$(readlink -f "${BASH_SOURCE[0]}")")
-bash "$here/../tools/need.sh" lintian:lintian man:man-db
+bash "$here/../tools/need.sh" lintian:lintian man:man-db dpkg-buildpackage:dpkg-dev dh:debhelper dh_python3:dh-python \
+    autopkgtest:autopkgtest gcc:gcc pkg-config:pkgconf
 folder=$(mktemp -d)
 trap 'rm -rf "$folder"' EXIT
 
-package=$(bash "$here/make_deb.sh" "$1" "$folder")
-lintian --fail-on error --tag-display-limit 0 "$package"
-dpkg --install "$package" > /dev/null
+bash "$here/build.sh" "$folder"
+lintian --fail-on error,warning --allow-root "$folder"/*.changes
+dpkg --install "$folder"/*.deb > /dev/null
 cd /
-/usr/bin/warc list /usr/share/doc/zogwedu/examples/abc.warc
-/usr/bin/warc-collection --help > /dev/null
 for page in $(dpkg --listfiles zogwedu | sed -n 's|^/usr/share/man/man\(.\)/\(.*\)\.\1\.gz$|\1/\2|p'); do
     MANWIDTH=80 man --warnings "${page%%/*}" "${page#*/}" > "$folder/page" 2> "$folder/warnings"
     if [ -s "$folder/warnings" ] || ! grep -q '^SYNOPSIS\|^DESCRIPTION' "$folder/page"; then
@@ -22,9 +21,15 @@ for page in $(dpkg --listfiles zogwedu | sed -n 's|^/usr/share/man/man\(.\)/\(.*
         exit 1
     fi
 done
-dpkg --remove zogwedu > /dev/null
-if [ -e /usr/bin/warc ] || [ -e /usr/share/doc/zogwedu ]; then
-    echo "the package left files behind" >&2
+for name in program python library; do
+    bash "$here/debian/tests/$name"
+    echo "the test $name passed"
+done
+packages=$(for deb in "$folder"/*.deb; do dpkg-deb --field "$deb" Package; done)
+# shellcheck disable=SC2086 # several words are wanted
+dpkg --remove $packages > /dev/null
+if [ -e /usr/bin/warc ] || [ -e /usr/share/doc/zogwedu ] || [ -e /usr/share/zogwedu ] || [ -e /usr/include/warc.h ]; then
+    echo "the packages left files" >&2
     exit 1
 fi
-echo "the package was installed, run and removed"
+echo "the packages were built, installed, tried and removed"

@@ -42,16 +42,26 @@ MACHINE = (
     "tools/install.py",
     "tools/dist.py",
     "tools/make_completions.py",
+    "tools/make_copyright.py",
     "tools/try_program.py",
     "tests/tools/test_install.py",
     "tests/stress/zwarc.py",
+)
+
+# The shell scripts of the packages.
+PACKAGING = (
+    "packaging/build.sh",
+    "packaging/test.sh",
+    "packaging/debian/tests/library",
+    "packaging/debian/tests/program",
+    "packaging/debian/tests/python",
 )
 
 # Debian's programs work with Debian's Python, so each is called by its own name.
 CHECKS = [
     Check("types of tools/lint_code.py", ("mypy", "--strict", "--follow-imports=silent", "tools/lint_code.py")),
     Check("layout of tools/lint_code.py", ("black", "--quiet", "--check", "--line-length=120", "tools/lint_code.py")),
-    Check("shell scripts", ("shellcheck", "shell/zwarc", "packaging/test.sh")),
+    Check("shell scripts", ("shellcheck", "shell/zwarc", *PACKAGING)),
     Check("types of scripts for the machine", ("mypy", "--strict", "--follow-imports=silent", *MACHINE)),
     Check("layout of scripts for the machine", ("black", "--quiet", "--check", "--line-length=120", *MACHINE)),
     Check("tools/install.py, tried", ("python3", "tests/tools/test_install.py")),

@@ -1,4 +1,6 @@
 """What the scripts of tools/ share: where the project is, its version, and the crates that the program is built from."""
+from __future__ import annotations
+
 import os
 import re
 import shutil
@@ -26,18 +28,18 @@ def version() -> str:
         return re.search(r'^const VERSION: &str = "(.*)";$', text.read(), re.MULTILINE)[1]
 
 
-def rows():
+def rows() -> dict[str, tuple[str, list[str]]]:
     """What a line of crates.txt says before its colon, by the crate's name, and which libraries the crate uses."""
     lines = [line.partition(":") for line in read("crates.txt").splitlines() if line and not line.startswith("#")]
     return {front.split()[0]: (front, uses.split()) for front, _, uses in lines}
 
 
-def crates():
+def crates() -> dict[str, list[str]]:
     """The libraries that each crate of crates.txt uses, by its name."""
     return {name: uses for name, (_, uses) in rows().items()}
 
 
-def below(name, uses):
+def below(name: str, uses: dict[str, list[str]]) -> list[str]:
     """A crate and the crates of the project that it is built from, lowest first."""
     found = []
     for it in uses[name]:
