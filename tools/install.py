@@ -116,7 +116,7 @@ def pkg_config(to: Place) -> str:
     return (
         f"prefix={prefix}\nlibdir={libdir}\nincludedir=${{prefix}}/include\n\n"
         "Name: warc\nDescription: Reads, checks and replays WARC archives by proved code\n"
-        f"Version: {version()}\nLibs: -L${{libdir}} -lwarc\nLibs.private: -lm\nCflags: -I${{includedir}}\n"
+        f"Version: {version()}\nLibs: -L${{libdir}} -lwarc -lm\nCflags: -I${{includedir}}\n"
     )
 
 
