@@ -5,7 +5,7 @@
 set -euo pipefail
 here=$(dirname "$(readlink -f "${BASH_SOURCE[0]}")")
 bash "$here/../tools/need.sh" lintian:lintian man:man-db dpkg-buildpackage:dpkg-dev dh:debhelper dh_python3:dh-python \
-    autopkgtest:autopkgtest gcc:gcc pkg-config:pkgconf
+    gcc:gcc pkg-config:pkgconf
 folder=$(mktemp -d)
 trap 'rm -rf "$folder"' EXIT
 
