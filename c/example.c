@@ -1,37 +1,69 @@
 /* example ARCHIVE URI DATE: prints what an archive has, and the page that was captured of a URI as of a date. */
 #include <fcntl.h>
 #include <stdio.h>
+#include <stdlib.h>
 #include <string.h>
 #include <sys/mman.h>
 #include <sys/stat.h>
+#include <unistd.h>
 
 #include "warc.h"
 
-static int fail(const warc_problem *problem) {
+static int fail(const char *what, const warc_problem *problem) {
     char text[64];
-    int length = (int)warc_problem_text(problem, text, sizeof text);
-    fprintf(stderr, "%.*s\n", length, text);
+    size_t length = warc_problem_text(problem, text, sizeof text);
+    fprintf(stderr, "%s: %.*s\n", what, (int)length, text);
     return 1;
 }
 
-int main(int argc, char **argv) {
+/* Maps a file. An empty one can't be mapped, and is no bytes. */
+static const uint8_t *map(const char *path, size_t *length) {
     struct stat facts;
-    int file = argc == 4 ? open(argv[1], O_RDONLY) : -1;
-    if (file < 0 || fstat(file, &facts) || facts.st_size == 0) return 2;
-    const uint8_t *bytes = mmap(NULL, (size_t)facts.st_size, PROT_READ, MAP_PRIVATE, file, 0);
+    int file = open(path, O_RDONLY);
+    void *bytes = MAP_FAILED;
+    if (file >= 0 && fstat(file, &facts) == 0) {
+        *length = (size_t)facts.st_size;
+        bytes = *length == 0 ? NULL : mmap(NULL, *length, PROT_READ, MAP_PRIVATE, file, 0);
+    }
+    if (bytes == MAP_FAILED) perror(path);
+    if (file >= 0) close(file);
+    return bytes;
+}
+
+/* Writes the body of a URI as of a date: first asks how many spans it has, then for all of them. */
+static int print_page(warc_archive *archive, const uint8_t *bytes, const char *uri, const char *date) {
+    warc_problem problem;
+    const uint8_t *uri_bytes = (const uint8_t *)uri, *date_bytes = (const uint8_t *)date;
+    size_t uri_length = strlen(uri), date_length = strlen(date);
+    size_t count = warc_replay(archive, uri_bytes, uri_length, date_bytes, date_length, NULL, NULL, 0, &problem);
+    warc_span *spans = calloc(count + 1, sizeof *spans);
+    if (spans == NULL) return 1;
+    warc_replay(archive, uri_bytes, uri_length, date_bytes, date_length, NULL, spans, count, &problem);
+    for (size_t i = 0; i < count; i++) fwrite(bytes + spans[i].offset, 1, spans[i].length, stdout);
+    free(spans);
+    return problem.code == 0 ? 0 : fail(uri, &problem);
+}
+
+int main(int argc, char **argv) {
+    if (argc != 4) {
+        fprintf(stderr, "usage: example ARCHIVE URI DATE\n");
+        return 2;
+    }
+    size_t length = 0;
+    const uint8_t *bytes = map(argv[1], &length);
     if (bytes == MAP_FAILED) return 2;
 
-    warc_archive archive = {0};
+    warc_archive *archive;
     warc_problem problem;
-    if (!warc_open(&archive, bytes, (size_t)facts.st_size, &problem)) return fail(&problem);
-    printf("%zu records\n", warc_count(&archive));
+    if (!warc_open(&archive, bytes, length, &problem)) return fail(argv[1], &problem);
+    printf("%zu records\n", warc_count(archive));
+    int status = print_page(archive, bytes, argv[2], argv[3]);
+    warc_close(archive);
 
-    warc_answer answer;
-    warc_span spans[16];
-    const uint8_t *uri = (const uint8_t *)argv[2], *date = (const uint8_t *)argv[3];
-    size_t count = warc_replay(&archive, uri, strlen(argv[2]), date, strlen(argv[3]), &answer, spans, 16, &problem);
-    if (problem.code) return fail(&problem);
-    for (size_t i = 0; i < count && i < 16; i++) fwrite(bytes + spans[i].offset, 1, spans[i].length, stdout);
-    warc_close(&archive);
-    return 0;
+    /* What stdout holds back is written here, and may fail here. */
+    if (fclose(stdout) != 0) {
+        perror("standard output");
+        return 1;
+    }
+    return status;
 }

@@ -2,26 +2,107 @@
  * take no null pointer. Nothing here knows the format. */
 #include "warc.h"
 
+#include <stdlib.h>
+#include <string.h>
+
+/* An archive in the form that the proved functions keep it. */
+typedef struct {
+    void *state;
+    bool is_open;
+} warc_handle;
+
+/* How long the name and the value of a field are. */
+typedef struct {
+    uint32_t name_length;
+    uint32_t value_length;
+} field_lengths;
+
+/* What the proved parser of HTTP heads says, and where a field is, by offsets in the block. */
+typedef struct {
+    uint64_t body_offset;
+    uint64_t reason_offset;
+    uint64_t reason_length;
+    uint32_t status;
+    uint32_t minor;
+} http_numbers;
+
+typedef struct {
+    uint64_t name_offset;
+    uint64_t name_length;
+    uint64_t value_offset;
+    uint64_t value_length;
+} http_field;
+
 /* A Global takes no bytes, so the proved functions get no argument for it. */
 uint32_t warc_rt_abi_version(void);
 size_t warc_rt_problem_text(const warc_problem *problem, uint8_t *text, size_t text_length);
-bool warc_rt_open(warc_archive *archive, const uint8_t *bytes, size_t length, warc_problem *problem);
-bool warc_rt_grow(warc_archive *archive, const uint8_t *bytes, size_t length, warc_problem *problem);
-void warc_rt_close(warc_archive *archive);
-size_t warc_rt_count(warc_archive *archive);
-size_t warc_rt_row(warc_archive *archive, size_t position, warc_row *row, uint8_t *texts, size_t texts_length,
+bool warc_rt_open(warc_handle *handle, const uint8_t *bytes, size_t length, warc_problem *problem);
+uint64_t warc_rt_front(const uint8_t *bytes, size_t length, warc_problem *problem);
+bool warc_rt_grow(warc_handle *handle, const uint8_t *old, size_t old_length, const uint8_t *bytes, size_t length,
+                  warc_problem *problem);
+void warc_rt_close(warc_handle *handle);
+size_t warc_rt_count(warc_handle *handle);
+size_t warc_rt_row(warc_handle *handle, size_t position, warc_row *row, uint8_t *texts, size_t texts_length,
                    warc_problem *problem);
-uint32_t warc_rt_verdict(warc_archive *archive, size_t position, warc_problem *problem);
-size_t warc_rt_captures(warc_archive *archive, const uint8_t *uri, size_t uri_length, uint64_t *positions,
+uint32_t warc_rt_verdict(warc_handle *handle, size_t position, warc_problem *problem);
+size_t warc_rt_fields(const uint8_t *head, size_t head_length, field_lengths *lengths, size_t lengths_length,
+                      uint8_t *texts, size_t texts_length, warc_problem *problem);
+size_t warc_rt_http(const uint8_t *block, size_t block_length, http_numbers *http, http_field *fields,
+                    size_t fields_length, warc_problem *problem);
+size_t warc_rt_captures(warc_handle *handle, const uint8_t *uri, size_t uri_length, uint64_t *positions,
                         size_t positions_length, warc_problem *problem);
-size_t warc_rt_replay(warc_archive *archive, const uint8_t *uri, size_t uri_length, const uint8_t *date,
+size_t warc_rt_replay(warc_handle *handle, const uint8_t *uri, size_t uri_length, const uint8_t *date,
                       size_t date_length, warc_answer *answer, warc_span *spans, size_t spans_length,
                       warc_problem *problem);
-size_t warc_rt_body(warc_archive *archive, size_t position, warc_answer *answer, warc_span *spans,
-                    size_t spans_length, warc_problem *problem);
-size_t warc_rt_list(warc_archive *archive, uint8_t *text, size_t text_length, warc_problem *problem);
-size_t warc_rt_check(warc_archive *archive, uint8_t *text, size_t text_length, warc_problem *problem);
+size_t warc_rt_body(warc_handle *handle, size_t position, warc_answer *answer, warc_span *spans, size_t spans_length,
+                    warc_problem *problem);
+size_t warc_rt_list(warc_handle *handle, uint8_t *text, size_t text_length, warc_problem *problem);
+size_t warc_rt_check(warc_handle *handle, uint8_t *text, size_t text_length, warc_problem *problem);
 size_t warc_rt_fixity(const uint8_t *bytes, size_t length, uint8_t *text, size_t text_length, warc_problem *problem);
+bool warc_rt_rewrite(const uint8_t *bytes, size_t length, int32_t file, uint64_t *sent, warc_problem *problem);
+bool warc_rt_convert(const uint8_t *bytes, size_t length, int32_t file, uint64_t *sent, warc_problem *problem);
+bool warc_rt_split(const uint8_t *bytes, size_t length, uint64_t size, int32_t file, uint64_t *sent,
+                   warc_problem *problem);
+bool warc_rt_make(const uint8_t *kind, size_t kind_length, const uint8_t *uri, size_t uri_length, const uint8_t *date,
+                  size_t date_length, const uint8_t *uuid, size_t uuid_length, const uint8_t *type, size_t type_length,
+                  const uint8_t *block, size_t block_length, int32_t file, uint64_t *sent, warc_problem *problem);
+
+/* No head of a record is longer, and a field takes at least four bytes of it: `a:` and CRLF. */
+enum { MOST_TEXTS = 65536, MOST_FIELDS = MOST_TEXTS / 4, MOST_HTTP_FIELDS = 256 };
+
+/* The fields of one record's head, as they were put. */
+typedef struct {
+    field_lengths lengths[MOST_FIELDS];
+    uint8_t texts[MOST_TEXTS];
+    size_t position;
+    size_t count;
+    size_t next;   /* the field that begins at `offset` of the texts */
+    size_t offset;
+} field_cache;
+
+/* The fields of the HTTP head of one record's block. */
+typedef struct {
+    http_field fields[MOST_HTTP_FIELDS];
+    http_numbers numbers;
+    size_t position;
+    size_t count;
+    const uint8_t *block;
+    warc_span span;
+} http_cache;
+
+typedef enum { NO_TEXT, LIST, CHECK, FIXITY } text_kind;
+
+struct warc_archive {
+    warc_handle handle;
+    const uint8_t *bytes;
+    size_t length;
+    size_t count;
+    uint8_t *text;
+    size_t text_length;
+    text_kind kind;
+    field_cache *fields;
+    http_cache *http;
+};
 
 /* What stands in for empty bytes and for buffers without room, aligned for any of the structs. */
 static _Alignas(16) uint8_t nothing[16];
@@ -32,7 +113,8 @@ static bool fits(const void *pointer, size_t length, size_t element) {
 }
 
 /* The same pointer, or one that isn't null. */
-static void *unless_null(const void *pointer) { return pointer ? (void *)(uintptr_t)pointer : (void *)nothing; }
+static const uint8_t *bytes_or_nothing(const uint8_t *pointer) { return pointer ? pointer : nothing; }
+static void *room_or_nothing(void *pointer) { return pointer ? pointer : (void *)nothing; }
 
 /* Sets a problem without details. */
 static void set(warc_problem *problem, uint32_t code) {
@@ -51,28 +133,85 @@ uint32_t warc_abi_version(void) { return warc_rt_abi_version(); }
 
 size_t warc_problem_text(const warc_problem *problem, char *text, size_t text_length) {
     if (problem == NULL || !fits(text, text_length, 1)) return 0;
-    return warc_rt_problem_text(problem, unless_null(text), text_length);
+    return warc_rt_problem_text(problem, room_or_nothing(text), text_length);
 }
 
-bool warc_open(warc_archive *archive, const uint8_t *bytes, size_t length, warc_problem *problem) {
+/* ---- An archive */
+
+/* Opens an archive over bytes that aren't null. */
+static bool open_bytes(warc_archive **archive, const uint8_t *bytes, size_t length, warc_problem *problem) {
+    warc_archive *made = calloc(1, sizeof *made);
+    if (made == NULL) {
+        set(problem, WARC_NO_MEMORY);
+        return false;
+    }
+    if (!warc_rt_open(&made->handle, bytes, length, problem)) {
+        free(made);
+        return false;
+    }
+    made->bytes = bytes;
+    made->length = length;
+    made->count = warc_rt_count(&made->handle);
+    *archive = made;
+    return true;
+}
+
+bool warc_open(warc_archive **archive, const uint8_t *bytes, size_t length, warc_problem *problem) {
     warc_problem none;
     if (problem == NULL) problem = &none;
+    if (archive != NULL) *archive = NULL;
     if (!begin(archive != NULL && fits(bytes, length, 1), problem)) return false;
-    return warc_rt_open(archive, unless_null(bytes), length, problem);
+    return open_bytes(archive, bytes_or_nothing(bytes), length, problem);
+}
+
+bool warc_open_front(warc_archive **archive, const uint8_t *bytes, size_t length, warc_problem *fault,
+                     warc_problem *problem) {
+    warc_problem none, unread;
+    if (problem == NULL) problem = &none;
+    if (fault == NULL) fault = &unread;
+    if (archive != NULL) *archive = NULL;
+    if (!begin(archive != NULL && fits(bytes, length, 1), problem)) return false;
+    set(fault, 0);
+    uint64_t end = warc_rt_front(bytes_or_nothing(bytes), length, fault);
+    return open_bytes(archive, bytes_or_nothing(bytes), (size_t)end, problem);
+}
+
+/* Drops what was computed of the archive's bytes. */
+static void drop_computed(warc_archive *archive) {
+    free(archive->text);
+    free(archive->fields);
+    free(archive->http);
+    archive->text = NULL;
+    archive->kind = NO_TEXT;
+    archive->fields = NULL;
+    archive->http = NULL;
 }
 
 bool warc_grow(warc_archive *archive, const uint8_t *bytes, size_t length, warc_problem *problem) {
     warc_problem none;
     if (problem == NULL) problem = &none;
     if (!begin(archive != NULL && fits(bytes, length, 1), problem)) return false;
-    return warc_rt_grow(archive, unless_null(bytes), length, problem);
+    bytes = bytes_or_nothing(bytes);
+    if (!warc_rt_grow(&archive->handle, archive->bytes, archive->length, bytes, length, problem)) return false;
+    archive->bytes = bytes;
+    archive->length = length;
+    archive->count = warc_rt_count(&archive->handle);
+    drop_computed(archive);
+    return true;
 }
 
 void warc_close(warc_archive *archive) {
-    if (archive != NULL) warc_rt_close(archive);
+    if (archive == NULL) return;
+    drop_computed(archive);
+    warc_rt_close(&archive->handle);
+    free(archive);
 }
 
-size_t warc_count(warc_archive *archive) { return archive != NULL ? warc_rt_count(archive) : 0; }
+size_t warc_count(const warc_archive *archive) { return archive != NULL ? archive->count : 0; }
+
+size_t warc_length(const warc_archive *archive) { return archive != NULL ? archive->length : 0; }
+
+/* ---- Records */
 
 size_t warc_row_at(warc_archive *archive, size_t position, warc_row *row, uint8_t *texts, size_t texts_length,
                    warc_problem *problem) {
@@ -80,7 +219,8 @@ size_t warc_row_at(warc_archive *archive, size_t position, warc_row *row, uint8_
     warc_row unread;
     if (problem == NULL) problem = &none;
     if (!begin(archive != NULL && fits(texts, texts_length, 1), problem)) return 0;
-    return warc_rt_row(archive, position, row != NULL ? row : &unread, unless_null(texts), texts_length, problem);
+    return warc_rt_row(&archive->handle, position, row != NULL ? row : &unread, room_or_nothing(texts), texts_length,
+                       problem);
 }
 
 /* The row of a record, without its texts. */
@@ -113,9 +253,111 @@ uint32_t warc_verdict_at(warc_archive *archive, size_t position, warc_problem *p
     warc_problem none;
     if (problem == NULL) problem = &none;
     if (!begin(archive != NULL, problem)) return WARC_UNCHECKED;
-    uint32_t verdict = warc_rt_verdict(archive, position, problem);
-    return problem->code == 0 ? verdict : WARC_UNCHECKED;
+    return warc_rt_verdict(&archive->handle, position, problem);
 }
+
+/* ---- Fields */
+
+/* Memory that is kept until the archive grows or is closed. */
+static bool make_room(void **room, size_t size, warc_problem *problem) {
+    if (*room == NULL) *room = calloc(1, size);
+    if (*room == NULL) set(problem, WARC_NO_MEMORY);
+    return *room != NULL;
+}
+
+/* Puts the fields of a record's head, unless they are those that were put last. */
+static bool read_fields(warc_archive *archive, size_t position, warc_problem *problem) {
+    warc_span head;
+    field_cache *kept = archive->fields;
+    if (kept != NULL && kept->count != 0 && kept->position == position) return true;
+    if (!warc_head_at(archive, position, &head, problem)) return false;
+    if (!make_room((void **)&archive->fields, sizeof *archive->fields, problem)) return false;
+    kept = archive->fields;
+    kept->position = position;
+    kept->next = 0;
+    kept->offset = 0;
+    kept->count = warc_rt_fields(archive->bytes + head.offset, (size_t)head.length, kept->lengths, MOST_FIELDS,
+                                 kept->texts, MOST_TEXTS, problem);
+    return problem->code == 0;
+}
+
+/* Moves to a field: forward from the last one, and else from the first. */
+static bool find_field(field_cache *kept, size_t place) {
+    if (place < kept->next) {
+        kept->next = 0;
+        kept->offset = 0;
+    }
+    while (kept->next < place) {
+        const field_lengths *passed = &kept->lengths[kept->next++];
+        kept->offset += (size_t)passed->name_length + passed->value_length;
+    }
+    const field_lengths *found = &kept->lengths[place];
+    return kept->offset + found->name_length + found->value_length <= MOST_TEXTS;
+}
+
+bool warc_field_at(warc_archive *archive, size_t position, size_t place, warc_field *field, warc_problem *problem) {
+    warc_problem none;
+    if (problem == NULL) problem = &none;
+    if (!begin(archive != NULL && field != NULL, problem)) return false;
+    if (!read_fields(archive, position, problem)) return false;
+    field_cache *kept = archive->fields;
+    if (place >= kept->count || place >= MOST_FIELDS || !find_field(kept, place)) return false;
+    field->name = kept->texts + kept->offset;
+    field->name_length = kept->lengths[place].name_length;
+    field->value = field->name + field->name_length;
+    field->value_length = kept->lengths[place].value_length;
+    return true;
+}
+
+/* Parses the HTTP head of a record's block, unless it is the one that was parsed last. */
+static bool read_http(warc_archive *archive, size_t position, warc_problem *problem) {
+    warc_span block;
+    http_cache *kept = archive->http;
+    if (kept != NULL && kept->block != NULL && kept->position == position) return true;
+    if (!warc_block_at(archive, position, &block, problem)) return false;
+    if (!make_room((void **)&archive->http, sizeof *archive->http, problem)) return false;
+    kept = archive->http;
+    kept->block = NULL;
+    kept->position = position;
+    kept->span = block;
+    kept->count = warc_rt_http(archive->bytes + block.offset, (size_t)block.length, &kept->numbers, kept->fields,
+                               MOST_HTTP_FIELDS, problem);
+    if (problem->code == 0) kept->block = archive->bytes + block.offset;
+    return problem->code == 0;
+}
+
+bool warc_http_at(warc_archive *archive, size_t position, warc_http *http, warc_problem *problem) {
+    warc_problem none;
+    if (problem == NULL) problem = &none;
+    if (!begin(archive != NULL && http != NULL, problem)) return false;
+    if (!read_http(archive, position, problem)) return false;
+    const http_cache *kept = archive->http;
+    http->status = kept->numbers.status;
+    http->minor = kept->numbers.minor;
+    http->reason = kept->block + kept->numbers.reason_offset;
+    http->reason_length = (size_t)kept->numbers.reason_length;
+    http->fields = kept->count;
+    http->body.offset = kept->span.offset + kept->numbers.body_offset;
+    http->body.length = kept->span.length - kept->numbers.body_offset;
+    return true;
+}
+
+bool warc_http_field_at(warc_archive *archive, size_t position, size_t place, warc_field *field,
+                        warc_problem *problem) {
+    warc_problem none;
+    if (problem == NULL) problem = &none;
+    if (!begin(archive != NULL && field != NULL, problem)) return false;
+    if (!read_http(archive, position, problem)) return false;
+    const http_cache *kept = archive->http;
+    if (place >= kept->count || place >= MOST_HTTP_FIELDS) return false;
+    field->name = kept->block + kept->fields[place].name_offset;
+    field->name_length = (size_t)kept->fields[place].name_length;
+    field->value = kept->block + kept->fields[place].value_offset;
+    field->value_length = (size_t)kept->fields[place].value_length;
+    return true;
+}
+
+/* ---- Bodies */
 
 size_t warc_captures(warc_archive *archive, const uint8_t *uri, size_t uri_length, uint64_t *positions,
                      size_t positions_length, warc_problem *problem) {
@@ -123,7 +365,8 @@ size_t warc_captures(warc_archive *archive, const uint8_t *uri, size_t uri_lengt
     if (problem == NULL) problem = &none;
     bool are_good = archive != NULL && fits(uri, uri_length, 1) && fits(positions, positions_length, sizeof *positions);
     if (!begin(are_good, problem)) return 0;
-    return warc_rt_captures(archive, unless_null(uri), uri_length, unless_null(positions), positions_length, problem);
+    return warc_rt_captures(&archive->handle, bytes_or_nothing(uri), uri_length, room_or_nothing(positions),
+                            positions_length, problem);
 }
 
 size_t warc_replay(warc_archive *archive, const uint8_t *uri, size_t uri_length, const uint8_t *date,
@@ -135,8 +378,8 @@ size_t warc_replay(warc_archive *archive, const uint8_t *uri, size_t uri_length,
     bool are_good = archive != NULL && fits(uri, uri_length, 1) && fits(date, date_length, 1)
         && fits(spans, spans_length, sizeof *spans);
     if (!begin(are_good, problem)) return 0;
-    return warc_rt_replay(archive, unless_null(uri), uri_length, unless_null(date), date_length,
-                          answer != NULL ? answer : &unread, unless_null(spans), spans_length, problem);
+    return warc_rt_replay(&archive->handle, bytes_or_nothing(uri), uri_length, bytes_or_nothing(date), date_length,
+                          answer != NULL ? answer : &unread, room_or_nothing(spans), spans_length, problem);
 }
 
 size_t warc_body_at(warc_archive *archive, size_t position, warc_answer *answer, warc_span *spans,
@@ -145,26 +388,113 @@ size_t warc_body_at(warc_archive *archive, size_t position, warc_answer *answer,
     warc_answer unread;
     if (problem == NULL) problem = &none;
     if (!begin(archive != NULL && fits(spans, spans_length, sizeof *spans), problem)) return 0;
-    return warc_rt_body(archive, position, answer != NULL ? answer : &unread, unless_null(spans), spans_length, problem);
+    return warc_rt_body(&archive->handle, position, answer != NULL ? answer : &unread, room_or_nothing(spans),
+                        spans_length, problem);
+}
+
+/* ---- Texts of the whole archive */
+
+/* Asks the proved function for a text. */
+static size_t compute(warc_archive *archive, text_kind kind, uint8_t *text, size_t length, warc_problem *problem) {
+    if (kind == LIST) return warc_rt_list(&archive->handle, text, length, problem);
+    if (kind == CHECK) return warc_rt_check(&archive->handle, text, length, problem);
+    return warc_rt_fixity(archive->bytes, archive->length, text, length, problem);
+}
+
+/* Computes a text and keeps it. One that is longer than the first room is computed again, into as much as it takes. */
+static bool keep_text(warc_archive *archive, text_kind kind, warc_problem *problem) {
+    size_t room = 1 << 20;
+    free(archive->text);
+    archive->kind = NO_TEXT;
+    for (int tries = 0; tries < 2; tries++) {
+        archive->text = malloc(room);
+        if (archive->text == NULL) break;
+        archive->text_length = compute(archive, kind, archive->text, room, problem);
+        if (problem->code != 0) return false;
+        if (archive->text_length <= room) {
+            archive->kind = kind;
+            return true;
+        }
+        room = archive->text_length;
+        free(archive->text);
+        archive->text = NULL;
+    }
+    set(problem, WARC_NO_MEMORY);
+    return false;
+}
+
+/* The text that is kept, or that is computed now. */
+static size_t put_text(warc_archive *archive, text_kind kind, uint8_t *text, size_t length, warc_problem *problem) {
+    warc_problem none;
+    if (problem == NULL) problem = &none;
+    if (!begin(archive != NULL && fits(text, length, 1), problem)) return 0;
+    if (archive->kind != kind && !keep_text(archive, kind, problem)) return 0;
+    size_t count = archive->text_length < length ? archive->text_length : length;
+    if (count != 0) memcpy(text, archive->text, count);
+    return archive->text_length;
 }
 
 size_t warc_list(warc_archive *archive, uint8_t *text, size_t text_length, warc_problem *problem) {
-    warc_problem none;
-    if (problem == NULL) problem = &none;
-    if (!begin(archive != NULL && fits(text, text_length, 1), problem)) return 0;
-    return warc_rt_list(archive, unless_null(text), text_length, problem);
+    return put_text(archive, LIST, text, text_length, problem);
 }
 
 size_t warc_check(warc_archive *archive, uint8_t *text, size_t text_length, warc_problem *problem) {
-    warc_problem none;
-    if (problem == NULL) problem = &none;
-    if (!begin(archive != NULL && fits(text, text_length, 1), problem)) return 0;
-    return warc_rt_check(archive, unless_null(text), text_length, problem);
+    return put_text(archive, CHECK, text, text_length, problem);
 }
 
-size_t warc_fixity(const uint8_t *bytes, size_t length, uint8_t *text, size_t text_length, warc_problem *problem) {
+size_t warc_fixity(warc_archive *archive, uint8_t *text, size_t text_length, warc_problem *problem) {
+    return put_text(archive, FIXITY, text, text_length, problem);
+}
+
+/* ---- Writing */
+
+/* Begins a call that writes: nothing is sent, unless an argument is bad. */
+static bool begin_writing(bool are_good, uint64_t *sent, warc_problem *problem) {
+    *sent = 0;
+    return begin(are_good, problem);
+}
+
+bool warc_rewrite(const uint8_t *bytes, size_t length, int file, uint64_t *sent, warc_problem *problem) {
     warc_problem none;
+    uint64_t unread;
     if (problem == NULL) problem = &none;
-    if (!begin(fits(bytes, length, 1) && fits(text, text_length, 1), problem)) return 0;
-    return warc_rt_fixity(unless_null(bytes), length, unless_null(text), text_length, problem);
+    if (sent == NULL) sent = &unread;
+    if (!begin_writing(fits(bytes, length, 1), sent, problem)) return false;
+    return warc_rt_rewrite(bytes_or_nothing(bytes), length, file, sent, problem);
+}
+
+bool warc_convert(const uint8_t *bytes, size_t length, int file, uint64_t *sent, warc_problem *problem) {
+    warc_problem none;
+    uint64_t unread;
+    if (problem == NULL) problem = &none;
+    if (sent == NULL) sent = &unread;
+    if (!begin_writing(fits(bytes, length, 1), sent, problem)) return false;
+    return warc_rt_convert(bytes_or_nothing(bytes), length, file, sent, problem);
+}
+
+bool warc_split(const uint8_t *bytes, size_t length, uint64_t size, int file, uint64_t *sent, warc_problem *problem) {
+    warc_problem none;
+    uint64_t unread;
+    if (problem == NULL) problem = &none;
+    if (sent == NULL) sent = &unread;
+    if (!begin_writing(size != 0 && fits(bytes, length, 1), sent, problem)) return false;
+    return warc_rt_split(bytes_or_nothing(bytes), length, size, file, sent, problem);
+}
+
+/* Whether passed bytes are there. */
+static bool are_there(const warc_bytes *passed) { return fits(passed->bytes, passed->length, 1); }
+
+bool warc_make(const warc_draft *draft, int file, uint64_t *sent, warc_problem *problem) {
+    warc_problem none;
+    uint64_t unread;
+    if (problem == NULL) problem = &none;
+    if (sent == NULL) sent = &unread;
+    bool are_good = draft != NULL && are_there(&draft->kind) && are_there(&draft->uri) && are_there(&draft->date)
+        && are_there(&draft->uuid) && are_there(&draft->type) && are_there(&draft->block);
+    if (!begin_writing(are_good, sent, problem)) return false;
+    return warc_rt_make(bytes_or_nothing(draft->kind.bytes), draft->kind.length, bytes_or_nothing(draft->uri.bytes),
+                        draft->uri.length, bytes_or_nothing(draft->date.bytes), draft->date.length,
+                        bytes_or_nothing(draft->uuid.bytes), draft->uuid.length, bytes_or_nothing(draft->type.bytes),
+                        draft->type.length, bytes_or_nothing(draft->block.bytes), draft->block.length, file, sent,
+                        problem);
 }

@@ -1,57 +1,66 @@
-/* warc.h: reads, checks and replays WARC archives (ISO 28500:2017, stored uncompressed) over bytes in memory.
+/* warc.h: reads, checks, replays and writes WARC archives (ISO 28500:2017, stored uncompressed) over bytes in memory.
  *
  * The library never copies the bytes of an archive. They are a file that is mapped into memory, or any other memory;
  * heads, blocks and bodies are answered as offsets and lengths within it.
  *
- *     warc_archive archive = {0};
- *     warc_problem problem = {0};
+ *     warc_archive *archive;
+ *     warc_problem problem;
  *     if (warc_open(&archive, bytes, length, &problem)) {
- *         printf("%zu records\n", warc_count(&archive));
- *         warc_close(&archive);
+ *         printf("%zu records\n", warc_count(archive));
+ *         warc_close(archive);
  *     }
  *
- * Link with libwarc.a or libwarc.so. Neither needs anything but the C library.
+ * Link with libwarc.a or libwarc.so. Neither needs anything but the C library. docs/C.md has whole programs.
  *
  * UNITS. Offsets and lengths are bytes. Offsets begin at the first byte of the archive. Positions are the numbers of
  * records, from 0, in their order.
  *
  * TEXTS are bytes with a length, and end with no zero byte. A call that gives a text writes as many bytes as the buffer
  * has room for, and answers the length of the whole text: if that is more, call again with a larger buffer. A buffer of
- * length 0 asks for the length alone. Calls that give spans or positions do the same, in elements.
+ * length 0 asks for the length alone. Calls that give spans or positions do the same, in elements. What is in a buffer
+ * after what was written, and after a problem, stays as it was.
  *
- * PROBLEMS. A call that fails sets `*problem` and answers 0 or false; one that succeeds sets it to {0}. A problem has a
- * code, listed below, and warc_problem_text gives its text, as the program `warc` prints it. `problem` may be null.
+ * PROBLEMS. A call that fails sets `*problem` and answers 0, false or WARC_UNCHECKED; one that succeeds sets it to {0}.
+ * A problem has a code, listed below, and warc_problem_text gives its text, as the program `warc` prints it. `problem`
+ * may be null. Any call with a `problem` may fail with WARC_BAD_ARGUMENT; what else it may fail with is said at the
+ * call. Where it isn't said otherwise, a call that fails leaves the archive and the caller's buffers as they were.
  *
- * POINTERS. A null pointer with length 0 is empty bytes, an empty text or no buffer. A null pointer with another length,
- * a length above PTRDIFF_MAX and a null handle are WARC_BAD_ARGUMENT. Any other pointer must lead to as many bytes or
- * elements as its length says; buffers that are written must not overlap anything else that is passed.
+ * POINTERS. A null pointer with length 0 is empty bytes, an empty text or no buffer. A null pointer with another
+ * length, a length above PTRDIFF_MAX and a null archive are WARC_BAD_ARGUMENT. Any other pointer must lead to as many
+ * bytes or elements as its length says; buffers that are written must not overlap anything else that is passed.
  *
- * LIFETIMES. An archive keeps the address of its bytes. They must stay where they are, and as they are, until warc_close,
- * or until warc_open or a warc_grow that succeeds gives it others. A warc_archive is {0} before its first call and must
- * not be copied. warc_close frees all that it holds, and leaves it as {0}; closing it again does nothing. Texts, spans
- * and positions are the caller's.
+ * LIFETIMES. An archive keeps the address of its bytes. They must stay where they are, and as they are, until
+ * warc_close, or until a warc_grow that succeeds gives it others. warc_close frees all that an archive holds, and the
+ * archive: it isn't used again. Texts, spans and positions are the caller's. What a warc_field points to is the
+ * library's, and stays until the next call of warc_field_at for another record of the archive, warc_grow or warc_close.
  *
- * A mapped file that becomes shorter kills the process by SIGBUS when its lost bytes are read. Read a file into memory if
- * others may shorten it.
+ * MAPPED FILES. A read of a mapped file that fails kills the process by SIGBUS: where the file became shorter, and
+ * where the disk or the network behind it fails. Read a file into memory where that may happen and the process must
+ * live.
  *
- * THREADS. A handle is used by one thread at a time, in any thread. Handles share nothing: each thread may use its own,
- * also over the same bytes. No call is made from a signal handler.
+ * THREADS. An archive is used by one thread at a time, in any thread. Archives share nothing: each thread may use its
+ * own, also over the same bytes. No call is made from a signal handler.
  *
- * MEMORY comes from malloc, realloc and free. If it runs out, the answer is WARC_FAULT_MEMORY or WARC_NO_MEMORY, and the
- * archive stays as it was. An archive keeps rows and an index, and no block: 300 bytes for each record of a crawl by wget.
+ * MEMORY comes from malloc, realloc and free. If it runs out, the answer is WARC_FAULT_MEMORY or WARC_NO_MEMORY, and
+ * the archive stays as it was. An archive keeps rows and an index, and no block: 300 bytes for each record of a crawl
+ * by wget. It also keeps the text of warc_list, warc_check or warc_fixity that it gave last, until it gives another or
+ * grows, so that the second call for a text copies it; and some 200 KiB once warc_field_at was called.
  *
- * TIME. warc_open reads each byte once, warc_grow each new one, and neither hashes anything. A block is hashed where its
- * verdict is asked for: by warc_verdict_at that of one record, by warc_check and warc_fixity those of all records whose
- * digests can be checked, by warc_replay and warc_body_at those that are joined.
+ * TIME. warc_open reads each byte once, warc_grow each new one, warc_open_front each byte twice, and none hashes
+ * anything. A block is hashed where its verdict is asked for: by warc_verdict_at that of one record, by warc_check and
+ * warc_fixity those of all records whose digests can be checked, by warc_replay and warc_body_at those that are joined.
  *
- * PROVED. A call over a handle is one call of a library function whose contract says what is answered and what is put into
- * the buffers: put_row, verdict_at, put_captures, put_replay, put_body, put_list or put_check of the crate warc_lent, count
- * or grow of warc. Around it the archive is taken out of the handle and put back, and a problem becomes numbers.
- * warc_head_at and warc_block_at take theirs from the row. warc_open, warc_fixity, warc_problem_text and
- * warc_abi_version state their contracts themselves; warc_open answers true only for bytes that spell good records, and
- * otherwise gives their first fault, or says that memory ran out. No contract says that a handle holds the archive that was
- * opened: contracts see no value of a struct that C keeps (docs/PROMISES.md). What this page demands of the caller isn't
- * checked by anybody, and warc.c, which checks pointers, isn't proved.
+ * PROVED. A call over an archive is one call of a library function whose contract says what is answered and what is put
+ * into the buffers: put_row, verdict_at, put_captures, put_replay, put_body, put_list, put_check or grow_lent of the
+ * crate warc_lent, or count of warc. Around it the archive is taken out of its handle and put back, and a problem
+ * becomes numbers. warc_head_at and warc_block_at take theirs from the row. warc_open, warc_open_front, warc_field_at,
+ * warc_http_at, warc_http_field_at, warc_fixity, warc_problem_text and warc_abi_version call functions over bytes that
+ * state their contracts themselves; warc_open answers true only for bytes that spell good records, and otherwise gives
+ * their first fault, or says that memory ran out. warc_rewrite, warc_convert, warc_split and warc_make are one call of
+ * write_lent, split_lent or make_lent each, whose contract says what goes to a sink; that a descriptor takes these
+ * bytes is write's matter. No contract says that a handle holds the archive that was opened: contracts see no value of
+ * a struct that C keeps (docs/PROMISES.md). What this page demands of the caller isn't checked by anybody, and warc.c,
+ * which checks pointers, keeps texts and finds fields in what was put, isn't proved.
  */
 #ifndef WARC_H
 #define WARC_H
@@ -65,9 +74,10 @@ extern "C" {
 #endif
 
 /* The version of this interface. It changes with any change of a call, a struct or a number here. */
-#define WARC_ABI_VERSION 2
+#define WARC_ABI_VERSION 3
 
-/* The version that the library has. A program that loads the library compares it with WARC_ABI_VERSION. */
+/* The version that the library has. It never fails. A program that loads the library compares it with
+ * WARC_ABI_VERSION. */
 uint32_t warc_abi_version(void);
 
 /* ---- Problems */
@@ -86,7 +96,7 @@ enum {
     WARC_FAULT_END = 10,            /* F10: no CRLF CRLF follows the block. */
     WARC_FAULT_TRUNCATED = 11,      /* F11: the bytes end before the record does. */
     WARC_FAULT_TOO_LONG = 12,       /* F12: there is a byte at offset 2^48. */
-    WARC_FAULT_READ = 13,           /* F13: a read failed; never over bytes in memory. */
+    WARC_FAULT_READ = 13,           /* F13: a read failed. No call of this page answers it. */
     WARC_FAULT_MEMORY = 14,         /* F14: memory ran out. */
 
     /* There is no body. */
@@ -106,8 +116,16 @@ enum {
     WARC_CHANGED = 203,             /* The bytes aren't what they were when the archive was opened. */
     WARC_NO_MEMORY = 204,           /* Memory ran out. */
     WARC_BAD_DATE = 205,            /* The text is no date. */
-    WARC_NOT_OPEN = 206,            /* No archive is open. */
-    WARC_BAD_ARGUMENT = 207         /* A pointer is null, or a length above PTRDIFF_MAX. */
+    WARC_NOT_OPEN = 206,            /* No archive is open. No call of this page answers it. */
+    WARC_BAD_ARGUMENT = 207,        /* A pointer is null, or a length above PTRDIFF_MAX. */
+    WARC_WRITE_FAILED = 208,        /* A write failed, or took nothing. */
+
+    /* No record is made. */
+    WARC_MADE_DATE = 301,           /* M1: the date is none. */
+    WARC_MADE_TEXT = 302,           /* M2: the URI, the UUID or the type is none. */
+    WARC_MADE_TOO_LONG = 303,       /* M3: the head or the block is too long. */
+    WARC_MADE_NO_MEMORY = 304,      /* M4: memory ran out. */
+    WARC_MADE_KIND = 305            /* M5: the kind isn't resource, metadata or conversion. */
 };
 
 /* `detail` of WARC_FAULT_MISSING and WARC_FAULT_REPEATED. */
@@ -120,35 +138,48 @@ typedef struct {
     uint64_t number;
 } warc_problem;
 
-/* The text of a problem, such as "F10 End at 274"; 64 bytes hold any. Answers its length, 0 if it is no problem. */
+/* The text of a problem, such as "F10 End at 274"; 64 bytes hold any. Answers its length; 0 for a null pointer and for
+ * what is no problem, and where memory runs out. */
 size_t warc_problem_text(const warc_problem *problem, char *text, size_t text_length);
 
 /* ---- An archive */
 
-/* An open archive, or none. Its members are the library's. */
-typedef struct {
-    void *state;
-    bool is_open;
-} warc_archive;
+/* An open archive. */
+typedef struct warc_archive warc_archive;
 
-/* Opens an archive over these bytes: reads them once, in order, and hashes nothing. If one is open, that is closed first.
- * Answers false if the bytes are refused, with the first fault and its offset. */
-bool warc_open(warc_archive *archive, const uint8_t *bytes, size_t length, warc_problem *problem);
+/* Opens an archive over these bytes: reads them once, in order, and hashes nothing. Answers true and sets `*archive`.
+ * Answers false and sets `*archive` to null where the bytes are refused, with the first fault and its offset
+ * (WARC_FAULT_VERSION to WARC_FAULT_TOO_LONG), or where memory runs out (WARC_FAULT_MEMORY, WARC_NO_MEMORY). */
+bool warc_open(warc_archive **archive, const uint8_t *bytes, size_t length, warc_problem *problem);
 
-/* Reads on in bytes that begin with those of the archive, where it stopped, and has these bytes from then on. A refusal
- * leaves it as it was, over its old bytes. Bytes that aren't longer add nothing. */
+/* Opens the good front of these bytes: the records before their first fault. Nothing is skipped and nothing is
+ * mended. Answers true, sets `*archive`, and sets `*fault` to the fault after these records, or to {0} where the
+ * whole is an archive. The front may have no records. Answers false and sets `*archive` to null where memory runs
+ * out. `fault` may be null. */
+bool warc_open_front(warc_archive **archive, const uint8_t *bytes, size_t length, warc_problem *fault,
+                     warc_problem *problem);
+
+/* Reads on in bytes that begin with those of the archive, where it stopped, and has these bytes from then on. Both
+ * the old and the new bytes must be there during the call. Answers true if the archive has these bytes now; bytes of
+ * the old length add no record. Answers false, and leaves the archive as it was, over its old bytes: WARC_CHANGED
+ * where the new bytes are fewer, or where the head of the last record isn't what it was, byte for byte (the bytes
+ * before it aren't compared); or a fault of what follows, as warc_open gives it. */
 bool warc_grow(warc_archive *archive, const uint8_t *bytes, size_t length, warc_problem *problem);
 
-/* Closes the archive, if one is open. A null pointer does nothing. */
+/* Closes an archive and frees it. A null pointer does nothing. */
 void warc_close(warc_archive *archive);
 
-/* How many records there are; 0 if no archive is open. */
-size_t warc_count(warc_archive *archive);
+/* How many records there are; 0 for a null pointer. */
+size_t warc_count(const warc_archive *archive);
+
+/* How many bytes the records have, from offset 0 on: all that the archive was opened over, or those of the good
+ * front; 0 for a null pointer. */
+size_t warc_length(const warc_archive *archive);
 
 /* ---- Records */
 
-/* What is kept of a record. `offset` is that of its first byte; its head ends where its block begins. Each text has fewer
- * than 65,536 bytes. `is_truncated` is 1 if the record says that its block isn't whole. */
+/* What is kept of a record. `offset` is that of its first byte; its head ends where its block begins. Each text has
+ * fewer than 65,536 bytes. `is_truncated` is 1 if the record says that its block isn't whole. */
 typedef struct {
     uint64_t offset;
     uint64_t block_offset;
@@ -162,7 +193,7 @@ typedef struct {
 
 /* What is kept of the record at a position, and its texts: its type, date, id and target, one after another, without
  * separators. An absent target has length 0. 65,536 bytes hold the texts of any record. Answers their length, 0 with
- * WARC_NO_RECORD or WARC_NOT_OPEN. `row` may be null. */
+ * WARC_NO_RECORD. `row` may be null. */
 size_t warc_row_at(warc_archive *archive, size_t position, warc_row *row, uint8_t *texts, size_t texts_length,
                    warc_problem *problem);
 
@@ -172,7 +203,8 @@ typedef struct {
     uint64_t length;
 } warc_span;
 
-/* Where the head and the block of the record at a position are. The head ends with its empty line. */
+/* Where the head and the block of the record at a position are. The head ends with its empty line. Answer true and set
+ * `*span`; false with WARC_NO_RECORD. */
 bool warc_head_at(warc_archive *archive, size_t position, warc_span *span, warc_problem *problem);
 bool warc_block_at(warc_archive *archive, size_t position, warc_span *span, warc_problem *problem);
 
@@ -180,14 +212,52 @@ bool warc_block_at(warc_archive *archive, size_t position, warc_span *span, warc
 enum { WARC_GOOD = 0, WARC_BAD = 1, WARC_UNCHECKED = 2 };
 
 /* How the block of the record at a position compares with its digest: WARC_GOOD, WARC_BAD or WARC_UNCHECKED, the last
- * also with a problem. Reads the head again, and the block too if its digest can be checked. Nothing of it is kept: each
- * call reads anew. WARC_CHANGED says that the bytes aren't what they were. */
+ * also with a problem: WARC_NO_RECORD, WARC_NO_MEMORY or WARC_CHANGED, which says that the bytes aren't what they were.
+ * Reads the head again, and the block too if its digest can be checked. Nothing of it is kept: each call reads anew. */
 uint32_t warc_verdict_at(warc_archive *archive, size_t position, warc_problem *problem);
+
+/* ---- Fields */
+
+/* A field: its name as it is written, and its value. Neither ends with a zero byte. */
+typedef struct {
+    const uint8_t *name;
+    size_t name_length;
+    const uint8_t *value;
+    size_t value_length;
+} warc_field;
+
+/* The field at a place, counted from 0, of the head of the record at a position. Names may repeat; they are in the
+ * order of the head. The value of a folded field is one line. Answers true and sets `*field`; false with {0} where
+ * the head has no more fields; false with WARC_NO_RECORD, WARC_NO_MEMORY, or WARC_CHANGED where the bytes aren't
+ * what they were. The head is parsed once for all its fields, as long as no other record's are asked for. */
+bool warc_field_at(warc_archive *archive, size_t position, size_t place, warc_field *field, warc_problem *problem);
+
+/* What the head of an HTTP response says, which begins the block of a record: the three digits of its status, its
+ * minor version (1 for HTTP/1.1), its reason phrase, how many fields it has, and where the body is, in the block of
+ * this record and as it is stored: chunked or compressed where a field says so. */
+typedef struct {
+    uint32_t status;
+    uint32_t minor;
+    const uint8_t *reason;
+    size_t reason_length;
+    size_t fields;
+    warc_span body;
+} warc_http;
+
+/* What the head of the HTTP response says that begins the block of the record at a position, whatever the record's
+ * type. The head is read as a replay reads it. Answers true and sets `*http`; false with WARC_NO_RECORD, or
+ * WARC_BAD_HEAD where the block begins with no whole head of at most 65,536 bytes and 256 fields. */
+bool warc_http_at(warc_archive *archive, size_t position, warc_http *http, warc_problem *problem);
+
+/* The field at a place, counted from 0, of that head. It points into the archive's bytes; its value is without the
+ * white space around it. Answers true and sets `*field`; false with {0} where there are no more fields, and else as
+ * warc_http_at. The head is parsed once for all its fields, as long as no other record's are asked for. */
+bool warc_http_field_at(warc_archive *archive, size_t position, size_t place, warc_field *field, warc_problem *problem);
 
 /* ---- Bodies */
 
 /* The positions of the captures of a URI (responses, resources and revisits), by instant, then by position. Answers how
- * many there are; if that is more than `positions_length`, only the first ones are written. */
+ * many there are; if that is more than `positions_length`, only the first ones are written. 0 with WARC_NO_MEMORY. */
 size_t warc_captures(warc_archive *archive, const uint8_t *uri, size_t uri_length, uint64_t *positions,
                      size_t positions_length, warc_problem *problem);
 
@@ -201,30 +271,68 @@ typedef struct {
     uint32_t is_truncated;
 } warc_answer;
 
-/* The body that was captured of a URI as of a date (the latest capture that isn't later): what is said of it, and the
- * spans whose bytes, one after another, are the body. Most bodies have one span; one in segments has more, and a span may
- * be empty. Answers the number of spans, 0 with a problem; if that is more than `spans_length`, only the first ones are
- * written. A date is YYYY, YYYY-MM, YYYY-MM-DD, YYYY-MM-DDThh:mmZ or YYYY-MM-DDThh:mm:ssZ, with up to nine digits of a
- * fraction. `answer` may be null; with the problems from WARC_SEGMENT to WARC_CODED its `chosen` and `given` are set. */
+/* The body that was captured of a URI as of a date (the latest capture that isn't later): what is said of it, and
+ * the spans whose bytes, one after another, are the body. Most bodies have one span; one in segments has more, and a
+ * span may be empty. Answers the number of spans, 0 with a problem; if that is more than `spans_length`, only the
+ * first ones are written. A date is YYYY, YYYY-MM, YYYY-MM-DD, YYYY-MM-DDThh:mmZ or YYYY-MM-DDThh:mm:ssZ, with up to
+ * nine digits of a fraction. Fails with WARC_NO_CAPTURE_OF_URI to WARC_CODED, WARC_BAD_DATE, WARC_NO_MEMORY or
+ * WARC_CHANGED. `answer` may be null; with the problems from WARC_SEGMENT to WARC_CODED its `chosen` and `given` are
+ * set, and the rest of it stays. */
 size_t warc_replay(warc_archive *archive, const uint8_t *uri, size_t uri_length, const uint8_t *date,
                    size_t date_length, warc_answer *answer, warc_span *spans, size_t spans_length,
                    warc_problem *problem);
 
-/* The body that the capture at a position gives, in the same way. */
+/* The body that the capture at a position gives, in the same way. Fails with WARC_UNKNOWN_PROFILE to WARC_CODED,
+ * WARC_NO_RECORD, WARC_NOT_A_CAPTURE, WARC_NO_MEMORY or WARC_CHANGED. */
 size_t warc_body_at(warc_archive *archive, size_t position, warc_answer *answer, warc_span *spans,
                     size_t spans_length, warc_problem *problem);
 
-/* ---- Texts of the whole archive */
+/* ---- Texts of the whole archive. Each fails with WARC_NO_MEMORY, and the last two with WARC_CHANGED. */
 
 /* The lines that `warc list` writes. Answers their length, 0 with a problem or without records. */
 size_t warc_list(warc_archive *archive, uint8_t *text, size_t text_length, warc_problem *problem);
 
-/* The lines that `warc check` writes: what is wrong with records that can be read. */
+/* The lines that `warc check` writes: what is wrong with records that can be read. Answers their length, 0 with a
+ * problem or without findings. */
 size_t warc_check(warc_archive *archive, uint8_t *text, size_t text_length, warc_problem *problem);
 
-/* The lines that `warc fixity` writes of an archive of these bytes, which needs no handle: the blocks that their digests
- * don't fit, and counts. Answers their length, 0 with a problem. */
-size_t warc_fixity(const uint8_t *bytes, size_t length, uint8_t *text, size_t text_length, warc_problem *problem);
+/* The lines that `warc fixity` writes: the blocks that their digests don't fit, and counts. Answers their length, 0
+ * with a problem. Bytes that are no archive any more are refused with their fault. */
+size_t warc_fixity(warc_archive *archive, uint8_t *text, size_t text_length, warc_problem *problem);
+
+/* ---- Writing to a file descriptor, which stays open. Each call answers true if all is written, and then `*sent` is
+ * 0. It answers false with WARC_WRITE_FAILED or WARC_NO_MEMORY where the output ends early, and `*sent` is how many
+ * bytes of it went out. An interrupted write, and one to a descriptor that would block, fails: nothing is tried
+ * again. A write to a pipe that nobody reads fails and raises no SIGPIPE. With any other problem nothing is written,
+ * and `*sent` is 0. `sent` may be null. Nothing is synced: that is the caller's. */
+
+/* Writes the archive that these bytes are in canonical form, as one of WARC/1.1, or with its records split into
+ * segments of `size` bytes, as the program's commands do. Bytes that are refused are refused as by warc_open. A size
+ * of 0 is WARC_BAD_ARGUMENT. The bytes must not be those of the file that is written to. */
+bool warc_rewrite(const uint8_t *bytes, size_t length, int file, uint64_t *sent, warc_problem *problem);
+bool warc_convert(const uint8_t *bytes, size_t length, int file, uint64_t *sent, warc_problem *problem);
+bool warc_split(const uint8_t *bytes, size_t length, uint64_t size, int file, uint64_t *sent, warc_problem *problem);
+
+/* Bytes that are passed. */
+typedef struct {
+    const uint8_t *bytes;
+    size_t length;
+} warc_bytes;
+
+/* What a record is made of: its kind (resource, metadata or conversion), the URI that it is of, its date, the UUID
+ * of its id, its media type, and its block. */
+typedef struct {
+    warc_bytes kind;
+    warc_bytes uri;
+    warc_bytes date;
+    warc_bytes uuid;
+    warc_bytes type;
+    warc_bytes block;
+} warc_draft;
+
+/* Writes one record of WARC/1.1, with the digest of its block, as the command `warc write` does. Fails with
+ * WARC_MADE_DATE to WARC_MADE_KIND where no record is made. It takes memory for the block once more. */
+bool warc_make(const warc_draft *draft, int file, uint64_t *sent, warc_problem *problem);
 
 #ifdef __cplusplus
 }

@@ -5,9 +5,10 @@ Usage: build_lib.py JOBS [FOLDER]
 
 The crates are proved below FOLDER (out/build if left out), as build.py proves those of the program, and beside them: what
 both use is proved once. The libraries are the proved functions, c/warc.c, and what the toolchain has of the C library's
-memory (liblibc_c.a).
+memory (liblibc_c.a) and of its writes (two objects of libos_c.a).
 """
 import os
+import re
 import shutil
 import subprocess
 import sys
@@ -15,17 +16,22 @@ import tempfile
 import time
 
 from build import TREE, prove
-from shared import TOP
+from shared import TOP, read
 
 CRATE = "warc_c"
 OUT = f"{TOP}/out/lib"
 COMPILER = os.environ.get("CC", "cc")
-FLAGS = ["-std=c11", "-O2", "-fPIC", "-Wall", "-Wextra", "-ffile-prefix-map=" + TOP + "=."]
+FLAGS = ["-std=c11", "-O2", "-fPIC", "-Wall", "-Wextra", "-Wconversion", "-ffile-prefix-map=" + TOP + "=."]
 
 
 def kit():
     """The toolchain's folder."""
     return os.path.dirname(subprocess.run(["rt", "doc"], capture_output=True, text=True, check=True).stdout.strip())
+
+
+def parts():
+    """What the toolchain has of the C library's memory and of its writes, and the objects of these that are needed."""
+    return [(f"{kit()}/c/liblibc_c.a", []), (f"{kit()}/c/libos_c.a", ["child.pic.o", "errno.pic.o"])]
 
 
 def run(words, folder):
@@ -34,21 +40,48 @@ def run(words, folder):
         sys.exit(f"failed: {' '.join(words)}")
 
 
-def link(proved, memory):
-    """Puts both libraries and the header under out/lib."""
+def exported():
+    """The names that c/warc.map lists: what both libraries show."""
+    return re.findall(r"\b(warc_\w+);", read("c/warc.map"))
+
+
+def abi():
+    """The version of the interface, which is part of the library's name."""
+    return re.search(r"^#define WARC_ABI_VERSION (\d+)$", read("c/warc.h"), re.MULTILINE)[1]
+
+
+def link_static(objects, folder):
+    """Makes libwarc.a of one object, which shows the calls of warc.h alone."""
+    run([COMPILER, "-r", "-nostdlib", "-o", "whole.o", *objects], folder)
+    keep = [f"--keep-global-symbol={name}" for name in exported()]
+    run(["objcopy", *keep, "whole.o", "libwarc.o"], folder)
+    if os.path.exists(f"{OUT}/libwarc.a"):
+        os.remove(f"{OUT}/libwarc.a")
+    run(["ar", "rcsD", f"{OUT}/libwarc.a", "libwarc.o"], folder)
+
+
+def link_shared(objects, folder):
+    """Makes libwarc.so.N, whose symbols have a version, and libwarc.so, a link to it."""
+    name = f"libwarc.so.{abi()}"
+    run([COMPILER, "-shared", "-o", f"{OUT}/{name}", f"-Wl,--version-script={TOP}/c/warc.map", f"-Wl,-soname,{name}",
+         "-Wl,-z,defs", "-Wl,-z,now", "-Wl,-z,relro", "-Wl,--gc-sections", "-Wl,--build-id=none", *objects], folder)
+    if os.path.lexists(f"{OUT}/libwarc.so"):
+        os.remove(f"{OUT}/libwarc.so")
+    os.symlink(name, f"{OUT}/libwarc.so")
+
+
+def link(proved, kept):
+    """Puts both libraries and the header under out/lib. `proved` is an archive of objects, and `kept` lists others, each
+    with the objects of it that are needed, all if none is named."""
     os.makedirs(OUT, exist_ok=True)
     shutil.copyfile(f"{TOP}/c/warc.h", f"{OUT}/warc.h")
     with tempfile.TemporaryDirectory() as folder:
         run([COMPILER, *FLAGS, "-c", f"{TOP}/c/warc.c", "-o", f"{folder}/warc.o"], folder)
-        for archive in (proved, memory):
-            run(["ar", "x", archive], folder)
+        for archive, members in [(proved, []), *kept]:
+            run(["ar", "x", archive, *members], folder)
         objects = sorted(name for name in os.listdir(folder) if name.endswith(".o"))
-        if os.path.exists(f"{OUT}/libwarc.a"):
-            os.remove(f"{OUT}/libwarc.a")
-        run(["ar", "rcsD", f"{OUT}/libwarc.a", *objects], folder)
-        script = f"-Wl,--version-script={TOP}/c/warc.map"
-        run([COMPILER, "-shared", "-o", f"{OUT}/libwarc.so", script, "-Wl,-soname,libwarc.so", "-Wl,-z,defs",
-             "-Wl,--gc-sections", "-Wl,--build-id=none", *objects], folder)
+        link_static(objects, folder)
+        link_shared(objects, folder)
 
 
 def main():
@@ -56,7 +89,7 @@ def main():
     jobs, tree = int(sys.argv[1]), (sys.argv[2:] or [TREE])[0]
     begin = time.monotonic()
     folder = prove(CRATE, ["lib"], jobs, tree)
-    link(f"{folder}/out/lib{CRATE}.a", f"{kit()}/c/liblibc_c.a")
+    link(f"{folder}/out/lib{CRATE}.a", parts())
     print(f"out/lib has libwarc.a, libwarc.so and warc.h, {time.monotonic() - begin:.0f} s in all")
 
 

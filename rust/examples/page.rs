@@ -9,9 +9,10 @@ fn main() -> Result<(), Box<dyn Error>> {
     };
     let bytes = std::fs::read(path)?;
     let archive = zogwedu::Archive::open(&bytes)?;
-    println!("{} records", archive.len());
+    let mut out = io::stdout().lock();
+    writeln!(out, "{} records", archive.len())?;
     for part in archive.replay(uri.as_bytes(), date.as_bytes())?.parts {
-        io::stdout().write_all(part)?;
+        out.write_all(part)?;
     }
-    Ok(())
+    Ok(out.flush()?)
 }

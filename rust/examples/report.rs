@@ -1,6 +1,7 @@
 //! report ARCHIVE: what the crate gives of an archive, in the form that tests/callers/compare.py compares.
+use std::error;
 use std::io::{self, Write};
-use zogwedu::{Archive, Body, Error, Verdict};
+use zogwedu::{Archive, Body, Error, Headers, Verdict};
 
 fn put_text(out: &mut impl Write, title: &str, text: Result<Vec<u8>, Error>) -> io::Result<()> {
     writeln!(out, "== {title}")?;
@@ -32,13 +33,35 @@ fn verdict_text(verdict: Result<Verdict, Error>) -> String {
     }
 }
 
-fn report(out: &mut impl Write, archive: &Archive<'_>) -> io::Result<()> {
+fn put_fields(out: &mut impl Write, headers: &Headers) -> io::Result<()> {
+    for (name, value) in headers {
+        out.write_all(&[name, b"\t", value, b"\n"].concat())?;
+    }
+    Ok(())
+}
+
+fn put_heads(out: &mut impl Write, archive: &Archive<'_>, position: usize) -> Result<(), Box<dyn error::Error>> {
+    writeln!(out, "== fields {position}")?;
+    put_fields(out, &archive.headers(position)?)?;
+    if let Some(http) = archive.http(position)? {
+        write!(out, "== http {position}\nHTTP/1.{} {} ", http.minor, http.status)?;
+        out.write_all(&http.reason)?;
+        writeln!(out, "\t{}", http.stored.len())?;
+        put_fields(out, &http.headers)?;
+        out.write_all(http.stored)?;
+        writeln!(out)?;
+    }
+    Ok(())
+}
+
+fn report(out: &mut impl Write, archive: &Archive<'_>) -> Result<(), Box<dyn error::Error>> {
     put_text(out, "list", archive.list())?;
     writeln!(out, "== rows")?;
     for record in archive {
-        write!(out, "{}\t{}\t{}\t", record.position, record.offset, record.block().len())?;
-        let target: &[u8] = if record.target.is_empty() { b"-" } else { &record.target };
-        out.write_all(&[&record.kind, &record.date, &record.id, target].map(|text| text.to_vec()).join(&b'\t'))?;
+        let record = record?;
+        write!(out, "{}\t{}\t{}\t", record.position(), record.offset(), record.block().len())?;
+        let columns = [record.kind(), record.date(), record.id(), record.target().unwrap_or(b"-")];
+        out.write_all(&columns.join(&b'\t'))?;
         writeln!(out)?;
     }
     put_text(out, "check", archive.check())?;
@@ -48,23 +71,24 @@ fn report(out: &mut impl Write, archive: &Archive<'_>) -> io::Result<()> {
         writeln!(out, "{position} {}", verdict_text(archive.verdict(position)))?;
     }
     for record in archive {
-        writeln!(out, "== body {}", record.position)?;
-        put_body(out, archive.body(record.position))?;
-        if !record.target.is_empty() {
-            writeln!(out, "== replay {}", record.position)?;
-            put_body(out, archive.replay(&record.target, &record.date))?;
+        let record = record?;
+        writeln!(out, "== body {}", record.position())?;
+        put_body(out, archive.body(record.position()))?;
+        if let Some(target) = record.target() {
+            writeln!(out, "== replay {}", record.position())?;
+            put_body(out, archive.replay(target, record.date()))?;
         }
     }
-    Ok(())
+    (0..archive.len()).try_for_each(|position| put_heads(out, archive, position))
 }
 
-fn main() -> io::Result<()> {
-    let path = std::env::args_os().nth(1).expect("report ARCHIVE");
+fn main() -> Result<(), Box<dyn error::Error>> {
+    let path = std::env::args_os().nth(1).ok_or("usage: report ARCHIVE")?;
     let bytes = std::fs::read(path)?;
     let mut out = io::BufWriter::new(io::stdout().lock());
     match Archive::open(&bytes) {
         Ok(archive) => report(&mut out, &archive)?,
         Err(error) => writeln!(out, "== refused\n{error}")?,
     }
-    out.flush()
+    Ok(out.flush()?)
 }

@@ -1,7 +1,12 @@
-//! warc.h, as Rust declares it.
-use std::os::raw::{c_char, c_void};
+//! warc.h, as Rust declares it, and all `unsafe` of this crate: each call is wrapped by a safe function.
+#![allow(unsafe_code)]
 
-pub const ABI_VERSION: u32 = 2;
+use std::marker::PhantomData;
+use std::os::raw::{c_char, c_int};
+use std::ptr;
+use std::slice;
+
+pub const ABI_VERSION: u32 = 3;
 
 #[repr(C)]
 #[derive(Clone, Copy, Default)]
@@ -9,12 +14,6 @@ pub struct Problem {
     pub code: u32,
     pub detail: u32,
     pub number: u64,
-}
-
-#[repr(C)]
-pub struct Handle {
-    pub state: *mut c_void,
-    pub is_open: bool,
 }
 
 #[repr(C)]
@@ -47,30 +46,368 @@ pub struct Answer {
     pub is_truncated: u32,
 }
 
+#[repr(C)]
+struct CArchive {
+    hidden: [u8; 0],
+}
+
+#[repr(C)]
+struct CField {
+    name: *const u8,
+    name_length: usize,
+    value: *const u8,
+    value_length: usize,
+}
+
+#[repr(C)]
+struct CHttp {
+    status: u32,
+    minor: u32,
+    reason: *const u8,
+    reason_length: usize,
+    fields: usize,
+    body: Span,
+}
+
+#[repr(C)]
+struct CBytes {
+    bytes: *const u8,
+    length: usize,
+}
+
+#[repr(C)]
+struct CDraft {
+    parts: [CBytes; 6],
+}
+
+type Text = unsafe extern "C" fn(*mut CArchive, *mut u8, usize, *mut Problem) -> usize;
+type Write = unsafe extern "C" fn(*const u8, usize, c_int, *mut u64, *mut Problem) -> bool;
+
 extern "C" {
-    pub fn warc_abi_version() -> u32;
-    pub fn warc_problem_text(problem: *const Problem, text: *mut c_char, length: usize) -> usize;
-    pub fn warc_open(handle: *mut Handle, bytes: *const u8, length: usize, problem: *mut Problem) -> bool;
-    pub fn warc_grow(handle: *mut Handle, bytes: *const u8, length: usize, problem: *mut Problem) -> bool;
-    pub fn warc_close(handle: *mut Handle);
-    pub fn warc_count(handle: *mut Handle) -> usize;
-    pub fn warc_row_at(
-        handle: *mut Handle, position: usize, row: *mut Row, texts: *mut u8, length: usize, problem: *mut Problem,
-    ) -> usize;
-    pub fn warc_verdict_at(handle: *mut Handle, position: usize, problem: *mut Problem) -> u32;
-    pub fn warc_captures(
-        handle: *mut Handle, uri: *const u8, uri_length: usize, positions: *mut u64, length: usize,
+    fn warc_abi_version() -> u32;
+    fn warc_problem_text(problem: *const Problem, text: *mut c_char, length: usize) -> usize;
+    fn warc_open(archive: *mut *mut CArchive, bytes: *const u8, length: usize, problem: *mut Problem) -> bool;
+    fn warc_open_front(
+        archive: *mut *mut CArchive,
+        bytes: *const u8,
+        length: usize,
+        fault: *mut Problem,
+        problem: *mut Problem,
+    ) -> bool;
+    fn warc_grow(archive: *mut CArchive, bytes: *const u8, length: usize, problem: *mut Problem) -> bool;
+    fn warc_close(archive: *mut CArchive);
+    fn warc_count(archive: *const CArchive) -> usize;
+    fn warc_length(archive: *const CArchive) -> usize;
+    fn warc_row_at(
+        archive: *mut CArchive,
+        position: usize,
+        row: *mut Row,
+        texts: *mut u8,
+        length: usize,
         problem: *mut Problem,
     ) -> usize;
-    pub fn warc_replay(
-        handle: *mut Handle, uri: *const u8, uri_length: usize, date: *const u8, date_length: usize,
-        answer: *mut Answer, spans: *mut Span, length: usize, problem: *mut Problem,
-    ) -> usize;
-    pub fn warc_body_at(
-        handle: *mut Handle, position: usize, answer: *mut Answer, spans: *mut Span, length: usize,
+    fn warc_verdict_at(archive: *mut CArchive, position: usize, problem: *mut Problem) -> u32;
+    fn warc_field_at(
+        archive: *mut CArchive,
+        position: usize,
+        place: usize,
+        field: *mut CField,
+        problem: *mut Problem,
+    ) -> bool;
+    fn warc_http_at(archive: *mut CArchive, position: usize, http: *mut CHttp, problem: *mut Problem) -> bool;
+    fn warc_http_field_at(
+        archive: *mut CArchive,
+        position: usize,
+        place: usize,
+        field: *mut CField,
+        problem: *mut Problem,
+    ) -> bool;
+    fn warc_captures(
+        archive: *mut CArchive,
+        uri: *const u8,
+        uri_length: usize,
+        positions: *mut u64,
+        length: usize,
         problem: *mut Problem,
     ) -> usize;
-    pub fn warc_list(handle: *mut Handle, text: *mut u8, length: usize, problem: *mut Problem) -> usize;
-    pub fn warc_check(handle: *mut Handle, text: *mut u8, length: usize, problem: *mut Problem) -> usize;
-    pub fn warc_fixity(bytes: *const u8, length: usize, text: *mut u8, text_length: usize, problem: *mut Problem) -> usize;
+    fn warc_replay(
+        archive: *mut CArchive,
+        uri: *const u8,
+        uri_length: usize,
+        date: *const u8,
+        date_length: usize,
+        answer: *mut Answer,
+        spans: *mut Span,
+        length: usize,
+        problem: *mut Problem,
+    ) -> usize;
+    fn warc_body_at(
+        archive: *mut CArchive,
+        position: usize,
+        answer: *mut Answer,
+        spans: *mut Span,
+        length: usize,
+        problem: *mut Problem,
+    ) -> usize;
+    fn warc_list(archive: *mut CArchive, text: *mut u8, length: usize, problem: *mut Problem) -> usize;
+    fn warc_check(archive: *mut CArchive, text: *mut u8, length: usize, problem: *mut Problem) -> usize;
+    fn warc_fixity(archive: *mut CArchive, text: *mut u8, length: usize, problem: *mut Problem) -> usize;
+    fn warc_rewrite(bytes: *const u8, length: usize, file: c_int, sent: *mut u64, problem: *mut Problem) -> bool;
+    fn warc_convert(bytes: *const u8, length: usize, file: c_int, sent: *mut u64, problem: *mut Problem) -> bool;
+    fn warc_split(
+        bytes: *const u8,
+        length: usize,
+        size: u64,
+        file: c_int,
+        sent: *mut u64,
+        problem: *mut Problem,
+    ) -> bool;
+    fn warc_make(draft: *const CDraft, file: c_int, sent: *mut u64, problem: *mut Problem) -> bool;
+}
+
+/// What a call gives, unless it set a problem.
+fn checked<T>(value: T, problem: Problem) -> Result<T, Problem> {
+    if problem.code == 0 {
+        Ok(value)
+    } else {
+        Err(problem)
+    }
+}
+
+/// The version of the library's interface.
+pub fn abi_version() -> u32 {
+    // SAFETY: it takes nothing.
+    unsafe { warc_abi_version() }
+}
+
+/// Puts the text of a problem, and answers its length.
+pub fn problem_text(problem: &Problem, text: &mut [u8]) -> usize {
+    // SAFETY: the pointer leads to as many bytes as are said.
+    unsafe { warc_problem_text(problem, text.as_mut_ptr().cast(), text.len()) }
+}
+
+/// What the HTTP head of a block says. Its reason phrase is `reason` of the archive's bytes.
+pub struct HttpHead<'h> {
+    pub status: u32,
+    pub minor: u32,
+    pub reason: &'h [u8],
+    pub body: Span,
+}
+
+/// A field: its name and its value.
+pub type Pair<'h> = (&'h [u8], &'h [u8]);
+
+/// An open archive of the library over bytes that outlive it.
+pub struct Handle<'a> {
+    archive: *mut CArchive,
+    bytes: PhantomData<&'a [u8]>,
+}
+
+// SAFETY: an archive may be used in any thread, by one at a time: it isn't Sync.
+unsafe impl Send for Handle<'_> {}
+
+impl<'a> Handle<'a> {
+    /// Opens an archive over bytes.
+    pub fn open(bytes: &'a [u8]) -> Result<Handle<'a>, Problem> {
+        let (mut archive, mut problem) = (ptr::null_mut(), Problem::default());
+        // SAFETY: the bytes outlive the handle, which closes the archive when it is dropped.
+        unsafe { warc_open(&mut archive, bytes.as_ptr(), bytes.len(), &mut problem) };
+        checked(Handle { archive, bytes: PhantomData }, problem)
+    }
+
+    /// Opens the good front of bytes, and gives the fault after it.
+    pub fn open_front(bytes: &'a [u8]) -> Result<(Handle<'a>, Problem), Problem> {
+        let (mut archive, mut fault, mut problem) = (ptr::null_mut(), Problem::default(), Problem::default());
+        // SAFETY: as in `open`.
+        unsafe { warc_open_front(&mut archive, bytes.as_ptr(), bytes.len(), &mut fault, &mut problem) };
+        checked((Handle { archive, bytes: PhantomData }, fault), problem)
+    }
+
+    /// Reads on in longer bytes.
+    pub fn grow(&mut self, bytes: &'a [u8]) -> Result<(), Problem> {
+        let mut problem = Problem::default();
+        // SAFETY: as in `open`; the old bytes are still there.
+        unsafe { warc_grow(self.archive, bytes.as_ptr(), bytes.len(), &mut problem) };
+        checked((), problem)
+    }
+
+    /// How many records there are.
+    pub fn count(&self) -> usize {
+        // SAFETY: the archive is open.
+        unsafe { warc_count(self.archive) }
+    }
+
+    /// How many bytes they have.
+    pub fn length(&self) -> usize {
+        // SAFETY: the archive is open.
+        unsafe { warc_length(self.archive) }
+    }
+
+    /// What is kept of a record. Answers the length of its texts.
+    pub fn row(&mut self, position: usize, row: &mut Row, texts: &mut [u8]) -> Result<usize, Problem> {
+        let mut problem = Problem::default();
+        // SAFETY: each pointer leads to as many bytes as are said.
+        let length = unsafe { warc_row_at(self.archive, position, row, texts.as_mut_ptr(), texts.len(), &mut problem) };
+        checked(length, problem)
+    }
+
+    /// How a block compares with its digest.
+    pub fn verdict(&mut self, position: usize) -> Result<u32, Problem> {
+        let mut problem = Problem::default();
+        // SAFETY: the archive is open.
+        let verdict = unsafe { warc_verdict_at(self.archive, position, &mut problem) };
+        checked(verdict, problem)
+    }
+
+    /// A field of a record's head, or of the HTTP head of its block. It is the library's until the next call.
+    pub fn field(&mut self, position: usize, place: usize, is_http: bool) -> Result<Option<Pair<'_>>, Problem> {
+        let mut field = CField { name: ptr::null(), name_length: 0, value: ptr::null(), value_length: 0 };
+        let mut problem = Problem::default();
+        let call = if is_http { warc_http_field_at } else { warc_field_at };
+        // SAFETY: the archive is open. What the field points to stays until the next call over the archive, which takes
+        // it mutably, as the field's lifetime does.
+        unsafe {
+            if !call(self.archive, position, place, &mut field, &mut problem) {
+                return checked(None, problem);
+            }
+            let name = slice::from_raw_parts(field.name, field.name_length);
+            Ok(Some((name, slice::from_raw_parts(field.value, field.value_length))))
+        }
+    }
+
+    /// What the HTTP head of a record's block says.
+    pub fn http(&mut self, position: usize) -> Result<HttpHead<'_>, Problem> {
+        let none = ptr::null();
+        let mut http = CHttp { status: 0, minor: 0, reason: none, reason_length: 0, fields: 0, body: Span::default() };
+        let mut problem = Problem::default();
+        // SAFETY: as in `field`.
+        unsafe {
+            if !warc_http_at(self.archive, position, &mut http, &mut problem) {
+                return Err(problem);
+            }
+            let reason = slice::from_raw_parts(http.reason, http.reason_length);
+            Ok(HttpHead { status: http.status, minor: http.minor, reason, body: http.body })
+        }
+    }
+
+    /// The positions of the captures of a URI. Answers how many there are.
+    pub fn captures(&mut self, uri: &[u8], positions: &mut [u64]) -> Result<usize, Problem> {
+        let mut problem = Problem::default();
+        let (out, room) = (positions.as_mut_ptr(), positions.len());
+        // SAFETY: each pointer leads to as many elements as are said.
+        let count = unsafe { warc_captures(self.archive, uri.as_ptr(), uri.len(), out, room, &mut problem) };
+        checked(count, problem)
+    }
+
+    /// The body for a URI as of a date. Answers how many spans it has.
+    pub fn replay(
+        &mut self,
+        uri: &[u8],
+        date: &[u8],
+        answer: &mut Answer,
+        spans: &mut [Span],
+    ) -> Result<usize, Problem> {
+        let mut problem = Problem::default();
+        let (out, room) = (spans.as_mut_ptr(), spans.len());
+        // SAFETY: each pointer leads to as many elements as are said.
+        let count = unsafe {
+            let (uri_length, date_length) = (uri.len(), date.len());
+            warc_replay(
+                self.archive,
+                uri.as_ptr(),
+                uri_length,
+                date.as_ptr(),
+                date_length,
+                answer,
+                out,
+                room,
+                &mut problem,
+            )
+        };
+        checked(count, problem)
+    }
+
+    /// The body that the capture at a position gives, in the same way.
+    pub fn body(&mut self, position: usize, answer: &mut Answer, spans: &mut [Span]) -> Result<usize, Problem> {
+        let mut problem = Problem::default();
+        let (out, room) = (spans.as_mut_ptr(), spans.len());
+        // SAFETY: each pointer leads to as many elements as are said.
+        let count = unsafe { warc_body_at(self.archive, position, answer, out, room, &mut problem) };
+        checked(count, problem)
+    }
+
+    /// The lines that `warc list` writes.
+    pub fn list(&mut self) -> Result<Vec<u8>, Problem> {
+        self.text(warc_list)
+    }
+
+    /// The lines that `warc check` writes.
+    pub fn check(&mut self) -> Result<Vec<u8>, Problem> {
+        self.text(warc_check)
+    }
+
+    /// The lines that `warc fixity` writes.
+    pub fn fixity(&mut self) -> Result<Vec<u8>, Problem> {
+        self.text(warc_fixity)
+    }
+
+    /// A text: its length is asked for first, and then the text, which the library has kept.
+    fn text(&mut self, call: Text) -> Result<Vec<u8>, Problem> {
+        let mut problem = Problem::default();
+        // SAFETY: a null pointer with length 0 is no buffer.
+        let length = unsafe { call(self.archive, ptr::null_mut(), 0, &mut problem) };
+        let mut text = vec![0; checked(length, problem)?];
+        // SAFETY: the pointer leads to as many bytes as are said.
+        let length = unsafe { call(self.archive, text.as_mut_ptr(), text.len(), &mut problem) };
+        text.truncate(checked(length, problem)?);
+        Ok(text)
+    }
+}
+
+impl Drop for Handle<'_> {
+    fn drop(&mut self) {
+        // SAFETY: the archive is open or null, and isn't used again.
+        unsafe { warc_close(self.archive) }
+    }
+}
+
+/// How many bytes went out, and why no more did.
+pub type Written = Result<(), (Problem, u64)>;
+
+/// Has something written to a descriptor that stays open.
+fn written(call: impl FnOnce(*mut u64, *mut Problem) -> bool) -> Written {
+    let (mut sent, mut problem) = (0, Problem::default());
+    if call(&mut sent, &mut problem) {
+        Ok(())
+    } else {
+        Err((problem, sent))
+    }
+}
+
+fn write_by(call: Write, bytes: &[u8], file: c_int) -> Written {
+    // SAFETY: the pointer leads to as many bytes as are said.
+    written(|sent, problem| unsafe { call(bytes.as_ptr(), bytes.len(), file, sent, problem) })
+}
+
+/// Writes an archive in canonical form.
+pub fn rewrite(bytes: &[u8], file: c_int) -> Written {
+    write_by(warc_rewrite, bytes, file)
+}
+
+/// Writes an archive as one of WARC/1.1.
+pub fn convert(bytes: &[u8], file: c_int) -> Written {
+    write_by(warc_convert, bytes, file)
+}
+
+/// Writes an archive with its records split.
+pub fn split(bytes: &[u8], size: u64, file: c_int) -> Written {
+    // SAFETY: the pointer leads to as many bytes as are said.
+    written(|sent, problem| unsafe { warc_split(bytes.as_ptr(), bytes.len(), size, file, sent, problem) })
+}
+
+/// Writes a record of its kind, URI, date, UUID, media type and block.
+pub fn make(parts: [&[u8]; 6], file: c_int) -> Written {
+    let draft = CDraft { parts: parts.map(|part| CBytes { bytes: part.as_ptr(), length: part.len() }) };
+    // SAFETY: each pointer leads to as many bytes as are said.
+    written(|sent, problem| unsafe { warc_make(&draft, file, sent, problem) })
 }

@@ -1,13 +1,20 @@
 //! What the crate gives of the examples.
-use zogwedu::{Archive, Verdict};
+use std::io::{self, Write};
+use zogwedu::{Archive, Draft, ErrorKind, Verdict};
 
 const CRAWL: &[u8] = include_bytes!("../../examples/crawl.warc");
 const DAMAGED: &[u8] = include_bytes!("../../examples/damaged.warc");
 
+/// Where the record at a position of the crawl begins.
+fn front(position: usize) -> usize {
+    usize::try_from(Archive::open(CRAWL).unwrap().record(position).unwrap().offset()).unwrap()
+}
+
 #[test]
 fn lists_and_replays() {
     let archive = Archive::open(CRAWL).unwrap();
-    assert_eq!(archive.records().count(), archive.len());
+    assert_eq!(archive.iter().count(), archive.len());
+    assert_eq!(archive.iter().next_back().unwrap().unwrap().position(), 17);
     let body = archive.replay(b"http://127.0.0.1:8765/", b"9999").unwrap();
     assert_eq!((body.chosen, body.given, body.status, body.len()), (11, 11, Some(200), 93));
     assert_eq!(archive.captures(b"http://127.0.0.1:8765/sky.png").unwrap(), [4, 13]);
@@ -15,8 +22,7 @@ fn lists_and_replays() {
 
 #[test]
 fn judges_a_block_where_it_is_asked_to() {
-    let front = Archive::open(CRAWL).unwrap().record(9).unwrap().offset as usize;
-    let mut archive = Archive::open(&CRAWL[..front]).unwrap();
+    let mut archive = Archive::open(&CRAWL[..front(9)]).unwrap();
     assert_eq!(archive.verdict(0), Ok(Verdict::Good));
     assert_eq!(archive.verdict(13).unwrap_err().to_string(), "E1 NoRecord");
     archive.grow(CRAWL).unwrap();
@@ -30,29 +36,149 @@ fn bodies_outlive_the_archive_but_not_the_bytes() {
 }
 
 #[test]
-fn faults_have_texts_and_offsets() {
+fn faults_have_kinds_texts_and_offsets() {
     let fault = Archive::open(DAMAGED).unwrap_err();
-    assert_eq!((fault.to_string().as_str(), fault.offset()), ("F10 End at 274", Some(274)));
+    assert_eq!(
+        (fault.kind(), fault.to_string().as_str(), fault.offset()),
+        (ErrorKind::Refused, "F10 End at 274", Some(274))
+    );
+    assert_eq!(format!("{fault:?}"), "Refused(F10 End at 274)");
     let archive = Archive::open(CRAWL).unwrap();
-    assert_eq!(archive.body(7).unwrap_err().to_string(), "E2 NoCapture");
-    assert_eq!(archive.body(99).unwrap_err().to_string(), "E1 NoRecord");
-    assert_eq!(archive.replay(b"http://127.0.0.1:8765/week", b"9999").unwrap_err().to_string(), "P10 Coded");
+    let week = b"http://127.0.0.1:8765/week";
+    for (answer, kind, text) in [
+        (archive.body(7), ErrorKind::NotACapture, "E2 NoCapture"),
+        (archive.body(99), ErrorKind::NoRecord, "E1 NoRecord"),
+        (archive.replay(week, b"9999"), ErrorKind::Coded, "P10 Coded"),
+        (archive.replay(week, b"1000"), ErrorKind::NotCaptured, "P2 NotYet"),
+        (archive.replay(week, b"soon"), ErrorKind::BadDate, "bad date"),
+    ] {
+        let error = answer.unwrap_err();
+        assert_eq!((error.kind(), error.to_string().as_str()), (kind, text));
+    }
 }
 
 #[test]
 fn grows_or_stays() {
-    let front = Archive::open(CRAWL).unwrap().record(9).unwrap().offset as usize;
+    let front = front(9);
     let mut archive = Archive::open(&CRAWL[..front]).unwrap();
     assert_eq!(archive.len(), 9);
-    assert!(archive.grow(&CRAWL[..front + 10]).is_err());
+    assert_eq!(archive.grow(&CRAWL[..front + 10]).unwrap_err().kind(), ErrorKind::Refused);
     assert_eq!(archive.len(), 9);
     archive.grow(CRAWL).unwrap();
     assert_eq!(archive.len(), 18);
 }
 
 #[test]
+fn fewer_or_other_bytes_are_refused_and_nothing_panics() {
+    let mut other = CRAWL.to_vec();
+    let last = front(17);
+    other[last + 20] ^= 1;
+    let mut archive = Archive::open(CRAWL).unwrap();
+    for bytes in [&CRAWL[..0], &CRAWL[..700], &CRAWL[..CRAWL.len() - 1], &other] {
+        assert_eq!(archive.grow(bytes).unwrap_err().kind(), ErrorKind::Changed);
+        assert_eq!(archive.len(), 18);
+        assert!(archive.iter().all(|record| record.is_ok()));
+    }
+    archive.grow(CRAWL).unwrap();
+    assert_eq!(archive.len(), 18);
+}
+
+#[test]
+fn opens_the_good_front() {
+    let (archive, fault) = Archive::open_front(CRAWL).unwrap();
+    assert_eq!((archive.len(), fault, archive.bytes().len()), (18, None, CRAWL.len()));
+    let (archive, fault) = Archive::open_front(&CRAWL[..front(9) + 10]).unwrap();
+    assert_eq!((archive.len(), archive.bytes().len()), (9, front(9)));
+    assert_eq!(fault.unwrap().to_string(), format!("F11 Truncated at {}", front(9) + 10));
+    let (archive, fault) = Archive::open_front(DAMAGED).unwrap();
+    assert_eq!((archive.is_empty(), fault.unwrap().offset()), (true, Some(274)));
+}
+
+#[test]
+fn heads_have_fields() {
+    let archive = Archive::open(CRAWL).unwrap();
+    let headers = archive.headers(2).unwrap();
+    assert_eq!(headers.get("warc-TYPE"), Some(&b"response"[..]));
+    assert_eq!((headers.get("x-none"), headers.get_all("WARC-Date").count()), (None, 1));
+    assert_eq!((headers.len(), headers.iter().count()), (11, 11));
+    let http = archive.http(2).unwrap().unwrap();
+    assert_eq!((http.status, http.minor, http.reason.as_slice()), (200, 1, &b"OK"[..]));
+    assert_eq!(http.headers.get("content-type"), Some(&b"text/html"[..]));
+    assert!(http.stored.starts_with(b"<title>"));
+    assert_eq!(archive.http(0).unwrap(), None);
+    assert_eq!(archive.http(99).unwrap_err().kind(), ErrorKind::NoRecord);
+    assert_eq!(archive.headers(99).unwrap_err().kind(), ErrorKind::NoRecord);
+}
+
+#[test]
+fn debug_shows_no_block() {
+    let record = Archive::open(CRAWL).unwrap().record(2).unwrap();
+    assert!(format!("{record:?}").len() < 300);
+    let body = Archive::open(CRAWL).unwrap().body(2).unwrap();
+    assert!(format!("{body:?}").len() < 200);
+}
+
+/// Takes a few bytes at a time, up to a limit.
+struct Full {
+    taken: Vec<u8>,
+    room: usize,
+}
+
+impl Write for Full {
+    fn write(&mut self, piece: &[u8]) -> io::Result<usize> {
+        let count = piece.len().min(7).min(self.room - self.taken.len());
+        self.taken.extend_from_slice(&piece[..count]);
+        Ok(count)
+    }
+
+    fn flush(&mut self) -> io::Result<()> {
+        Ok(())
+    }
+}
+
+#[test]
+fn writes_archives() {
+    let (mut canonical, mut converted, mut segments) = (Vec::new(), Vec::new(), Vec::new());
+    zogwedu::rewrite(CRAWL, &mut canonical).unwrap();
+    zogwedu::convert(CRAWL, &mut converted).unwrap();
+    zogwedu::split(CRAWL, 50, &mut segments).unwrap();
+    assert_eq!(Archive::open(&canonical).unwrap().len(), 18);
+    assert!(Archive::open(&converted).unwrap().iter().all(|record| record.unwrap().head().starts_with(b"WARC/1.1")));
+    let whole = Archive::open(CRAWL).unwrap().replay(b"http://127.0.0.1:8765/", b"9999").unwrap().to_vec();
+    let archive = Archive::open(&segments).unwrap();
+    assert_eq!(archive.replay(b"http://127.0.0.1:8765/", b"9999").unwrap().to_vec(), whole);
+
+    let mut full = Full { taken: Vec::new(), room: 1000 };
+    let error = zogwedu::rewrite(CRAWL, &mut full).unwrap_err();
+    assert_eq!((error.sent(), full.taken.as_slice()), (1000, &canonical[..1000]));
+    let error = zogwedu::rewrite(DAMAGED, &mut full).unwrap_err();
+    assert_eq!(error.library_error().unwrap().kind(), ErrorKind::Refused);
+    assert!(zogwedu::split(CRAWL, 0, &mut full).is_err());
+}
+
+#[test]
+fn makes_records() {
+    let draft = Draft {
+        kind: "resource",
+        uri: b"http://a.example/x",
+        date: "2020-01-01T00:00:00Z",
+        uuid: "00000000-0000-4000-8000-000000000001",
+        media_type: "text/plain",
+        block: b"abc",
+    };
+    let mut out = Vec::new();
+    zogwedu::make(&draft, &mut out).unwrap();
+    let archive = Archive::open(&out).unwrap();
+    assert_eq!((archive.check().unwrap(), archive.verdict(0)), (Vec::new(), Ok(Verdict::Good)));
+    let wrong = Draft { date: "soon", ..draft };
+    let error = zogwedu::make(&wrong, &mut Vec::new()).unwrap_err();
+    assert_eq!((error.library_error().unwrap().to_string().as_str(), error.sent()), ("M1 Date", 0));
+}
+
+#[test]
 fn each_thread_has_its_own() {
-    let threads: Vec<_> = (0..4).map(|_| std::thread::spawn(|| Archive::open(CRAWL).unwrap().list().unwrap())).collect();
+    let threads: Vec<_> =
+        (0..4).map(|_| std::thread::spawn(|| Archive::open(CRAWL).unwrap().list().unwrap())).collect();
     let lists: Vec<_> = threads.into_iter().map(|thread| thread.join().unwrap()).collect();
     assert!(lists.iter().all(|list| *list == lists[0]));
 }

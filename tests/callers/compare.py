@@ -1,6 +1,6 @@
 #!/usr/bin/env python3
 """Compares what the program, C, Python and Rust give of archives: list, check, fixity, the verdict on each block, and each
-body by position and by URI and date.
+body by position and by URI and date. Compares what C, Python and Rust give of heads, which the program doesn't print.
 
 Usage: compare.py WARC C_REPORT RUST_REPORT ARCHIVE..
 
@@ -15,6 +15,7 @@ import zogwedu
 from report import body_text, report, to_bytes
 
 THREADS = 4
+HEADS = b"== fields 0\n"  # what follows is of heads
 
 
 def run(*words):
@@ -80,11 +81,12 @@ def show_difference(path, name, wanted, given):
 
 
 def differences(warc, c_report, rust_report, path):
-    """How many callers give something else than the program."""
-    wanted = program_report(warc, path)
+    """How many callers give something else than the program, or of heads something else than C."""
     reports = {"C": run(c_report, path)[0], "Python": report(path), "Python without mmap": report(path, mmap=False)}
     if rust_report != "-":
         reports["Rust"] = run(rust_report, path)[0]
+    heads = reports["C"].partition(HEADS)
+    wanted = program_report(warc, path) + heads[1] + heads[2]
     count = 0
     for name, given in reports.items():
         if given != wanted:

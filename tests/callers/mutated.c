@@ -1,10 +1,12 @@
 /* mutated COUNT SEED ARCHIVE..: asks COUNT changed archives everything that warc.h has, for valgrind to watch.
  *
- * Each is made of one of the archives by a few random changes, in memory of exactly its length. Handles are opened, grown,
- * opened again while they are open, and closed twice. Prints how many opened. */
+ * Each is made of one of the archives by a few random changes, in memory of exactly its length. Archives are opened, grown,
+ * opened as far as they are good, written anew and closed. Prints how many opened. */
+#include <fcntl.h>
 #include <stdio.h>
 #include <stdlib.h>
 #include <string.h>
+#include <unistd.h>
 
 #include "warc.h"
 
@@ -79,6 +81,35 @@ static text changed(void) {
     return exact;
 }
 
+/* Reads a field, so that it is read. */
+static void read_field(const warc_field *field) {
+    for (size_t at = 0; at < field->name_length; at++) seen = field->name[at];
+    for (size_t at = 0; at < field->value_length; at++) seen = field->value[at];
+}
+
+static void ask_heads(warc_archive *archive, size_t position, const text *of) {
+    warc_problem problem;
+    warc_field field;
+    warc_http http;
+    size_t count = 0;
+    while (warc_field_at(archive, position, count, &field, &problem)) {
+        read_field(&field);
+        count++;
+    }
+    if (problem.code || count < 4) abort();
+    if (!warc_field_at(archive, position, below(count), &field, NULL)) abort();
+    read_field(&field);
+    if (!warc_http_at(archive, position, &http, &problem)) {
+        if (problem.code != WARC_BAD_HEAD) abort();
+        return;
+    }
+    if (http.body.offset + http.body.length > of->length || http.fields > 256) abort();
+    for (size_t place = 0; place <= http.fields; place++) {
+        if (warc_http_field_at(archive, position, place, &field, &problem) != (place < http.fields)) abort();
+        if (place < http.fields) read_field(&field);
+    }
+}
+
 static void ask_record(warc_archive *archive, size_t position, const text *of) {
     static uint8_t texts[65536];
     warc_problem problem;
@@ -102,41 +133,55 @@ static void ask_record(warc_archive *archive, size_t position, const text *of) {
         sum += spans[i].length;
     }
     if (count && count <= 8 && sum != answer.length) abort();
+    ask_heads(archive, position, of);
 }
 
 static void ask_all(warc_archive *archive, const text *of) {
     static uint8_t out[ROOM];
     warc_problem problem;
+    warc_field field;
+    size_t count = warc_count(archive);
     warc_list(archive, out, below(ROOM), &problem);
     warc_check(archive, out, below(ROOM), &problem);
-    warc_row_at(archive, warc_count(archive), NULL, NULL, 0, &problem);
-    if (problem.code != WARC_NO_RECORD && problem.code != WARC_NOT_OPEN) abort();
-    if (warc_verdict_at(archive, warc_count(archive), &problem) != WARC_UNCHECKED || problem.code == 0) abort();
-    if (problem.code != WARC_NO_RECORD && problem.code != WARC_NOT_OPEN) abort();
-    for (size_t position = 0; position < warc_count(archive) && position < 50; position++) ask_record(archive, position, of);
+    size_t length = warc_fixity(archive, out, 0, &problem);
+    if (length == 0 || warc_fixity(archive, out, below(ROOM), &problem) != length) abort();
+    warc_row_at(archive, count, NULL, NULL, 0, &problem);
+    if (problem.code != WARC_NO_RECORD) abort();
+    if (warc_verdict_at(archive, count, &problem) != WARC_UNCHECKED || problem.code != WARC_NO_RECORD) abort();
+    if (warc_field_at(archive, count, 0, &field, &problem) || problem.code != WARC_NO_RECORD) abort();
+    if (warc_http_field_at(archive, count, 0, &field, &problem) || problem.code != WARC_NO_RECORD) abort();
+    for (size_t position = 0; position < count && position < 50; position++) ask_record(archive, position, of);
 }
 
-/* What is null, closed or too long is a problem, and no crash. */
+/* What is null or too long is a problem, and no crash. */
 static void ask_wrongly(void) {
-    warc_archive archive = {0};
+    warc_archive *archive;
     warc_problem problem;
+    warc_draft draft = {0};
     uint8_t byte = 0;
+    uint64_t sent = 1;
     if (warc_open(NULL, &byte, 1, &problem) || problem.code != WARC_BAD_ARGUMENT) abort();
-    if (warc_open(&archive, NULL, 1, &problem) || problem.code != WARC_BAD_ARGUMENT) abort();
+    if (warc_open(&archive, NULL, 1, &problem) || problem.code != WARC_BAD_ARGUMENT || archive != NULL) abort();
     if (warc_open(&archive, &byte, (size_t)PTRDIFF_MAX + 1, &problem) || problem.code != WARC_BAD_ARGUMENT) abort();
-    if (warc_grow(&archive, NULL, 0, &problem) || problem.code != WARC_NOT_OPEN) abort();
-    if (warc_replay(&archive, &byte, 1, NULL, 0, NULL, NULL, 0, &problem) || problem.code == 0) abort();
-    if (warc_body_at(&archive, 0, NULL, NULL, 3, &problem) || problem.code != WARC_BAD_ARGUMENT) abort();
+    if (warc_open(&archive, &byte, 1, &problem) || problem.code != WARC_FAULT_VERSION || archive != NULL) abort();
+    if (warc_open_front(NULL, &byte, 1, NULL, &problem) || problem.code != WARC_BAD_ARGUMENT) abort();
+    if (warc_grow(NULL, NULL, 0, &problem) || problem.code != WARC_BAD_ARGUMENT) abort();
     if (warc_verdict_at(NULL, 0, &problem) != WARC_UNCHECKED || problem.code != WARC_BAD_ARGUMENT) abort();
-    if (warc_verdict_at(&archive, 0, &problem) != WARC_UNCHECKED || problem.code != WARC_NOT_OPEN) abort();
-    if (warc_verdict_at(&archive, 0, NULL) != WARC_UNCHECKED) abort();
-    if (warc_list(&archive, NULL, 0, NULL) || warc_count(&archive) || warc_count(NULL)) abort();
-    if (warc_problem_text(NULL, NULL, 0)) abort();
+    if (warc_count(NULL) || warc_length(NULL) || warc_problem_text(NULL, NULL, 0)) abort();
+    if (warc_list(NULL, NULL, 0, &problem) || problem.code != WARC_BAD_ARGUMENT) abort();
+    if (warc_rewrite(NULL, 1, 1, &sent, &problem) || problem.code != WARC_BAD_ARGUMENT || sent) abort();
+    if (warc_split(NULL, 0, 0, 1, NULL, &problem) || problem.code != WARC_BAD_ARGUMENT) abort();
+    if (warc_make(NULL, 1, NULL, &problem) || problem.code != WARC_BAD_ARGUMENT) abort();
+    if (warc_make(&draft, 1, NULL, &problem) || problem.code != WARC_MADE_KIND) abort();
+    if (warc_rewrite(&byte, 1, -1, NULL, &problem) || problem.code != WARC_FAULT_VERSION) abort();
     warc_close(NULL);
-    warc_close(&archive);
-    if (!warc_open(&archive, NULL, 0, NULL) || warc_count(&archive)) abort();
-    warc_close(&archive);
-    for (uint32_t code = 0; code < 300; code++) {
+    if (!warc_open(&archive, NULL, 0, NULL) || warc_count(archive)) abort();
+    if (warc_replay(archive, &byte, 1, NULL, 0, NULL, NULL, 0, &problem) || problem.code != WARC_BAD_DATE) abort();
+    if (warc_body_at(archive, 0, NULL, NULL, 3, &problem) || problem.code != WARC_BAD_ARGUMENT) abort();
+    if (warc_field_at(archive, 0, 0, NULL, &problem) || problem.code != WARC_BAD_ARGUMENT) abort();
+    if (warc_grow(archive, &byte, 1, &problem) || problem.code != WARC_FAULT_VERSION) abort();
+    warc_close(archive);
+    for (uint32_t code = 0; code < 400; code++) {
         for (uint32_t detail = 0; detail < 8; detail++) {
             char some[64];
             problem.code = code;
@@ -147,36 +192,80 @@ static void ask_wrongly(void) {
     }
 }
 
-int main(int argc, char **argv) {
+/* Opens the whole, or a front first, which then grows; or as far as it is good. */
+static warc_archive *opened(const text *it, warc_problem *problem) {
     static uint8_t out[ROOM];
-    size_t count = argc > 3 ? strtoul(argv[1], NULL, 10) : 0, opened = 0, made;
-    warc_archive archive = {0};
+    warc_archive *archive;
+    warc_problem fault;
+    switch (below(4)) {
+    case 0:
+        if (!warc_open(&archive, it->bytes, below(it->length + 1), problem)) break;
+        if (warc_grow(archive, it->bytes, it->length, problem)) return archive;
+        warc_close(archive);
+        break;
+    case 1:
+        if (!warc_open_front(&archive, it->bytes, it->length, &fault, problem)) abort();
+        if (warc_length(archive) > it->length || (fault.code == 0) != (warc_length(archive) == it->length)) abort();
+        if (warc_grow(archive, it->bytes, it->length, problem) != (fault.code == 0)) abort();
+        return archive;
+    default:
+        if (warc_open(&archive, it->bytes, it->length, problem)) return archive;
+    }
+    if (warc_problem_text(problem, (char *)out, ROOM) == 0) abort();
+    return NULL;
+}
+
+/* Shorter bytes, and another head of the last record, are refused, and the archive stays as it was. */
+static void grow_wrongly(warc_archive *archive, const text *it) {
     warc_problem problem;
-    text last = {NULL, 0};
-    if (argc < 4) return 9;
+    warc_span head;
+    size_t count = warc_count(archive), length = warc_length(archive);
+    if (count == 0 || !warc_head_at(archive, count - 1, &head, &problem)) return;
+    if (warc_grow(archive, it->bytes, below(length), &problem) || problem.code != WARC_CHANGED) abort();
+    uint8_t *other = malloc(length);
+    if (other == NULL) exit(9);
+    memcpy(other, it->bytes, length);
+    other[head.offset + below((size_t)head.length)] ^= 1;
+    if (warc_grow(archive, other, length, &problem) || problem.code != WARC_CHANGED) abort();
+    free(other);
+    if (warc_count(archive) != count || warc_length(archive) != length) abort();
+    if (!warc_grow(archive, it->bytes, length, &problem) || warc_count(archive) != count) abort();
+}
+
+/* Writes what opens as a whole, and what doesn't isn't written. */
+static void write_anew(const text *it, int file) {
+    warc_archive *archive;
+    warc_problem problem;
+    bool is_whole = warc_open(&archive, it->bytes, it->length, &problem);
+    warc_close(archive);
+    if (warc_rewrite(it->bytes, it->length, file, NULL, &problem) != is_whole) abort();
+    if (warc_convert(it->bytes, it->length, file, NULL, &problem) != is_whole) abort();
+    if (warc_split(it->bytes, it->length, 1 + below(100), file, NULL, &problem) != is_whole) abort();
+}
+
+int main(int argc, char **argv) {
+    size_t count = argc > 3 ? strtoul(argv[1], NULL, 10) : 0, are_open = 0, made;
+    int file = open("/dev/null", O_WRONLY);
+    if (argc < 4 || file < 0) return 9;
     state = strtoull(argv[2], NULL, 10) * 2654435761u + 88172645463325252u;
     for (int i = 3; i < argc && archive_count < MOST_ARCHIVES; i++) read_file(argv[i]);
     ask_wrongly();
     for (made = 0; made < count; made++) {
+        warc_problem problem;
         text it = changed();
-        size_t front = below(it.length + 1);
-        bool is_open = below(4) == 0 && warc_open(&archive, it.bytes, front, &problem)
-            && warc_grow(&archive, it.bytes, it.length, &problem);
-        is_open = is_open || warc_open(&archive, it.bytes, it.length, &problem);
-        if (!is_open && warc_problem_text(&problem, (char *)out, ROOM) == 0) abort();
-        opened += is_open;
-        ask_all(&archive, &it);
-        warc_fixity(it.bytes, it.length, out, below(ROOM), &problem);
-        if (below(3) == 0) warc_close(&archive);
-        /* The bytes stay until another archive is open. */
-        free(last.bytes);
-        last = it;
-        if (below(3) == 0) warc_close(&archive);
+        warc_archive *archive = opened(&it, &problem);
+        if (below(8) == 0) write_anew(&it, file);
+        if (archive != NULL) {
+            are_open++;
+            ask_all(archive, &it);
+            grow_wrongly(archive, &it);
+            ask_all(archive, &it);
+            warc_close(archive);
+        }
+        free(it.bytes);
     }
-    warc_close(&archive);
-    warc_close(&archive);
-    free(last.bytes);
+    close(file);
     for (size_t i = 0; i < archive_count; i++) free(archives[i].bytes);
-    printf("%zu archives, %zu opened\n", made, opened);
+    printf("%zu archives, %zu opened\n", made, are_open);
     return 0;
 }

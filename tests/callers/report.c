@@ -42,11 +42,6 @@ static void print_text(const char *title, size_t (*ask)(warc_archive *, uint8_t 
     free(text);
 }
 
-static size_t ask_fixity(warc_archive *archive, uint8_t *text, size_t size, warc_problem *problem) {
-    (void)archive;
-    return warc_fixity(bytes, length, text, size, problem);
-}
-
 /* The lines of `warc list`, made of rows. */
 static void print_rows(warc_archive *archive) {
     static uint8_t texts[65536];
@@ -121,24 +116,56 @@ static void print_bodies(warc_archive *archive) {
     }
 }
 
+static void print_field(const warc_field *field) {
+    fwrite(field->name, 1, field->name_length, stdout);
+    putchar('\t');
+    fwrite(field->value, 1, field->value_length, stdout);
+    putchar('\n');
+}
+
+/* The fields of each record's head, and what its HTTP head says. */
+static void print_heads(warc_archive *archive) {
+    for (size_t position = 0; position < warc_count(archive); position++) {
+        warc_field field;
+        warc_http http;
+        warc_problem problem;
+        printf("== fields %zu\n", position);
+        for (size_t place = 0; warc_field_at(archive, position, place, &field, &problem); place++) print_field(&field);
+        if (problem.code) exit(3);
+        if (!warc_http_at(archive, position, &http, &problem)) {
+            if (problem.code != WARC_BAD_HEAD) exit(3);
+            continue;
+        }
+        printf("== http %zu\nHTTP/1.%u %u ", position, http.minor, http.status);
+        fwrite(http.reason, 1, http.reason_length, stdout);
+        printf("\t%llu\n", (unsigned long long)http.body.length);
+        for (size_t place = 0; place < http.fields; place++) {
+            if (!warc_http_field_at(archive, position, place, &field, &problem)) exit(3);
+            print_field(&field);
+        }
+        if (warc_http_field_at(archive, position, http.fields, &field, &problem) || problem.code) exit(3);
+        fwrite(bytes + http.body.offset, 1, http.body.length, stdout);
+        putchar('\n');
+    }
+}
+
 int main(int argc, char **argv) {
-    warc_archive archive = {0};
+    warc_archive *archive;
     warc_problem problem;
     if (argc != 2 || map_file(argv[1])) return 9;
     if (warc_abi_version() != WARC_ABI_VERSION) return 9;
     if (!warc_open(&archive, bytes, length, &problem)) {
         printf("== refused\n");
         print_problem(&problem);
-        return 0;
+        return archive == NULL ? 0 : 5;
     }
-    print_text("list", warc_list, &archive);
-    print_rows(&archive);
-    print_text("check", warc_check, &archive);
-    print_text("fixity", ask_fixity, &archive);
-    print_verdicts(&archive);
-    print_bodies(&archive);
-    warc_close(&archive);
-    if (warc_count(&archive) != 0) return 5;
-    warc_close(&archive);
-    return 0;
+    print_text("list", warc_list, archive);
+    print_rows(archive);
+    print_text("check", warc_check, archive);
+    print_text("fixity", warc_fixity, archive);
+    print_verdicts(archive);
+    print_bodies(archive);
+    print_heads(archive);
+    warc_close(archive);
+    return fclose(stdout) == 0 ? 0 : 9;
 }

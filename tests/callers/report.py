@@ -41,6 +41,21 @@ def fixity_text(fixity):
     return to_bytes("".join(lines) + counts)
 
 
+def fields_text(headers):
+    """The fields of a head."""
+    return to_bytes("".join(f"{name}\t{value}\n" for name, value in headers.fields))
+
+
+def heads_text(record):
+    """The fields of a record's head, and what its HTTP head says."""
+    parts = [f"== fields {record.position}\n".encode(), fields_text(record.headers)]
+    http = record.http
+    if http is not None:
+        line = f"== http {record.position}\n{http.version} {http.status} {http.reason}\t{http.length}\n"
+        parts += [to_bytes(line), fields_text(http.headers), http.stored, b"\n"]
+    return b"".join(parts)
+
+
 def report(path, **how):
     """The whole report of an archive."""
     try:
@@ -56,6 +71,7 @@ def report(path, **how):
             if record.target:
                 replay = body_text(lambda: archive.replay(record.target, record.date))
                 parts += [f"== replay {record.position}\n".encode(), replay]
+        parts += map(heads_text, archive)
     return b"".join(parts)
 
 

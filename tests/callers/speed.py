@@ -47,7 +47,8 @@ def least(work):
 def main(warc, folder):
     """Measures both archives."""
     for name, make in (
-        ("many records", lambda path: repeated(path, 5000)), ("large blocks", lambda path: large_blocks(path, 200, 1 << 20))
+        ("many records", lambda path: repeated(path, 5000)),
+        ("large blocks", lambda path: large_blocks(path, 200, 1 << 20)),
     ):
         path = os.path.join(folder, "speed.warc")
         make(path)
@@ -56,9 +57,14 @@ def main(warc, folder):
         size = os.path.getsize(path) >> 20
         by_python = least(lambda: zogwedu.Archive.open(path).close())
         by_program = least(lambda: subprocess.run([warc, "list", path], stdout=subprocess.DEVNULL, check=True))
-        by_replay = least(lambda: subprocess.run(
-            [warc, "replay", path, "http://nowhere.example/", "2000"], stdout=subprocess.DEVNULL,
-            stderr=subprocess.DEVNULL, check=False))
+        by_replay = least(
+            lambda: subprocess.run(
+                [warc, "replay", path, "http://nowhere.example/", "2000"],
+                stdout=subprocess.DEVNULL,
+                stderr=subprocess.DEVNULL,
+                check=False,
+            )
+        )
         os.remove(path)
         print(
             f"{name}: {records} records, {size} MiB: Python opens in {by_python:.3f} s, warc list takes {by_program:.3f} s, "

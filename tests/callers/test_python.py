@@ -1,7 +1,14 @@
 #!/usr/bin/env python3
-"""What the Python package does beyond what compare.py compares: closing, growing, decoding, unpacking."""
+"""What the Python package does beyond what compare.py compares: closing, growing, headers, decoding, writing, unpacking."""
+import array
+import copy
 import gzip
+import importlib.util
+import io
+import json
+import mmap
 import os
+import pickle
 import subprocess
 import sys
 import tempfile
@@ -11,6 +18,7 @@ from datetime import datetime, timedelta, timezone
 
 import zogwedu
 
+HERE = os.path.dirname(os.path.abspath(__file__))
 TOP = os.path.dirname(os.path.dirname(os.path.dirname(os.path.abspath(__file__))))
 CRAWL = f"{TOP}/examples/crawl.warc"
 FRONT = "http://127.0.0.1:8765/"
@@ -78,6 +86,66 @@ class Closing(unittest.TestCase):
                 thread.join()
             self.assertEqual(len(closed), 3)
 
+    def test_a_loop_in_with_may_keep_views(self):
+        with zogwedu.Archive.open(CRAWL) as archive:
+            for record in archive:
+                data = record.block
+        self.assertEqual(len(data), 163)
+        with self.assertRaises(zogwedu.Closed):
+            len(archive)
+
+    def test_with_does_not_hide_an_exception(self):
+        with self.assertRaises(RuntimeError):
+            with zogwedu.Archive.open(CRAWL) as archive:
+                data = archive[2].block
+                raise RuntimeError(len(data))
+
+    def test_a_mapping_goes_with_its_last_view(self):
+        def is_mapped():
+            with open("/proc/self/maps", encoding="utf-8", errors="replace") as maps:
+                return "crawl.warc" in maps.read()
+
+        with zogwedu.Archive.open(CRAWL) as archive:
+            data = archive[2].block
+            self.assertTrue(is_mapped())
+        self.assertTrue(is_mapped())
+        self.assertEqual(bytes(data[:4]), b"HTTP")
+        del data
+        self.assertFalse(is_mapped())
+
+    def test_loops_beside_a_close_end_in_closed(self):
+        for _ in range(200):
+            archive, seen = zogwedu.Archive.open(CRAWL), []
+
+            def work():
+                try:
+                    while True:
+                        seen.append(sum(1 for _ in archive))
+                except zogwedu.Closed:
+                    seen.append("closed")
+
+            threads = [threading.Thread(target=work) for _ in range(2)]
+            for thread in threads:
+                thread.start()
+            archive.close()
+            for thread in threads:
+                thread.join()
+            self.assertEqual(seen.count("closed"), 2)
+            self.assertEqual(set(seen) - {"closed", 18}, set())
+
+    def test_a_mapping_that_is_passed_stays_the_callers(self):
+        with open(CRAWL, "rb") as file, mmap.mmap(file.fileno(), 0, access=mmap.ACCESS_READ) as mapped:
+            with zogwedu.Archive(mapped) as archive:
+                self.assertEqual(len(archive), 18)
+            self.assertEqual(mapped[:4], b"WARC")
+
+    def test_an_archive_is_not_copied(self):
+        archive = zogwedu.Archive.open(CRAWL)
+        for make in (copy.copy, copy.deepcopy, pickle.dumps):
+            with self.assertRaises(TypeError):
+                make(archive)
+        self.assertEqual(len(archive), 18)
+
     def test_an_archive_that_is_left_open_is_freed(self):
         for _ in range(200):
             zogwedu.Archive.open(CRAWL)
@@ -91,14 +159,88 @@ class Reading(unittest.TestCase):
             with self.assertRaises(IndexError):
                 archive[len(archive)]
 
+    def test_sequence_of_records(self):
+        with zogwedu.Archive.open(CRAWL) as archive, zogwedu.Archive.open(CRAWL) as other:
+            self.assertEqual([record.position for record in archive[2:8:3]], [2, 5])
+            self.assertEqual([record.position for record in archive[::-1]], list(range(17, -1, -1)))
+            self.assertEqual([record.position for record in reversed(archive)], list(range(17, -1, -1)))
+            self.assertIn(archive[3], archive)
+            self.assertNotIn(archive[3], other)
+            self.assertNotIn("3", archive)
+            self.assertEqual((archive[3], archive.index(archive[3])), (archive[3], 3))
+            self.assertNotEqual(archive[3], archive[4])
+            self.assertNotEqual(archive[3], other[3])
+            self.assertEqual(len({archive[3], archive[3], archive[4]}), 2)
+            with self.assertRaises(TypeError):
+                archive.captures(5)
+
+    def test_items_of_any_size(self):
+        some = stored("HTTP/1.1 200 OK", b"a" * (8 - len(stored("HTTP/1.1 200 OK", b"")) % 8))
+        wanted = zogwedu.Archive(some)[0]
+        for kind in "HIQ":
+            record = zogwedu.Archive(array.array(kind, some))[0]
+            self.assertEqual((bytes(record.head), bytes(record.block)), (bytes(wanted.head), bytes(wanted.block)))
+
+    def test_a_digest_with_a_tab(self):
+        text = stored("HTTP/1.1 200 OK", b"a").replace(b"WARC-Date", b"WARC-Block-Digest: sha256:ab\tcd\r\nWARC-Date")
+        block = zogwedu.Archive(text).fixity().blocks[0]
+        self.assertEqual(block.digest, "sha256:ab\tcd")
+        self.assertEqual(block.id, "urn:uuid:00000000-0000-4000-8000-000000000001")
+
+    def test_a_pipe_and_a_file_object(self):
+        read, write = os.pipe()
+        with open(CRAWL, "rb") as file:
+            data = file.read()
+        with os.fdopen(write, "wb") as into:
+            feeder = threading.Thread(target=lambda: (into.write(data), into.close()))
+            feeder.start()
+            with os.fdopen(read, "rb") as pipe, zogwedu.Archive.open(pipe) as archive:
+                self.assertEqual(len(archive), 18)
+            feeder.join()
+        self.assertEqual(len(zogwedu.Archive.open(io.BytesIO(data))), 18)
+        with self.assertRaises(TypeError):
+            zogwedu.Archive.open(io.StringIO(""))
+
+    def test_a_fifo_by_its_path(self):
+        with tempfile.TemporaryDirectory() as folder:
+            os.mkfifo(f"{folder}/fifo")
+            with open(CRAWL, "rb") as file:
+                data = file.read()
+
+            def feed():
+                with open(f"{folder}/fifo", "wb") as into:
+                    into.write(data)
+
+            feeder = threading.Thread(target=feed)
+            feeder.start()
+            self.assertEqual(len(zogwedu.Archive.open(f"{folder}/fifo")), 18)
+            feeder.join()
+
+    def test_front(self):
+        with open(CRAWL, "rb") as file:
+            data = file.read()
+        whole = zogwedu.Archive(data, front=True)
+        self.assertEqual((len(whole), whole.fault, whole.length), (18, None, len(data)))
+        for position in (0, 1, 9, 17):
+            at = zogwedu.Archive(data)[position].offset
+            front = zogwedu.Archive(data[:at] + b"x" + data[at:], front=True)
+            self.assertEqual((len(front), front.length, str(front.fault)), (position, at, f"F1 Version at {at}"))
+            self.assertEqual(front.list_text(), zogwedu.Archive(data[:at]).list_text())
+        cut = zogwedu.Archive(data[:-1], front=True)
+        self.assertEqual((len(cut), str(cut.fault)), (17, f"F11 Truncated at {len(data) - 1}"))
+        self.assertEqual(zogwedu.Archive.open(f"{TOP}/examples/damaged.warc", front=True).fault.offset, 274)
+
     def test_verdicts(self):
         with zogwedu.Archive.open(CRAWL) as archive:
             verdicts = [record.verdict for record in archive]
             fixity = archive.fixity()
-        self.assertEqual([verdicts.count(name) for name in ("good", "bad", "unchecked")],
-                         [fixity.good, fixity.bad, fixity.unchecked])
-        self.assertEqual([(it.position, it.verdict) for it in fixity.blocks],
-                         [(number, name) for number, name in enumerate(verdicts) if name != "good"])
+        self.assertEqual(
+            [verdicts.count(name) for name in ("good", "bad", "unchecked")], [fixity.good, fixity.bad, fixity.unchecked]
+        )
+        self.assertEqual(
+            [(it.position, it.verdict) for it in fixity.blocks],
+            [(number, name) for number, name in enumerate(verdicts) if name != "good"],
+        )
 
     def test_a_verdict_is_kept(self):
         archive = zogwedu.Archive.open(CRAWL)
@@ -112,8 +254,12 @@ class Reading(unittest.TestCase):
     def test_dates(self):
         with zogwedu.Archive.open(CRAWL) as archive:
             east = timezone(timedelta(hours=2))
-            for date in ("2026-11-26T04:49Z", b"2026-11-26T04:49:00Z", datetime(2026, 11, 26, 4, 49),
-                         datetime(2026, 11, 26, 6, 49, tzinfo=east)):
+            for date in (
+                "2026-11-26T04:49Z",
+                b"2026-11-26T04:49:00Z",
+                datetime(2026, 11, 26, 4, 49),
+                datetime(2026, 11, 26, 6, 49, tzinfo=east),
+            ):
                 self.assertEqual(archive.replay(FRONT, date).chosen, 2)
             with self.assertRaises(zogwedu.WarcError):
                 archive.replay(FRONT, "yesterday")
@@ -174,51 +320,411 @@ class Growing(unittest.TestCase):
             self.assertEqual(archive.grow(), 1)
             archive.close()
 
+    def grown(self, old, new, **how):
+        with tempfile.NamedTemporaryFile() as file:
+            file.write(old)
+            file.flush()
+            archive = zogwedu.Archive.open(file.name, **how)
+            file.seek(0)
+            file.truncate(0)
+            file.write(new)
+            file.flush()
+            try:
+                return archive, archive.grow()
+            except zogwedu.WarcError as error:
+                return archive, error
+
+    def test_fewer_or_other_bytes_are_refused(self):
+        with open(CRAWL, "rb") as file:
+            whole = file.read()
+        last = zogwedu.Archive(whole)[17]
+        at = last.offset + len(last.head)
+        for new in (b"", whole[:700], whole[:-1], whole[: last.offset]):
+            archive, answer = self.grown(whole, new, mmap=False)
+            self.assertIsInstance(answer, zogwedu.Changed)
+            self.assertEqual((len(archive), bytes(archive[17].block)), (18, whole[at:-4]))
+        other = whole[: at - 8] + b"X" + whole[at - 7 :]
+        for new in (other, other + whole):
+            archive, answer = self.grown(whole, new, mmap=False)
+            self.assertIsInstance(answer, zogwedu.Changed)
+            self.assertEqual((len(archive), bytes(archive[17].block)), (18, whole[at:-4]))
+        self.assertEqual(self.grown(whole, whole, mmap=False)[1], 0)
+        self.assertEqual(self.grown(whole, whole + whole, mmap=False)[1], 18)
+        self.assertEqual(self.grown(b"", whole, mmap=False)[1], 18)
+
+    def test_a_mapped_file_that_became_shorter_is_refused(self):
+        with open(CRAWL, "rb") as file:
+            whole = file.read()
+        with tempfile.NamedTemporaryFile() as file:
+            file.write(whole)
+            file.flush()
+            archive = zogwedu.Archive.open(file.name)
+            file.truncate(700)
+            with self.assertRaises(zogwedu.Changed):
+                archive.grow()
+            self.assertEqual(len(archive), 18)
+
+    def test_what_was_read_is_not_mapped_later(self):
+        with tempfile.NamedTemporaryFile() as file:
+            archive = zogwedu.Archive.open(file.name, mmap=False)
+            file.write(stored("HTTP/1.1 200 OK", b"a"))
+            file.flush()
+            self.assertEqual(archive.grow(), 1)
+            with open("/proc/self/maps", encoding="utf-8", errors="replace") as maps:
+                self.assertNotIn(os.path.basename(file.name), maps.read())
+
+    def test_threads_grow_and_leave_one_mapping(self):
+        with open(CRAWL, "rb") as file:
+            whole = file.read()
+        for _ in range(30):
+            with tempfile.NamedTemporaryFile() as file:
+                file.write(whole)
+                file.flush()
+                archive = zogwedu.Archive.open(file.name)
+                file.write(whole)
+                file.flush()
+                threads = [threading.Thread(target=archive.grow) for _ in range(4)]
+                for thread in threads:
+                    thread.start()
+                for thread in threads:
+                    thread.join()
+                self.assertEqual(len(archive), 36)
+                with open("/proc/self/maps", encoding="utf-8", errors="replace") as maps:
+                    self.assertEqual(maps.read().count(os.path.basename(file.name)), 1)
+                archive.close()
+
     def test_bytes_do_not_grow(self):
         with self.assertRaises(ValueError):
             zogwedu.Archive(b"").grow()
 
 
+class Heads(unittest.TestCase):
+    def test_headers(self):
+        extra = b"X-A: one\r\nx-a:  two\r\nX-Fold: a\r\n  b\r\nX-Empty:\r\nWARC-Date"
+        record = zogwedu.Archive(stored("HTTP/1.1 200 OK", b"a").replace(b"WARC-Date", extra, 1))[0]
+        headers = record.headers
+        self.assertEqual((headers["x-A"], headers.get_all("X-a"), headers["X-EMPTY"]), ("one", ["one", "two"], ""))
+        self.assertEqual(headers["x-fold"], "a b")
+        self.assertEqual(
+            list(headers),
+            [
+                "WARC-Type",
+                "WARC-Record-ID",
+                "X-A",
+                "X-Fold",
+                "X-Empty",
+                "WARC-Date",
+                "WARC-Target-URI",
+                "Content-Length",
+            ],
+        )
+        self.assertEqual([name for name, _ in headers.fields][2:4], ["X-A", "x-a"])
+        self.assertEqual((len(headers), len(headers.fields)), (8, 9))
+        self.assertIn("warc-type", headers)
+        for absent in ("X-B", "\u212a", 5):
+            self.assertNotIn(absent, headers)
+            self.assertIsNone(headers.get(absent))
+        with self.assertRaises(KeyError):
+            headers["X-B"]
+        self.assertEqual(headers, record.headers)
+        self.assertEqual(dict(headers)["X-A"], "one")
+
+    def test_headers_of_all_records(self):
+        with zogwedu.Archive.open(CRAWL) as archive:
+            for record in list(archive) + list(reversed(archive)):
+                headers = record.headers
+                self.assertEqual((headers["warc-type"], headers["warc-date"]), (record.type, record.date))
+                self.assertEqual(
+                    (headers["warc-record-id"], headers["content-length"]), (record.id, str(record.length))
+                )
+
+    def test_many_fields(self):
+        extra = b"".join(b"X-%d: %d\r\n" % (i, i) for i in range(3000)) + b"WARC-Date"
+        headers = zogwedu.Archive(stored("HTTP/1.1 200 OK", b"a").replace(b"WARC-Date", extra, 1))[0].headers
+        self.assertEqual((len(headers), headers["x-2999"]), (3005, "2999"))
+
+    def test_http(self):
+        head = "HTTP/1.0 404 Not  Here\r\nA:  b \r\nSet-Cookie: x\r\nset-cookie: y\r\nE:"
+        record = zogwedu.Archive(stored(head, b"abc"))[0]
+        http = record.http
+        self.assertEqual((http.status, http.version, http.reason), (404, "HTTP/1.0", "Not  Here"))
+        self.assertEqual(http.headers.fields, (("A", "b"), ("Set-Cookie", "x"), ("set-cookie", "y"), ("E", "")))
+        self.assertEqual(http.headers.get_all("SET-COOKIE"), ["x", "y"])
+        self.assertEqual((bytes(http.stored), http.length), (b"abc", 3))
+        self.assertEqual(http.offset, record.offset + len(record.head) + len(record.block) - 3)
+
+    def test_no_http(self):
+        for head in ("GET / HTTP/1.1", "HTTP/1.1 200 OK\r\nno field", "HTTP/2 200 OK", "HTTP/1.1 20 OK"):
+            self.assertIsNone(zogwedu.Archive(stored(head, b""))[0].http)
+        many = "HTTP/1.1 200 OK" + "".join(f"\r\nA: {number}" for number in range(256))
+        self.assertEqual(len(zogwedu.Archive(stored(many, b""))[0].http.headers.fields), 256)
+        self.assertIsNone(zogwedu.Archive(stored(many + "\r\nA: 256", b""))[0].http)
+        with zogwedu.Archive.open(CRAWL) as archive:
+            self.assertIsNone(archive[0].http)
+            self.assertEqual(archive[2].http.headers["content-type"], "text/html")
+
+    def test_closed(self):
+        archive = zogwedu.Archive.open(CRAWL)
+        record, http = archive[2], archive[2].http
+        archive.close()
+        for ask in (lambda: record.headers, lambda: record.http, lambda: http.stored):
+            with self.assertRaises(zogwedu.Closed):
+                ask()
+
+
 class Decoding(unittest.TestCase):
-    def body(self, head, body):
-        archive = zogwedu.Archive(stored(head, body))
-        with self.assertRaises(zogwedu.NoBody):
-            archive[0].body()
-        return archive.replay("http://a.example/x", "2021", decoded=True)
+    def archive(self, case):
+        fields = "".join(f"\r\n{name}: {value}" for name, value in case["fields"])
+        return zogwedu.Archive(stored(f"HTTP/1.1 {case['status']} It{fields}", bytes.fromhex(case["body"])))
 
-    def test_chunked(self):
-        body = self.body("HTTP/1.1 200 OK\r\nTransfer-Encoding: chunked", b"3\r\nabc\r\n0\r\n\r\n")
-        self.assertEqual((bytes(body), body.undone, body.status), (b"abc", ("chunked",), 200))
+    def lacks(self, case):
+        """Whether a module that the case needs isn't here."""
+        needed = {"br": "brotli", "zstd": "zstandard"}
+        names = case.get("undone", []) + [case.get("fails")]
+        return any(importlib.util.find_spec(needed[name]) is None for name in names if name in needed)
 
-    def test_gzip(self):
-        body = self.body("HTTP/1.1 200 OK\r\nContent-Encoding: gzip", gzip.compress(b"abc"))
-        self.assertEqual((bytes(body), body.undone), (b"abc", ("gzip",)))
+    def test_cases(self):
+        with open(f"{HERE}/codings.json", encoding="utf-8") as file:
+            cases = json.load(file)
+        for case in cases:
+            archive = self.archive(case)
+            with self.subTest(case["name"]), self.assertRaises(zogwedu.NoBody):
+                archive[0].body()
+            with self.subTest(case["name"]):
+                if "fails" in case or self.lacks(case):
+                    with self.assertRaises(zogwedu.Undecodable) as raised:
+                        archive[0].body(decoded=True)
+                    self.assertEqual(raised.exception.coding, case.get("fails") or case["undone"][0])
+                else:
+                    body = archive.replay("http://a.example/x", "2021", decoded=True)
+                    self.assertEqual((bytes(body).hex(), list(body.undone)), (case["gives"], case["undone"]))
+                    self.assertEqual((body.status, len(body)), (case["status"], len(bytes(body))))
 
-    def test_chunked_gzip(self):
-        packed = gzip.compress(b"abc")
-        chunks = f"{len(packed):x}".encode() + b"\r\n" + packed + b"\r\n0\r\n\r\n"
-        head = "HTTP/1.1 200 OK\r\nTransfer-Encoding: chunked\r\nContent-Encoding: gzip"
-        body = self.body(head, chunks)
-        self.assertEqual((bytes(body), body.undone), (b"abc", ("chunked", "gzip")))
+    def test_a_limit_holds_for_each_step(self):
+        inner = gzip.compress(bytes(10_000_000))
+        for coding, body in (("gzip", inner), ("gzip, gzip", gzip.compress(inner)), ("br", None), ("zstd", None)):
+            if body is None:
+                body = self.packed(coding)
+            if body is None:
+                continue
+            case = {"status": 200, "fields": [("Content-Encoding", coding)], "body": body.hex()}
+            record = self.archive(case)[0]
+            with self.assertRaises(zogwedu.Undecodable):
+                record.body(decoded=True, decoded_limit=9_999_999)
+            self.assertEqual(len(record.body(decoded=True, decoded_limit=10_000_000)), 10_000_000)
 
-    def test_what_cannot_be_undone(self):
-        for coding, stored_as in (("br", b"abc"), ("gzip", b"abc")):
-            archive = zogwedu.Archive(stored(f"HTTP/1.1 200 OK\r\nContent-Encoding: {coding}", stored_as))
-            with self.assertRaises(ValueError):
-                archive[0].body(decoded=True)
+    def packed(self, coding):
+        """Ten million zeros, if the module for the coding is here."""
+        try:
+            if coding == "br":
+                return __import__("brotli").compress(bytes(10_000_000))
+            return __import__("zstandard").compress(bytes(10_000_000))
+        except ImportError:
+            return None
+
+    def test_a_small_body_never_takes_much_memory(self):
+        code = (
+            "import resource, sys, zogwedu\n"
+            "record = zogwedu.Archive(sys.stdin.buffer.read())[0]\n"
+            "try:\n"
+            "    record.body(decoded=True, decoded_limit=1 << 20)\n"
+            "except zogwedu.Undecodable:\n"
+            "    print(resource.getrusage(resource.RUSAGE_SELF).ru_maxrss)\n"
+        )
+        body = gzip.compress(gzip.compress(bytes(300_000_000), 9))
+        archive = stored("HTTP/1.1 200 OK\r\nContent-Encoding: gzip, gzip", body)
+        run = subprocess.run([sys.executable, "-c", code], input=archive, capture_output=True, check=True)
+        self.assertLess(int(run.stdout), 64 << 10)
+
+    def test_many_small_members(self):
+        record = self.archive(
+            {"status": 200, "fields": [("Content-Encoding", "gzip")], "body": (gzip.compress(b"") * 100_000).hex()}
+        )[0]
+        self.assertEqual(len(record.body(decoded=True)), 0)
+
+    def test_a_uri_that_names_a_segment(self):
+        head = "HTTP/1.1 200 OK\r\nContent-Encoding: gzip"
+        uri = "http://a.example/warc-segment-number"
+        archive = zogwedu.Archive(stored(head, gzip.compress(b"abc"), uri=uri))
+        self.assertEqual(bytes(archive[0].body(decoded=True)), b"abc")
 
     def test_plain_bodies_are_not_touched(self):
         body = zogwedu.Archive(stored("HTTP/1.1 200 OK", b"abc"))[0].body(decoded=True)
         self.assertEqual((bytes(body), body.undone), (b"abc", ()))
 
 
+class Full(io.RawIOBase):
+    """Takes some bytes, few at a time, and then fails."""
+
+    def __init__(self, room):
+        self.room = room
+        self.taken = b""
+
+    def writable(self):
+        return True
+
+    def write(self, piece):
+        piece = bytes(piece[: min(7, self.room - len(self.taken))])
+        if not piece:
+            raise OSError(28, "No space left on device")
+        self.taken += piece
+        return len(piece)
+
+
+class Writing(unittest.TestCase):
+    DRAFT = ("resource", "http://a.example/x", "2020-01-01T00:00:00Z", "text/plain", b"abc")
+
+    def test_make(self):
+        with tempfile.TemporaryDirectory() as folder:
+            with open(f"{folder}/a.warc", "wb") as out:
+                for number in range(3):
+                    zogwedu.make(
+                        out, "resource", f"http://a.example/{number}", datetime(2020, 1, 1), "text/plain", b"abc"
+                    )
+                    self.assertEqual(out.tell(), os.path.getsize(f"{folder}/a.warc"))
+            with zogwedu.Archive.open(f"{folder}/a.warc") as archive:
+                self.assertEqual((len(archive), archive.check(), archive.fixity().good), (3, [], 3))
+                self.assertEqual(bytes(archive.replay("http://a.example/2", "2021")), b"abc")
+                self.assertEqual(archive[0].headers["content-type"], "text/plain")
+                self.assertEqual(len({record.id for record in archive}), 3)
+
+    def test_objects_of_any_kind(self):
+        with open(CRAWL, "rb") as file:
+            archive = zogwedu.Archive(file.read())
+        wanted = io.BytesIO()
+        archive.rewrite(wanted)
+        self.assertEqual(len(zogwedu.Archive(wanted.getvalue())), 18)
+        with tempfile.TemporaryDirectory() as folder:
+            with gzip.open(f"{folder}/a.gz", "wb") as out:
+                archive.rewrite(out)
+            with gzip.open(f"{folder}/a.gz", "rb") as file:
+                self.assertEqual(file.read(), wanted.getvalue())
+            with open(f"{folder}/a", "wb") as out:
+                out.write(b"front")
+                archive.rewrite(out)
+                out.write(b"back")
+            with open(f"{folder}/a", "rb") as file:
+                self.assertEqual(file.read(), b"front" + wanted.getvalue() + b"back")
+            with open(f"{folder}/b", "wb", buffering=0) as out:
+                archive.rewrite(out.fileno())
+            self.assertEqual(os.path.getsize(f"{folder}/b"), len(wanted.getvalue()))
+            with open(f"{folder}/c", "w", encoding="utf-8") as out, self.assertRaises(TypeError):
+                archive.rewrite(out)
+
+    def test_convert_and_split(self):
+        with zogwedu.Archive.open(CRAWL) as archive:
+            converted, split = io.BytesIO(), io.BytesIO()
+            archive.convert(converted)
+            archive.split(split, 50)
+            with self.assertRaises(ValueError):
+                archive.split(split, 0)
+            front, whole = archive.replay(FRONT, "9999"), zogwedu.Archive(split.getvalue())
+            self.assertEqual(bytes(whole.replay(FRONT, "9999")), bytes(front))
+            self.assertGreater(len(whole), 18)
+        self.assertEqual({bytes(record.head[:8]) for record in zogwedu.Archive(converted.getvalue())}, {b"WARC/1.1"})
+
+    def test_what_cannot_be_made(self):
+        for place, word, name in (
+            (0, "response", "M5 Kind"),
+            (2, "soon", "M1 Date"),
+            (1, "<a>", "M2 Text"),
+            (3, "", "M2 Text"),
+        ):
+            draft, out = list(self.DRAFT), io.BytesIO()
+            draft[place] = word
+            with self.assertRaises(zogwedu.NotMade) as raised:
+                zogwedu.make(out, *draft)
+            self.assertEqual((raised.exception.name, out.getvalue()), (name, b""))
+        with self.assertRaises(zogwedu.NotMade):
+            zogwedu.make(io.BytesIO(), *self.DRAFT, uuid="1")
+
+    def test_a_failed_write_says_how_much_went_out(self):
+        with zogwedu.Archive.open(CRAWL) as archive:
+            with open("/dev/full", "wb", buffering=0) as out, self.assertRaises(zogwedu.WriteFailed) as raised:
+                archive.rewrite(out)
+            self.assertEqual(raised.exception.sent, 0)
+            out = Full(1000)
+            with self.assertRaises(zogwedu.WriteFailed) as raised:
+                archive.rewrite(out)
+            self.assertEqual((raised.exception.sent, len(out.taken)), (1000, 1000))
+            read, write = os.pipe()
+            os.close(read)
+            with self.assertRaises(zogwedu.WriteFailed):
+                archive.rewrite(write)
+            os.close(write)
+            with self.assertRaises(zogwedu.WriteFailed):
+                archive.rewrite(write)
+
+    def test_a_limit_on_the_size_of_a_file(self):
+        code = (
+            "import resource, signal, sys, zogwedu\n"
+            "signal.signal(signal.SIGXFSZ, signal.SIG_IGN)\n"
+            "resource.setrlimit(resource.RLIMIT_FSIZE, (5000, 5000))\n"
+            "with open(sys.argv[2], 'wb') as out, zogwedu.Archive.open(sys.argv[1]) as archive:\n"
+            "    try:\n"
+            "        archive.rewrite(out)\n"
+            "    except zogwedu.WriteFailed as error:\n"
+            "        print(error.sent)\n"
+        )
+        with tempfile.TemporaryDirectory() as folder:
+            words = [sys.executable, "-c", code, CRAWL, f"{folder}/a"]
+            run = subprocess.run(words, capture_output=True, check=True)
+            self.assertEqual((run.stdout, os.path.getsize(f"{folder}/a")), (b"5000\n", 5000))
+
+
+class Package(unittest.TestCase):
+    def test_a_missing_library_is_an_import_error(self):
+        for path in ("/nowhere/libwarc.so", "/usr/lib/x86_64-linux-gnu/libc.so.6"):
+            done = subprocess.run(
+                [sys.executable, "-c", "import zogwedu"],
+                env={**os.environ, "ZOGWEDU_LIBRARY": path},
+                capture_output=True,
+                check=False,
+            )
+            self.assertIn(b"ImportError", done.stderr)
+            self.assertIn(b"libwarc.so", done.stderr)
+
+    def test_each_exception_is_a_warc_error(self):
+        for name in zogwedu.__all__:
+            it = getattr(zogwedu, name)
+            if isinstance(it, type) and issubclass(it, Exception):
+                self.assertTrue(issubclass(it, zogwedu.WarcError))
+                self.assertIn(f"`{name}`", zogwedu.__doc__ + "`WarcError`")
+
+
 class Unpacking(unittest.TestCase):
+    def index(self, folder):
+        """The lines of the index, by position."""
+        with open(f"{folder}/index.tsv", encoding="utf-8") as file:
+            names, *lines = [line.rstrip("\n").split("\t") for line in file]
+        return {line[0]: dict(zip(names, line)) for line in lines}
+
+    def test_stored(self):
+        with tempfile.TemporaryDirectory() as folder:
+            words = [sys.executable, "-m", "zogwedu", "unpack", "--stored", CRAWL, f"{folder}/site"]
+            self.assertEqual(subprocess.run(words, capture_output=True, check=True).stdout, b"8 bodies\n")
+            self.assertEqual(self.index(f"{folder}/site")["6"]["coding"], "stored")
+            with open(f"{folder}/site/6.body", "rb") as file, zogwedu.Archive.open(CRAWL) as archive:
+                self.assertEqual(file.read(), bytes(archive[6].http.stored))
+
+    def test_what_cannot_be_decoded_has_its_reason(self):
+        with tempfile.TemporaryDirectory() as folder:
+            with open(f"{folder}/a.warc", "wb") as file:
+                file.write(stored("HTTP/1.1 200 OK\r\nContent-Encoding: gzip", b"abc"))
+            words = [sys.executable, "-m", "zogwedu", "unpack", f"{folder}/a.warc", f"{folder}/out"]
+            self.assertEqual(subprocess.run(words, capture_output=True, check=True).stdout, b"0 bodies\n")
+            self.assertIn("the body isn't gzip", self.index(f"{folder}/out")["0"]["reason"])
+
     def test_unpack(self):
         with tempfile.TemporaryDirectory() as folder:
             words = [sys.executable, "-m", "zogwedu", "unpack", CRAWL, f"{folder}/site"]
-            self.assertEqual(subprocess.run(words, capture_output=True, check=True).stdout, b"6 bodies\n")
+            self.assertEqual(subprocess.run(words, capture_output=True, check=True).stdout, b"8 bodies\n")
             names = sorted(os.listdir(f"{folder}/site"))
-            self.assertEqual(names, ["11.body", "13.body", "17.body", "2.body", "4.body", "8.body", "index.tsv"])
+            self.assertEqual(names, [f"{it}.body" for it in (11, 13, 15, 17, 2, 4, 6, 8)] + ["index.tsv"])
+            columns = self.index(f"{folder}/site")
+            self.assertEqual((columns["6"]["coding"], columns["2"]["coding"]), ("undone chunked", "-"))
+            with open(f"{folder}/site/6.body", "rb") as file:
+                self.assertTrue(file.read().startswith(b"<title>"))
             again = subprocess.run(words, capture_output=True, check=False)
             self.assertEqual(again.returncode, 3)
 
@@ -226,8 +732,11 @@ class Unpacking(unittest.TestCase):
         with tempfile.TemporaryDirectory() as folder:
             with open(f"{folder}/a.warc", "wb") as file:
                 file.write(stored("HTTP/1.1 200 OK", b"a", uri="http://../../../etc/passwd\t"))
-            subprocess.run([sys.executable, "-m", "zogwedu", "unpack", f"{folder}/a.warc", f"{folder}/out"],
-                           stdout=subprocess.DEVNULL, check=True)
+            subprocess.run(
+                [sys.executable, "-m", "zogwedu", "unpack", f"{folder}/a.warc", f"{folder}/out"],
+                stdout=subprocess.DEVNULL,
+                check=True,
+            )
             self.assertEqual(sorted(os.listdir(f"{folder}/out")), ["0.body", "index.tsv"])
 
     def test_refused(self):

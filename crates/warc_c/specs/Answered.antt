@@ -1,9 +1,16 @@
 -- What C is answered: a number, and no problem, or 0 and the problem's numbers. This project's own notion.
-use Rattle.std.specs.Prelude.{◌≡◌, ℕ, List, Result, Ok, Err}
+use Rattle.std.specs.Prelude.{◌≡◌, ℕ, Bool, true, false, List, Option, Some, None, Result, Ok, Err}
+use Rattle.warc_payload.specs.Head.{front_of}
+use Rattle.warc_frame.specs.declared.fault.Fault.{Fault}
 use Rattle.warc_reading.specs.Archive.{IsArchiveOf}
 use Rattle.warc_reading.specs.Row.{Row}
-use Rattle.warc_lent.specs.Problems.{problem_numbers}
+use Rattle.warc_lent.specs.Fronts.{IsGoodFront}
+use Rattle.warc_lent.specs.Heads.{PutsFields, PutsHttp}
+use Rattle.warc_lent.specs.Problems.{fault_numbers, problem_numbers}
 use Rattle.warc_lent.specs.Texts.{IsRefusedFor, PutsFixity}
+use Rattle.warc_lent.specs.declared.heads.FieldNumbers.{FieldNumbers}
+use Rattle.warc_lent.specs.declared.heads.HttpFieldNumbers.{HttpFieldNumbers}
+use Rattle.warc_lent.specs.declared.heads.HttpNumbers.{HttpNumbers}
 use Rattle.warc_lent.specs.declared.problem.Numbers.{Numbers}
 use Rattle.warc_lent.specs.declared.problem.Problem.{Problem}
 
@@ -23,4 +30,39 @@ IsRefusedBy bytes numbers = (problem : Problem) × IsRefusedFor bytes problem ×
 pub record AnswersFixity (bytes : List ℕ) (answer : ℕ) (old new : List ℕ) (before after : Numbers) : Type 0 where
   pub result : Result ℕ Problem
   pub puts : PutsFixity bytes result old new
+  pub answered : IsAnswered result answer before after
+
+-- it is done, or a problem is reported
+abbrev pub IsDone : Result (Unit {0}) Problem → Bool → Numbers → Numbers → Type 0
+IsDone (Ok u) answer old new = (answer ≡ true) × (new ≡ old)
+IsDone (Err problem) answer old new = (answer ≡ false) × (new ≡ problem_numbers problem)
+
+-- a verdict is answered; where there is a problem it is that a block is unchecked
+abbrev pub IsJudged : Result ℕ Problem → ℕ → Numbers → Numbers → Type 0
+IsJudged (Ok verdict) answer old new = (answer ≡ verdict) × (new ≡ old)
+IsJudged (Err problem) answer old new = (answer ≡ 2) × (new ≡ problem_numbers problem)
+
+-- a fault is reported, if there is one
+abbrev pub IsFaultReported : Option Fault → Numbers → Numbers → Type 0
+IsFaultReported None old new = new ≡ old
+IsFaultReported (Some fault) old new = new ≡ fault_numbers fault
+
+-- how many bytes the good records have that these bytes begin with, and the fault after them
+pub record AnswersFront (bytes : List ℕ) (end : ℕ) (before after : Numbers) : Type 0 where
+  pub fault : Option Fault
+  pub front : IsGoodFront bytes end fault
+  pub reported : IsFaultReported fault before after
+
+-- the fields of a head of a record are put, and their number is answered, or a problem is reported
+pub record AnswersFields (head : List ℕ) (answer : ℕ) (lengths : List FieldNumbers) (texts : List ℕ)
+    (before after : Numbers) : Type 0 where
+  pub result : Result ℕ Problem
+  pub puts : PutsFields head result lengths texts
+  pub answered : IsAnswered result answer before after
+
+-- what the HTTP head at the front of a block says is put, or a problem is reported
+pub record AnswersHttp (block : List ℕ) (answer : ℕ) (http : HttpNumbers) (fields : List HttpFieldNumbers)
+    (before after : Numbers) : Type 0 where
+  pub result : Result ℕ Problem
+  pub puts : PutsHttp (front_of block) result http fields
   pub answered : IsAnswered result answer before after

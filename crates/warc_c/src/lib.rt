@@ -6,7 +6,9 @@
 #![tactic(auto)]
 
 mod bodies;
+mod heads;
 mod open;
 mod problems;
 mod rows;
 mod texts;
+mod writing;

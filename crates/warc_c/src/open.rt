@@ -3,14 +3,14 @@ ghost use Rattle.std.specs.Prelude.{box_value, IfErr, IfOk};
 ghost use Rattle.std.specs.Bool.{OnFalse, OnTrue};
 ghost use Rattle.warc_reading.specs.Indexed.{IsIndexed};
 ghost use Rattle.warc_lent.specs.Texts.{IsRefusedFor};
-ghost use Rattle.warc_c.specs.Answered.{IsArchive, IsRefusedBy};
+ghost use Rattle.warc_c.specs.Answered.{AnswersFront, IsArchive, IsRefusedBy};
 
-use crate::problems::report;
+use crate::problems::{done_or_report, report, report_fault};
 use std::alloc::Global;
 use warc::Archive;
 use warc_frame::SliceSource;
 use warc_handle::{Open, WarcArchive};
-use warc_lent::{Numbers, Problem};
+use warc_lent::{Numbers, Problem, good_front, grow_lent};
 
 /// An archive over these bytes, in a box.
 fn open_box(alloc: Global, bytes: &'static [u8]) -> Result<Box<Open>, Problem>
@@ -51,27 +51,32 @@ pub extern "C" fn warc_rt_open(
     }
 }
 
-/// Reads on in bytes that begin with those of the archive. A refusal leaves the archive as it was, over the old bytes.
+/// How many bytes the good records have that these bytes begin with. The fault after them is reported, if there is one.
+#[unsafe(no_mangle)]
+pub extern "C" fn warc_rt_front(alloc: Global, bytes: &[u8], problem: &mut Numbers) -> u64
+    ensures { AnswersFront bytes.now result problem.old problem.new }
+{
+    let (end, fault) = good_front(alloc, bytes);
+    report_fault(fault, problem);
+    end
+}
+
+/// Reads on in bytes that begin with the old ones, over which the archive was opened. A refusal leaves the archive as it
+/// was, over the old bytes.
 #[unsafe(no_mangle)]
 pub extern "C" fn warc_rt_grow(
     alloc: Global,
     handle: &mut WarcArchive,
+    old: &[u8],
     bytes: &'static [u8],
     problem: &mut Numbers,
 ) -> bool {
     let Some(mut archive) = handle.take(alloc) else {
-        report(Problem::NotOpen, problem);
-        return false;
+        return done_or_report(Err(Problem::NotOpen), problem);
     };
-    let grown = archive.grow(SliceSource::new(bytes));
+    let grown = grow_lent(&mut archive, old, bytes);
     handle.put(archive, alloc);
-    match grown {
-        Ok(()) => true,
-        Err((fault, _source)) => {
-            report(Problem::Fault(fault), problem);
-            false
-        }
-    }
+    done_or_report(grown, problem)
 }
 
 /// Closes the archive, if one is open.

@@ -2,19 +2,29 @@
 ghost use Rattle.std.specs.Prelude.{◌≡◌};
 ghost use Rattle.warc_lent.specs.Problems.{problem_numbers};
 ghost use Rattle.warc_lent.specs.Texts.{IsProblemPut};
-ghost use Rattle.warc_c.specs.Answered.{IsAnswered};
+ghost use Rattle.warc_c.specs.Answered.{IsAnswered, IsDone, IsFaultReported, IsJudged};
 
 use std::alloc::Global;
+use warc_frame::Fault;
 use warc_lent::{Numbers, Problem, put_problem};
 
 /// The version of what C sees: its calls, structs and numbers.
-const ABI: u32 = 2;
+const ABI: u32 = 3;
 
 /// Reports a problem.
 pub(crate) fn report(problem: Problem, out: &mut Numbers)
     ensures { out.new ≡ problem_numbers problem }
 {
     *out = problem.numbers();
+}
+
+/// Reports a fault, if there is one.
+pub(crate) fn report_fault(fault: Option<Fault>, out: &mut Numbers)
+    ensures { IsFaultReported fault out.old out.new }
+{
+    if let Some(fault) = fault {
+        report(Problem::Fault(fault), out);
+    }
 }
 
 /// The number that a call answers; 0 where there is a problem, which is reported.
@@ -30,10 +40,36 @@ pub(crate) fn number_or_report(answer: Result<usize, Problem>, out: &mut Numbers
     }
 }
 
+/// Whether a call did what it was asked for. A problem is reported.
+pub(crate) fn done_or_report(answer: Result<(), Problem>, out: &mut Numbers) -> bool
+    ensures { IsDone answer result out.old out.new }
+{
+    match answer {
+        Ok(()) => true,
+        Err(problem) => {
+            report(problem, out);
+            false
+        }
+    }
+}
+
+/// The verdict that a call answers; 2, which says that a block is unchecked, where there is a problem, which is reported.
+pub(crate) fn verdict_or_report(answer: Result<u32, Problem>, out: &mut Numbers) -> u32
+    ensures { IsJudged answer result out.old out.new }
+{
+    match answer {
+        Ok(verdict) => verdict,
+        Err(problem) => {
+            report(problem, out);
+            2
+        }
+    }
+}
+
 /// The version of what C sees.
 #[unsafe(no_mangle)]
 pub extern "C" fn warc_rt_abi_version() -> u32
-    ensures { result ≡ 2 }
+    ensures { result ≡ 3 }
 {
     ABI
 }

@@ -1,5 +1,5 @@
 //! What is kept of records, and which records there are.
-use crate::problems::{number_or_report, report};
+use crate::problems::{number_or_report, report, verdict_or_report};
 use std::alloc::Global;
 use warc_handle::WarcArchive;
 use warc_lent::{Numbers, Problem, RowNumbers, put_captures, put_row, verdict_at};
@@ -35,7 +35,7 @@ pub extern "C" fn warc_rt_row(
     number_or_report(answer, problem)
 }
 
-/// How the block of the record at a position compares with its digest: 0 good, 1 bad, 2 unchecked, or a problem.
+/// How the block of the record at a position compares with its digest: 0 good, 1 bad, 2 unchecked, or 2 and a problem.
 #[unsafe(no_mangle)]
 pub extern "C" fn warc_rt_verdict(
     alloc: Global,
@@ -44,18 +44,11 @@ pub extern "C" fn warc_rt_verdict(
     problem: &mut Numbers,
 ) -> u32 {
     let Some(mut archive) = handle.take(alloc) else {
-        report(Problem::NotOpen, problem);
-        return 0;
+        return verdict_or_report(Err(Problem::NotOpen), problem);
     };
     let answer = verdict_at(&mut archive, position);
     handle.put(archive, alloc);
-    match answer {
-        Ok(verdict) => verdict,
-        Err(why) => {
-            report(why, problem);
-            0
-        }
-    }
+    verdict_or_report(answer, problem)
 }
 
 /// Puts the positions of the captures of a URI, by instant and then by position, as many as there is room for. The

@@ -1,6 +1,10 @@
 pub mod Bodies
 pub mod Buffers
 pub mod Captures
+pub mod Fronts
+pub mod Growing
+pub mod Heads
 pub mod Problems
 pub mod Rows
 pub mod Texts
+pub mod Writing

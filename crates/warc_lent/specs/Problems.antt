@@ -17,13 +17,16 @@ use Rattle.warc_answer.specs.declared.answer.Reason.{Reason}
 use Rattle.warc_answer.specs.declared.answer.Reason.TheVariants.{NotFound, Segments, BadDigest, BadHead, Coded}
 use Rattle.warc_answer.specs.declared.answer.ReplayFault.{ReplayFault}
 use Rattle.warc_answer.specs.declared.answer.ReplayFault.TheVariants as replays
+use Rattle.warc_write.specs.Making.{make_fault_text}
+use Rattle.warc_write.specs.declared.making.MakeFault.{MakeFault}
+use Rattle.warc_write.specs.declared.making.MakeFault.TheVariants as makes
 use Rattle.warc.specs.declared.fault.BodyFault.{BodyFault}
 use Rattle.warc.specs.declared.fault.BodyFault.TheVariants as bodies
 use Rattle.warc_lent.specs.declared.problem.Numbers.{Numbers}
 use Rattle.warc_lent.specs.declared.problem.Problem.{Problem}
 use Rattle.warc_lent.specs.declared.problem.Problem.TheVariants as problems
 
--- its text: for a fault and a reason the program's text
+-- its text: for a fault, a reason and a record that isn't made the program's text
 abbrev pub problem_text : Problem → List ℕ
 problem_text (problems.Fault fault) = fault_text fault
 problem_text (problems.Reason reason) = reason_text reason
@@ -34,6 +37,8 @@ problem_text problems.Memory = codes "out of memory"
 problem_text problems.BadDate = codes "bad date"
 problem_text problems.NotOpen = codes "not open"
 problem_text problems.BadArgument = codes "bad argument"
+problem_text problems.Write = codes "write failed"
+problem_text (problems.Made fault) = make_fault_text fault
 
 abbrev pub field_number : Mandatory → ℕ
 field_number fields.ContentLength = 1
@@ -73,6 +78,13 @@ unfound_code NoReference = 104
 unfound_code Unresolved = 105
 unfound_code Loop = 106
 
+abbrev pub made_code : MakeFault → ℕ
+made_code makes.Date = 301
+made_code makes.Text = 302
+made_code makes.TooLong = 303
+made_code makes.Memory = 304
+made_code makes.Kind = 305
+
 abbrev code_alone : ℕ → Numbers
 code_alone n = record { code = n; detail = 0; number = 0 }
 
@@ -97,6 +109,8 @@ problem_numbers problems.Memory = code_alone 204
 problem_numbers problems.BadDate = code_alone 205
 problem_numbers problems.NotOpen = code_alone 206
 problem_numbers problems.BadArgument = code_alone 207
+problem_numbers problems.Write = code_alone 208
+problem_numbers (problems.Made fault) = code_alone (made_code fault)
 
 -- memory takes an output whole, unless more of it is refused
 abbrev pub problem_of_out : OutFault → Problem

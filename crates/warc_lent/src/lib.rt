@@ -5,13 +5,20 @@
 mod bodies;
 mod buffers;
 mod captures;
+mod fronts;
+mod growing;
+mod heads;
 mod problem;
 mod rows;
 mod texts;
+mod writing;
 
 pub use bodies::{AnswerNumbers, SpanNumbers, put_body, put_replay, status_number};
 pub use buffers::{put_positions, put_text, put_text_at};
 pub use captures::put_captures;
+pub use fronts::good_front;
+pub use growing::{begins_alike, grow_lent};
+pub use heads::{FieldNumbers, HttpFieldNumbers, HttpNumbers, put_fields, put_http};
 pub use problem::{Numbers, Problem};
 pub use rows::{
     RowNumbers, flag_of, put_row, put_row_texts, row_numbers, verdict_at, verdict_number,
@@ -20,3 +27,4 @@ pub use texts::{
     check_text, findings_text, fixity_text, list_text, problem_text, put_check, put_findings,
     put_fixity, put_list, put_problem,
 };
+pub use writing::{make_lent, split_lent, write_lent};

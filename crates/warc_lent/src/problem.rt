@@ -1,7 +1,7 @@
 //! What goes wrong, as a value, as numbers and as a text.
 ghost use Rattle.std.specs.Prelude.{◌≡◌, IfSome, Some};
 ghost use Rattle.std.specs.Bool.{OnTrue};
-ghost use Rattle.warc_lent.specs.Problems.{fault_numbers, field_number, gap_numbers, kind_numbers, problem_numbers, problem_of_body, problem_of_out, problem_of_replay, problem_text, reason_numbers, unfound_code};
+ghost use Rattle.warc_lent.specs.Problems.{fault_numbers, field_number, gap_numbers, kind_numbers, made_code, problem_numbers, problem_of_body, problem_of_out, problem_of_replay, problem_text, reason_numbers, unfound_code};
 
 use std::fmt;
 use thiserror::Error;
@@ -10,6 +10,7 @@ use warc_answer::{Reason, ReplayFault};
 use warc_frame::{Fault, FaultKind, Mandatory, OutFault};
 use warc_index::Unfound;
 use warc_segment::Gap;
+use warc_write::MakeFault;
 
 /// Why a caller doesn't get what it asks for.
 #[derive(Clone, Copy, Debug, PartialEq, Eq, Error)]
@@ -40,6 +41,12 @@ pub enum Problem {
 
     /// A pointer is null, though its length isn't 0.
     BadArgument,
+
+    /// A write failed.
+    Write,
+
+    /// M1 to M5: no record is made.
+    Made(MakeFault),
 }
 
 impl fmt::Display for Problem {
@@ -56,6 +63,8 @@ impl fmt::Display for Problem {
             Problem::BadDate => write!(f, "bad date"),
             Problem::NotOpen => write!(f, "not open"),
             Problem::BadArgument => write!(f, "bad argument"),
+            Problem::Write => write!(f, "write failed"),
+            Problem::Made(fault) => write!(f, "{fault}"),
         }
     }
 }
@@ -64,7 +73,8 @@ impl fmt::Display for Problem {
 #[repr(C)]
 #[derive(Clone, Copy, Debug, PartialEq, Eq)]
 pub struct Numbers {
-    /// 1 to 14 for F1 to F14, 101 to 110 for P1 to P10, and from 201 on what has no such number.
+    /// 1 to 14 for F1 to F14, 101 to 110 for P1 to P10, 301 to 305 for M1 to M5, and from 201 on what has
+    /// no such number.
     pub code: u32,
 
     /// Of F4 and F5 the field, 1 to 4; of P7 the gap, 1 to 6 for G1 to G6; else 0.
@@ -181,6 +191,19 @@ fn unfound_code(unfound: Unfound) -> u32
     }
 }
 
+/// The code of the reason why no record is made.
+fn made_code(fault: MakeFault) -> u32
+    ensures { result ≡ made_code fault }
+{
+    match fault {
+        MakeFault::Date => 301,
+        MakeFault::Text => 302,
+        MakeFault::TooLong => 303,
+        MakeFault::Memory => 304,
+        MakeFault::Kind => 305,
+    }
+}
+
 /// The reason with these numbers.
 fn reason_of(code: u32, detail: u32, number: u64) -> Option<Reason> {
     match code {
@@ -255,6 +278,12 @@ fn coded(numbers: Numbers) -> Option<Problem> {
         205 => Some(Problem::BadDate),
         206 => Some(Problem::NotOpen),
         207 => Some(Problem::BadArgument),
+        208 => Some(Problem::Write),
+        301 => Some(Problem::Made(MakeFault::Date)),
+        302 => Some(Problem::Made(MakeFault::Text)),
+        303 => Some(Problem::Made(MakeFault::TooLong)),
+        304 => Some(Problem::Made(MakeFault::Memory)),
+        305 => Some(Problem::Made(MakeFault::Kind)),
         _ => None,
     }
 }
@@ -287,6 +316,8 @@ impl Problem {
             Problem::BadDate => code_alone(205),
             Problem::NotOpen => code_alone(206),
             Problem::BadArgument => code_alone(207),
+            Problem::Write => code_alone(208),
+            Problem::Made(fault) => code_alone(made_code(fault)),
         }
     }
 

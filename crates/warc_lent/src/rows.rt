@@ -61,7 +61,7 @@ pub fn flag_of(is_so: bool) -> u32
 }
 
 /// The length of a text, up to 2^32 - 1. No text of a good record has 2^16 bytes.
-fn short_length(text: &[u8]) -> u32
+pub(crate) fn short_length(text: &[u8]) -> u32
     ensures { result ≡ short_length text.now }
 {
     text.len().min(4_294_967_295) as u32

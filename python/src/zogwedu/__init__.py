@@ -6,8 +6,8 @@
     18
     >>> archive[2].type, archive[2].target
     ('response', 'http://127.0.0.1:8765/')
-    >>> bytes(archive[2].head[:8])
-    b'WARC/1.0'
+    >>> archive[2].headers["warc-date"], archive[2].http.status, archive[2].http.headers["content-type"]
+    ('2026-11-26T04:48:36Z', 200, 'text/html')
     >>> body = archive.replay("http://127.0.0.1:8765/", "2026-11-26T04:49Z")
     >>> body.status, body.chosen, len(body)
     (200, 2, 94)
@@ -23,19 +23,62 @@ which rule is broken, and at which byte:
     Traceback (most recent call last):
       ...
     zogwedu.Refused: F10 End at 274
+    >>> with zogwedu.Archive.open("examples/damaged.warc", front=True) as front:
+    ...     len(front), str(front.fault)
+    (0, 'F10 End at 274')
 
-`Archive` opens, lists, checks and replays; `Record` is one of its records; `Body` is what a replay gives. The exceptions
-are `Refused`, `NoBody`, `NoRecord`, `Closed` and `ViewsAlive`, all of them a `WarcError`.
+A read of a mapped file that fails kills the process by SIGBUS: where the file became shorter, and where its disk or
+network fails. `Archive.open(path, mmap=False)` reads the file into memory.
+
+`Archive` opens, lists, checks, replays and writes; `Record` is one of its records, with `Headers` and `Http`; `Body` is
+what a replay gives; `make` writes a new record. The exceptions are all a `WarcError`:
+
+- `Refused`: the archive is refused, F1 to F14 at an offset.
+- `Changed`: bytes aren't what they were when the archive was opened.
+- `NoBody`: there is no body, P1 to P10. `Undecodable`: it can't be decoded.
+- `NoRecord`: there is no record at the position; it is an `IndexError`.
+- `NotMade`: no record can be made of these, M1 to M5. `WriteFailed`: a write failed, after `sent` bytes.
+- `Closed`: the archive is closed. `ViewsAlive`: it can't be closed while views are in use.
 
 What is proved is the library below this package. This package, the interpreter and the undoing of codings
 (`decoded=True`) are not.
 """
 from ._archive import Archive, Body, Finding, Fixity, Record, UnfitBlock
-from ._problems import Closed, NoBody, NoRecord, Refused, ViewsAlive, WarcError
+from ._heads import Headers, Http
+from ._problems import (
+    Changed,
+    Closed,
+    NoBody,
+    NoRecord,
+    NotMade,
+    Refused,
+    Undecodable,
+    ViewsAlive,
+    WarcError,
+    WriteFailed,
+)
+from ._writing import make
 
 __all__ = [
-    "Archive", "Body", "Closed", "Finding", "Fixity", "NoBody", "NoRecord", "Record", "Refused", "UnfitBlock",
-    "ViewsAlive", "WarcError",
+    "Archive",
+    "Body",
+    "Changed",
+    "Closed",
+    "Finding",
+    "Fixity",
+    "Headers",
+    "Http",
+    "NoBody",
+    "NoRecord",
+    "NotMade",
+    "Record",
+    "Refused",
+    "Undecodable",
+    "UnfitBlock",
+    "ViewsAlive",
+    "WarcError",
+    "WriteFailed",
+    "make",
 ]
 __version__ = "0.2.0"
 

@@ -1,12 +1,25 @@
-"""python -m zogwedu unpack ARCHIVE FOLDER: writes the bodies of an archive as files."""
+"""python -m zogwedu unpack [--stored] ARCHIVE FOLDER: writes the bodies of an archive as files."""
 import os
 import sys
-from typing import List
+from typing import BinaryIO, List, NamedTuple, Sequence
 
-from . import Archive, Body, NoBody, WarcError
+from . import Archive, Body, NoBody, Record, Undecodable, WarcError
+from ._library import CODED
 
-USAGE = "usage: python -m zogwedu unpack ARCHIVE FOLDER"
+USAGE = "usage: python -m zogwedu unpack [--stored] ARCHIVE FOLDER"
 CAPTURES = ("response", "resource", "revisit")
+COLUMNS = ("position", "file", "given", "status", "length", "coding", "type", "date", "target", "reason")
+
+
+class Unpacked(NamedTuple):
+    """What is written of a capture: columns of the index."""
+
+    file: str = "-"
+    given: str = "-"
+    status: str = "-"
+    length: str = "-"
+    coding: str = "-"
+    reason: str = "-"
 
 
 def shown(text: str) -> bytes:
@@ -15,50 +28,83 @@ def shown(text: str) -> bytes:
     return clean.encode("utf-8", "surrogateescape")
 
 
-def write_body(path: str, body: Body) -> None:
-    """Writes a body to a new file. No view of it is left when this returns."""
+def write_parts(path: str, parts: Sequence[memoryview]) -> int:
+    """Writes bytes to a new file, and answers how many they are. No view of them is left when this returns."""
+    length = 0
     with open(path, "xb") as file:
-        for part in body.parts:
-            file.write(part)
+        for part in parts:
+            length += file.write(part)
+    return length
 
 
-def unpack(path: str, folder: str) -> int:
+def write_body(folder: str, record: Record, body: Body) -> Unpacked:
+    """Writes a body, whose codings are undone if it has any."""
+    name = f"{record.position}.body"
+    length = write_parts(os.path.join(folder, name), body.parts)
+    coding = " ".join(("undone", *body.undone)) if body.undone else "-"
+    return Unpacked(name, str(body.given), str(body.status or "-"), str(length), coding)
+
+
+def write_stored(folder: str, record: Record, archive: Archive, reason: NoBody) -> Unpacked:
+    """Writes a coded body as it is stored."""
+    origin = archive[reason.given] if reason.given is not None else record
+    http = origin.http
+    if reason.code != CODED or http is None or "WARC-Segment-Number" in origin.headers:
+        raise reason
+    name = f"{record.position}.body"
+    length = write_parts(os.path.join(folder, name), [http.stored])
+    return Unpacked(name, str(origin.position), str(http.status), str(length), "stored")
+
+
+def unpack_record(folder: str, record: Record, archive: Archive, stored: bool) -> Unpacked:
+    """Writes the body that a capture gives, if it gives one."""
+    try:
+        try:
+            return write_body(folder, record, record.body(decoded=not stored))
+        except NoBody as reason:
+            if not stored:
+                raise
+            return write_stored(folder, record, archive, reason)
+    except (NoBody, Undecodable) as error:
+        return Unpacked(reason=error.text)
+
+
+def write_line(index: BinaryIO, columns: Sequence[str]) -> None:
+    """Writes a line of the index."""
+    index.write(b"\t".join(shown(column) for column in columns) + b"\n")
+
+
+def unpack(path: str, folder: str, stored: bool) -> int:
     """Writes POSITION.body for each capture that has a body, and index.tsv; answers how many bodies there are.
 
-    A name never comes from a URI. A folder that exists is refused. Codings aren't undone: a coded capture has its reason
-    in the index and no file.
+    A name never comes from a URI. A folder that exists is refused. The codings of a coded body are undone, and the column
+    `coding` says which; with `stored` it is written as it is stored. A body that can't be decoded has its reason in the
+    index and no file.
     """
+    count = 0
     with Archive.open(path) as archive:
         os.mkdir(folder)
-        count = 0
         with open(os.path.join(folder, "index.tsv"), "xb") as index:
-            index.write(b"position\tfile\tgiven\tstatus\tlength\ttype\tdate\ttarget\treason\n")
+            write_line(index, COLUMNS)
             for record in archive:
                 if record.type.lower() not in CAPTURES:
                     continue
-                name = given = status = length = reason = "-"
-                try:
-                    body = record.body()
-                    name = f"{record.position}.body"
-                    given, status, length = str(body.given), str(body.status or "-"), str(len(body))
-                    write_body(os.path.join(folder, name), body)
-                    count += 1
-                except NoBody as error:
-                    reason = error.text
-                columns = [
-                    str(record.position), name, given, status, length, record.type, record.date, record.target or "-", reason
-                ]
-                index.write(b"\t".join(shown(column) for column in columns) + b"\n")
+                it = unpack_record(folder, record, archive, stored)
+                count += it.file != "-"
+                front = (str(record.position), it.file, it.given, it.status, it.length, it.coding)
+                write_line(index, (*front, record.type, record.date, record.target or "-", it.reason))
     return count
 
 
 def main(words: List[str]) -> int:
     """Runs the command, and answers the exit status: 0, 2 for an archive that is refused, 3 for anything else."""
-    if len(words) != 3 or words[0] != "unpack":
+    stored = words[1:2] == ["--stored"]
+    rest = words[2:] if stored else words[1:]
+    if words[:1] != ["unpack"] or len(rest) != 2:
         print(USAGE, file=sys.stderr)
         return 3
     try:
-        count = unpack(words[1], words[2])
+        count = unpack(rest[0], rest[1], stored)
     except WarcError as error:
         print(f"zogwedu: {error}", file=sys.stderr)
         return 2

@@ -1,15 +1,26 @@
 """Archives, their records and bodies."""
+import io
 import mmap as mapping
 import os
-from datetime import datetime, timezone
-from typing import Any, Iterator, List, NamedTuple, Optional, Tuple, Union
+import threading
+from collections.abc import Sequence
+from datetime import datetime
+from typing import Any, Callable, Iterator, List, NamedTuple, NoReturn, Optional, Tuple, TYPE_CHECKING, Union, overload
 
-from ._decoding import decode_block
-from ._library import CODED, Lent, Opened
-from ._problems import Closed, NoBody, NoRecord, ViewsAlive
+from ._decoding import DECODED_LIMIT, codings_of, decode
+from ._heads import Headers, Http, text_of
+from ._library import CODED, Lent, Opened, Spans, lib
+from ._problems import Closed, NoBody, NoRecord, Refused, Undecodable, ViewsAlive
+from ._writing import Output, Text, bytes_of, date_of, write_to
 
-Text = Union[str, bytes]
+if TYPE_CHECKING:
+    Records = Sequence["Record"]
+    Path = Union[str, "os.PathLike[str]"]
+else:
+    Records = Sequence
+
 VERDICTS = ("good", "bad", "unchecked")
+PIECE = 1 << 20
 
 
 class Finding(NamedTuple):
@@ -51,8 +62,15 @@ class Body:
     """
 
     def __init__(
-        self, archive: "Archive", chosen: int, given: int, status: Optional[int], truncated: bool,
-        spans: List[Tuple[int, int]], own: Optional[bytes] = None, undone: Tuple[str, ...] = (),
+        self,
+        archive: "Archive",
+        chosen: int,
+        given: int,
+        status: Optional[int],
+        truncated: bool,
+        spans: Spans,
+        own: Optional[bytes] = None,
+        undone: Tuple[str, ...] = (),
     ) -> None:
         self._archive = archive
         self._own = own
@@ -91,20 +109,31 @@ class Body:
 
 class Record:
     """A record of an archive: `position`, `type`, `date`, `id`, `target` (None if absent), `offset` of its head and
-    `length` of its block in bytes, and `truncated`. `verdict`, `head`, `block` and `body()` read the archive.
+    `length` of its block in bytes, and `truncated`. `headers`, `http`, `verdict`, `head`, `block` and `body()` read the
+    archive.
 
-    Texts are decoded as UTF-8, with `surrogateescape` for other bytes: `text.encode("utf-8", "surrogateescape")` gives
+    Records of one archive are equal where their positions are. Texts are decoded as UTF-8, with `surrogateescape` for other bytes: `text.encode("utf-8", "surrogateescape")` gives
     the bytes.
     """
 
     __slots__ = (
-        "_archive", "position", "offset", "length", "type", "date", "id", "target", "truncated", "_block", "_verdict"
+        "_archive",
+        "position",
+        "offset",
+        "length",
+        "type",
+        "date",
+        "id",
+        "target",
+        "truncated",
+        "_block",
+        "_verdict",
     )
 
     def __init__(self, archive: "Archive", position: int, row: Any, texts: List[bytes]) -> None:
-        kind, date, identity, target = (text.decode("utf-8", "surrogateescape") for text in texts)
+        kind, date, identity, target = (text_of(text) for text in texts)
         self._archive = archive
-        self._block = row.block_offset
+        self._block: int = row.block_offset
         self.position = position
         self.offset: int = row.offset
         self.length: int = row.block_length
@@ -135,47 +164,87 @@ class Record:
         """Its block, as it is stored."""
         return self._archive._slice(self._block, self.length)
 
-    def body(self, decoded: bool = False) -> Body:
+    @property
+    def headers(self) -> Headers:
+        """The fields of its head. They are parsed each time that this is read."""
+        return Headers(self._archive._use().fields(self.position))
+
+    @property
+    def http(self) -> Optional[Http]:
+        """The head of the HTTP response that its block begins with; None if it begins with no such head."""
+        head = self._archive._use().http(self.position)
+        return None if head is None else Http(self._archive, head)
+
+    def body(self, decoded: bool = False, *, decoded_limit: int = DECODED_LIMIT) -> Body:
         """The body that this capture gives: that of the record itself, or of the one that a revisit leads to.
 
         Raises NoBody if there is none, with the reason P3 to P10, or if the record is no capture. `decoded=True` undoes
-        the codings of a body that is stored chunked or compressed, by Python's standard library, and says in `undone`
-        that it did; that isn't part of what is proved.
+        the codings of a body that is stored chunked or compressed, and says in `undone` which these were; that isn't
+        part of what is proved. Undecodable says that a coding is unknown, that its bytes are damaged, that there are more
+        than 8 codings, or that one of them gives more than `decoded_limit` bytes. A coded body in segments raises NoBody.
         """
-        return self._archive._body_at(self.position, decoded)
+        opened = self._archive._use()
+        return self._archive._body(lambda: opened.body_at(self.position), decoded, decoded_limit)
+
+    def __eq__(self, other: object) -> bool:
+        if not isinstance(other, Record):
+            return NotImplemented
+        return self._archive is other._archive and self.position == other.position
+
+    def __hash__(self) -> int:
+        return hash((id(self._archive), self.position))
 
     def __repr__(self) -> str:
         return f"<zogwedu.Record {self.position} {self.type} {self.date} {self.target or '-'}>"
 
 
-class Archive:
+class Archive(Records):
     """An open archive. `Archive.open(path)` opens a file, `Archive(data)` bytes.
 
-    It is a sequence of its records: `len(archive)`, `archive[position]`, `for record in archive`. It may be used by
-    several threads, whose calls wait for each other; open one for each thread to have them run at the same time.
+    It is a sequence of its records: `len(archive)`, `archive[position]`, `archive[2:5]`, `record in archive`,
+    `for record in archive`. It may be used by several threads, whose calls wait for each other; open one for each thread
+    to have them run at the same time. Once it is closed, each use raises Closed, also in other threads.
     """
 
-    def __init__(self, data: Any, *, _path: Optional[str] = None, _mapped: bool = False) -> None:
+    def __init__(
+        self, data: Any, *, front: bool = False, _path: Optional[str] = None, _mapped: Optional[bool] = None
+    ) -> None:
         self._path = _path
-        self._mapped = _mapped
+        self._wants_mapping = bool(_mapped)
+        self._growing = threading.Lock()
+        self._opened: Optional[Opened] = None
         lent = Lent(data)
         try:
-            self._opened: Optional[Opened] = Opened(lent)
+            self._opened = Opened(lent, front)
         except BaseException:
             lent.give_back()
-            if _mapped:
-                data.close()
+            _unmap(data)
             raise
 
     @classmethod
-    def open(cls, path: Union[str, "os.PathLike[str]"], *, mmap: bool = True) -> "Archive":
-        """Opens a file, or raises Refused with the first fault and its offset.
+    def open(cls, file: Union["Path", Any], *, mmap: bool = True, front: bool = False) -> "Archive":
+        """Opens a file by its path, or reads a binary file object such as `sys.stdin.buffer` to its end.
 
-        The file is mapped into memory. If it becomes shorter meanwhile, the process is killed (SIGBUS) as soon as lost
-        bytes are read: `mmap=False` reads the file into memory instead.
+        Raises Refused with the first fault and its offset. With `front=True` it opens the records before the first fault,
+        which is then `archive.fault`.
+
+        A path is mapped into memory. A read of a mapped file that fails kills the process by SIGBUS: where the file
+        became shorter, and where its disk or network fails. `mmap=False` reads the file into memory instead.
         """
-        data, mapped = _read(os.fspath(path), mmap)
-        return cls(data, _path=os.fspath(path), _mapped=mapped)
+        if hasattr(file, "read"):
+            return cls(_read_object(file), front=front)
+        path = os.fspath(file)
+        return cls(_read(path, mmap), front=front, _path=path, _mapped=mmap)
+
+    @property
+    def fault(self) -> Optional[Refused]:
+        """The fault after the records, if the archive was opened with `front=True` and isn't whole."""
+        return self._use().fault
+
+    @property
+    def length(self) -> int:
+        """How many bytes its records have, from the first byte on."""
+        return self._use().length()
 
     def _use(self) -> Opened:
         if self._opened is None:
@@ -183,65 +252,93 @@ class Archive:
         return self._opened
 
     def _slice(self, offset: int, length: int) -> memoryview:
-        return self._use().lent.bytes[offset : offset + length].toreadonly()
+        return self._use().slice(offset, length)
 
     def close(self) -> None:
         """Closes the archive. Closing again does nothing.
 
         Raises ViewsAlive, and leaves it open, if memoryviews of a mapped file are in use: release them (`view.release()`)
-        or copy them (`bytes(view)`) first. Views of bytes in memory stay valid.
+        or copy them (`bytes(view)`) first. Views of bytes in memory stay valid. The end of `with` never raises it: there
+        the archive is closed, and a mapping goes with its last view.
         """
-        if self._opened is None:
-            return
-        if not self._opened.close(_unmap if self._mapped else _keep):
+        if self._opened is not None and not self._opened.close(_unmap):
             raise ViewsAlive("memoryviews of the archive are in use")
-        self._opened = None
+
+    def _close_for_good(self) -> None:
+        """Closes it. A mapping goes now, or with the last view."""
+        opened = getattr(self, "_opened", None)
+        if opened is not None:
+            opened.close(lambda data: _unmap(data) or True)
 
     def __enter__(self) -> "Archive":
         return self
 
     def __exit__(self, *_exception: object) -> None:
-        self.close()
+        self._close_for_good()
 
     def __del__(self) -> None:
-        opened = getattr(self, "_opened", None)
-        if opened is not None:
-            self._opened = None
-            opened.close(_keep)
+        self._close_for_good()
+
+    def __reduce__(self) -> NoReturn:
+        raise TypeError("an archive can't be copied or pickled: open it again")
 
     def __len__(self) -> int:
         return self._use().count()
 
-    def __getitem__(self, position: int) -> Record:
-        count = len(self)
-        if position < 0:
-            position += count
-        if not 0 <= position < count:
-            raise NoRecord("E1 NoRecord", 201)
+    def _record(self, position: int) -> Record:
         row, texts = self._use().row(position)
         return Record(self, position, row, texts)
 
-    def __iter__(self) -> Iterator[Record]:
-        for position in range(len(self)):
-            yield self[position]
+    @overload
+    def __getitem__(self, position: int) -> Record:
+        ...
 
-    def replay(self, uri: Text, date: Union[Text, datetime], *, decoded: bool = False) -> Body:
+    @overload
+    def __getitem__(self, position: slice) -> List[Record]:
+        ...
+
+    def __getitem__(self, position: Union[int, slice]) -> Union[Record, List[Record]]:
+        count = len(self)
+        if isinstance(position, slice):
+            return [self._record(number) for number in range(*position.indices(count))]
+        number = position + count if position < 0 else position
+        if not 0 <= number < count:
+            raise NoRecord("E1 NoRecord", 201)
+        return self._record(number)
+
+    def __iter__(self) -> Iterator[Record]:
+        position = 0
+        while position < len(self):
+            yield self._record(position)
+            position += 1
+
+    def __contains__(self, record: object) -> bool:
+        return isinstance(record, Record) and record._archive is self and record.position < len(self)
+
+    def replay(
+        self,
+        uri: Text,
+        date: Union[Text, datetime],
+        *,
+        decoded: bool = False,
+        decoded_limit: int = DECODED_LIMIT,
+    ) -> Body:
         """The body that was captured of a URI, as of a date: that of the latest capture that isn't later.
 
         A date is a text such as "2021", "2021-06-30" or "2021-06-30T12:00:00Z", or a datetime, which is read as UTC if it
         has no time zone. Raises NoBody with the reason P1 to P10 if there is none; it never gives an older capture in its
         place. For `decoded` see `Record.body`.
         """
-        opened = self._use()
-        return self._body(lambda: opened.replay(_bytes(uri), _date(date)), decoded)
+        opened, words = self._use(), (bytes_of(uri), date_of(date))
+        return self._body(lambda: opened.replay(*words), decoded, decoded_limit)
 
     def captures(self, uri: Text) -> List[Record]:
         """The captures of a URI: responses, resources and revisits, by date, then by position."""
-        return [self[position] for position in self._use().captures(_bytes(uri))]
+        return [self[position] for position in self._use().captures(bytes_of(uri))]
 
     def check(self) -> List[Finding]:
         """What is wrong with records that can be read."""
-        return [_finding(line) for line in self._use().text("check").decode("ascii").splitlines()]
+        return [_finding(line) for line in self._use().text("check").decode("ascii").split("\n")[:-1]]
 
     def list_text(self) -> bytes:
         """The lines that `warc list` writes."""
@@ -249,88 +346,123 @@ class Archive:
 
     def fixity(self) -> Fixity:
         """How the blocks compare with the digests that their heads state. Reads the whole archive."""
-        return _fixity(self._use().fixity().decode("utf-8", "surrogateescape"))
+        *lines, counts = text_of(self._use().text("fixity")).split("\n")[:-1]
+        numbers = [int(word) for word in counts.split(" ")[1::2]]
+        blocks = [_unfit(line) for line in lines]
+        return Fixity(numbers[0], numbers[1], numbers[2], numbers[3], blocks)
 
     def grow(self) -> int:
         """Reads on in a file that became longer, and answers how many records it has more.
 
-        Raises Refused, and leaves the archive as it was, if what follows is damaged, or isn't whole yet. Only an archive
-        that was opened by its path grows. What was there before must be unchanged.
+        Raises Refused, and leaves the archive as it was, if what follows is damaged, or isn't whole yet; Changed if the
+        file is shorter than the archive, or if the head of the last record isn't what it was. Only an archive that was
+        opened by its path grows. Its file is mapped or read, as when it was opened.
         """
-        opened = self._use()
         if self._path is None:
             raise ValueError("only an archive that was opened by its path can grow")
-        before = opened.count()
-        data, _ = _read(self._path, self._mapped or not opened.lent.length)
-        lent, old = Lent(data), opened.lent
-        try:
-            opened.grow(lent)
-        except BaseException:
-            lent.give_back()
-            raise
-        self._mapped = isinstance(data, mapping.mmap)
-        old.give_back()
-        return opened.count() - before
+        with self._growing:
+            opened = self._use()
+            before = opened.count()
+            data = _read(self._path, self._wants_mapping)
+            lent = Lent(data)
+            try:
+                old = opened.grow(lent)
+            except BaseException:
+                lent.give_back()
+                _unmap(data)
+                raise
+            old.give_back()
+            _unmap(old.owner)
+            return opened.count() - before
 
-    def _body_at(self, position: int, decoded: bool) -> Body:
-        opened = self._use()
-        return self._body(lambda: opened.body_at(position), decoded)
-
-    def _body(self, ask: Any, decoded: bool) -> Body:
+    def _body(self, ask: Callable[[], Any], decoded: bool, limit: int) -> Body:
         try:
             answer, spans = ask()
         except NoBody as reason:
             if not decoded or reason.code != CODED:
                 raise
-            return self._decoded(reason)
+            return self._decoded(reason, limit)
         return Body(self, answer.chosen, answer.given, answer.status or None, bool(answer.is_truncated), spans)
 
-    def _decoded(self, reason: NoBody) -> Body:
+    def _decoded(self, reason: NoBody, limit: int) -> Body:
         """The body of a response that is stored coded, its codings undone."""
-        assert reason.chosen is not None and reason.given is not None
-        origin = self[reason.given]
-        if b"warc-segment-number" in bytes(origin.head).lower():
+        if reason.chosen is None or reason.given is None:
             raise reason
-        status, body, undone = decode_block(bytes(origin.block))
-        return Body(self, reason.chosen, reason.given, status, origin.truncated, [], body, tuple(undone))
+        origin = self[reason.given]
+        http = origin.http
+        if http is None or "WARC-Segment-Number" in origin.headers:
+            raise reason
+        codings = codings_of(http.headers.fields)
+        try:
+            own = decode(http.stored, codings, limit)
+        except Undecodable as error:
+            raise error from reason
+        return Body(self, reason.chosen, reason.given, http.status, origin.truncated, [], own, tuple(codings))
+
+    def rewrite(self, out: Output) -> None:
+        """Writes the archive in canonical form to a binary file.
+
+        A plain file is flushed and then written by its descriptor; any other object gets the bytes in pieces. Raises
+        WriteFailed, whose `sent` is how many bytes went out, if a write fails. Nothing is synced. The file must not be the
+        one that is read.
+        """
+        self._write(lib.warc_rewrite, out)
+
+    def convert(self, out: Output) -> None:
+        """Writes the archive as one of WARC/1.1, in the same way."""
+        self._write(lib.warc_convert, out)
+
+    def split(self, out: Output, size: int) -> None:
+        """Writes the archive with its records split into segments of `size` bytes, in the same way."""
+        if not 0 < size < 1 << 64:
+            raise ValueError("a segment has at least one byte")
+        self._write(lib.warc_split, out, size)
+
+    def _write(self, call: Any, out: Output, *size: int) -> None:
+        opened = self._use()
+        write_to(out, lambda file: opened.write(call, file, *size))
 
     def __repr__(self) -> str:
-        if self._opened is None:
+        if self._opened is None or not self._opened.is_open:
             return "<zogwedu.Archive, closed>"
         return f"<zogwedu.Archive {self._path or 'of bytes'}, {len(self)} records>"
 
 
-def _read(path: str, map_it: bool) -> Tuple[Any, bool]:
-    """A file, mapped or read, and which of both. An empty file can't be mapped."""
+class _Mapping(mapping.mmap):
+    """A mapped file that belongs to an archive. One that a caller passes is the caller's."""
+
+
+def _read(path: str, map_it: bool) -> Any:
+    """A file, mapped or read. An empty file, and one of no known length, can't be mapped."""
     with open(path, "rb") as file:
         if map_it and os.fstat(file.fileno()).st_size:
-            return mapping.mmap(file.fileno(), 0, access=mapping.ACCESS_READ), True
-        return file.read(), False
+            return _Mapping(file.fileno(), 0, access=mapping.ACCESS_READ)
+        return file.read()
 
 
-def _unmap(owner: Any) -> bool:
-    """Unmaps a file, and gives whether that was possible: not while views of it are in use."""
+def _read_object(file: Any) -> bytes:
+    """The bytes of a binary file object, from where it is to its end."""
+    if isinstance(file, io.TextIOBase):
+        raise TypeError("an archive is read from a binary file: sys.stdin.buffer, or open(path, 'rb')")
+    parts: List[bytes] = []
+    while True:
+        part = file.read(PIECE)
+        if part is None:
+            raise BlockingIOError("the file has no bytes now: an archive is read from one that blocks")
+        if not part:
+            return b"".join(parts)
+        parts.append(bytes(part))
+
+
+def _unmap(data: Any) -> bool:
+    """Unmaps a file, and gives whether that was possible: not while views of it are in use. Other bytes stay."""
+    if not isinstance(data, _Mapping):
+        return True
     try:
-        owner.close()
+        data.close()
     except BufferError:
         return False
     return True
-
-
-def _keep(_owner: Any) -> bool:
-    """Leaves bytes to whoever has views of them."""
-    return True
-
-
-def _bytes(text: Text) -> bytes:
-    return text.encode("utf-8", "surrogateescape") if isinstance(text, str) else bytes(text)
-
-
-def _date(date: Union[Text, datetime]) -> bytes:
-    if not isinstance(date, datetime):
-        return _bytes(date)
-    moment = date.astimezone(timezone.utc) if date.tzinfo else date
-    return moment.strftime(f"{moment.year:04}-%m-%dT%H:%M:%S.%fZ").encode("ascii")
 
 
 def _finding(line: str) -> Finding:
@@ -339,13 +471,7 @@ def _finding(line: str) -> Finding:
     return Finding(None if position == "-" else int(position), number, field[0] if field else None)
 
 
-def _fixity(text: str) -> Fixity:
-    """The lines of `warc fixity`; the last one has the counts."""
-    *lines, counts = text.split("\n")[:-1]
-    numbers = [int(word) for word in counts.split(" ")[1::2]]
-    blocks = []
-    for line in lines:
-        position, verdict, rest = line.split("\t", 2)
-        identity, digest = rest.rsplit("\t", 1)
-        blocks.append(UnfitBlock(int(position), verdict, identity, None if digest == "-" else digest))
-    return Fixity(numbers[0], numbers[1], numbers[2], numbers[3], blocks)
+def _unfit(line: str) -> UnfitBlock:
+    """A line of `warc fixity`: the position, the verdict, the id, which has no tab, and the digest, which may have some."""
+    position, verdict, identity, digest = line.split("\t", 3)
+    return UnfitBlock(int(position), verdict, identity, None if digest == "-" else digest)

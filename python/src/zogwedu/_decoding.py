@@ -1,48 +1,185 @@
-"""Undoes the codings of stored HTTP bodies, by the standard library. No part of this is proved."""
-import gzip
-import http.client
-import io
+"""Undoes the codings of stored HTTP bodies, one by one, by zlib, and by brotli and zstandard where they are installed.
+
+No part of this is proved. Which codings a body has is read of the fields that the library gives: those of each
+`Transfer-Encoding` and then of each `Content-Encoding`, the last one first. tests/callers/codings.json has its rules as
+cases.
+"""
+import importlib
+import re
 import zlib
-from typing import List, Tuple
+from typing import Any, Callable, Dict, Iterable, List, Tuple
+
+from ._problems import Undecodable
+
+MOST_CODINGS = 8
+DECODED_LIMIT = 1 << 30
+PIECE = 1 << 14
+CHUNK_LINE = re.compile(rb"([0-9A-Fa-f]{1,15})[ \t]*(?:;[^\n]*)?\r?\n")
+CHUNK_END = re.compile(rb"\r?\n")
 
 
-class _Stored(io.BytesIO):
-    """What http.client takes for a socket."""
+def codings_of(fields: Iterable[Tuple[str, str]]) -> List[str]:
+    """The codings that the fields of an HTTP head name, in lower case, in the order in which they are undone."""
+    found: Dict[str, List[str]] = {"transfer-encoding": [], "content-encoding": []}
+    for name, value in fields:
+        if name.lower() in found:
+            found[name.lower()] += [word.strip(" \t").lower() for word in value.split(",")]
+    words = found["transfer-encoding"][::-1] + found["content-encoding"][::-1]
+    return [word for word in words if word not in ("", "identity")]
 
-    def makefile(self, *_arguments: object, **_options: object) -> "_Stored":
-        return self
+
+def decode(stored: memoryview, codings: List[str], limit: int = DECODED_LIMIT) -> bytes:
+    """The bytes of a stored body, its codings undone in this order. Undecodable if one of them can't be."""
+    if len(codings) > MOST_CODINGS:
+        raise Undecodable(f"the body has {len(codings)} codings, more than {MOST_CODINGS}", codings[MOST_CODINGS])
+    body = stored
+    for coding in codings:
+        undo = CODINGS.get(coding)
+        if undo is None:
+            raise Undecodable(f"the coding {coding} is unknown", coding)
+        body = memoryview(undo(body, _Taken(coding, limit)))
+    return bytes(body)
 
 
-def decode_block(block: bytes) -> Tuple[int, bytes, List[str]]:
-    """The status and the body of a stored HTTP response, and the codings that were undone, in that order.
+class _Taken:
+    """What one step gives, up to the limit."""
 
-    Chunks are joined, and `gzip`, `x-gzip` and `deflate` are undone. Any other coding raises ValueError.
-    """
-    response = http.client.HTTPResponse(_Stored(block))  # type: ignore[arg-type]
-    undone: List[str] = []
+    def __init__(self, coding: str, limit: int) -> None:
+        self.coding = coding
+        self.limit = limit
+        self.parts: List[bytes] = []
+        self.length = 0
+
+    @property
+    def room(self) -> int:
+        """How many bytes may be asked for: one more than there may be."""
+        return min(PIECE, self.limit - self.length + 1)
+
+    def add(self, part: bytes) -> None:
+        """Adds what came out."""
+        self.length += len(part)
+        if self.length > self.limit:
+            raise Undecodable(f"the body has more than {self.limit} bytes when {self.coding} is undone", self.coding)
+        self.parts.append(part)
+
+    def whole(self) -> bytes:
+        """All that was added."""
+        return b"".join(self.parts)
+
+    def fail(self, why: object) -> Undecodable:
+        """The exception for damaged bytes."""
+        return Undecodable(f"the body isn't {self.coding}: {why}", self.coding)
+
+
+def _unchunk(body: memoryview, taken: _Taken) -> bytes:
+    """The data of the chunks up to the last one, whose length is 0. What follows that is left out."""
+    data, at = bytes(body), 0
+    while True:
+        line = CHUNK_LINE.match(data, at)
+        if line is None:
+            raise taken.fail("a chunk's length is missing")
+        begin, size = line.end(), int(line[1], 16)
+        if size == 0:
+            return taken.whole()
+        end = CHUNK_END.match(data, begin + size)
+        if end is None:
+            raise taken.fail("a chunk isn't whole")
+        taken.add(data[begin : begin + size])
+        at = end.end()
+
+
+def _inflate(body: memoryview, at: int, taken: _Taken, bits: int) -> int:
+    """Takes what one stream of zlib gives that begins at a place, and answers the place after it."""
+    stream, rest = zlib.decompressobj(bits), b""
+    while not stream.eof:
+        if not rest:
+            rest = bytes(body[at : at + PIECE])
+            at += len(rest)
+        is_last = not rest
+        part = stream.decompress(rest, taken.room)
+        taken.add(part)
+        rest = stream.unconsumed_tail
+        if is_last and not part and not stream.eof:
+            raise taken.fail("it isn't whole")
+    return at - len(stream.unused_data)
+
+
+def _gunzip(body: memoryview, taken: _Taken) -> bytes:
+    """All members, one after another. Zero bytes may follow them, as gzip allows."""
+    at = 0
     try:
-        response.begin()
-        if response.chunked:
-            undone.append("chunked")
-        body = response.read()
-    except (http.client.HTTPException, OSError) as error:
-        raise ValueError(f"the stored response can't be read: {error}") from error
-    codings = [word.strip().lower() for word in (response.headers.get("Content-Encoding") or "").split(",")]
-    for coding in reversed([word for word in codings if word and word != "identity"]):
-        body = _undo(coding, body)
-        undone.append(coding)
-    return response.status, body, undone
+        while True:
+            at = _inflate(body, at, taken, zlib.MAX_WBITS | 16)
+            if at == len(body) or (body[at] == 0 and not bytes(body[at:]).strip(b"\0")):
+                return taken.whole()
+    except zlib.error as error:
+        raise taken.fail(error) from error
 
 
-def _undo(coding: str, body: bytes) -> bytes:
+def _deflated(body: memoryview, taken: _Taken) -> bytes:
+    """A zlib stream, or a bare one, which some servers send."""
+    is_zlib = len(body) > 1 and body[0] & 15 == 8 and (body[0] << 8 | body[1]) % 31 == 0
     try:
-        if coding in ("gzip", "x-gzip"):
-            return gzip.decompress(body)
-        if coding == "deflate":
-            try:
-                return zlib.decompress(body)
-            except zlib.error:
-                return zlib.decompress(body, -zlib.MAX_WBITS)
-    except (OSError, EOFError, zlib.error) as error:
-        raise ValueError(f"the body isn't {coding}: {error}") from error
-    raise ValueError(f"the coding {coding} can't be undone")
+        if _inflate(body, 0, taken, zlib.MAX_WBITS if is_zlib else -zlib.MAX_WBITS) != len(body):
+            raise taken.fail("bytes follow it")
+    except zlib.error as error:
+        raise taken.fail(error) from error
+    return taken.whole()
+
+
+def _module(name: str, taken: _Taken) -> Any:
+    """A module that may be installed."""
+    try:
+        return importlib.import_module(name)
+    except ImportError as error:
+        text = f"the coding {taken.coding} needs the module {name}, which isn't installed"
+        raise Undecodable(text, taken.coding) from error
+
+
+def _brotli(body: memoryview, taken: _Taken) -> bytes:
+    """A brotli stream. It is fed a few bytes at a time, since the module has no limit on what these become."""
+    module = _module("brotli", taken)
+    stream, data = module.Decompressor(), bytes(body)
+    try:
+        for at in range(0, len(data), 16):
+            taken.add(stream.process(data[at : at + 16]))
+        if not stream.is_finished():
+            raise taken.fail("it isn't whole")
+    except module.error as error:
+        raise taken.fail(error) from error
+    return taken.whole()
+
+
+def _zstandard(body: memoryview, taken: _Taken) -> bytes:
+    """Frames of Zstandard, with windows of at most 8 MiB (RFC 9659)."""
+    module = _module("zstandard", taken)
+    stream = module.ZstdDecompressor(max_window_size=1 << 23)
+    at = 0
+    try:
+        while at < len(body):
+            at = _decompress_frame(stream.decompressobj(), body, at, taken)
+    except module.ZstdError as error:
+        raise taken.fail(error) from error
+    return taken.whole()
+
+
+def _decompress_frame(frame: Any, body: memoryview, at: int, taken: _Taken) -> int:
+    """Takes what one frame gives that begins at a place, and answers the place after it. It is fed in pieces, of which
+    each becomes a bounded number of bytes."""
+    while not frame.eof:
+        piece = bytes(body[at : at + 1024])
+        if not piece:
+            raise taken.fail("it isn't whole")
+        taken.add(frame.decompress(piece))
+        at += len(piece)
+    return at - len(frame.unused_data)
+
+
+CODINGS: Dict[str, Callable[[memoryview, _Taken], bytes]] = {
+    "chunked": _unchunk,
+    "gzip": _gunzip,
+    "x-gzip": _gunzip,
+    "deflate": _deflated,
+    "br": _brotli,
+    "zstd": _zstandard,
+}

@@ -2,32 +2,39 @@
 import ctypes as c
 import os
 import threading
-from typing import Any, List, Tuple
+from typing import Any, Callable, Iterator, List, NamedTuple, Optional, Tuple
 
-from ._problems import Closed, NoBody, NoRecord, Refused, WarcError
+from ._problems import Changed, Closed, NoBody, NoRecord, NotMade, Refused, WarcError, WriteFailed
 
-ABI_VERSION = 2
+ABI_VERSION = 3
 FIRST_REASON, LAST_REASON = 101, 110
 SEGMENT = 107
-CODED = 110
-NO_RECORD, NOT_A_CAPTURE, NOT_OPEN = 201, 202, 206
+BAD_HEAD, CODED = 109, 110
+NO_RECORD, NOT_A_CAPTURE, CHANGED, NO_MEMORY = 201, 202, 203, 204
+WRITE_FAILED = 208
+FIRST_UNMADE, LAST_UNMADE = 301, 305
 LAST_FAULT = 14
 
-U32, U64, SIZE, POINTER = c.c_uint32, c.c_uint64, c.c_size_t, c.c_void_p
+U32, U64, SIZE, POINTER, INT = c.c_uint32, c.c_uint64, c.c_size_t, c.c_void_p, c.c_int
+
+Field = Tuple[bytes, bytes]
+Spans = List[Tuple[int, int]]
 
 
 class Problem(c.Structure):
     _fields_ = [("code", U32), ("detail", U32), ("number", U64)]
 
 
-class Handle(c.Structure):
-    _fields_ = [("state", POINTER), ("is_open", c.c_bool)]
-
-
 class Row(c.Structure):
     _fields_ = [
-        ("offset", U64), ("block_offset", U64), ("block_length", U64), ("type_length", U32), ("date_length", U32),
-        ("id_length", U32), ("target_length", U32), ("is_truncated", U32),
+        ("offset", U64),
+        ("block_offset", U64),
+        ("block_length", U64),
+        ("type_length", U32),
+        ("date_length", U32),
+        ("id_length", U32),
+        ("target_length", U32),
+        ("is_truncated", U32),
     ]
 
 
@@ -39,9 +46,43 @@ class Answer(c.Structure):
     _fields_ = [("chosen", U64), ("given", U64), ("length", U64), ("status", U32), ("is_truncated", U32)]
 
 
+class CField(c.Structure):
+    _fields_ = [("name", POINTER), ("name_length", SIZE), ("value", POINTER), ("value_length", SIZE)]
+
+
+class CHttp(c.Structure):
+    _fields_ = [
+        ("status", U32),
+        ("minor", U32),
+        ("reason", POINTER),
+        ("reason_length", SIZE),
+        ("fields", SIZE),
+        ("body", Span),
+    ]
+
+
+class CBytes(c.Structure):
+    _fields_ = [("bytes", POINTER), ("length", SIZE)]
+
+
+class Draft(c.Structure):
+    _fields_ = [(name, CBytes) for name in ("kind", "uri", "date", "uuid", "type", "block")]
+
+
 class View(c.Structure):
     """The C struct Py_buffer; `rest` is at least as long as its other members."""
+
     _fields_ = [("address", POINTER), ("owner", c.py_object), ("length", c.c_ssize_t), ("rest", POINTER * 12)]
+
+
+class HttpHead(NamedTuple):
+    """What the library says of an HTTP head."""
+
+    status: int
+    minor: int
+    reason: bytes
+    fields: List[Field]
+    body: Tuple[int, int]
 
 
 def path_of_library() -> str:
@@ -50,32 +91,55 @@ def path_of_library() -> str:
     return os.environ.get("ZOGWEDU_LIBRARY", beside)
 
 
+def _calls() -> Any:
+    """The calls of warc.h: the type that each gives, and those that it takes."""
+    problem, answer, spans = c.POINTER(Problem), c.POINTER(Answer), c.POINTER(Span)
+    write = [POINTER, SIZE, INT, c.POINTER(U64), problem]
+    return {
+        "problem_text": (SIZE, [problem, POINTER, SIZE]),
+        "open": (c.c_bool, [c.POINTER(POINTER), POINTER, SIZE, problem]),
+        "open_front": (c.c_bool, [c.POINTER(POINTER), POINTER, SIZE, problem, problem]),
+        "grow": (c.c_bool, [POINTER, POINTER, SIZE, problem]),
+        "close": (None, [POINTER]),
+        "count": (SIZE, [POINTER]),
+        "length": (SIZE, [POINTER]),
+        "row_at": (SIZE, [POINTER, SIZE, c.POINTER(Row), POINTER, SIZE, problem]),
+        "verdict_at": (U32, [POINTER, SIZE, problem]),
+        "field_at": (c.c_bool, [POINTER, SIZE, SIZE, c.POINTER(CField), problem]),
+        "http_at": (c.c_bool, [POINTER, SIZE, c.POINTER(CHttp), problem]),
+        "http_field_at": (c.c_bool, [POINTER, SIZE, SIZE, c.POINTER(CField), problem]),
+        "captures": (SIZE, [POINTER, c.c_char_p, SIZE, c.POINTER(U64), SIZE, problem]),
+        "replay": (SIZE, [POINTER, c.c_char_p, SIZE, c.c_char_p, SIZE, answer, spans, SIZE, problem]),
+        "body_at": (SIZE, [POINTER, SIZE, answer, spans, SIZE, problem]),
+        "check": (SIZE, [POINTER, POINTER, SIZE, problem]),
+        "list": (SIZE, [POINTER, POINTER, SIZE, problem]),
+        "fixity": (SIZE, [POINTER, POINTER, SIZE, problem]),
+        "rewrite": (c.c_bool, write),
+        "convert": (c.c_bool, write),
+        "split": (c.c_bool, [POINTER, SIZE, U64, *write[2:]]),
+        "make": (c.c_bool, [c.POINTER(Draft), *write[2:]]),
+    }
+
+
 def load() -> Any:
     """The library, whose version must be the one that this package knows."""
-    library = c.CDLL(path_of_library())
-    handle, problem = c.POINTER(Handle), c.POINTER(Problem)
-    answer, spans = c.POINTER(Answer), c.POINTER(Span)
-    calls = {
-        "abi_version": (U32, []),
-        "problem_text": (SIZE, [problem, POINTER, SIZE]),
-        "open": (c.c_bool, [handle, POINTER, SIZE, problem]),
-        "grow": (c.c_bool, [handle, POINTER, SIZE, problem]),
-        "close": (None, [handle]),
-        "count": (SIZE, [handle]),
-        "row_at": (SIZE, [handle, SIZE, c.POINTER(Row), POINTER, SIZE, problem]),
-        "verdict_at": (U32, [handle, SIZE, problem]),
-        "captures": (SIZE, [handle, c.c_char_p, SIZE, c.POINTER(U64), SIZE, problem]),
-        "replay": (SIZE, [handle, c.c_char_p, SIZE, c.c_char_p, SIZE, answer, spans, SIZE, problem]),
-        "body_at": (SIZE, [handle, SIZE, answer, spans, SIZE, problem]),
-        "check": (SIZE, [handle, POINTER, SIZE, problem]),
-        "list": (SIZE, [handle, POINTER, SIZE, problem]),
-        "fixity": (SIZE, [POINTER, SIZE, POINTER, SIZE, problem]),
-    }
-    for name, (result, arguments) in calls.items():
+    path = path_of_library()
+    try:
+        library = c.CDLL(path)
+    except OSError as error:
+        raise ImportError(
+            f"zogwedu needs the library libwarc.so, and {path} can't be loaded ({error}). `make python` builds both; the"
+            " environment variable ZOGWEDU_LIBRARY names a library elsewhere."
+        ) from error
+    if not hasattr(library, "warc_abi_version"):
+        raise ImportError(f"{path} isn't the library libwarc.so of zogwedu: it has no warc_abi_version.")
+    library.warc_abi_version.restype = U32
+    if library.warc_abi_version() != ABI_VERSION:
+        version = library.warc_abi_version()
+        raise ImportError(f"{path} has version {version} of its interface, and this package needs {ABI_VERSION}.")
+    for name, (result, arguments) in _calls().items():
         call = getattr(library, "warc_" + name)
         call.restype, call.argtypes = result, arguments
-    if library.warc_abi_version() != ABI_VERSION:
-        raise ImportError(f"{path_of_library()} has version {library.warc_abi_version()}, not {ABI_VERSION}")
     return library
 
 
@@ -89,19 +153,25 @@ def problem_text(problem: Problem) -> str:
     return c.string_at(text, length).decode("ascii")
 
 
-def error_of(problem: Problem, answer: Any = None) -> WarcError:
+def _no_body(text: str, code: int, answer: Optional[Answer]) -> NoBody:
+    """The exception for a body that isn't there."""
+    if answer is None or code < SEGMENT or code == NOT_A_CAPTURE:
+        return NoBody(text, code)
+    return NoBody(text, code, answer.chosen, answer.given)
+
+
+def error_of(problem: Problem, answer: Optional[Answer] = None, sent: int = 0) -> WarcError:
     """The exception for a problem."""
     code, text = problem.code, problem_text(problem)
     if code <= LAST_FAULT:
         return Refused(text, code, problem.number)
     if FIRST_REASON <= code <= LAST_REASON or code == NOT_A_CAPTURE:
-        is_found = answer is not None and code >= SEGMENT and code != NOT_A_CAPTURE
-        return NoBody(text, code, answer.chosen if is_found else None, answer.given if is_found else None)
-    if code == NO_RECORD:
-        return NoRecord(text, code)
-    if code == NOT_OPEN:
-        return Closed("the archive is closed", code)
-    return WarcError(text, code)
+        return _no_body(text, code, answer)
+    if FIRST_UNMADE <= code <= LAST_UNMADE:
+        return NotMade(text, code)
+    if code == WRITE_FAILED or sent:
+        return WriteFailed(text, code, sent)
+    return {NO_RECORD: NoRecord, CHANGED: Changed}.get(code, WarcError)(text, code)
 
 
 class Lent:
@@ -115,7 +185,8 @@ class Lent:
     def _take(self) -> None:
         c.pythonapi.PyObject_GetBuffer(c.py_object(self.owner), c.byref(self._view), 0)
         self.address, self.length = self._view.address, self._view.length
-        self.bytes = memoryview(self.owner)
+        view = memoryview(self.owner)
+        self.bytes = view.cast("B") if view.nbytes else memoryview(b"")
 
     def give_back(self) -> None:
         """Ends the use of the bytes."""
@@ -127,124 +198,201 @@ class Lent:
         self._take()
 
 
+def _field_bytes(field: CField) -> Field:
+    return c.string_at(field.name, field.name_length), c.string_at(field.value, field.value_length)
+
+
 class Opened:
-    """A handle, used by one thread at a time."""
+    """An archive of the library, used by one thread at a time. Once it is closed, each call raises Closed."""
 
-    def __init__(self, lent: Lent) -> None:
+    def __init__(self, lent: Lent, front: bool = False) -> None:
         self.lent = lent
-        self._handle = Handle()
-        self._at = c.byref(self._handle)
-        self._lock = threading.Lock()
+        self.lock = threading.RLock()
+        self.fault: Optional[Refused] = None
         self._texts = c.create_string_buffer(65536)
-        problem = Problem()
-        if not lib.warc_open(self._at, lent.address, lent.length, c.byref(problem)):
+        self._at: Optional[int] = None
+        at, fault, problem = POINTER(), Problem(), Problem()
+        bytes_of = (c.byref(at), lent.address, lent.length)
+        if front:
+            is_open = lib.warc_open_front(*bytes_of, c.byref(fault), c.byref(problem))
+        else:
+            is_open = lib.warc_open(*bytes_of, c.byref(problem))
+        if not is_open:
             raise error_of(problem)
+        if fault.code:
+            self.fault = Refused(problem_text(fault), fault.code, fault.number)
+        self._at = at.value
 
-    def close(self, unmap: Any) -> bool:
-        """Frees what the archive holds, once `unmap` answers that the bytes are given back. Else it stays open.
+    def _open(self) -> int:
+        """What the calls take. The caller holds the lock."""
+        if self._at is None:
+            raise Closed("the archive is closed")
+        return self._at
+
+    @property
+    def is_open(self) -> bool:
+        """Whether it isn't closed."""
+        return self._at is not None
+
+    def close(self, give_back: Callable[[Any], bool]) -> bool:
+        """Frees what the archive holds, once `give_back` answers that the bytes may go. Else it stays open.
 
         The lock keeps other threads from reading bytes that go.
         """
-        with self._lock:
+        with self.lock:
+            if self._at is None:
+                return True
             self.lent.give_back()
-            if not unmap(self.lent.owner):
+            if not give_back(self.lent.owner):
                 self.lent.take_again()
                 return False
             lib.warc_close(self._at)
+            self._at = self.lent.owner = None
             return True
 
-    def grow(self, lent: Lent) -> None:
-        """Reads on in longer bytes, and has these from then on."""
+    def grow(self, lent: Lent) -> Lent:
+        """Reads on in longer bytes, and has these from then on. Answers the old ones."""
         problem = Problem()
-        with self._lock:
-            if not lib.warc_grow(self._at, lent.address, lent.length, c.byref(problem)):
+        with self.lock:
+            if not lib.warc_grow(self._open(), lent.address, lent.length, c.byref(problem)):
                 raise error_of(problem)
-            self.lent = lent
+            old, self.lent, self.fault = self.lent, lent, None
+            return old
+
+    def slice(self, offset: int, length: int) -> memoryview:
+        """A part of the bytes."""
+        with self.lock:
+            self._open()
+            return self.lent.bytes[offset : offset + length].toreadonly()
 
     def count(self) -> int:
         """How many records there are."""
-        with self._lock:
-            return int(lib.warc_count(self._at))
+        with self.lock:
+            return int(lib.warc_count(self._open()))
+
+    def length(self) -> int:
+        """How many bytes they have."""
+        with self.lock:
+            return int(lib.warc_length(self._open()))
 
     def row(self, position: int) -> Tuple[Row, List[bytes]]:
         """What is kept of a record, and its type, date, id and target."""
-        problem = Problem()
-        with self._lock:
-            row = Row()
-            length = lib.warc_row_at(self._at, position, c.byref(row), self._texts, len(self._texts), c.byref(problem))
+        problem, row = Problem(), Row()
+        with self.lock:
+            at, room = self._open(), len(self._texts)
+            length = lib.warc_row_at(at, position, c.byref(row), self._texts, room, c.byref(problem))
             text = c.string_at(self._texts, length)
         if problem.code:
             raise error_of(problem)
-        texts, at = [], 0
+        texts, begin = [], 0
         for size in (row.type_length, row.date_length, row.id_length, row.target_length):
-            texts.append(text[at : at + size])
-            at += size
+            texts.append(text[begin : begin + size])
+            begin += size
         return row, texts
 
     def verdict(self, position: int) -> int:
         """How the block of a record compares with its digest: 0 good, 1 bad, 2 unchecked."""
         problem = Problem()
-        with self._lock:
-            verdict = int(lib.warc_verdict_at(self._at, position, c.byref(problem)))
+        with self.lock:
+            verdict = int(lib.warc_verdict_at(self._open(), position, c.byref(problem)))
         if problem.code:
             raise error_of(problem)
         return verdict
 
-    def _located(self, ask: Any) -> Tuple[Answer, List[Tuple[int, int]]]:
+    def _fields(self, call: Any, position: int) -> Iterator[Field]:
+        """The fields that a call gives. The caller holds the lock."""
+        field, problem, place = CField(), Problem(), 0
+        while call(self._open(), position, place, c.byref(field), c.byref(problem)):
+            yield _field_bytes(field)
+            place += 1
+        if problem.code:
+            raise error_of(problem)
+
+    def fields(self, position: int) -> List[Field]:
+        """The fields of a record's head."""
+        with self.lock:
+            return list(self._fields(lib.warc_field_at, position))
+
+    def http(self, position: int) -> Optional[HttpHead]:
+        """What the HTTP head of a record's block says, if it has one."""
+        http, problem = CHttp(), Problem()
+        with self.lock:
+            is_there = lib.warc_http_at(self._open(), position, c.byref(http), c.byref(problem))
+            if problem.code == BAD_HEAD:
+                return None
+            if not is_there:
+                raise error_of(problem)
+            reason = c.string_at(http.reason, http.reason_length)
+            fields = list(self._fields(lib.warc_http_field_at, position))
+        return HttpHead(http.status, http.minor, reason, fields, (http.body.offset, http.body.length))
+
+    def _located(self, ask: Any) -> Tuple[Answer, Spans]:
         """What is said of a body, and its spans. `ask` is called again if there are more of them than it had room for."""
         room = 4
         while True:
             answer, spans, problem = Answer(), (Span * room)(), Problem()
-            with self._lock:
-                count = ask(c.byref(answer), spans, room, c.byref(problem))
+            with self.lock:
+                count = ask(self._open(), c.byref(answer), spans, room, c.byref(problem))
             if problem.code:
                 raise error_of(problem, answer)
             if count <= room:
                 return answer, [(spans[i].offset, spans[i].length) for i in range(count)]
             room = count
 
-    def replay(self, uri: bytes, date: bytes) -> Tuple[Answer, List[Tuple[int, int]]]:
+    def replay(self, uri: bytes, date: bytes) -> Tuple[Answer, Spans]:
         """The body for a URI as of a date."""
-        return self._located(lambda *rest: lib.warc_replay(self._at, uri, len(uri), date, len(date), *rest))
+        return self._located(lambda at, *rest: lib.warc_replay(at, uri, len(uri), date, len(date), *rest))
 
-    def body_at(self, position: int) -> Tuple[Answer, List[Tuple[int, int]]]:
+    def body_at(self, position: int) -> Tuple[Answer, Spans]:
         """The body that the capture at a position gives."""
-        return self._located(lambda *rest: lib.warc_body_at(self._at, position, *rest))
+        return self._located(lambda at, *rest: lib.warc_body_at(at, position, *rest))
 
     def captures(self, uri: bytes) -> List[int]:
         """The positions of the captures of a URI."""
         room = 64
         while True:
             positions, problem = (U64 * room)(), Problem()
-            with self._lock:
-                count = lib.warc_captures(self._at, uri, len(uri), positions, room, c.byref(problem))
+            with self.lock:
+                count = lib.warc_captures(self._open(), uri, len(uri), positions, room, c.byref(problem))
             if problem.code:
                 raise error_of(problem)
             if count <= room:
                 return list(positions[:count])
             room = count
 
-    def text(self, call: str) -> bytes:
-        """The text that a call gives of the archive."""
-        with self._lock:
-            return whole_text(lambda *rest: getattr(lib, "warc_" + call)(self._at, *rest))
+    def text(self, name: str) -> bytes:
+        """The text that a call gives of the archive, asked for again if it is longer than the buffer."""
+        call, room = getattr(lib, "warc_" + name), 65536
+        while True:
+            text, problem = c.create_string_buffer(room), Problem()
+            with self.lock:
+                length = call(self._open(), text, room, c.byref(problem))
+            if problem.code:
+                raise error_of(problem)
+            if length <= room:
+                return c.string_at(text, length)
+            room = length
 
-    def fixity(self) -> bytes:
-        """How the blocks compare with their digests."""
-        with self._lock:
-            if not self._handle.is_open:
-                raise Closed("the archive is closed", NOT_OPEN)
-            return whole_text(lambda *rest: lib.warc_fixity(self.lent.address, self.lent.length, *rest))
+    def write(self, call: Any, file: int, *size: int) -> None:
+        """Writes the archive anew to a file descriptor."""
+        with self.lock:
+            at = self._open()
+            written(lambda *rest: call(self.lent.address, lib.warc_length(at), *size, file, *rest))
 
 
-def whole_text(ask: Any) -> bytes:
-    """A text, asked for again if it is longer than the buffer."""
-    room = 65536
-    while True:
-        text, problem = c.create_string_buffer(room), Problem()
-        length = ask(text, room, c.byref(problem))
-        if problem.code:
-            raise error_of(problem)
-        if length <= room:
-            return c.string_at(text, length)
-        room = length
+def written(ask: Any) -> None:
+    """Has something written, and raises what went wrong."""
+    sent, problem = U64(), Problem()
+    if not ask(c.byref(sent), c.byref(problem)):
+        if problem.code == NO_MEMORY:
+            raise WriteFailed(problem_text(problem), problem.code, sent.value)
+        raise error_of(problem, sent=sent.value)
+
+
+def make(file: int, texts: Tuple[bytes, ...], block: Lent) -> None:
+    """Writes one record to a file descriptor: of its kind, URI, date, UUID and media type, and its block."""
+    draft = Draft()
+    for name, text in zip(("kind", "uri", "date", "uuid", "type"), texts):
+        setattr(draft, name, CBytes(c.cast(c.c_char_p(text), POINTER), len(text)))
+    draft.block = CBytes(block.address, block.length)
+    written(lambda *rest: lib.warc_make(c.byref(draft), file, *rest))

@@ -25,6 +25,10 @@ class Refused(WarcError):
     """The archive is refused: F1 to F14, at `offset`."""
 
 
+class Changed(WarcError):
+    """The bytes aren't what they were when the archive was opened. The archive stays as it was."""
+
+
 class NoBody(WarcError):
     """There is no body: P1 to P10, or E2 NoCapture.
 
@@ -37,6 +41,17 @@ class NoBody(WarcError):
         self.given = given
 
 
+class Undecodable(WarcError, ValueError):
+    """A stored body can't be decoded: a coding is unknown, its bytes are damaged, or a limit is reached.
+
+    `coding` is the coding at which that happened.
+    """
+
+    def __init__(self, text: str, coding: str = "") -> None:
+        super().__init__(text)
+        self.coding = coding
+
+
 class NoRecord(WarcError, IndexError):
     """There is no record at the position: E1 NoRecord."""
 
@@ -46,4 +61,16 @@ class Closed(WarcError, ValueError):
 
 
 class ViewsAlive(WarcError, BufferError):
-    """The archive can't be closed, since memoryviews of its bytes are in use. It stays open."""
+    """`close()` can't close the archive, since memoryviews of its bytes are in use. It stays open."""
+
+
+class NotMade(WarcError, ValueError):
+    """No record is made: M1 to M5."""
+
+
+class WriteFailed(WarcError):
+    """A write failed, or memory ran out while writing. `sent` is how many bytes went out."""
+
+    def __init__(self, text: str, code: int = 0, sent: int = 0) -> None:
+        super().__init__(f"{text} after {sent}", code)
+        self.sent = sent

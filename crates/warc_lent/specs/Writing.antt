@@ -1,0 +1,54 @@
+-- What is written of lent bytes, and of a record that is made. This project's own notion.
+use Rattle.std.specs.Prelude.{◌≡◌, ◌⊎◌, ℕ, List, Result, Ok, Err, OnOk, IfErr}
+use Rattle.std.specs.List.{flat_map}
+use Rattle.std.specs.Io.KnownBytes.{append_known}
+use Rattle.warc_frame.specs.Record.{Record}
+use Rattle.warc_frame.specs.Seen.{Seen}
+use Rattle.warc_frame.specs.Send.{WentOut, sent_of}
+use Rattle.warc_frame.specs.Spelling.{canonical}
+use Rattle.warc_frame.specs.declared.fault.OutFault.{OutFault}
+use Rattle.warc_frame.specs.declared.fault.OutFault.TheVariants as outs
+use Rattle.warc_reading.specs.Archive.{IsArchiveOf, contents}
+use Rattle.warc_reading.specs.Row.{Row}
+use Rattle.warc_write.specs.Making.{Plan, made}
+use Rattle.warc_write.specs.declared.making.MakeFault.{MakeFault}
+use Rattle.warc_write.specs.declared.making.MakeFault.TheVariants.{Memory as NoMemory}
+use Rattle.warc_lent.specs.Texts.{IsRefusedFor}
+use Rattle.warc_lent.specs.declared.problem.Problem.{Problem}
+use Rattle.warc_lent.specs.declared.problem.Problem.TheVariants as problems
+
+-- why an output ends early
+abbrev pub problem_of_sent : OutFault → Problem
+problem_of_sent (outs.Read sent) = problems.Changed
+problem_of_sent (outs.Write sent) = problems.Write
+problem_of_sent (outs.Memory sent) = problems.Memory
+
+-- a text went out, or a front of it, as long as `sent` says, for this problem
+abbrev pub WritesText : List ℕ → Seen → Seen → Result (Unit {0}) Problem → ℕ → ℕ → Type 0
+WritesText text before after (Ok u) was sent = (after.tells ≡ append_known before.tells text) × (sent ≡ was)
+WritesText text before after (Err problem) was sent =
+    (fault : OutFault) × (problem ≡ problem_of_sent fault) × (sent ≡ sent_of fault)
+    × WentOut before.tells text after.tells sent
+
+-- nothing was written, and this is why
+abbrev pub WritesNone : (Problem → Type 0) → Seen → Seen → Result (Unit {0}) Problem → ℕ → ℕ → Type 0
+WritesNone Is before after (Ok u) was sent = ⊥
+WritesNone Is before after (Err problem) was sent = Is problem × (after ≡ before) × (sent ≡ was)
+
+-- of each record of lent bytes its text was written, or the bytes are refused
+abbrev pub WritesLent : (Record → List ℕ) → List ℕ → Seen → Seen → Result (Unit {0}) Problem → ℕ → ℕ → Type 0
+WritesLent text_of bytes before after answer was sent =
+    WritesNone (IsRefusedFor bytes) before after answer was sent
+    ⊎ ((rows : List Row) × (is : IsArchiveOf bytes rows)
+        × WritesText (flat_map text_of (contents is.are.records)) before after answer was sent)
+
+-- no record is made of a plan, for this problem
+abbrev pub IsUnmade : Plan → Problem → Type 0
+IsUnmade plan problem =
+    (fault : MakeFault) × (problem ≡ problems.Made fault) × ((fault ≡ NoMemory) ⊎ (made plan ≡ Err fault))
+
+-- the record of a plan was written, or none is made
+abbrev pub MakesTo : Plan → Seen → Seen → Result (Unit {0}) Problem → ℕ → ℕ → Type 0
+MakesTo plan before after answer was sent =
+    WritesNone (IsUnmade plan) before after answer was sent
+    ⊎ ((r : Record) × (made plan ≡ Ok r) × WritesText (canonical r) before after answer was sent)

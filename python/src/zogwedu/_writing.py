@@ -1,0 +1,95 @@
+"""Archives and records written to a file."""
+import io
+import os
+import tempfile
+import uuid as uuids
+from datetime import datetime, timezone
+from typing import Any, Callable, Optional, Union
+
+from . import _library as library
+from ._problems import WriteFailed
+
+Text = Union[str, bytes]
+Output = Any  # a binary file object, or the number of a file descriptor
+PIECE = 1 << 20
+
+
+def bytes_of(text: Text) -> bytes:
+    """A text as bytes: UTF-8, with the bytes that `surrogateescape` stands for."""
+    return text.encode("utf-8", "surrogateescape") if isinstance(text, str) else bytes(memoryview(text))
+
+
+def date_of(date: Union[Text, datetime]) -> bytes:
+    """A date as bytes. A datetime without a time zone is read as UTC."""
+    if not isinstance(date, datetime):
+        return bytes_of(date)
+    moment = date.astimezone(timezone.utc) if date.tzinfo else date
+    return moment.strftime(f"{moment.year:04}-%m-%dT%H:%M:%S.%fZ").encode("ascii")
+
+
+def _descriptor(out: Output) -> Optional[int]:
+    """The descriptor of a plain file, to which bytes may be written past the object; None for any other object, such as
+    one that compresses what it is given."""
+    if isinstance(out, int):
+        return out
+    raw = out.raw if type(out) in (io.BufferedWriter, io.BufferedRandom) else out
+    return out.fileno() if type(raw) is io.FileIO else None
+
+
+def _copy(source: Any, out: Output) -> None:
+    """Writes what a file has to an object, in pieces."""
+    sent = 0
+    while True:
+        piece = source.read(PIECE)
+        if not piece:
+            return
+        while piece:
+            try:
+                taken = out.write(piece)
+            except OSError as error:
+                raise WriteFailed(f"write failed: {error}", library.WRITE_FAILED, sent) from error
+            if not taken:
+                raise WriteFailed("write failed: nothing was taken", library.WRITE_FAILED, sent)
+            sent += taken
+            piece = piece[taken:]
+
+
+def write_to(out: Output, write: Callable[[int], None]) -> None:
+    """Has something written to a file: by its descriptor, or to a file without a name and from there in pieces."""
+    if isinstance(out, io.TextIOBase):
+        raise TypeError("an archive is written to a binary file: open it with mode 'wb'")
+    file = _descriptor(out)
+    if file is None:
+        with tempfile.TemporaryFile() as through:
+            write(through.fileno())
+            through.seek(0, os.SEEK_SET)
+            _copy(through, out)
+        return
+    if not isinstance(out, int):
+        out.flush()
+    write(file)
+
+
+def make(
+    out: Output,
+    kind: str,
+    uri: Text,
+    date: Union[Text, datetime],
+    media_type: Text,
+    block: Any,
+    *,
+    uuid: Optional[Text] = None,
+) -> None:
+    """Writes one record of WARC/1.1 to a binary file, with the digest of its block.
+
+    `kind` is "resource", "metadata" or "conversion"; `date` a text or a datetime, which is read as UTC if it has no time
+    zone; `block` bytes; `uuid` that of its id, a random one if it is left out. Raises NotMade with M1 to M5 if no record
+    can be made of these, and then nothing is written; WriteFailed, whose `sent` is how many bytes went out, if a write
+    fails. Nothing is synced.
+    """
+    texts = (bytes_of(kind), bytes_of(uri), date_of(date), bytes_of(uuid or str(uuids.uuid4())), bytes_of(media_type))
+    lent = library.Lent(block)
+    try:
+        write_to(out, lambda file: library.make(file, texts, lent))
+    finally:
+        lent.give_back()
