@@ -6,7 +6,9 @@ rm -rf out/python
 mkdir -p out/python
 cp -r python/src/zogwedu out/python/
 rm -rf out/python/zogwedu/__pycache__
-cp out/lib/libwarc.so out/python/zogwedu/
+cp -L out/lib/libwarc.so out/python/zogwedu/
+sed 's|"" = "src"|"" = "."|' python/pyproject.toml > out/python/pyproject.toml
+cp python/setup.py python/README.md out/python/
 export PYTHONPATH=$PWD/out/python
 unset ZOGWEDU_LIBRARY
 python3 -c 'import doctest, sys, zogwedu; sys.exit(doctest.testmod(zogwedu).failed)'

@@ -1,8 +1,9 @@
 #!/usr/bin/env bash
 # Compares what the program, C, Python and Rust give of the archives of the suites and of a crawl, has valgrind watch the
-# library over 10,000 damaged archives, and opens a mapped file of 5 GB. Needs gcc; valgrind and cargo where they are.
+# library over 10,000 damaged archives and the thread sanitizer over threads, runs the examples and the samples of the
+# pages, and opens a mapped file of 5 GB. Needs gcc; valgrind, hypothesis and cargo where they are.
 #
-# CALLERS_COUNT is the number of damaged archives, CALLERS_SEED their seed.
+# CALLERS_COUNT is the number of damaged archives, CALLERS_SEED their seed, CALLERS_EXAMPLES the number that hypothesis makes.
 set -euo pipefail
 cd "$(dirname "${BASH_SOURCE[0]}")/../.."
 out=out/callers
@@ -10,9 +11,11 @@ mkdir -p $out
 export PYTHONPATH=$PWD/out/python:tests/callers PYTHONDONTWRITEBYTECODE=1
 unset ZOGWEDU_LIBRARY
 
-flags="-std=c11 -Wall -Wextra -Werror -O1 -g -Iout/lib"
+flags="-std=c11 -Wall -Wextra -Wconversion -Werror -O1 -g -Iout/lib"
 ${CC:-cc} $flags tests/callers/report.c out/lib/libwarc.a -o $out/report
 ${CC:-cc} $flags tests/callers/mutated.c out/lib/libwarc.a -o $out/mutated
+${CC:-cc} $flags -fsanitize=thread tests/callers/threads.c out/lib/libwarc.a -o $out/threads
+$out/threads examples/crawl.warc
 rust=-
 if command -v cargo > /dev/null; then
     CARGO_TARGET_DIR=out/rust cargo build --quiet --release --offline --manifest-path rust/Cargo.toml --examples
@@ -28,6 +31,15 @@ if command -v valgrind > /dev/null; then
 else
     echo "no valgrind: the damaged archives are tried without"
 fi
+if python3 -c 'import hypothesis' 2> /dev/null; then
+    python3 tests/callers/generated.py bin/warc $out/report $rust $out
+elif /usr/bin/python3 -c 'import hypothesis' 2> /dev/null; then
+    /usr/bin/python3 tests/callers/generated.py bin/warc $out/report $rust $out
+else
+    echo "no hypothesis: no archives are generated"
+fi
+python3 tests/callers/test_examples.py
+python3 tests/callers/test_samples.py
 $watch $out/mutated "${CALLERS_COUNT:-10000}" "${CALLERS_SEED:-1}" $out/archives/*.warc examples/crawl.warc
 python3 tests/callers/large.py $out
 python3 tests/callers/speed.py bin/warc $out

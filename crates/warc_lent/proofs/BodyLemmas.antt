@@ -1,6 +1,18 @@
 -- The path that an archive's index gives is that of its records.
 use Rattle.std.proofs.Common.{◌≡◌, ℕ, List, [], ◌∷◌, map, refl, sym, subst, ap, ◌∙◌}
+use Rattle.std.specs.Prelude.{Result, Err}
 use Rattle.warc_value.specs.Dates.{Instant}
+use Rattle.warc_frame.specs.Effects.{FailsBy}
+use Rattle.warc_frame.specs.Seen.{SeenSource}
+use Rattle.warc_frame.specs.declared.fault.OutFault.TheVariants as outs
+use Rattle.warc_answer.specs.Located.{Location}
+use Rattle.warc_answer.specs.Replays.{out_result}
+use Rattle.warc_answer.specs.declared.answer.ReplayFault.{ReplayFault}
+use Rattle.warc_answer.specs.declared.answer.ReplayFault.TheVariants as replays
+use Rattle.warc.specs.Locating.{location_result}
+use Rattle.warc.specs.declared.fault.BodyFault.{BodyFault}
+use Rattle.warc.specs.declared.fault.BodyFault.TheVariants as bodies
+use Rattle.warc_lent.specs.Problems.{problem_of_body, problem_of_replay, problem_result}
 use Rattle.warc_answer.specs.Answers.{index_of, path_at, path_for, path_from, path_of}
 use Rattle.warc_answer.specs.Payloads.{read_record}
 use Rattle.warc_reading.specs.Archive.{contents}
@@ -27,3 +39,18 @@ kept_on ps index now parts kept same still is = record {
   index_is = subst (IsIndexOf (map indexed_record ps)) (sym same) is.index_is;
   parts_are = still ∙ is.parts_are;
 }
+
+-- a source fails as the fault of a replay says
+pub fails_of_replay : (E : List ℕ → Type 0) (fault : ReplayFault) (old new : SeenSource)
+    → FailsBy E (out_result {X = Location} (Err fault)) old new → FailsBy E (problem_result {X = ℕ} (Err (problem_of_replay fault))) old new
+fails_of_replay E (replays.Reason why) old new f = f
+fails_of_replay E (replays.Out (outs.Read sent)) old new f = record { may = f.may; failed = f.failed }
+fails_of_replay E (replays.Out (outs.Write sent)) old new f = record { may = f.may; failed = f.failed }
+fails_of_replay E (replays.Out (outs.Memory sent)) old new f = record { may = f.may; failed = f.failed }
+
+-- the same for the capture at a position
+pub fails_of_body : (E : List ℕ → Type 0) (fault : BodyFault) (old new : SeenSource)
+    → FailsBy E (location_result (Err fault)) old new → FailsBy E (problem_result {X = ℕ} (Err (problem_of_body fault))) old new
+fails_of_body E bodies.NoRecord old new f = f
+fails_of_body E bodies.NoCapture old new f = f
+fails_of_body E (bodies.Replay fault) old new f = fails_of_replay E fault old new f

@@ -2,8 +2,9 @@
 use Rattle.std.proofs.Common.{◌≡◌, ℕ, ◌+◌, ◌-◌, ◌<◌, ◌≤◌, List, [], ◌∷◌, ◌++◌, length, take, drop, set, map, ◌^◌, sym, subst, ap, ◌∙◌, inl, inr, arith, Some}
 use Prim.Native.Nat.{min, suc}
 use Rattle.std.proofs.lemmas.Bool.{cases_lt}
-use Rattle.std.proofs.lemmas.List.{append-nil, append_assoc, drop_all, take_all, take_min, take-append-le, take_more_set, set_past, length-append, length-drop, length-map, length-set, length-take-le, length_push, map_more, nil_from_length}
+use Rattle.std.proofs.lemmas.List.{append-nil, append_assoc, drop_all, drop-drop, take_all, take_min, take-append-le, take_more_set, set_past, length-append, length-drop, length-map, length-set, length-take-le, length_push, map_more, nil_from_length}
 use Rattle.std.proofs.lemmas.Option.{get_or_from_slice_get, slice_get_within}
+use Rattle.std.proofs.Math.Seq.{drop-append-add}
 use Rattle.std.specs.List.{slice_get}
 use Rattle.warc_frame.specs.Count.{capped}
 use Rattle.warc_lent.specs.Buffers.{HoldsFront}
@@ -107,3 +108,37 @@ front_put before text old rest at from is_at is_from short size front is =
       | inl h ↦ more_within before text old rest from (omega (arith, is_at, is_from, short, h)) h front is
       | inr h ↦ more_past before text old rest from (omega (arith, is_at, is_from, short, h)) (omega (arith, is_at, is_from, short, h, size)) h front
     ])
+
+rest_within : {X : Type 0} (before text old rest : List X) (from : ℕ) → from ≡ length before → length before < length old
+    → drop (length text) rest ≡ drop (length text) (drop from old)
+    → drop (length (before ++ text)) (take from old ++ rest) ≡ drop (length (before ++ text)) old
+rest_within before text old rest from at within same =
+    let size : length (take from old) ≡ from = length-take-le from old (omega (arith, at, within)) in
+    let far : length (before ++ text) ≡ length (take from old) + length text = omega (arith, length-append before text, at, size) in
+    let back : from + length text ≡ length (before ++ text) = omega (arith, length-append before text, at) in
+    ap (λ n. drop n (take from old ++ rest)) far ∙ drop-append-add (take from old) rest (length text) ∙ same
+    ∙ drop-drop (length text) from old ∙ ap (λ n. drop n old) back
+
+rest_past : {X : Type 0} (before text old rest : List X) (from : ℕ) → from ≡ length old → length rest ≡ 0 → length old ≤ length before
+    → drop (length (before ++ text)) (take from old ++ rest) ≡ drop (length (before ++ text)) old
+rest_past before text old rest from at none past =
+    let same : take from old ++ rest ≡ old =
+    ap (λ l. take from old ++ l) (nil_from_length rest none) ∙ append-nil (take from old) ∙ take_all from old (omega (arith, at)) in
+    ap (λ l. drop (length (before ++ text)) l) same
+
+-- what follows in the buffer stays
+pub rest_put : {X : Type 0} (before text old rest : List X) (at from : ℕ) → at ≡ capped (length before) → from ≡ min at (length old)
+    → length old < 2 ^ 64 → length rest ≡ length old - from → drop (length text) rest ≡ drop (length text) (drop from old)
+    → drop (length (before ++ text)) (put_mid from (length old - from) old rest) ≡ drop (length (before ++ text)) old
+rest_put before text old rest at from is_at is_from short size same =
+    ap (λ l. drop (length (before ++ text)) l) (mid_to_end from old rest)
+    ∙ elim (cases_lt (length before) (length old)) [
+      | inl h ↦ rest_within before text old rest from (omega (arith, is_at, is_from, short, h)) h same
+      | inr h ↦ rest_past before text old rest from (omega (arith, is_at, is_from, short, h)) (omega (arith, is_at, is_from, short, h, size)) h
+    ]
+
+-- what stays from a place on stays from a later one on
+pub drop_further : {X : Type 0} (m n : ℕ) (xs ys : List X) → m ≤ n → drop m xs ≡ drop m ys → drop n xs ≡ drop n ys
+drop_further m n xs ys least same =
+    let far : m + (n - m) ≡ n = omega (arith, least) in
+    ap (λ k. drop k xs) (sym far) ∙ sym (drop-drop (n - m) m xs) ∙ ap (drop (n - m)) same ∙ drop-drop (n - m) m ys ∙ ap (λ k. drop k ys) far

@@ -1,3 +1,4 @@
 mod BodyLemmas
 pub mod BufferLemmas
+mod HeadLemmas
 pub mod TextLemmas

@@ -1,5 +1,5 @@
 -- What goes wrong, as numbers and as a text. This project's own notion.
-use Rattle.std.specs.Prelude.{ℕ, List, codes}
+use Rattle.std.specs.Prelude.{ℕ, List, codes, Result, Ok, Err}
 use Rattle.warc_frame.specs.FaultText.{fault_text}
 use Rattle.warc_frame.specs.declared.fault.Fault.{Fault}
 use Rattle.warc_frame.specs.declared.fault.FaultKind.{FaultKind}
@@ -126,3 +126,12 @@ abbrev pub problem_of_body : BodyFault → Problem
 problem_of_body bodies.NoRecord = problems.NoRecord
 problem_of_body bodies.NoCapture = problems.NoCapture
 problem_of_body (bodies.Replay fault) = problem_of_replay fault
+
+-- what a source's failures go by: bytes that changed are a failed read, and no other problem is one
+abbrev pub read_of : Problem → Result (Unit {0}) OutFault
+read_of problems.Changed = Err (outs.Read 0)
+read_of problem = Ok tt
+
+abbrev pub problem_result : {X : Type 0} → Result X Problem → Result (Unit {0}) OutFault
+problem_result (Ok x) = Ok tt
+problem_result (Err problem) = read_of problem

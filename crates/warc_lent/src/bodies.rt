@@ -1,10 +1,13 @@
 //! Bodies: what is said of them, and where they lie.
 ghost use Rattle.std.specs.Prelude.{◌≡◌, length, map, set, unwrap_or, OnErr};
 ghost use Rattle.warc_value.specs.Dates.{instant_of};
+ghost use Rattle.warc_frame.specs.Effects.{FailsBy, Preserves};
 ghost use Rattle.warc_frame.specs.Seen.{IfHeld};
 ghost use Rattle.warc_reading.specs.Archive.{contents};
 ghost use Rattle.warc_reading.specs.Indexed.{IsIndexed, IsUnchanged};
+ghost use Rattle.warc.specs.Replaying.{IsIndexedBy};
 ghost use Rattle.warc_lent.specs.Buffers.{HoldsFront};
+ghost use Rattle.warc_lent.specs.Problems.{problem_result};
 ghost use Rattle.warc_lent.specs.Bodies.{IsBodyPut, PutsAt, PutsReplay, answer_numbers, path_numbers, path_numbers_at, span_numbers};
 
 use crate::problem::Problem;
@@ -134,7 +137,8 @@ fn put_path_at(fault: BodyFault, path: Result<Path, Unfound>, answer: &mut Answe
 
 /// Puts the body that was captured of a URI as of a date: what is said of it, and the spans of the source whose bytes,
 /// one after another, it is, as many as there is room for. The answer is the number of spans. Where there is no body,
-/// the positions of the path to it are put, if there is a path.
+/// the positions of the path to it are put, if there is a path. It is `Changed` exactly where a read of the source fails, if
+/// that holds the archive's bytes.
 pub fn put_replay<S: Source, A: Allocator + Copy>(
     archive: &mut Archive<S, A>,
     uri: &[u8],
@@ -148,6 +152,9 @@ pub fn put_replay<S: Source, A: Allocator + Copy>(
     ensures same { OnErr result (spans.new ≡ spans.old) }
     ensures room { length spans.new ≡ length spans.old }
     ensures unchanged { IsUnchanged archive.old archive.new }
+    ensures keeps { Preserves (S.seen archive.old.listing.source) (S.seen archive.new.listing.source) }
+    ensures fails { FailsBy (IsIndexedBy archive.old.listing.rows archive.old.index archive.old.parts)
+        (problem_result result) (S.seen archive.old.listing.source) (S.seen archive.new.listing.source) }
 {
     let Some(moment) = read_date(date) else {
         return Err(Problem::BadDate);
@@ -173,6 +180,9 @@ pub fn put_body<S: Source, A: Allocator + Copy>(
     ensures same { OnErr result (spans.new ≡ spans.old) }
     ensures room { length spans.new ≡ length spans.old }
     ensures unchanged { IsUnchanged archive.old archive.new }
+    ensures keeps { Preserves (S.seen archive.old.listing.source) (S.seen archive.new.listing.source) }
+    ensures fails { FailsBy (IsIndexedBy archive.old.listing.rows archive.old.index archive.old.parts)
+        (problem_result result) (S.seen archive.old.listing.source) (S.seen archive.new.listing.source) }
 {
     match archive.locate_at(position) {
         Ok(located) => Ok(put_located(&located, answer, spans)),

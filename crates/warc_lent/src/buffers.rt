@@ -1,5 +1,5 @@
 //! What is put into buffers that callers lend.
-ghost use Rattle.std.specs.Prelude.{◌≡◌, ◌++◌, ℕ, List, length, min, take};
+ghost use Rattle.std.specs.Prelude.{◌≡◌, ◌++◌, ℕ, List, drop, length, min, take};
 ghost use Rattle.warc_frame.specs.Count.{capped};
 ghost use Rattle.warc_lent.specs.Buffers.{HoldsFront};
 
@@ -7,16 +7,20 @@ ghost use Rattle.warc_lent.specs.Buffers.{HoldsFront};
 fn copy_front(text: &[u8], out: &mut [u8])
     ensures front { take (min (length text.now) (length out.old)) out.new
         ≡ take (min (length text.now) (length out.old)) text.now }
+    ensures rest { drop (min (length text.now) (length out.old)) out.new
+        ≡ drop (min (length text.now) (length out.old)) out.old }
     ensures room { length out.new ≡ length out.old }
 {
     let count = text.len().min(out.len());
     out[..count].copy_from_slice(&text[..count]);
 }
 
-/// Puts the front of a text into a buffer, as much as it has room for, and answers the text's length.
+/// Puts the front of a text into a buffer, as much as it has room for, and answers the text's length. What follows in the
+/// buffer stays.
 pub fn put_text(text: &[u8], out: &mut [u8]) -> usize
     ensures whole { result ≡ length text.now }
     ensures front { HoldsFront text.now out.new }
+    ensures rest { drop (length text.now) out.new ≡ drop (length text.now) out.old }
     ensures room { length out.new ≡ length out.old }
 {
     copy_front(text, out);
@@ -25,11 +29,13 @@ pub fn put_text(text: &[u8], out: &mut [u8]) -> usize
 
 /// Puts a text into a buffer from an index on, as much as it has room for, and answers the index after the whole text,
 /// up to 2^64 - 1. So texts are put one after another: if the buffer holds the front of what comes before the index, it
-/// then holds the front of both.
+/// then holds the front of both. What follows in the buffer stays.
 pub fn put_text_at(text: &[u8], at: usize, out: &mut [u8]) -> usize
     ensures end { (before : List ℕ) → at ≡ capped (length before) → result ≡ capped (length (before ++ text.now)) }
     ensures front { (before : List ℕ) → at ≡ capped (length before) → HoldsFront before out.old →
         HoldsFront (before ++ text.now) out.new }
+    ensures rest { (before : List ℕ) → at ≡ capped (length before) →
+        drop (length (before ++ text.now)) out.new ≡ drop (length (before ++ text.now)) out.old }
     ensures room { length out.new ≡ length out.old }
 {
     let from = at.min(out.len());

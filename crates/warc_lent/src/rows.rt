@@ -1,5 +1,5 @@
 //! What is kept of a record, as numbers and texts.
-ghost use Rattle.std.specs.Prelude.{◌≡◌, ◌++◌, ℕ, List, [], Result, length, slice_get, IfErr, IfOk, OnErr, Some, None};
+ghost use Rattle.std.specs.Prelude.{◌≡◌, ◌++◌, ℕ, List, [], Result, drop, length, slice_get, IfErr, IfOk, OnErr, Some, None};
 ghost use Rattle.warc_frame.specs.Count.{capped};
 ghost use Rattle.warc_reading.specs.Row.{Row as Seen};
 ghost use Rattle.warc_lent.specs.Buffers.{HoldsFront};
@@ -83,12 +83,15 @@ pub fn row_numbers(row: &Row<'_>) -> RowNumbers
     }
 }
 
-/// Puts the texts of a row into a buffer from an index on, one after another, and answers the index after them.
+/// Puts the texts of a row into a buffer from an index on, one after another, and answers the index after them. What
+/// follows in the buffer stays.
 pub fn put_row_texts(row: &Row<'_>, at: usize, out: &mut [u8]) -> usize
     ensures end { (before : List ℕ) → at ≡ capped (length before) →
         result ≡ capped (length (before ++ row_texts row.now)) }
     ensures front { (before : List ℕ) → at ≡ capped (length before) → HoldsFront before out.old →
         HoldsFront (before ++ row_texts row.now) out.new }
+    ensures rest { (before : List ℕ) → at ≡ capped (length before) → drop (length (before ++ row_texts row.now)) out.new
+        ≡ drop (length (before ++ row_texts row.now)) out.old }
     ensures room { length out.new ≡ length out.old }
 {
     let date = put_text_at(row.kind, at, out);

@@ -4,9 +4,10 @@ ghost use Rattle.warc.specs.Listing.{listing};
 ghost use Rattle.warc_checking.specs.Checking.{check_text};
 ghost use Rattle.warc_reading.specs.Archive.{IsArchiveOf, contents};
 ghost use Rattle.warc_reading.specs.Indexed.{IsUnchanged};
-ghost use Rattle.warc_lent.specs.Problems.{problem_text};
+ghost use Rattle.warc_lent.specs.Problems.{problem_result, problem_text};
+ghost use Rattle.warc_frame.specs.Effects.{FailsBy, Preserves};
 ghost use Rattle.warc_frame.specs.Seen.{IfHeld};
-ghost use Rattle.warc_lent.specs.Texts.{AreFindingsOf, IsFindingsOf, IsFixityOf, IsProblemPut, IsTextPut, IsRefusedFor, PutsFindings, PutsFixity};
+ghost use Rattle.warc_lent.specs.Texts.{AreFindingsOf, IsFindingsOf, IsFixityOf, IsProblemPut, IsTextPut, IsRefusedFor, IsUnread, PutsFindings, PutsFixity};
 
 use crate::buffers::put_text;
 use crate::problem::{Numbers, Problem};
@@ -26,7 +27,8 @@ pub fn list_text<A: Allocator + Copy, S: Source>(
     alloc: A,
     archive: &Archive<S, A>,
 ) -> Result<Vec<u8, A>, Problem>
-    ensures { IfOk result (λ text. text.items ≡ listing archive.now.listing.rows) }
+    ensures lines { IfOk result (λ text. text.items ≡ listing archive.now.listing.rows) }
+    ensures memory { IfErr result (λ problem. problem ≡ Problem.Memory) }
 {
     let mut lines = MemSink::new(Vec::new(alloc));
     match archive.list(&mut lines) {
@@ -42,7 +44,11 @@ pub fn check_text<A: Allocator + Copy, S: Source>(
 ) -> Result<Vec<u8, A>, Problem>
     ensures findings { IfOk result (λ text. IfHeld (S.seen archive.old.listing.source).holds (λ bytes. IsFindingsOf
         archive.old.listing.rows bytes text.items)) }
+    ensures refused { IfErr result IsUnread }
     ensures unchanged { IsUnchanged archive.old archive.new }
+    ensures keeps { Preserves (S.seen archive.old.listing.source) (S.seen archive.new.listing.source) }
+    ensures fails { FailsBy (λ bytes. IsArchiveOf bytes archive.old.listing.rows) (problem_result result)
+        (S.seen archive.old.listing.source) (S.seen archive.new.listing.source) }
 {
     let mut lines = MemSink::new(Vec::new(alloc));
     match archive.check(&mut lines) {
@@ -105,6 +111,7 @@ pub fn put_list<A: Allocator + Copy, S: Source>(
     out: &mut [u8],
 ) -> Result<usize, Problem>
     ensures lines { IfOk result (λ answered. IsTextPut (listing archive.now.listing.rows) answered out.new) }
+    ensures memory { IfErr result (λ problem. problem ≡ Problem.Memory) }
     ensures same { OnErr result (out.new ≡ out.old) }
     ensures room { length out.new ≡ length out.old }
 {
@@ -125,7 +132,11 @@ pub fn put_check<A: Allocator + Copy, S: Source>(
         out.new)) }
     ensures same { OnErr result (out.new ≡ out.old) }
     ensures room { length out.new ≡ length out.old }
+    ensures refused { IfErr result IsUnread }
     ensures unchanged { IsUnchanged archive.old archive.new }
+    ensures keeps { Preserves (S.seen archive.old.listing.source) (S.seen archive.new.listing.source) }
+    ensures fails { FailsBy (λ bytes. IsArchiveOf bytes archive.old.listing.rows) (problem_result result)
+        (S.seen archive.old.listing.source) (S.seen archive.new.listing.source) }
 {
     match check_text(alloc, archive) {
         Ok(text) => Ok(put_text(text.as_slice(), out)),

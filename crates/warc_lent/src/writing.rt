@@ -3,7 +3,9 @@ ghost use Rattle.std.specs.Prelude.{◌≡◌, ℕ};
 ghost use Rattle.warc.specs.Forms.{split_text, text_as};
 ghost use Rattle.warc_record.specs.Kinds.{kind_named};
 ghost use Rattle.warc_write.specs.Making.{planned};
-ghost use Rattle.warc_lent.specs.Writing.{MakesTo, WritesLent};
+ghost use Rattle.warc_frame.specs.Send.{sent_of};
+ghost use Rattle.warc_frame.specs.Spelling.{canonical};
+ghost use Rattle.warc_lent.specs.Writing.{MakesTo, WritesLent, WritesText, problem_of_sent};
 
 use crate::problem::Problem;
 use std::alloc::Allocator;
@@ -24,7 +26,10 @@ fn listing<'a, A: Allocator + Copy>(
 }
 
 /// Why an output ends early, and how many bytes of it went out.
-fn cut_off(fault: OutFault, sent: &mut u64) -> Problem {
+fn cut_off(fault: OutFault, sent: &mut u64) -> Problem
+    ensures problem { result ≡ problem_of_sent fault }
+    ensures sent { sent.new ≡ sent_of fault }
+{
     let (problem, count) = match fault {
         OutFault::Read(count) => (Problem::Changed, count),
         OutFault::Write(count) => (Problem::Write, count),
@@ -80,7 +85,9 @@ fn render_lent<A: Allocator, W: Sink>(
     framed: &Framed<A>,
     out: &mut W,
     sent: &mut u64,
-) -> Result<(), Problem> {
+) -> Result<(), Problem>
+    ensures { WritesText (canonical framed.now) (W.seen out.old) (W.seen out.new) result sent.old sent.new }
+{
     match render_one(framed, out) {
         Ok(()) => Ok(()),
         Err(fault) => Err(cut_off(fault, sent)),

@@ -1,6 +1,6 @@
 use Rattle.std.proofs.Common.{ap, ◌∙◌}
 use Rattle.warc_lent.specs.Bodies.{path_numbers_at}
-use Rattle.warc_lent.proofs.BodyLemmas.{kept_on, same_path_at}
+use Rattle.warc_lent.proofs.BodyLemmas.{fails_of_body, kept_on, same_path_at}
 use Rattle.warc_lent.proofs.bodies.put_body.Goals as goal
 
 pub returns-in-Ok-clause-puts : goal.returns-in-Ok-clause-puts
@@ -22,3 +22,7 @@ returns-in-Err-clause-puts g c = λ bytes held is.
           c.put_path_at.ensures
           ∙ ap (λ p. path_numbers_at c.in-Err.fault p c.args.answer.now) (c.path_at.ensures ps kept ∙ same_path_at ps c.args.position);
     }
+
+pub returns-in-Err-clause-fails : goal.returns-in-Err-clause-fails
+returns-in-Err-clause-fails g c =
+    rw c.of_body.ensures (fails_of_body _ c.in-Err.fault _ _ c.in-Err.ensures.locates.fails)

@@ -2,7 +2,7 @@ use Rattle.std.proofs.Common.{◌≡◌, sym, subst, ap, ◌∙◌, Some, Ok, Er
 use Rattle.warc_value.specs.Dates.{instant_of}
 use Rattle.warc_reading.specs.Archive.{contents}
 use Rattle.warc_lent.specs.Bodies.{PutsReplay, path_numbers}
-use Rattle.warc_lent.proofs.BodyLemmas.{kept_on, same_path_for}
+use Rattle.warc_lent.proofs.BodyLemmas.{fails_of_replay, kept_on, same_path_for}
 use Rattle.warc_lent.proofs.bodies.put_replay.Goals as goal
 
 pub returns-in-Ok-clause-puts : goal.returns-in-Ok-clause-puts
@@ -30,3 +30,7 @@ returns-in-Err-clause-puts g c = λ bytes held is.
           c.put_path.ensures
           ∙ ap (λ p. path_numbers p c.args.answer.now) (c.path_for.ensures ps kept ∙ same_path_for ps c.args.uri.now c.in-Some.moment);
     })
+
+pub returns-in-Err-clause-fails : goal.returns-in-Err-clause-fails
+returns-in-Err-clause-fails g c =
+    rw c.of_replay.ensures (fails_of_replay _ c.in-Err.fault _ _ c.in-Err.ensures.locates.fails)
