@@ -57,6 +57,15 @@ PACKAGING = (
     "packaging/debian/tests/python",
 )
 
+C_FLAGS = ("-std=c11", "-fsyntax-only", "-Wall", "-Wextra", "-Wconversion", "-Wpedantic", "-Werror", "-Ic")
+C_PROGRAMS = (
+    "c/example.c",
+    "c/headers.c",
+    "tests/callers/report.c",
+    "tests/callers/mutated.c",
+    "tests/callers/threads.c",
+)
+
 # Debian's programs work with Debian's Python, so each is called by its own name.
 CHECKS = [
     Check("types of tools/lint_code.py", ("mypy", "--strict", "--follow-imports=silent", "tools/lint_code.py")),
@@ -65,6 +74,15 @@ CHECKS = [
     Check("types of scripts for the machine", ("mypy", "--strict", "--follow-imports=silent", *MACHINE)),
     Check("layout of scripts for the machine", ("black", "--quiet", "--check", "--line-length=120", *MACHINE)),
     Check("tools/install.py, tried", ("python3", "tests/tools/test_install.py")),
+    Check("types of the Python package", ("mypy", "--strict", "python/src/zogwedu")),
+    Check(
+        "layout of the Python package", ("black", "--quiet", "--check", "--line-length=120", "python", "tests/callers")
+    ),
+    Check("warnings of c/warc.c", ("gcc", *C_FLAGS, "c/warc.c")),
+    Check("warnings of C's programs", ("gcc", *C_FLAGS, *C_PROGRAMS)),
+    Check("c/warc.h as C++", ("g++", "-x", "c++", "-std=c++11", *C_FLAGS[1:], "c/warc.h")),
+    Check("layout of the Rust crate", ("cargo", "fmt", "--check", "--manifest-path=rust/Cargo.toml")),
+    Check("no unsafe in Rust outside of raw.rs", ("python3", "tools/find_unsafe.py")),
 ]
 
 

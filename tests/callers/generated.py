@@ -39,7 +39,15 @@ HTTP_FIELDS = some.lists(
     max_size=5,
 )
 STATUSES = some.sampled_from(
-    ["HTTP/1.1 200 OK", "HTTP/1.0 404", "HTTP/1.1 204 ", "HTTP/1.1 007 x y", "HTTP/2 200 OK", "HTTP/1.1 20 OK", "GET / HTTP/1.1"]
+    [
+        "HTTP/1.1 200 OK",
+        "HTTP/1.0 404",
+        "HTTP/1.1 204 ",
+        "HTTP/1.1 007 x y",
+        "HTTP/2 200 OK",
+        "HTTP/1.1 20 OK",
+        "GET / HTTP/1.1",
+    ]
 )
 ENDS = some.sampled_from(["\r\n", "\r\n", "\r\n", "\n"])
 
@@ -50,7 +58,9 @@ def blocks(draw):
     if draw(some.integers(0, 4)) == 0:
         return draw(BODIES)
     end = draw(ENDS)
-    lines = [draw(STATUSES)] + [f"{name}:{draw(some.sampled_from(['', ' ', ' ']))}{value}" for name, value in draw(HTTP_FIELDS)]
+    lines = [draw(STATUSES)] + [
+        f"{name}:{draw(some.sampled_from(['', ' ', ' ']))}{value}" for name, value in draw(HTTP_FIELDS)
+    ]
     return (end.join(lines) + end + end).encode() + draw(BODIES)
 
 
@@ -60,7 +70,12 @@ def records(draw, number):
     block, kind = draw(blocks()), draw(KINDS)
     front = [("WARC-Type", kind), ("WARC-Record-ID", f"<urn:uuid:00000000-0000-4000-8000-{number:012}>")]
     front += [("WARC-Date", draw(some.sampled_from(["2020-01-01T00:00:00Z", "2020", "2021-02-03T04:05:06.789Z"])))]
-    front += [("WARC-Target-URI", draw(some.sampled_from(["http://a.example/x", "http://a.example/y", "<http://a.example/x>"])))]
+    front += [
+        (
+            "WARC-Target-URI",
+            draw(some.sampled_from(["http://a.example/x", "http://a.example/y", "<http://a.example/x>"])),
+        )
+    ]
     if draw(some.booleans()):
         front.append(("WARC-Refers-To", f"<urn:uuid:00000000-0000-4000-8000-{draw(some.integers(0, number)):012}>"))
     fields = front + [("Content-Length", str(len(block)))] + draw(FIELDS)

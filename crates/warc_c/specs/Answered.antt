@@ -33,14 +33,14 @@ pub record AnswersFixity (bytes : List ℕ) (answer : ℕ) (old new : List ℕ) 
   pub answered : IsAnswered result answer before after
 
 -- it is done, or a problem is reported
-abbrev pub IsDone : Result (Unit {0}) Problem → Bool → Numbers → Numbers → Type 0
-IsDone (Ok u) answer old new = (answer ≡ true) × (new ≡ old)
-IsDone (Err problem) answer old new = (answer ≡ false) × (new ≡ problem_numbers problem)
+abbrev pub IsFlagged : Result (Unit {0}) Problem → Bool → Numbers → Numbers → Type 0
+IsFlagged (Ok u) answer old new = (answer ≡ true) × (new ≡ old)
+IsFlagged (Err problem) answer old new = (answer ≡ false) × (new ≡ problem_numbers problem)
 
 -- a verdict is answered; where there is a problem it is that a block is unchecked
-abbrev pub IsJudged : Result ℕ Problem → ℕ → Numbers → Numbers → Type 0
-IsJudged (Ok verdict) answer old new = (answer ≡ verdict) × (new ≡ old)
-IsJudged (Err problem) answer old new = (answer ≡ 2) × (new ≡ problem_numbers problem)
+abbrev pub IsVerdictReported : Result ℕ Problem → ℕ → Numbers → Numbers → Type 0
+IsVerdictReported (Ok verdict) answer old new = (answer ≡ verdict) × (new ≡ old)
+IsVerdictReported (Err problem) answer old new = (answer ≡ 2) × (new ≡ problem_numbers problem)
 
 -- a fault is reported, if there is one
 abbrev pub IsFaultReported : Option Fault → Numbers → Numbers → Type 0

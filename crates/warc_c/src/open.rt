@@ -51,7 +51,8 @@ pub extern "C" fn warc_rt_open(
     }
 }
 
-/// How many bytes the good records have that these bytes begin with. The fault after them is reported, if there is one.
+/// How many bytes the good records have that these bytes begin with. The fault after them is reported, if there is
+/// one.
 #[unsafe(no_mangle)]
 pub extern "C" fn warc_rt_front(alloc: Global, bytes: &[u8], problem: &mut Numbers) -> u64
     ensures { AnswersFront bytes.now result problem.old problem.new }

@@ -2,7 +2,7 @@
 ghost use Rattle.std.specs.Prelude.{◌≡◌};
 ghost use Rattle.warc_lent.specs.Problems.{problem_numbers};
 ghost use Rattle.warc_lent.specs.Texts.{IsProblemPut};
-ghost use Rattle.warc_c.specs.Answered.{IsAnswered, IsDone, IsFaultReported, IsJudged};
+ghost use Rattle.warc_c.specs.Answered.{IsAnswered, IsFlagged, IsFaultReported, IsVerdictReported};
 
 use std::alloc::Global;
 use warc_frame::Fault;
@@ -42,7 +42,7 @@ pub(crate) fn number_or_report(answer: Result<usize, Problem>, out: &mut Numbers
 
 /// Whether a call did what it was asked for. A problem is reported.
 pub(crate) fn done_or_report(answer: Result<(), Problem>, out: &mut Numbers) -> bool
-    ensures { IsDone answer result out.old out.new }
+    ensures { IsFlagged answer result out.old out.new }
 {
     match answer {
         Ok(()) => true,
@@ -53,9 +53,9 @@ pub(crate) fn done_or_report(answer: Result<(), Problem>, out: &mut Numbers) -> 
     }
 }
 
-/// The verdict that a call answers; 2, which says that a block is unchecked, where there is a problem, which is reported.
+/// The verdict that a call answers. A problem is reported, and the answer is 2, which says that a block is unchecked.
 pub(crate) fn verdict_or_report(answer: Result<u32, Problem>, out: &mut Numbers) -> u32
-    ensures { IsJudged answer result out.old out.new }
+    ensures { IsVerdictReported answer result out.old out.new }
 {
     match answer {
         Ok(verdict) => verdict,

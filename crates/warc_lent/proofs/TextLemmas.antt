@@ -13,7 +13,7 @@ use Rattle.warc_frame.specs.declared.fault.FaultKind.TheVariants.{Memory, Read}
 use Rattle.warc_reading.specs.Archive.{IsFaultOf}
 use Rattle.warc_reading.specs.Opening.{RefusesBy, faults_after}
 use Rattle.warc_lent.specs.Problems.{problem_of_out, problem_result}
-use Rattle.warc_lent.specs.Texts.{IsUnread}
+use Rattle.warc_lent.specs.Texts.{IsUnreadable}
 use Rattle.warc_lent.specs.declared.problem.Problem.TheVariants as problems
 
 pub taken_whole : (new old text : List ℕ) → Some new ≡ append_known (Some old) text → old ≡ [] → new ≡ text
@@ -39,7 +39,7 @@ pub fails_of_none : {X Y : Type 0} (E : List ℕ → Type 0) (x : X) (y : Y) (ol
 fails_of_none E x y old new f = record { may = f.may; failed = f.failed }
 
 -- an output to memory ends early by lack of memory, or since the source changed
-pub unread_of : (fault : OutFault) → IsUnread (problem_of_out fault)
+pub unread_of : (fault : OutFault) → IsUnreadable (problem_of_out fault)
 unread_of (outs.Read sent) = inl refl
 unread_of (outs.Write sent) = inr refl
 unread_of (outs.Memory sent) = inr refl

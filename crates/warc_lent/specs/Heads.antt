@@ -23,8 +23,8 @@ abbrev pub field_numbers : Pair → FieldNumbers
 field_numbers p = record { name_length = short_length p.0; value_length = short_length p.1 }
 
 -- a name, and the value after it
-abbrev pub field_text : Pair → List ℕ
-field_text p = p.0 ++ p.1
+abbrev pub pair_text : Pair → List ℕ
+pair_text p = p.0 ++ p.1
 
 -- memory ran out, or the bytes aren't the head that they were
 abbrev pub problem_of_head : FaultKind → Problem
@@ -34,7 +34,7 @@ problem_of_head kind = problems.Changed
 -- the fields of a head are put, as far as there is room, and their number is answered
 pub record AreFieldsPut (fields : List Pair) (number : ℕ) (lengths : List FieldNumbers) (texts : List ℕ) : Type 0 where
   pub lengths_are : HoldsFront (map field_numbers fields) lengths
-  pub texts_are : HoldsFront (flat_map field_text fields) texts
+  pub texts_are : HoldsFront (flat_map pair_text fields) texts
   pub number_is : number ≡ length fields
 
 -- the fields of the head at the front of the bytes are put, or memory ran out, or there is no such head

@@ -128,10 +128,10 @@ problem_of_body bodies.NoCapture = problems.NoCapture
 problem_of_body (bodies.Replay fault) = problem_of_replay fault
 
 -- what a source's failures go by: bytes that changed are a failed read, and no other problem is one
-abbrev pub read_of : Problem → Result (Unit {0}) OutFault
-read_of problems.Changed = Err (outs.Read 0)
-read_of problem = Ok tt
+abbrev pub read_failure_of : Problem → Result (Unit {0}) OutFault
+read_failure_of problems.Changed = Err (outs.Read 0)
+read_failure_of problem = Ok tt
 
 abbrev pub problem_result : {X : Type 0} → Result X Problem → Result (Unit {0}) OutFault
 problem_result (Ok x) = Ok tt
-problem_result (Err problem) = read_of problem
+problem_result (Err problem) = read_failure_of problem

@@ -30,8 +30,8 @@ IsRefusedFor bytes problem =
     ⊎ ((fault : Fault) × (problem ≡ problems.Fault fault) × ((fault.kind ≡ NoMemory) ⊎ IsFaultOf bytes fault))
 
 -- the source's bytes aren't what they were, or a growth of the memory was refused
-abbrev pub IsUnread : Problem → Type 0
-IsUnread problem = (problem ≡ problems.Changed) ⊎ (problem ≡ problems.Memory)
+abbrev pub IsUnreadable : Problem → Type 0
+IsUnreadable problem = (problem ≡ problems.Changed) ⊎ (problem ≡ problems.Memory)
 
 -- the bytes are an archive, and these are the lines of all its findings
 pub record AreFindingsOf (bytes text : List ℕ) : Type 0 where

@@ -15,8 +15,8 @@ fn copy_front(text: &[u8], out: &mut [u8])
     out[..count].copy_from_slice(&text[..count]);
 }
 
-/// Puts the front of a text into a buffer, as much as it has room for, and answers the text's length. What follows in the
-/// buffer stays.
+/// Puts the front of a text into a buffer, as much as it has room for, and answers the text's length. What follows in
+/// the buffer stays.
 pub fn put_text(text: &[u8], out: &mut [u8]) -> usize
     ensures whole { result ≡ length text.now }
     ensures front { HoldsFront text.now out.new }

@@ -4,7 +4,7 @@ ghost use Rattle.std.specs.List.{flat_map};
 ghost use Rattle.warc_frame.specs.Count.{capped};
 ghost use Rattle.warc_payload.specs.Head.{HasNoHead, front_of};
 ghost use Rattle.warc_lent.specs.Buffers.{HoldsFront};
-ghost use Rattle.warc_lent.specs.Heads.{PutsFields, PutsHttp, field_numbers, field_text, http_field_numbers, http_numbers, problem_of_head};
+ghost use Rattle.warc_lent.specs.Heads.{PutsFields, PutsHttp, field_numbers, pair_text, http_field_numbers, http_numbers, problem_of_head};
 
 use crate::buffers::put_text_at;
 use crate::problem::Problem;
@@ -92,9 +92,9 @@ fn put_lengths<A: Allocator>(fields: &Fields<A>, out: &mut [FieldNumbers])
 /// Puts the name and the value of a field into a buffer from an index on, and answers the index after them.
 fn put_pair<A: Allocator>(name: &Name<A>, value: &Value<A>, at: usize, out: &mut [u8]) -> usize
     ensures end { (before : List ℕ) → at ≡ capped (length before) →
-        result ≡ capped (length (before ++ field_text (name.now, value.now))) }
+        result ≡ capped (length (before ++ pair_text (name.now, value.now))) }
     ensures front { (before : List ℕ) → at ≡ capped (length before) → HoldsFront before out.old →
-        HoldsFront (before ++ field_text (name.now, value.now)) out.new }
+        HoldsFront (before ++ pair_text (name.now, value.now)) out.new }
     ensures room { length out.new ≡ length out.old }
 {
     let after = put_text_at(name.bytes(), at, out);
@@ -103,7 +103,7 @@ fn put_pair<A: Allocator>(name: &Name<A>, value: &Value<A>, at: usize, out: &mut
 
 /// Puts the names and values of all fields one after another, as far as there is room.
 fn put_texts<A: Allocator>(fields: &Fields<A>, out: &mut [u8])
-    ensures front { HoldsFront (flat_map field_text fields.now) out.new }
+    ensures front { HoldsFront (flat_map pair_text fields.now) out.new }
     ensures room { length out.new ≡ length out.old }
 {
     let mut at = 0;

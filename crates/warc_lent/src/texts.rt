@@ -7,7 +7,7 @@ ghost use Rattle.warc_reading.specs.Indexed.{IsUnchanged};
 ghost use Rattle.warc_lent.specs.Problems.{problem_result, problem_text};
 ghost use Rattle.warc_frame.specs.Effects.{FailsBy, Preserves};
 ghost use Rattle.warc_frame.specs.Seen.{IfHeld};
-ghost use Rattle.warc_lent.specs.Texts.{AreFindingsOf, IsFindingsOf, IsFixityOf, IsProblemPut, IsTextPut, IsRefusedFor, IsUnread, PutsFindings, PutsFixity};
+ghost use Rattle.warc_lent.specs.Texts.{AreFindingsOf, IsFindingsOf, IsFixityOf, IsProblemPut, IsTextPut, IsRefusedFor, IsUnreadable, PutsFindings, PutsFixity};
 
 use crate::buffers::put_text;
 use crate::problem::{Numbers, Problem};
@@ -44,7 +44,7 @@ pub fn check_text<A: Allocator + Copy, S: Source>(
 ) -> Result<Vec<u8, A>, Problem>
     ensures findings { IfOk result (λ text. IfHeld (S.seen archive.old.listing.source).holds (λ bytes. IsFindingsOf
         archive.old.listing.rows bytes text.items)) }
-    ensures refused { IfErr result IsUnread }
+    ensures refused { IfErr result IsUnreadable }
     ensures unchanged { IsUnchanged archive.old archive.new }
     ensures keeps { Preserves (S.seen archive.old.listing.source) (S.seen archive.new.listing.source) }
     ensures fails { FailsBy (λ bytes. IsArchiveOf bytes archive.old.listing.rows) (problem_result result)
@@ -132,7 +132,7 @@ pub fn put_check<A: Allocator + Copy, S: Source>(
         out.new)) }
     ensures same { OnErr result (out.new ≡ out.old) }
     ensures room { length out.new ≡ length out.old }
-    ensures refused { IfErr result IsUnread }
+    ensures refused { IfErr result IsUnreadable }
     ensures unchanged { IsUnchanged archive.old archive.new }
     ensures keeps { Preserves (S.seen archive.old.listing.source) (S.seen archive.new.listing.source) }
     ensures fails { FailsBy (λ bytes. IsArchiveOf bytes archive.old.listing.rows) (problem_result result)

@@ -94,8 +94,8 @@ fn render_lent<A: Allocator, W: Sink>(
     }
 }
 
-/// Makes a record of WARC 1.1, as `warc_write::make` does, and writes it. The kind is named in any case. Where no record
-/// is made, nothing is written.
+/// Makes a record of WARC 1.1, as `warc_write::make` does, and writes it. The kind is named in any case. Where no
+/// record is made, nothing is written.
 pub fn make_lent<A: Allocator + Copy, W: Sink>(
     alloc: A,
     kind: &[u8],

@@ -3,7 +3,7 @@ use Rattle.std.specs.List.{flat_map, slice_get}
 use Rattle.warc_field.specs.Area.{Pair}
 use Rattle.warc_frame.specs.Count.{capped}
 use Rattle.warc_lent.specs.Buffers.{HoldsFront}
-use Rattle.warc_lent.specs.Heads.{field_text}
+use Rattle.warc_lent.specs.Heads.{pair_text}
 use Rattle.warc_lent.proofs.HeadLemmas.{texts_next}
 use Rattle.warc_lent.proofs.heads.put_texts.Goals as goal
 
@@ -13,8 +13,8 @@ putting-preserved g c =
     let all = c.args.fields.now in
     let field : Pair = (c.in-Some.field.0.now, c.in-Some.field.1.now) in
     let at : slice_get all i ≡ Some field = c.in-Some.ensures in
-    let before = flat_map field_text (take i all) in
-    let next = texts_next field_text all i field at in
+    let before = flat_map pair_text (take i all) in
+    let next = texts_next pair_text all i field at in
     record {
       front =
           subst (λ l. HoldsFront l c.put_pair-at.new.out) next
