@@ -62,8 +62,8 @@ pub extern "C" fn warc_rt_front(alloc: Global, bytes: &[u8], problem: &mut Numbe
     end
 }
 
-/// Reads on in bytes that begin with the old ones, over which the archive was opened. A refusal leaves the archive as it
-/// was, over the old bytes.
+/// Reads on in bytes that begin with the old ones, over which the archive was opened. A refusal leaves the archive as
+/// it was, over the old bytes.
 #[unsafe(no_mangle)]
 pub extern "C" fn warc_rt_grow(
     alloc: Global,

@@ -79,7 +79,17 @@ pub extern "C" fn warc_rt_make(
     problem: &mut Numbers,
 ) -> bool {
     let mut out = writer(fd);
-    let written = make_lent(alloc, kind, uri, date, uuid, content_type, block, &mut out, sent);
+    let written = make_lent(
+        alloc,
+        kind,
+        uri,
+        date,
+        uuid,
+        content_type,
+        block,
+        &mut out,
+        sent,
+    );
     leave_open(out);
     done_or_report(written, problem)
 }

@@ -40,7 +40,7 @@ abbrev pub WritesLent : (Record → List ℕ) → List ℕ → Seen → Seen →
 WritesLent text_of bytes before after answer was sent =
     WritesNone (IsRefusedFor bytes) before after answer was sent
     ⊎ ((rows : List Row) × (is : IsArchiveOf bytes rows)
-        × WritesText (flat_map text_of (contents is.are.records)) before after answer was sent)
+    × WritesText (flat_map text_of (contents is.are.records)) before after answer was sent)
 
 -- no record is made of a plan, for this problem
 abbrev pub IsUnmade : Plan → Problem → Type 0

@@ -137,8 +137,8 @@ fn put_path_at(fault: BodyFault, path: Result<Path, Unfound>, answer: &mut Answe
 
 /// Puts the body that was captured of a URI as of a date: what is said of it, and the spans of the source whose bytes,
 /// one after another, it is, as many as there is room for. The answer is the number of spans. Where there is no body,
-/// the positions of the path to it are put, if there is a path. If the source holds the archive's bytes, it is `Changed`
-/// exactly where a read of them fails.
+/// the positions of the path to it are put, if there is a path. If the source holds the archive's bytes, it is
+/// `Changed` exactly where a read of them fails.
 pub fn put_replay<S: Source, A: Allocator + Copy>(
     archive: &mut Archive<S, A>,
     uri: &[u8],

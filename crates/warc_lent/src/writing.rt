@@ -110,7 +110,15 @@ pub fn make_lent<A: Allocator + Copy, W: Sink>(
     ensures { MakesTo (planned (kind_named kind.now) uri.now date.now uuid.now content_type.now block.now)
         (W.seen out.old) (W.seen out.new) result sent.old sent.new }
 {
-    match make(alloc, Kind::named(kind), uri, date, uuid, content_type, block) {
+    match make(
+        alloc,
+        Kind::named(kind),
+        uri,
+        date,
+        uuid,
+        content_type,
+        block,
+    ) {
         Ok(framed) => render_lent(&framed, out, sent),
         Err(fault) => Err(Problem::Made(fault)),
     }
