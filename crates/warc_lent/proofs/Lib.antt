@@ -1,4 +1,6 @@
 mod BodyLemmas
 pub mod BufferLemmas
+mod FrontLemmas
 mod HeadLemmas
 pub mod TextLemmas
+mod WritingLemmas

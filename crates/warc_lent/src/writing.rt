@@ -1,6 +1,8 @@
 //! What is written to a sink: the records of lent bytes anew, and a record that is made.
-ghost use Rattle.std.specs.Prelude.{◌≡◌, ℕ};
+ghost use Rattle.std.specs.Prelude.{◌≡◌, IfErr, IfOk};
 ghost use Rattle.warc.specs.Forms.{split_text, text_as};
+ghost use Rattle.warc_reading.specs.Archive.{IsArchiveOf};
+ghost use Rattle.warc_lent.specs.Texts.{IsRefusedFor};
 ghost use Rattle.warc_record.specs.Kinds.{kind_named};
 ghost use Rattle.warc_write.specs.Making.{planned};
 ghost use Rattle.warc_frame.specs.Send.{sent_of};
@@ -18,7 +20,11 @@ use warc_write::{make, render_one};
 fn listing<'a, A: Allocator + Copy>(
     alloc: A,
     bytes: &'a [u8],
-) -> Result<Listing<SliceSource<'a>, A>, Problem> {
+) -> Result<Listing<SliceSource<'a>, A>, Problem>
+    ensures source { IfOk result (λ listing. listing.source.bytes ≡ bytes.now) }
+    ensures opened { IfOk result (λ listing. IsArchiveOf bytes.now listing.rows) }
+    ensures refused { IfErr result (IsRefusedFor bytes.now) }
+{
     match Listing::open(alloc, SliceSource::new(bytes)) {
         Ok(listing) => Ok(listing),
         Err((fault, _source)) => Err(Problem::Fault(fault)),
