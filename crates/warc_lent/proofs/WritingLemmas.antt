@@ -23,8 +23,7 @@ all_written text_of len_of bytes rows old new before after was is held writes =
     inr (
       rows,
       is,
-      writes.sends.out bytes (flat_map text_of (contents is.are.records)) held (record { is = is; text_is = refl }),
-      refl,
+      (writes.sends.out bytes (flat_map text_of (contents is.are.records)) held (record { is = is; text_is = refl }), refl),
     )
 
 -- a front of it
@@ -35,4 +34,8 @@ pub part_written : (text_of : Record → List ℕ) (len_of : Row → ℕ) (bytes
 part_written text_of len_of bytes rows old new before after fault problem was sent is held writes why number =
     let text = flat_map text_of (contents is.are.records) in
     let out = writes.sends.cut bytes text held (record { is = is; text_is = refl }) in
-    inr (rows, is, fault, why, number, record { count = out.count; within = out.within; told = out.told; number = number ∙ out.number })
+    inr (
+      rows,
+      is,
+      (fault, why, number, record { count = out.count; within = out.within; told = out.told; number = number ∙ out.number }),
+    )
