@@ -302,9 +302,9 @@ size_t warc_fixity(warc_archive *archive, uint8_t *text, size_t text_length, war
 
 /* ---- Writing to a file descriptor, which stays open. Each call answers true if all is written, and then `*sent` is
  * 0. It answers false with WARC_WRITE_FAILED or WARC_NO_MEMORY where the output ends early, and `*sent` is how many
- * bytes of it went out. An interrupted write, and one to a descriptor that would block, fails: nothing is tried
- * again. A write to a pipe that nobody reads fails and raises no SIGPIPE. With any other problem nothing is written,
- * and `*sent` is 0. `sent` may be null. Nothing is synced: that is the caller's. */
+ * bytes of it went out. An interrupted write, one to a descriptor that would block, and one to a negative descriptor
+ * fail: nothing is tried again. A write to a pipe that nobody reads fails and raises no SIGPIPE. With any other
+ * problem nothing is written, and `*sent` is 0. `sent` may be null. Nothing is synced: that is the caller's. */
 
 /* Writes the archive that these bytes are in canonical form, as one of WARC/1.1, or with its records split into
  * segments of `size` bytes, as the program's commands do. Bytes that are refused are refused as by warc_open. A size

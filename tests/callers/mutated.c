@@ -173,7 +173,8 @@ static void ask_wrongly(void) {
     if (warc_split(NULL, 0, 0, 1, NULL, &problem) || problem.code != WARC_BAD_ARGUMENT) abort();
     if (warc_make(NULL, 1, NULL, &problem) || problem.code != WARC_BAD_ARGUMENT) abort();
     if (warc_make(&draft, 1, NULL, &problem) || problem.code != WARC_MADE_KIND) abort();
-    if (warc_rewrite(&byte, 1, -1, NULL, &problem) || problem.code != WARC_FAULT_VERSION) abort();
+    if (warc_rewrite(&byte, 1, 1, NULL, &problem) || problem.code != WARC_FAULT_VERSION) abort();
+    if (warc_rewrite(NULL, 0, -1, NULL, &problem) || problem.code != WARC_WRITE_FAILED) abort();
     warc_close(NULL);
     if (!warc_open(&archive, NULL, 0, NULL) || warc_count(archive)) abort();
     if (warc_replay(archive, &byte, 1, NULL, 0, NULL, NULL, 0, &problem) || problem.code != WARC_BAD_DATE) abort();

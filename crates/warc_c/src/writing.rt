@@ -6,11 +6,16 @@ use std::os::fd::{IntoRawFd, OwnedFd};
 use std::process::ChildStdin;
 use warc::Form;
 use warc_frame::OutSink;
-use warc_lent::{Numbers, make_lent, split_lent, write_lent};
+use warc_lent::{Numbers, Problem, make_lent, split_lent, write_lent};
 
-/// A writer over a file descriptor, which C keeps. A write to a pipe that nobody reads fails, and raises no signal.
-fn writer(fd: i32) -> OutSink<ChildStdin> {
-    OutSink::new(ChildStdin::from(unsafe { OwnedFd::from_raw_fd(fd) }))
+/// A writer over a file descriptor, which C keeps; none over a negative number. A write to a pipe that nobody reads
+/// fails, and raises no signal.
+fn writer(fd: i32) -> Option<OutSink<ChildStdin>> {
+    if fd < 0 {
+        return None;
+    }
+    let owned = unsafe { OwnedFd::from_raw_fd(fd) };
+    Some(OutSink::new(ChildStdin::from(owned)))
 }
 
 /// Lets a writer go, and leaves its descriptor open.
@@ -27,7 +32,9 @@ pub extern "C" fn warc_rt_rewrite(
     sent: &mut u64,
     problem: &mut Numbers,
 ) -> bool {
-    let mut out = writer(fd);
+    let Some(mut out) = writer(fd) else {
+        return done_or_report(Err(Problem::Write), problem);
+    };
     let written = write_lent(alloc, bytes, Form::Canonical, &mut out, sent);
     leave_open(out);
     done_or_report(written, problem)
@@ -42,7 +49,9 @@ pub extern "C" fn warc_rt_convert(
     sent: &mut u64,
     problem: &mut Numbers,
 ) -> bool {
-    let mut out = writer(fd);
+    let Some(mut out) = writer(fd) else {
+        return done_or_report(Err(Problem::Write), problem);
+    };
     let written = write_lent(alloc, bytes, Form::Converted, &mut out, sent);
     leave_open(out);
     done_or_report(written, problem)
@@ -58,7 +67,9 @@ pub extern "C" fn warc_rt_split(
     sent: &mut u64,
     problem: &mut Numbers,
 ) -> bool {
-    let mut out = writer(fd);
+    let Some(mut out) = writer(fd) else {
+        return done_or_report(Err(Problem::Write), problem);
+    };
     let written = split_lent(alloc, bytes, size, &mut out, sent);
     leave_open(out);
     done_or_report(written, problem)
@@ -78,7 +89,9 @@ pub extern "C" fn warc_rt_make(
     sent: &mut u64,
     problem: &mut Numbers,
 ) -> bool {
-    let mut out = writer(fd);
+    let Some(mut out) = writer(fd) else {
+        return done_or_report(Err(Problem::Write), problem);
+    };
     let written = make_lent(
         alloc,
         kind,
