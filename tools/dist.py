@@ -21,6 +21,7 @@ import tempfile
 from collections.abc import Iterable, Iterator
 
 import install
+import make_copyright
 from shared import TOP, read, version
 
 LEFT_OUT = ("out", "bin", "dist", "target", "__pycache__")
@@ -88,6 +89,7 @@ def program_files() -> Iterator[tuple[str, bytes, int]]:
                 yield os.path.relpath(path, f"{folder}/usr/local"), bytes_of(path), 0o755 if os.access(
                     path, os.X_OK
                 ) else 0o644
+    yield f"{install.DOCS}/copyright", make_copyright.text().encode(), 0o644
     yield "BUILD.txt", needs(f"{TOP}/bin/warc").encode(), 0o644
 
 

@@ -1,5 +1,5 @@
 #!/usr/bin/env python3
-"""Makes debian/copyright: the project's, and that of each crate of the toolchain that is linked into the program or the
+"""Makes the file copyright of a package and of a release: the project's, and that of each crate of the toolchain that is linked into the program or the
 library, with the licence that the toolchain has for it.
 
 Usage: make_copyright.py FILE
@@ -12,7 +12,7 @@ import re
 import subprocess
 import sys
 
-from shared import TOP, below, crates, read
+from shared import below, crates, read
 
 ROOTS = ("warc_tool", "warc_c", "warc_page")
 USES = re.compile(r"^\s*(?:pub |ghost )?use (?:Rattle\.)?([a-z_0-9]+)", re.MULTILINE)
@@ -28,8 +28,8 @@ def used_by(folder: str) -> set[str]:
     """The crates that the source of a crate of the toolchain names."""
     found = set()
     for path in glob.glob(f"{folder}/src/**/*.rt", recursive=True):
-        with open(path, encoding="utf-8") as text:
-            found |= set(USES.findall(text.read()))
+        with open(path, encoding="utf-8") as source:
+            found |= set(USES.findall(source.read()))
     return found
 
 
@@ -46,9 +46,9 @@ def linked(top: str) -> list[str]:
     return sorted(found)
 
 
-def indented(text: str) -> str:
+def indented(lines: str) -> str:
     """A text as the lines of a field."""
-    return "".join(f" {line.rstrip() or '.'}\n" for line in text.strip("\n").splitlines())
+    return "".join(f" {line.rstrip() or '.'}\n" for line in lines.strip("\n").splitlines())
 
 
 def stanza(top: str, name: str) -> str:
@@ -58,14 +58,14 @@ def stanza(top: str, name: str) -> str:
         return ""
     path = next((it for it in paths if "MIT" in it), paths[0])
     with open(path, encoding="utf-8") as file:
-        text = file.read()
-    holder = re.search(r"^\s*Copyright (?:\(c\) )?(.*?)\s*$", text, re.MULTILINE)
+        licence = file.read()
+    holder = re.search(r"^\s*Copyright (?:\(c\) )?(.*?)\s*$", licence, re.MULTILINE)
     whose = holder[1] if holder and "notice" not in holder[1] else f"the authors of the crate {name}"
-    return f"\nFiles: linked/{name}\nCopyright: {whose}\nLicense: MIT-{name}\n{indented(text)}"
+    return f"\nFiles: linked/{name}\nCopyright: {whose}\nLicense: MIT-{name}\n{indented(licence)}"
 
 
-def main() -> None:
-    """Writes the file."""
+def text() -> str:
+    """The whole file."""
     top = kit()
     names = linked(top)
     own = [name for name in names if not glob.glob(f"{top}/{name}/LICENSE*")]
@@ -74,12 +74,13 @@ def main() -> None:
         "Comment:\n The program and the library are built by the Rattle kit. linked/NAME is its crate NAME,\n"
         f" which is compiled into them. Those of the kit itself have no licence file: {', '.join(own)}.\n"
     )
-    text = f"{first}\n{comment}\n{rest.rstrip()}\n" + "".join(stanza(top, name) for name in names)
+    return f"{first}\n{comment}\n{rest.rstrip()}\n" + "".join(stanza(top, name) for name in names)
+
+
+def main() -> None:
+    """Writes the file."""
     with open(sys.argv[1], "w", encoding="utf-8") as out:
-        out.write(text)
-    print(
-        f"{len(names) - len(own)} crates with a licence of their own, {len(own)} without, below {os.path.relpath(TOP)}"
-    )
+        out.write(text())
 
 
 if __name__ == "__main__":
