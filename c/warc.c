@@ -1,9 +1,15 @@
 /* What C calls. It checks pointers and lengths, and calls the proved functions, whose names begin with warc_rt_: these
  * take no null pointer. Nothing here knows the format. */
+#define _POSIX_C_SOURCE 200809L
+
 #include "warc.h"
 
+#include <errno.h>
+#include <signal.h>
 #include <stdlib.h>
 #include <string.h>
+#include <time.h>
+#include <unistd.h>
 
 /* An archive in the form that the proved functions keep it. */
 typedef struct {
@@ -59,13 +65,16 @@ size_t warc_rt_body(warc_handle *handle, size_t position, warc_answer *answer, w
 size_t warc_rt_list(warc_handle *handle, uint8_t *text, size_t text_length, warc_problem *problem);
 size_t warc_rt_check(warc_handle *handle, uint8_t *text, size_t text_length, warc_problem *problem);
 size_t warc_rt_fixity(const uint8_t *bytes, size_t length, uint8_t *text, size_t text_length, warc_problem *problem);
-bool warc_rt_rewrite(const uint8_t *bytes, size_t length, int32_t file, uint64_t *sent, warc_problem *problem);
-bool warc_rt_convert(const uint8_t *bytes, size_t length, int32_t file, uint64_t *sent, warc_problem *problem);
-bool warc_rt_split(const uint8_t *bytes, size_t length, uint64_t size, int32_t file, uint64_t *sent,
-                   warc_problem *problem);
+bool warc_rt_rewrite(const uint8_t *bytes, size_t length, uint64_t start, uint8_t *part, size_t room, uint64_t *filled,
+                     warc_problem *problem);
+bool warc_rt_convert(const uint8_t *bytes, size_t length, uint64_t start, uint8_t *part, size_t room, uint64_t *filled,
+                     warc_problem *problem);
+bool warc_rt_split(const uint8_t *bytes, size_t length, uint64_t size, uint64_t start, uint8_t *part, size_t room,
+                   uint64_t *filled, warc_problem *problem);
 bool warc_rt_make(const uint8_t *kind, size_t kind_length, const uint8_t *uri, size_t uri_length, const uint8_t *date,
                   size_t date_length, const uint8_t *uuid, size_t uuid_length, const uint8_t *type, size_t type_length,
-                  const uint8_t *block, size_t block_length, int32_t file, uint64_t *sent, warc_problem *problem);
+                  const uint8_t *block, size_t block_length, uint64_t start, uint8_t *part, size_t room,
+                  uint64_t *filled, warc_problem *problem);
 
 /* No head of a record is longer, and a field takes at least four bytes of it: `a:` and CRLF. */
 enum { MOST_TEXTS = 65536, MOST_FIELDS = MOST_TEXTS / 4, MOST_HTTP_FIELDS = 256 };
@@ -446,55 +455,137 @@ size_t warc_fixity(warc_archive *archive, uint8_t *text, size_t text_length, war
     return put_text(archive, FIXITY, text, text_length, problem);
 }
 
-/* ---- Writing */
+/* ---- Writing. The proved functions put the part of an output that begins at an offset into a buffer. So the output is
+ * made once for each part, up to its end: most outputs are one part or two. */
 
-/* Begins a call that writes: nothing is sent, unless an argument is bad. */
-static bool begin_writing(bool are_good, uint64_t *sent, warc_problem *problem) {
+/* The first part is small, since most outputs are. */
+enum { FIRST_PART = 1 << 20, LATER_PART = 1 << 26 };
+
+/* What is written: an archive in a form, or one record. */
+typedef struct {
+    enum { REWRITTEN, CONVERTED, SPLIT, MADE } form;
+    const uint8_t *bytes;
+    size_t length;
+    uint64_t size;
+    const warc_draft *draft;
+} output;
+
+/* Puts the part of a record's output that begins at an offset. */
+static bool put_made(const warc_draft *draft, uint64_t start, uint8_t *part, size_t room, uint64_t *filled,
+                     warc_problem *problem) {
+    return warc_rt_make(bytes_or_nothing(draft->kind.bytes), draft->kind.length, bytes_or_nothing(draft->uri.bytes),
+                        draft->uri.length, bytes_or_nothing(draft->date.bytes), draft->date.length,
+                        bytes_or_nothing(draft->uuid.bytes), draft->uuid.length, bytes_or_nothing(draft->type.bytes),
+                        draft->type.length, bytes_or_nothing(draft->block.bytes), draft->block.length, start, part,
+                        room, filled, problem);
+}
+
+/* Puts the part of an output that begins at an offset. False with a problem, or where the part is full. */
+static bool put_part(const output *what, uint64_t start, uint8_t *part, size_t room, uint64_t *filled,
+                     warc_problem *problem) {
+    set(problem, 0);
+    *filled = 0;
+    switch (what->form) {
+    case REWRITTEN: return warc_rt_rewrite(what->bytes, what->length, start, part, room, filled, problem);
+    case CONVERTED: return warc_rt_convert(what->bytes, what->length, start, part, room, filled, problem);
+    case SPLIT: return warc_rt_split(what->bytes, what->length, what->size, start, part, room, filled, problem);
+    default: return put_made(what->draft, start, part, room, filled, problem);
+    }
+}
+
+/* Writes to a descriptor, and lets no SIGPIPE reach the process. */
+static ssize_t write_quietly(int file, const uint8_t *bytes, size_t length) {
+    const struct timespec at_once = {0, 0};
+    sigset_t pipe, old, pending;
+    sigemptyset(&pipe);
+    sigaddset(&pipe, SIGPIPE);
+    sigpending(&pending);
+    pthread_sigmask(SIG_BLOCK, &pipe, &old);
+    ssize_t taken = write(file, bytes, length);
+    if (taken < 0 && errno == EPIPE && sigismember(&pending, SIGPIPE) == 0) sigtimedwait(&pipe, NULL, &at_once);
+    pthread_sigmask(SIG_SETMASK, &old, NULL);
+    return taken;
+}
+
+/* Writes a part, and answers how many bytes of it went out. A write that fails or takes nothing isn't tried again. */
+static size_t write_part(int file, const uint8_t *part, size_t length) {
+    size_t sent = 0;
+    while (sent < length) {
+        ssize_t taken = write_quietly(file, part + sent, length - sent);
+        if (taken <= 0) break;
+        sent += (size_t)taken;
+    }
+    return sent;
+}
+
+/* Makes room for a later part, if there is memory for it. */
+static void enlarge(uint8_t **part, size_t *room) {
+    uint8_t *larger = *room < LATER_PART ? realloc(*part, LATER_PART) : NULL;
+    if (larger != NULL) {
+        *part = larger;
+        *room = LATER_PART;
+    }
+}
+
+/* Writes an output part by part. `*sent` is how many bytes went out. */
+static bool write_parts(const output *what, int file, uint8_t **part, uint64_t *sent, warc_problem *problem) {
+    for (size_t room = FIRST_PART;; enlarge(part, &room)) {
+        uint64_t filled;
+        bool is_done = put_part(what, *sent, *part, room, &filled, problem);
+        size_t taken = write_part(file, *part, (size_t)filled);
+        *sent += taken;
+        if (taken < filled) {
+            set(problem, WARC_WRITE_FAILED);
+            return false;
+        }
+        if (is_done || filled < room) return is_done;
+    }
+}
+
+/* Writes an output whose arguments are good. */
+static bool write_output(const output *what, int file, uint64_t *sent, warc_problem *problem) {
+    uint8_t *part = file < 0 ? NULL : malloc(FIRST_PART);
+    if (part == NULL) {
+        set(problem, file < 0 ? WARC_WRITE_FAILED : WARC_NO_MEMORY);
+        return false;
+    }
+    bool is_done = write_parts(what, file, &part, sent, problem);
+    free(part);
+    if (is_done) *sent = 0;
+    return is_done;
+}
+
+/* Writes an output: nothing is sent if an argument is bad. */
+static bool write_if_good(bool are_good, const output *what, int file, uint64_t *sent, warc_problem *problem) {
+    warc_problem none;
+    uint64_t unread;
+    if (problem == NULL) problem = &none;
+    if (sent == NULL) sent = &unread;
     *sent = 0;
-    return begin(are_good, problem);
+    return begin(are_good, problem) && write_output(what, file, sent, problem);
 }
 
 bool warc_rewrite(const uint8_t *bytes, size_t length, int file, uint64_t *sent, warc_problem *problem) {
-    warc_problem none;
-    uint64_t unread;
-    if (problem == NULL) problem = &none;
-    if (sent == NULL) sent = &unread;
-    if (!begin_writing(fits(bytes, length, 1), sent, problem)) return false;
-    return warc_rt_rewrite(bytes_or_nothing(bytes), length, file, sent, problem);
+    output what = {.form = REWRITTEN, .bytes = bytes_or_nothing(bytes), .length = length};
+    return write_if_good(fits(bytes, length, 1), &what, file, sent, problem);
 }
 
 bool warc_convert(const uint8_t *bytes, size_t length, int file, uint64_t *sent, warc_problem *problem) {
-    warc_problem none;
-    uint64_t unread;
-    if (problem == NULL) problem = &none;
-    if (sent == NULL) sent = &unread;
-    if (!begin_writing(fits(bytes, length, 1), sent, problem)) return false;
-    return warc_rt_convert(bytes_or_nothing(bytes), length, file, sent, problem);
+    output what = {.form = CONVERTED, .bytes = bytes_or_nothing(bytes), .length = length};
+    return write_if_good(fits(bytes, length, 1), &what, file, sent, problem);
 }
 
 bool warc_split(const uint8_t *bytes, size_t length, uint64_t size, int file, uint64_t *sent, warc_problem *problem) {
-    warc_problem none;
-    uint64_t unread;
-    if (problem == NULL) problem = &none;
-    if (sent == NULL) sent = &unread;
-    if (!begin_writing(size != 0 && fits(bytes, length, 1), sent, problem)) return false;
-    return warc_rt_split(bytes_or_nothing(bytes), length, size, file, sent, problem);
+    output what = {.form = SPLIT, .bytes = bytes_or_nothing(bytes), .length = length, .size = size};
+    return write_if_good(size != 0 && fits(bytes, length, 1), &what, file, sent, problem);
 }
 
 /* Whether passed bytes are there. */
 static bool are_there(const warc_bytes *passed) { return fits(passed->bytes, passed->length, 1); }
 
 bool warc_make(const warc_draft *draft, int file, uint64_t *sent, warc_problem *problem) {
-    warc_problem none;
-    uint64_t unread;
-    if (problem == NULL) problem = &none;
-    if (sent == NULL) sent = &unread;
     bool are_good = draft != NULL && are_there(&draft->kind) && are_there(&draft->uri) && are_there(&draft->date)
         && are_there(&draft->uuid) && are_there(&draft->type) && are_there(&draft->block);
-    if (!begin_writing(are_good, sent, problem)) return false;
-    return warc_rt_make(bytes_or_nothing(draft->kind.bytes), draft->kind.length, bytes_or_nothing(draft->uri.bytes),
-                        draft->uri.length, bytes_or_nothing(draft->date.bytes), draft->date.length,
-                        bytes_or_nothing(draft->uuid.bytes), draft->uuid.length, bytes_or_nothing(draft->type.bytes),
-                        draft->type.length, bytes_or_nothing(draft->block.bytes), draft->block.length, file, sent,
-                        problem);
+    output what = {.form = MADE, .draft = draft};
+    return write_if_good(are_good, &what, file, sent, problem);
 }

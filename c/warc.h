@@ -58,7 +58,7 @@
  * state their contracts themselves; warc_open answers true only for bytes that spell good records, and otherwise gives
  * their first fault, or says that memory ran out. warc_rewrite, warc_convert, warc_split and warc_make are one call of
  * write_lent, split_lent or make_lent each, whose contract says what goes to a sink; that a descriptor takes these
- * bytes is write's matter. No contract says that a handle holds the archive that was opened: contracts see no value of
+ * bytes is write's matter, and warc.c puts the parts together. No contract says that a handle holds the archive that was opened: contracts see no value of
  * a struct that C keeps (docs/PROMISES.md). What this page demands of the caller isn't checked by anybody, and warc.c,
  * which checks pointers, keeps texts and finds fields in what was put, isn't proved.
  */
@@ -304,7 +304,10 @@ size_t warc_fixity(warc_archive *archive, uint8_t *text, size_t text_length, war
  * 0. It answers false with WARC_WRITE_FAILED or WARC_NO_MEMORY where the output ends early, and `*sent` is how many
  * bytes of it went out. An interrupted write, one to a descriptor that would block, and one to a negative descriptor
  * fail: nothing is tried again. A write to a pipe that nobody reads fails and raises no SIGPIPE. With any other
- * problem nothing is written, and `*sent` is 0. `sent` may be null. Nothing is synced: that is the caller's. */
+ * problem nothing is written, and `*sent` is 0. `sent` may be null. Nothing is synced: that is the caller's.
+ *
+ * The output is made in parts of up to 64 MiB, and anew up to its end for each: the time grows with the square of an
+ * output beyond that. The program `warc` makes it once. */
 
 /* Writes the archive that these bytes are in canonical form, as one of WARC/1.1, or with its records split into
  * segments of `size` bytes, as the program's commands do. Bytes that are refused are refused as by warc_open. A size

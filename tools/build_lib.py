@@ -5,7 +5,7 @@ Usage: build_lib.py JOBS [FOLDER]
 
 The crates are proved below FOLDER (out/build if left out), as build.py proves those of the program, and beside them: what
 both use is proved once. The libraries are the proved functions, c/warc.c, and what the toolchain has of the C library's
-memory (liblibc_c.a) and of its writes (two objects of libos_c.a).
+memory (liblibc_c.a).
 """
 import os
 import re
@@ -27,11 +27,6 @@ FLAGS = ["-std=c11", "-O2", "-fPIC", "-Wall", "-Wextra", "-Wconversion", "-ffile
 def kit():
     """The toolchain's folder."""
     return os.path.dirname(subprocess.run(["rt", "doc"], capture_output=True, text=True, check=True).stdout.strip())
-
-
-def parts():
-    """What the toolchain has of the C library's memory and of its writes, and the objects of these that are needed."""
-    return [(f"{kit()}/c/liblibc_c.a", []), (f"{kit()}/c/libos_c.a", ["child.pic.o", "errno.pic.o"])]
 
 
 def run(words, folder):
@@ -70,15 +65,14 @@ def link_shared(objects, folder):
     os.symlink(name, f"{OUT}/libwarc.so")
 
 
-def link(proved, kept):
-    """Puts both libraries and the header under out/lib. `proved` is an archive of objects, and `kept` lists others, each
-    with the objects of it that are needed, all if none is named."""
+def link(proved, memory):
+    """Puts both libraries and the header under out/lib. `proved` and `memory` are archives of objects."""
     os.makedirs(OUT, exist_ok=True)
     shutil.copyfile(f"{TOP}/c/warc.h", f"{OUT}/warc.h")
     with tempfile.TemporaryDirectory() as folder:
         run([COMPILER, *FLAGS, "-c", f"{TOP}/c/warc.c", "-o", f"{folder}/warc.o"], folder)
-        for archive, members in [(proved, []), *kept]:
-            run(["ar", "x", archive, *members], folder)
+        for archive in (proved, memory):
+            run(["ar", "x", archive], folder)
         objects = sorted(name for name in os.listdir(folder) if name.endswith(".o"))
         link_static(objects, folder)
         link_shared(objects, folder)
@@ -89,7 +83,7 @@ def main():
     jobs, tree = int(sys.argv[1]), (sys.argv[2:] or [TREE])[0]
     begin = time.monotonic()
     folder = prove(CRATE, ["lib"], jobs, tree)
-    link(f"{folder}/out/lib{CRATE}.a", parts())
+    link(f"{folder}/out/lib{CRATE}.a", f"{kit()}/c/liblibc_c.a")
     print(f"out/lib has libwarc.a, libwarc.so and warc.h, {time.monotonic() - begin:.0f} s in all")
 
 

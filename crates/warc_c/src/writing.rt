@@ -1,81 +1,124 @@
-//! Archives and records written to a file descriptor of C's.
+//! Archives and records written into buffers of C's: each call fills one with the next part of the output.
+ghost use Rattle.std.specs.Prelude.{◌≡◌, ◌≤◌, IfOk, None, length};
+
 use crate::problems::done_or_report;
-use os::FromRawFd;
 use std::alloc::Global;
-use std::os::fd::{IntoRawFd, OwnedFd};
-use std::process::ChildStdin;
 use warc::Form;
-use warc_frame::OutSink;
-use warc_lent::{Numbers, Problem, make_lent, split_lent, write_lent};
+use warc_frame::{Sink, WriteFault, is_failed, raise};
+use warc_lent::{Numbers, Problem, make_lent, put_text, split_lent, write_lent};
 
-/// A writer over a file descriptor, which C keeps; none over a negative number. A write to a pipe that nobody reads
-/// fails, and raises no signal.
-fn writer(fd: i32) -> Option<OutSink<ChildStdin>> {
-    if fd < 0 {
-        return None;
+/// The part of an output that begins at an offset, in a buffer that is lent. It passes over what comes before, and
+/// fails once the buffer is full. It reports nothing of the bytes.
+#[derive(Drop)]
+struct Window<'a> {
+    /// How many bytes of the output are still passed over.
+    before: u64,
+    buffer: &'a mut [u8],
+    filled: usize,
+    faults: u64,
+}
+
+impl<'a> Window<'a> {
+    fn new(start: u64, buffer: &'a mut [u8]) -> Window<'a> {
+        Window {
+            before: start,
+            buffer,
+            filled: 0,
+            faults: 0,
+        }
     }
-    let owned = unsafe { OwnedFd::from_raw_fd(fd) };
-    Some(OutSink::new(ChildStdin::from(owned)))
+
+    /// Takes the front of a piece: what is passed over, or what there is room for.
+    fn take(&mut self, piece: &[u8]) -> Result<usize, WriteFault>
+        ensures bound { IfOk result (λ n. n ≤ length piece.now) }
+        ensures faults { self.new.faults ≡ self.old.faults }
+    {
+        let passed = piece.len().min(self.before as usize);
+        if passed > 0 {
+            self.before -= passed as u64;
+            return Ok(passed);
+        }
+        let from = self.filled.min(self.buffer.len());
+        let taken = piece.len().min(self.buffer.len() - from);
+        if taken == 0 && !piece.is_empty() {
+            return Err(WriteFault);
+        }
+        put_text(&piece[..taken], &mut self.buffer[from..]);
+        self.filled = from + taken;
+        Ok(taken)
+    }
 }
 
-/// Lets a writer go, and leaves its descriptor open.
-fn leave_open(out: OutSink<ChildStdin>) {
-    let _fd = out.into_inner().into_raw_fd();
+impl Sink for Window<'_> {
+    ghost seen = { λ s. record { tells = None; faults = s.faults } };
+
+    fn write(&mut self, piece: &[u8]) -> Result<usize, WriteFault> {
+        let answer = self.take(piece);
+        if is_failed(&answer, piece) {
+            self.faults = raise(self.faults);
+        }
+        answer
+    }
 }
 
-/// Writes the records of these bytes in canonical form.
+/// Reports how a part of an output ended, and how many bytes of it are in the buffer.
+fn end_part(
+    written: Result<(), Problem>,
+    part: &Window<'_>,
+    filled: &mut u64,
+    problem: &mut Numbers,
+) -> bool {
+    *filled = part.filled as u64;
+    done_or_report(written, problem)
+}
+
+/// Puts the part that begins at an offset of the records of these bytes in canonical form.
 #[unsafe(no_mangle)]
 pub extern "C" fn warc_rt_rewrite(
     alloc: Global,
     bytes: &[u8],
-    fd: i32,
-    sent: &mut u64,
+    start: u64,
+    buffer: &mut [u8],
+    filled: &mut u64,
     problem: &mut Numbers,
 ) -> bool {
-    let Some(mut out) = writer(fd) else {
-        return done_or_report(Err(Problem::Write), problem);
-    };
-    let written = write_lent(alloc, bytes, Form::Canonical, &mut out, sent);
-    leave_open(out);
-    done_or_report(written, problem)
+    let mut part = Window::new(start, buffer);
+    let written = write_lent(alloc, bytes, Form::Canonical, &mut part, &mut 0);
+    end_part(written, &part, filled, problem)
 }
 
-/// Writes the records of these bytes as those of WARC 1.1.
+/// Puts the part that begins at an offset of the records of these bytes as those of WARC 1.1.
 #[unsafe(no_mangle)]
 pub extern "C" fn warc_rt_convert(
     alloc: Global,
     bytes: &[u8],
-    fd: i32,
-    sent: &mut u64,
+    start: u64,
+    buffer: &mut [u8],
+    filled: &mut u64,
     problem: &mut Numbers,
 ) -> bool {
-    let Some(mut out) = writer(fd) else {
-        return done_or_report(Err(Problem::Write), problem);
-    };
-    let written = write_lent(alloc, bytes, Form::Converted, &mut out, sent);
-    leave_open(out);
-    done_or_report(written, problem)
+    let mut part = Window::new(start, buffer);
+    let written = write_lent(alloc, bytes, Form::Converted, &mut part, &mut 0);
+    end_part(written, &part, filled, problem)
 }
 
-/// Writes the records of these bytes split into segments of `size` bytes.
+/// Puts the part that begins at an offset of the records of these bytes, split into segments of `size` bytes.
 #[unsafe(no_mangle)]
 pub extern "C" fn warc_rt_split(
     alloc: Global,
     bytes: &[u8],
     size: u64,
-    fd: i32,
-    sent: &mut u64,
+    start: u64,
+    buffer: &mut [u8],
+    filled: &mut u64,
     problem: &mut Numbers,
 ) -> bool {
-    let Some(mut out) = writer(fd) else {
-        return done_or_report(Err(Problem::Write), problem);
-    };
-    let written = split_lent(alloc, bytes, size, &mut out, sent);
-    leave_open(out);
-    done_or_report(written, problem)
+    let mut part = Window::new(start, buffer);
+    let written = split_lent(alloc, bytes, size, &mut part, &mut 0);
+    end_part(written, &part, filled, problem)
 }
 
-/// Writes a record that is made of these.
+/// Puts the part that begins at an offset of a record that is made of these.
 #[unsafe(no_mangle)]
 pub extern "C" fn warc_rt_make(
     alloc: Global,
@@ -85,13 +128,12 @@ pub extern "C" fn warc_rt_make(
     uuid: &[u8],
     content_type: &[u8],
     block: &[u8],
-    fd: i32,
-    sent: &mut u64,
+    start: u64,
+    buffer: &mut [u8],
+    filled: &mut u64,
     problem: &mut Numbers,
 ) -> bool {
-    let Some(mut out) = writer(fd) else {
-        return done_or_report(Err(Problem::Write), problem);
-    };
+    let mut part = Window::new(start, buffer);
     let written = make_lent(
         alloc,
         kind,
@@ -100,9 +142,8 @@ pub extern "C" fn warc_rt_make(
         uuid,
         content_type,
         block,
-        &mut out,
-        sent,
+        &mut part,
+        &mut 0,
     );
-    leave_open(out);
-    done_or_report(written, problem)
+    end_part(written, &part, filled, problem)
 }
