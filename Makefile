@@ -13,6 +13,7 @@
 # make lint-docs    compares README's code with the example crates, and looks for what the pages may not hold
 # make numbers      makes docs/NUMBERS.md from the table of numbers
 # make man          makes the manual pages and the completions under out/
+# make collection   makes the one file out/warc-collection of the package in collection/
 # make install      copies what is built to PREFIX: the program, pages, completions, docs, examples, and the library, the
 #                   reading room and the Rust crate where they are built; LIBDIR and DESTDIR are heeded; make uninstall
 #                   removes what was installed
@@ -36,9 +37,10 @@ export PREFIX LIBDIR DESTDIR PYTHONDIR FILE RUN
 JOBS ?= $(shell nproc)
 
 .PHONY: all try test check lint lint-code test-docs lint-docs man install uninstall install-python uninstall-python dist verify-dist
-.PHONY: test-package stress bench clean lib python rust test-callers page test-page numbers
+.PHONY: test-package stress bench clean lib python rust test-callers page test-page numbers collection
 
 define PAGES
+@python3 tools/make_collection.py out/warc-collection
 @python3 tools/make_man.py out/man
 @python3 tools/make_completions.py bin/warc out/completions
 endef
@@ -90,6 +92,9 @@ lint-docs:
 
 numbers:
 	@python3 tools/make_numbers.py
+
+collection:
+	@python3 tools/make_collection.py out/warc-collection
 
 man: bin/warc
 	$(PAGES)

@@ -27,7 +27,7 @@ from shared import TOP, put_copy, version
 
 DOCS = "share/doc/zogwedu"
 LIST = f"{DOCS}/FILES"
-COLLECTION = "collection/warc-collection"
+COLLECTION = "out/warc-collection"
 PYTHON = "/usr/bin/python3"
 PYTHON_PACKAGE = "out/python/zogwedu"
 

@@ -66,6 +66,16 @@ C_PROGRAMS = (
     "tests/callers/threads.c",
 )
 
+TYPES = ("mypy", "--strict", "--python-version=3.8")
+LAYOUT = ("black", "--quiet", "--check", "--line-length=120")
+COLLECTION = ("collection/__main__.py", "collection/zogwedu_collection")
+# The second reading and the generator have no types.
+TRIALS = (
+    *("tests/stress/collection.py", "tests/stress/collection_faults.py", "tests/stress/collection_trial.py"),
+    *("--follow-imports=skip", "--ignore-missing-imports"),
+)
+ROWS = "tests/stress/collection_rows.py"
+
 # Debian's programs work with Debian's Python, so each is called by its own name.
 CHECKS = [
     Check("types of tools/lint_code.py", ("mypy", "--strict", "--follow-imports=silent", "tools/lint_code.py")),
@@ -83,6 +93,12 @@ CHECKS = [
     Check("c/warc.h as C++", ("g++", "-x", "c++", "-std=c++11", *C_FLAGS[1:], "c/warc.h")),
     Check("layout of the Rust crate", ("cargo", "fmt", "--check", "--manifest-path=rust/Cargo.toml")),
     Check("no unsafe in Rust outside of raw.rs", ("python3", "tools/find_unsafe.py")),
+    Check("types of collection/", (*TYPES, *COLLECTION)),
+    Check("types of tests/stress/collection*.py", (*TYPES, *TRIALS)),
+    Check("types of tests/stress/collection_rows.py", (*TYPES, *COLLECTION, ROWS), ("hypothesis",)),
+    Check("types of tools/make_collection.py", (*TYPES, "--follow-imports=silent", "tools/make_collection.py")),
+    Check("layout of collection/", (*LAYOUT, "collection", "tools/make_collection.py")),
+    Check("layout of tests/stress/collection*.py", (*LAYOUT, *TRIALS[:3], ROWS)),
 ]
 
 

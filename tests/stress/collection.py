@@ -5,44 +5,53 @@
 
 Makes COUNT archives, half of them by wget over loopback and half by hand: good, damaged, compressed, cut and growing.
 What the catalogue holds of each must be what the second reading in tests/reference gives: nothing lost, nothing counted
-twice. Prints a line for each part, each surprise, and last a line with the totals. The exit status is 1 if there was a
-surprise. Needs root, wget, GNU parallel, sshd and ip; the two hosts are network namespaces of this machine.
+twice. For the two hosts 40 hostile files are added, and a run that is killed twice, has no room to unpack and a reader
+beside it must come to the catalogue of an undisturbed run. Prints a line for each part, each surprise, and last a line
+with the totals. The exit status is 1 if there was a surprise. Needs root, wget, GNU parallel, setpriv, sshd and ip; the
+two hosts are network namespaces of this machine.
 """
-import collections
+from __future__ import annotations
+
+import contextlib
 import gzip
 import http.server
 import os
 import shutil
 import signal
 import sqlite3
+import stat
 import subprocess
 import sys
 import tempfile
 import threading
 import time
 import zlib
+from typing import Dict, Iterator, List, Optional, Set, Tuple
 
-HERE = os.path.dirname(os.path.abspath(__file__))
-TOP = os.path.dirname(os.path.dirname(HERE))
+from collection_trial import HERE, MOST_SECONDS, TOP, Trial, put, put_script, to_read
+
 sys.path.insert(0, os.path.join(os.path.dirname(HERE), "reference"))
 import generate  # noqa: E402
 import warc_reference  # noqa: E402
 
-SCRIPT = os.path.join(TOP, "collection", "warc-collection")
-MOST_SECONDS = 3600
 HOSTS = ("warc-stress-a", "warc-stress-b")
 TABLES = ("records", "captures", "digests", "findings", "years", "hosts")
 IMAGE = b"\x89PNG\r\n\x1a\n" + bytes(range(256)) * 4
+NO_BYTES = b"sha1:3I42H3S6NNFQ2MSVX7XZKYAYSCX5QBYJ"
+# root without the right to open each file
+LESS = ("setpriv", "--bounding-set=-dac_override,-dac_read_search", "--inh-caps=-dac_override,-dac_read_search")
+Expected = Tuple[str, int, int, int, int]
 
 
 # The archives
+
 
 class Site(http.server.BaseHTTPRequestHandler):
     """A page that differs at each path, and an image that is the same everywhere."""
 
     protocol_version = "HTTP/1.1"
 
-    def do_GET(self):
+    def do_GET(self) -> None:
         is_image = self.path == "/image.png"
         body = IMAGE if is_image else b"<title>%s</title>\n" % self.path.encode() * (1 + len(self.path) % 7)
         self.send_response(200)
@@ -51,11 +60,11 @@ class Site(http.server.BaseHTTPRequestHandler):
         self.end_headers()
         self.wfile.write(body)
 
-    def log_message(self, *words):
+    def log_message(self, *words: object) -> None:
         """Says nothing of each request."""
 
 
-def crawl(folder, name, site, is_compressed, index=None):
+def crawl(folder: str, name: str, site: str, is_compressed: bool, index: Optional[str] = None) -> None:
     """One crawl by wget of a page and the image. With an index of an earlier crawl the image becomes a revisit."""
     words = ["wget", "-q", "--delete-after", "--warc-file=" + name, "--no-warc-keep-log"]
     words += [] if is_compressed else ["--no-warc-compression"]
@@ -63,7 +72,7 @@ def crawl(folder, name, site, is_compressed, index=None):
     subprocess.run([*words, site + "/page/" + name, site + "/image.png"], cwd=folder, check=True)
 
 
-def crawls(folder, count):
+def crawls(folder: str, count: int) -> str:
     """Crawls by wget: every third is compressed, and all but the first have the image as a revisit."""
     os.makedirs(folder)
     server = http.server.ThreadingHTTPServer(("127.0.0.1", 0), Site)
@@ -77,14 +86,14 @@ def crawls(folder, count):
     return site
 
 
-def made_by_hand(folder, count):
+def made_by_hand(folder: str, count: int) -> None:
     """Archives from seeds, good and damaged, some of them compressed, and some of these cut."""
     os.makedirs(folder)
     for seed in range(1, count + 1):
         data = generate.archive(seed)
         name = "made-%d.warc" % seed
         if seed % 4 == 0:
-            data, name = gzip.compress(data[:len(data) // 2]) + gzip.compress(data[len(data) // 2:]), name + ".gz"
+            data, name = gzip.compress(data[: len(data) // 2]) + gzip.compress(data[len(data) // 2 :]), name + ".gz"
         if seed % 20 == 0:
             data = data[:-9]
         with open(os.path.join(folder, name), "wb") as out:
@@ -93,10 +102,10 @@ def made_by_hand(folder, count):
         out.write(generate.archive(1))
 
 
-def unpacked(data):
-    """The bytes of compressed members, or None where they are damaged."""
-    out = b""
-    while data:
+def unpacked(data: bytes) -> Optional[bytes]:
+    """The bytes of compressed members, or None where they are damaged. Zero bytes after the last one are padding."""
+    out, is_first = b"", True
+    while is_first or data.strip(b"\0"):
         member = zlib.decompressobj(31)
         try:
             out += member.decompress(data)
@@ -104,16 +113,16 @@ def unpacked(data):
             return None
         if not member.eof:
             return None
-        data = member.unused_data
+        data, is_first = member.unused_data, False
     return out
 
 
-def expected_of(path):
+def expected_of(path: bytes) -> Expected:
     """What the catalogue should hold of a file: its state, and how many rows of each table."""
     with open(path, "rb") as file:
-        data = file.read()
+        data: Optional[bytes] = file.read()
     if path.endswith(b".gz"):
-        data = unpacked(data)
+        data = unpacked(data or b"")
         if data is None:
             return "gunzip", 0, 0, 0, 0
     archive = warc_reference.Archive(data)
@@ -121,110 +130,85 @@ def expected_of(path):
         return "refused", 0, 0, 0, 0
     verdicts = [record.digest_verdict() for record in archive.records]
     findings = warc_reference.check_command(archive)[0].count(b"\n")
-    state = "bad" if "bad" in verdicts else "findings" if findings else "good"
     captures = sum(record.kind in warc_reference.CAPTURES for record in archive.records)
+    state = state_of(verdicts, findings, sum(map(is_of_wget, archive.records)))
     return state, len(verdicts), captures, len(verdicts) - verdicts.count("good"), findings
 
 
-def expected_below(folder):
+def is_of_wget(record: warc_reference.Record) -> bool:
+    """Whether a record is a revisit with the digest of no bytes, and has some."""
+    is_bad = record.kind == "revisit" and record.digest_verdict() == "bad"
+    return is_bad and bool(record.first("WARC-Block-Digest") == NO_BYTES)
+
+
+def state_of(verdicts: List[str], findings: int, of_wget: int) -> str:
+    if verdicts.count("bad") > of_wget:
+        return "bad"
+    return "unchecked" if "unchecked" in verdicts else "findings" if findings > of_wget else "good"
+
+
+def expected_below(folder: str) -> Dict[bytes, Expected]:
     """What is expected of each archive below a folder, by its path."""
     found = {}
     for at, _, names in os.walk(os.fsencode(folder)):
-        for name in names:
-            if name.endswith((b".warc", b".warc.gz")):
-                found[os.path.join(at, name)] = expected_of(os.path.join(at, name))
+        paths = (os.path.join(at, name) for name in names if name.endswith((b".warc", b".warc.gz")))
+        found.update({path: expected_of(path) for path in paths})
     return found
 
 
 # Runs
 
-class Trial:
-    """The program, a folder for files, and the counts of what was tried."""
 
-    def __init__(self, program, folder):
-        self.program = os.path.abspath(program)
-        self.folder = folder
-        self.tried = collections.Counter()
-        self.surprises = 0
-        self.part = ""
-
-    def begin(self, part):
-        self.part = part
-        self.begun = time.monotonic()
-
-    def judge(self, is_right, what, seen=""):
-        self.tried[self.part] += 1
-        if not is_right:
-            self.surprises += 1
-            print("surprise: %s: %s: %s" % (self.part, what, str(seen)[:600]), flush=True)
-
-    def end(self, more=""):
-        seconds = time.monotonic() - self.begun
-        print("%s: %d tried, %.0f s%s" % (self.part, self.tried[self.part], seconds, more), flush=True)
-
-    def words(self, catalogue, command, *words):
-        more = ["--warc", self.program] if command in ("run", "plan", "replay", "find") else []
-        return [SCRIPT, "-c", os.path.join(self.folder, catalogue), command, *more, *words]
-
-    def run(self, catalogue, command, *words):
-        return subprocess.run(self.words(catalogue, command, *words), stdin=subprocess.DEVNULL, capture_output=True,
-                              timeout=MOST_SECONDS, check=False)
-
-    def base(self, catalogue):
-        return sqlite3.connect(os.path.join(self.folder, catalogue, "catalogue.sqlite"))
-
-    def compare(self, catalogue, expected, run=None):
-        """The catalogue must hold of each file what is expected, and of no other file anything."""
-        base = self.base(catalogue)
-        files = {path if isinstance(path, bytes) else path.encode(): (file, state) for file, path, state in
-                 base.execute("SELECT file, path, state FROM files WHERE state <> 'gone'")}
-        self.judge(files.keys() == expected.keys(), "the files", len(files))
-        counts = {table: dict(base.execute("SELECT file, count(*) FROM %s GROUP BY file" % table))
-                  for table in ("records", "captures", "digests", "findings")}
-        for path in files.keys() & expected.keys():
-            file, state = files[path]
-            seen = (state, *(counts[table].get(file, 0) for table in counts))
-            self.judge(seen == expected[path], path, "%s, expected %s" % (seen, expected[path]))
-        query = "SELECT file FROM files WHERE state IN ('good', 'findings', 'bad', 'gone')"
-        known = {file for file, in base.execute(query)}
-        for table in TABLES:
-            others = {file for file, in base.execute("SELECT DISTINCT file FROM " + table)} - known
-            self.judge(not others, "rows of other files in " + table, others)
-        if run is not None:
-            read = base.execute("SELECT count(*) FROM checks WHERE run = ?", (run,)).fetchone()[0]
-            self.judge(read == len(expected), "files read in run %d" % run, read)
-        base.close()
+def compare(trial: Trial, catalogue: str, expected: Dict[bytes, Expected], run: Optional[int] = None) -> None:
+    """The catalogue must hold of each file what is expected, and of no other file anything."""
+    base = trial.base(catalogue)
+    query = "SELECT file, path, state FROM files WHERE state <> 'gone'"
+    files = {os.fsencode(path): (file, state) for file, path, state in base.execute(query)}
+    trial.judge(files.keys() == expected.keys(), "the files", len(files))
+    counts = {
+        table: dict(base.execute("SELECT file, count(*) FROM %s GROUP BY file" % table).fetchall())
+        for table in ("records", "captures", "digests", "findings")
+    }
+    for path in files.keys() & expected.keys():
+        file, state = files[path]
+        seen = (state, *(counts[table].get(file, 0) for table in counts))
+        trial.judge(seen == expected[path], path, "%s, expected %s" % (seen, expected[path]))
+    known = {file for file, in base.execute("SELECT file FROM readings")}
+    others = {row for table in TABLES for row in base.execute("SELECT DISTINCT file, '%s' FROM %s" % (table, table))}
+    trial.judge(all(file in known for file, _ in others), "rows of other files", others)
+    if run is not None:
+        read = base.execute("SELECT count(*) FROM checks WHERE run = ?", (run,)).fetchone()[0]
+        trial.judge(read == len(expected), "files read in run %d" % run, read)
+    base.close()
 
 
-def read_now(done):
-    """How many files a run was to read, by its own line."""
-    for line in done.stderr.decode("utf-8", "replace").splitlines():
-        if line.endswith(" to read"):
-            return int(line.split()[-3])
-    return None
-
-
-def on_this_machine(trial, archives, jobs):
+def on_this_machine(trial: Trial, archives: str, jobs: str) -> None:
     """All cores: all files, then none, then those that changed."""
     trial.begin("warc-collection, this machine")
     expected = expected_below(archives)
     done = trial.run("here", "run", "--jobs", jobs, archives)
-    trial.judge(done.returncode == 1 and read_now(done) == len(expected), "the first run", done.stderr)
-    trial.compare("here", expected, 1)
+    trial.judge(done.returncode == 1 and to_read(done) == len(expected), "the first run", done.stderr)
+    compare(trial, "here", expected, 1)
     done = trial.run("here", "run", "--jobs", jobs)
-    trial.judge(done.returncode == 1 and read_now(done) == 0, "a second run", done.stderr)
+    trial.judge(done.returncode == 1 and to_read(done) == 0, "a second run", done.stderr)
     changed = grow(archives, expected)
-    expected = expected_below(archives)
+    after = expected_below(archives)
+    # A damaged file keeps the rows that it had while it was good, and only such a file.
+    kept = {path: (after[path][0], *expected[path][1:]) for path in after if is_kept(path, expected, after)}
     done = trial.run("here", "run", "--jobs", jobs)
-    trial.judge(done.returncode == 1 and read_now(done) == changed, "a run after changes", done.stderr)
-    trial.compare("here", expected)
+    trial.judge(done.returncode == 1 and to_read(done) == changed, "a run after changes", done.stderr)
+    compare(trial, "here", {**after, **kept})
     done = trial.run("here", "run", "--jobs", jobs, "--all")
-    trial.judge(done.returncode == 1 and read_now(done) == len(expected), "a run over all", done.stderr)
-    trial.compare("here", expected, 4)
-    trial.end(", %d archives" % len(expected))
+    trial.judge(done.returncode == 1 and to_read(done) == len(after), "a run over all", done.stderr)
+    compare(trial, "here", {**after, **kept}, 4)
+    trial.end(", %d archives" % len(after))
 
 
-def grow(archives, expected):
+def is_kept(path: bytes, before: Dict[bytes, Expected], after: Dict[bytes, Expected]) -> bool:
+    return path in before and after[path][0] in ("refused", "gunzip") and before[path][1] > 0
+
+
+def grow(archives: str, expected: Dict[bytes, Expected]) -> int:
     """Appends a record to every tenth file, removes one, and adds one. Returns how many are to be read."""
     paths = sorted(expected)
     record = generate.archive(1)
@@ -232,27 +216,23 @@ def grow(archives, expected):
         with open(path, "ab") as out:
             out.write(gzip.compress(record) if path.endswith(b".gz") else record)
     os.remove(paths[1])
-    with open(os.path.join(archives, "added.warc"), "wb") as out:
-        out.write(record)
+    put(os.path.join(archives, "added.warc"), record)
     return len(paths[::10]) + 1
 
 
-def growing_file(trial):
+def growing_file(trial: Trial) -> None:
     """A file that grows while it is read is called so, and nothing of it is kept."""
     trial.begin("warc-collection, a growing file")
-    folder = os.path.join(trial.folder, "growing")
-    os.makedirs(folder)
-    path = os.path.join(folder, "a.warc")
+    folder = trial.path("growing")
+    record = warc_reference.read_record(generate.archive(1), 0, 0).canonical()
+    path = put(os.path.join(folder, "a.warc"), record * 20)
     stop = threading.Event()
 
-    def append():
+    def append() -> None:
         with open(path, "ab", buffering=0) as out:
             while not stop.wait(0.001):
                 out.write(record)
 
-    record = warc_reference.read_record(generate.archive(1), 0, 0).canonical()
-    with open(path, "wb") as out:
-        out.write(record * 20)
     writer = threading.Thread(target=append)
     writer.start()
     done = trial.run("grown", "run", folder)
@@ -260,30 +240,26 @@ def growing_file(trial):
     writer.join()
     trial.judge(b"changing\t1\t" in done.stdout and done.returncode == 1, "while it grows", done.stdout + done.stderr)
     done = trial.run("grown", "run")
-    trial.judge(read_now(done) == 1, "afterwards", done.stderr)
-    trial.compare("grown", expected_below(folder))
+    trial.judge(to_read(done) == 1, "afterwards", done.stderr)
+    compare(trial, "grown", expected_below(folder))
     trial.end()
 
 
-def across_files(trial, archives, site):
+def across_files(trial: Trial, archives: str, site: str) -> None:
     """A revisit whose referent is in another file gives its body; where files disagree nothing is given."""
     trial.begin("warc-collection, replays across files")
     target = site + "/image.png"
-    base = trial.base("here")
-    kinds = base.execute("SELECT kind, reason, count(*) FROM captures WHERE target = ? GROUP BY kind, reason",
-                         (target,)).fetchall()
-    trial.judge(any(row[:2] == ("revisit", "P5 Unresolved") for row in kinds), "revisits that lack a record", kinds)
-    for instant, in base.execute("SELECT DISTINCT instant FROM captures WHERE target = ? ORDER BY random() LIMIT 5",
-                                 (target,)).fetchall():
+    kinds = trial.ask("here", "SELECT kind, reason FROM captures WHERE target = ? GROUP BY kind, reason", target)
+    trial.judge(("revisit", "P5 Unresolved") in kinds, "revisits that lack a record", kinds)
+    query = "SELECT DISTINCT instant FROM captures WHERE target = ? ORDER BY random() LIMIT 5"
+    for instant in (str(row[0]) for row in trial.ask("here", query, target)):
         done = trial.run("here", "replay", target, instant)
         trial.judge(done.stdout == IMAGE and done.returncode == 0, "replay as of " + instant, done.stderr)
     done = trial.run("here", "replay", target, "1999")
     trial.judge((done.stdout, done.returncode) == (b"", 1) and b"P2 NotYet" in done.stderr, "1999", done.stderr)
     copy = os.path.join(archives, "other.warc")
     with open(os.path.join(archives, "crawls", "crawl-0.warc"), "rb") as file:
-        data = file.read()
-    with open(copy, "wb") as out:
-        out.write(data.replace(IMAGE, IMAGE[:-1] + b"x"))
+        put(copy, file.read().replace(IMAGE, IMAGE[:-1] + b"x"))
     trial.run("here", "run")
     done = trial.run("here", "replay", target, "9999")
     is_right = b"disagree" in done.stderr and copy.encode() in done.stderr
@@ -295,60 +271,66 @@ def across_files(trial, archives, site):
     trial.end()
 
 
-def as_an_array(trial, archives):
+def as_an_array(trial: Trial, archives: str) -> None:
     """The same list of jobs done by shares, as a job array of Slurm does them, some of them twice."""
     trial.begin("warc-collection, a job array")
     expected = expected_below(archives)
-    jobs = trial.run("array", "plan", archives).stdout.decode().strip()
+    jobs = os.fsdecode(trial.run("array", "plan", archives).stdout.strip())
     with open(os.path.join(jobs, "jobs"), encoding="ascii") as file:
         count = len(file.readlines())
     done = trial.run("array", "load")
     trial.judge(done.returncode == 3, "load before any job", done.stderr)
-    shares = [subprocess.Popen([SCRIPT, "job", jobs, *map(str, range(first, count + 1, 3))]) for first in (1, 2, 3, 2)]
-    for share in shares:
-        trial.judge(share.wait(MOST_SECONDS) == 0, "a share")
+    words = [[trial.script, "job", jobs, *map(str, range(first, count + 1, 3))] for first in (1, 2, 3, 2)]
+    shares = [subprocess.Popen(share) for share in words]
+    statuses = [share.wait(MOST_SECONDS) for share in shares]
+    trial.judge(statuses == [0, 0, 0, 0], "the shares", statuses)
     done = trial.run("array", "load")
     trial.judge(done.returncode == 1, "load", done.stderr)
-    trial.compare("array", expected, 1)
+    compare(trial, "array", expected, 1)
     trial.end()
 
 
-def killed_run(trial, archives):
+def begun(trial: Trial, catalogue: str, *words: str) -> subprocess.Popen[bytes]:
+    """A run that was begun."""
+    return subprocess.Popen(
+        trial.words(catalogue, "run", *words),
+        stdin=subprocess.DEVNULL,
+        stdout=subprocess.DEVNULL,
+        stderr=subprocess.PIPE,
+    )
+
+
+def killed_run(trial: Trial, archives: str) -> None:
     """A run that is killed while GNU parallel goes on; then another, and a third at once, which is refused."""
     trial.begin("warc-collection, a killed run")
     expected = expected_below(archives)
-    child = subprocess.Popen(trial.words("killed", "run", "--jobs", "2", archives), stdin=subprocess.DEVNULL,
-                             stdout=subprocess.DEVNULL, stderr=subprocess.PIPE)
+    child = begun(trial, "killed", "--jobs", "2", archives)
     wait_for(trial, child, "killed", max(1, len(expected) // 5))
     child.kill()
     child.wait()
-    child = subprocess.Popen(trial.words("killed", "run", "--jobs", "2"), stdin=subprocess.DEVNULL,
-                             stdout=subprocess.DEVNULL, stderr=subprocess.PIPE)
+    child = begun(trial, "killed", "--jobs", "2")
+    assert child.stderr is not None
     while child.poll() is None and not child.stderr.readline().endswith(b" to read\n"):
         continue
     done = trial.run("killed", "run")
     trial.judge(done.returncode == 3 and b"another run" in done.stderr, "a run at the same time", done.stderr)
     message = child.communicate(timeout=MOST_SECONDS)[1]
     trial.judge(child.returncode == 1, "the run that goes on", message)
-    trial.compare("killed", expected, 1)
+    compare(trial, "killed", expected, 1)
     trial.end()
 
 
-def odd_requests(trial):
+def odd_requests(trial: Trial) -> None:
     """A folder that is missing, a list of names, a command that takes too long, no program."""
     trial.begin("warc-collection, odd requests")
-    folder = os.path.join(trial.folder, "odd")
-    os.makedirs(os.path.join(folder, "a b"))
-    paths = [os.path.join(folder, "a b", name) for name in ("it's.warc", "$(x)\n\".warc")]
+    folder = trial.path("odd")
+    paths = [os.path.join(folder, "a b", name) for name in ("it's.warc", '$(x)\n".warc')]
     for path in paths:
-        with open(path, "wb") as out:
-            out.write(generate.archive(1))
-    names = os.path.join(trial.folder, "names")
-    with open(names, "wb") as out:
-        out.write(b"".join(os.fsencode(path) + b"\0" for path in [*paths, folder + "/missing.warc"]))
-    done = trial.run("odd-base", "run", "--files", names)
-    trial.judge(read_now(done) == 2 and b"missing.warc" in done.stderr, "a list with a missing file", done.stderr)
-    trial.compare("odd-base", expected_below(folder), 1)
+        put(path, generate.archive(1))
+    names = b"".join(os.fsencode(path) + b"\0" for path in [*paths, folder + "/missing.warc"])
+    done = trial.run("odd-base", "run", "--files", put(trial.path("names"), names))
+    trial.judge(to_read(done) == 2 and b"missing.warc" in done.stderr, "a list with a missing file", done.stderr)
+    compare(trial, "odd-base", expected_below(folder), 1)
     moved = folder + ".moved"
     trial.run("odd-base", "run", folder)
     os.rename(folder, moved)
@@ -356,32 +338,30 @@ def odd_requests(trial):
     trial.judge(done.returncode == 3 and b"gone" not in done.stdout, "a folder that is missing", done.stdout)
     os.rename(moved, folder)
     done = trial.run("odd-base", "run")
-    trial.judge(done.returncode in (0, 1) and read_now(done) == 0, "the folder is back", done.stderr)
-    slow = os.path.join(trial.folder, "slow")
-    with open(slow, "w", encoding="ascii") as out:
-        out.write("#!/bin/sh\nsleep 100\n")
-    os.chmod(slow, 0o755)
+    trial.judge(done.returncode in (0, 1) and to_read(done) == 0, "the folder is back", done.stderr)
+    slow = put_script(trial.path("slow"), '[ "$1" = --version ] && exec %s --version\nsleep 100\n' % trial.warc)
     done = trial.run("odd-base", "run", "--warc", slow, "--timeout", "1", "--all")
     trial.judge(b"failed\t2\t" in done.stdout and b"took too long" in done.stdout, "--timeout", done.stdout)
     done = trial.run("odd-base", "run", "--warc", "/nothing")
-    trial.judge(b"failed\t2\t" in done.stdout, "no program", done.stdout)
+    trial.judge(done.returncode == 3 and b"/nothing" in done.stderr, "no program", done.stderr)
     done = trial.run("odd-base", "run")
-    trial.judge(read_now(done) == 2, "a file that failed is read again", done.stderr)
-    trial.compare("odd-base", expected_below(folder))
+    trial.judge(to_read(done) == 2, "a file that failed is read again", done.stderr)
+    compare(trial, "odd-base", expected_below(folder))
     trial.end()
 
 
 # Two hosts: network namespaces of this machine, each with its own sshd
 
+
 class Host:
     """A network namespace with an sshd."""
 
-    def __init__(self, folder, number):
+    def __init__(self, folder: str, number: int) -> None:
         self.name = HOSTS[number]
         self.folder = folder
         self.addresses = "198.18.77.%d" % (4 * number + 1), "198.18.77.%d" % (4 * number + 2)
         self.link = "warcs%d" % number
-        self.server = None
+        self.server: Optional[subprocess.Popen[bytes]] = None
         self.clear()
         ip("netns", "add", self.name)
         ip("link", "add", self.link, "type", "veth", "peer", "name", "inside", "netns", self.name)
@@ -391,23 +371,26 @@ class Host:
         self.inside("ip", "link", "set", "inside", "up")
         self.inside("ip", "link", "set", "lo", "up")
 
-    def clear(self):
+    def clear(self) -> None:
         """Removes what an earlier run left when it was killed."""
         for words in (["netns", "del", self.name], ["link", "del", self.link]):
             subprocess.run(["ip", *words], stderr=subprocess.DEVNULL, check=False)
 
-    def inside(self, *words):
+    def inside(self, *words: str) -> None:
         subprocess.run(["ip", "netns", "exec", self.name, *words], check=True)
 
-    def start(self):
+    def start(self) -> None:
         config = os.path.join(self.folder, self.name)
         with open(config, "w", encoding="ascii") as out:
-            out.write("ListenAddress %s\nPort 2222\nHostKey %s/host\nAuthorizedKeysFile %s/key.pub\nPidFile none\n"
-                      "StrictModes no\nUsePAM no\nPasswordAuthentication no\nPermitRootLogin yes\nMaxStartups 100\n" % (
-                          self.addresses[1], self.folder, self.folder))
-        self.server = subprocess.Popen(["ip", "netns", "exec", self.name, "/usr/sbin/sshd", "-D", "-f", config])
+            out.write(
+                "ListenAddress %s\nPort 2222\nHostKey %s/host\nAuthorizedKeysFile %s/key.pub\nPidFile none\n"
+                "StrictModes no\nUsePAM no\nPasswordAuthentication no\nPermitRootLogin yes\nMaxStartups 100\n"
+                % (self.addresses[1], self.folder, self.folder)
+            )
+        words = ["ip", "netns", "exec", self.name, *LESS, "/usr/sbin/sshd", "-D", "-f", config]
+        self.server = subprocess.Popen(words)
 
-    def stop(self):
+    def stop(self) -> None:
         """Stops all that runs on the host at once, as when its power fails."""
         listed = subprocess.run(["ip", "netns", "pids", self.name], capture_output=True, text=True, check=True)
         for process in listed.stdout.split():
@@ -415,64 +398,68 @@ class Host:
                 os.kill(int(process), signal.SIGKILL)
             except ProcessLookupError:
                 continue
-        self.server.wait()
+        if self.server is not None:
+            self.server.wait()
 
-    def remove(self):
+    def remove(self) -> None:
         if self.server is not None and self.server.poll() is None:
             self.stop()
         ip("netns", "del", self.name)
 
 
-def ip(*words):
+def ip(*words: str) -> None:
     subprocess.run(["ip", *words], check=True)
 
 
-def made_hosts(folder):
-    """Both hosts, and the words with which ssh finds them."""
+def ssh_config(host: Host, folder: str) -> str:
+    return (
+        "Host %s\nHostName %s\nPort 2222\nUser root\nIdentityFile %s/key\nStrictHostKeyChecking no\n"
+        "UserKnownHostsFile /dev/null\nLogLevel ERROR\nBatchMode yes\nConnectTimeout 5\nServerAliveInterval 2\n"
+        % (host.name, host.addresses[1], folder)
+    )
+
+
+@contextlib.contextmanager
+def made_hosts(folder: str) -> Iterator[Tuple[List[Host], List[str]]]:
+    """Both hosts, and the words with which a run finds them."""
+    os.makedirs(folder)
     os.makedirs("/run/sshd", exist_ok=True)
     for name in ("host", "key"):
         subprocess.run(["ssh-keygen", "-q", "-t", "ed25519", "-N", "", "-f", os.path.join(folder, name)], check=True)
     hosts = [Host(folder, number) for number in range(len(HOSTS))]
-    with open(os.path.join(folder, "config"), "w", encoding="ascii") as out:
-        out.writelines(
-            "Host %s\nHostName %s\nPort 2222\nUser root\nIdentityFile %s/key\nStrictHostKeyChecking no\n"
-            "UserKnownHostsFile /dev/null\nLogLevel ERROR\nBatchMode yes\nConnectTimeout 5\nServerAliveInterval 2\n"
-            % (host.name, host.addresses[1], folder) for host in hosts)
-    for host in hosts:
-        host.start()
-    time.sleep(1)
+    put(os.path.join(folder, "config"), "".join(ssh_config(host, folder) for host in hosts).encode())
     jobs = os.environ.get("STRESS_HOST_JOBS", "2")
-    return hosts, ["%s/ssh -F %s/config %s" % (jobs, folder, host.name) for host in hosts]
+    logins = ["%s/ssh -F %s/config %s" % (jobs, folder, host.name) for host in hosts]
+    try:
+        for host in hosts:
+            host.start()
+        time.sleep(1)
+        yield hosts, [word for login in logins for word in ("--sshlogin", login)]
+    finally:
+        for host in hosts:
+            host.remove()
 
 
-def files_read(trial, catalogue):
-    path = os.path.join(trial.folder, catalogue, "catalogue.sqlite")
-    if not os.path.exists(path):
+def files_read(trial: Trial, catalogue: str) -> int:
+    """How many files were read so far."""
+    try:
+        return trial.count(catalogue, "checks")
+    except sqlite3.OperationalError:
         return 0
-    with sqlite3.connect(path, timeout=60) as base:
-        try:
-            return base.execute("SELECT count(*) FROM checks").fetchone()[0]
-        except sqlite3.OperationalError:
-            return 0
 
 
-def wait_for(trial, child, catalogue, wanted):
+def wait_for(trial: Trial, child: subprocess.Popen[bytes], catalogue: str, wanted: int) -> None:
     """Waits until so many files were read, or the run is at its end."""
     while child.poll() is None and files_read(trial, catalogue) < wanted:
         time.sleep(0.2)
 
 
-def on_two_hosts(trial, archives):
+def on_two_hosts(trial: Trial, archives: str) -> None:
     """One host is stopped at a quarter, and the run itself at a half; then it goes on with both."""
     trial.begin("warc-collection, two hosts")
-    folder = os.path.join(trial.folder, "hosts")
-    os.makedirs(folder)
-    hosts, logins = made_hosts(folder)
-    try:
-        expected = expected_below(archives)
-        words = [word for login in logins for word in ("--sshlogin", login)]
-        child = subprocess.Popen(trial.words("far", "run", *words, archives), stdin=subprocess.DEVNULL,
-                                 stdout=subprocess.DEVNULL, stderr=subprocess.PIPE)
+    expected = expected_below(archives)
+    with made_hosts(trial.path("hosts")) as (hosts, words):
+        child = begun(trial, "far", *words, archives)
         wait_for(trial, child, "far", len(expected) // 4)
         hosts[1].stop()
         wait_for(trial, child, "far", len(expected) // 2)
@@ -484,42 +471,157 @@ def on_two_hosts(trial, archives):
         time.sleep(1)
         done = trial.run("far", "run", *words)
         # A host may have ended files after the stop, which the next run takes in unread.
-        is_right = done.returncode == 1 and 0 < read_now(done) <= len(expected) - first
+        left = to_read(done)
+        is_right = done.returncode == 1 and left is not None and 0 < left <= len(expected) - first
         trial.judge(is_right, "the run that goes on", done.stderr)
-        trial.compare("far", expected, 1)
-        with trial.base("far") as base:
-            shares = dict(base.execute("SELECT host, count(*) FROM checks GROUP BY host"))
-        trial.judge(set(shares) == set(HOSTS), "the hosts", shares)
-    finally:
-        for host in hosts:
-            host.remove()
-    trial.end(", %d archives, %d before the stop, %s" % (
-        len(expected), first, ", ".join("%s %d" % share for share in sorted(shares.items()))))
+        compare(trial, "far", expected, 1)
+        shares = trial.ask("far", "SELECT host, count(*) FROM checks GROUP BY host ORDER BY host")
+        trial.judge({host for host, _ in shares} == set(HOSTS), "the hosts", shares)
+    about = ", ".join("%s %s" % share for share in shares)
+    trial.end(", %d archives, %d before the stop, %s" % (len(expected), first, about))
 
 
-def lost_host(trial, archives):
+def lost_host(trial: Trial, archives: str) -> None:
     """A host that is lost and doesn't come back: the run ends on the other one."""
     trial.begin("warc-collection, a lost host")
-    folder = os.path.join(trial.folder, "lost")
-    os.makedirs(folder)
-    hosts, logins = made_hosts(folder)
-    try:
-        expected = expected_below(archives)
-        words = [word for login in logins for word in ("--sshlogin", login)]
-        child = subprocess.Popen(trial.words("lost-run", "run", *words, archives), stdin=subprocess.DEVNULL,
-                                 stdout=subprocess.DEVNULL, stderr=subprocess.PIPE)
+    expected = expected_below(archives)
+    with made_hosts(trial.path("lost")) as (hosts, words):
+        child = begun(trial, "lost-run", *words, archives)
         wait_for(trial, child, "lost-run", len(expected) // 3)
         hosts[1].stop()
         message = child.communicate(timeout=MOST_SECONDS)[1]
         trial.judge(child.returncode == 1, "the run", message)
-        trial.compare("lost-run", expected, 1)
-    finally:
-        for host in hosts:
-            host.remove()
+        compare(trial, "lost-run", expected, 1)
     trial.end()
 
 
-def main(program, count):
+# Hostile files, and a machine that fails
+
+
+def hostile_files(folder: str) -> Set[bytes]:
+    """Forty files that nobody wants. Returns the names of those that are files at all."""
+    good = generate.archive(3)
+    packed = gzip.compress(good)
+    files = {
+        **{b"odd%d\n\x1b]0;x\x07\xff'\"$(x){= 1 =}.warc" % number: good for number in range(8)},
+        **{b"torn%d.warc" % number: good[: -9 - number] for number in range(4)},
+        **{b"torn%d.warc.gz" % number: packed[: -9 - number] for number in range(4)},
+        **{b"shut%d.warc" % number: good for number in range(3)},
+        **{b"bomb%d.warc.gz" % number: gzip.compress(bytes(1 << 27)) for number in range(2)},
+        b"garbage.warc.gz": packed + b"garbage",
+        b"padded.warc.gz": packed + bytes(10_000),
+        b"empty.warc": b"",
+        b"empty.warc.gz": b"",
+        b"CAPITAL.WARC.GZ": packed,
+        b"packed.warc": packed,
+        b"plain.warc.gz": good,
+    }
+    for name, data in files.items():
+        put(os.path.join(folder, os.fsdecode(name)), data)
+    for number in range(3):
+        os.chmod(os.path.join(folder, "shut%d.warc" % number), 0)
+    for number in range(2):
+        with open(os.path.join(folder, "huge%d.warc" % number), "wb") as out:
+            out.truncate(1 << 40)
+    for number in range(4):
+        os.mkfifo(os.path.join(folder, "pipe%d.warc" % number))
+    for device, minor in (("null", 3), ("zero", 5), ("full", 7)):
+        os.mknod(os.path.join(folder, device + ".warc"), 0o666 | stat.S_IFCHR, os.makedev(1, minor))
+    os.symlink("/nowhere", os.path.join(folder, "dangling.warc"))
+    os.symlink("/proc/self/mem", os.path.join(folder, "memory.warc"))
+    return {*files, b"huge0.warc", b"huge1.warc"}
+
+
+class Reader(threading.Thread):
+    """A reader of a catalogue, which holds it for two seconds, again and again."""
+
+    def __init__(self, path: str) -> None:
+        super().__init__(daemon=True)
+        self.path = path
+        self.is_over = threading.Event()
+        self.times = 0
+
+    def run(self) -> None:
+        while not self.is_over.wait(0.3):
+            with contextlib.suppress(sqlite3.OperationalError):
+                self.hold()
+
+    def hold(self) -> None:
+        """Reads the catalogue, and holds it."""
+        with contextlib.closing(sqlite3.connect("file:%s?mode=ro" % self.path, uri=True, timeout=5)) as base:
+            base.execute("BEGIN")
+            base.execute("SELECT count(*) FROM files").fetchone()
+            self.times += 1
+            self.is_over.wait(2)
+
+
+def contents(trial: Trial, catalogue: str) -> Dict[str, Set[Tuple[object, ...]]]:
+    """All that a catalogue holds of its files, by their paths and without the runs."""
+    queries = {table: "SELECT path, %s.* FROM %s JOIN files USING (file)" % (table, table) for table in TABLES}
+    found = {table: {(row[0], *row[2:]) for row in trial.ask(catalogue, query)} for table, query in queries.items()}
+    about = "path, state, detail, size, modified, changed, inode, records"
+    found["files"] = set(trial.ask(catalogue, "SELECT %s FROM files" % about))
+    about = "readings.size, readings.modified, readings.changed, readings.inode, readings.records, good, unchecked, bad"
+    found["readings"] = set(trial.ask(catalogue, "SELECT path, %s FROM readings JOIN files USING (file)" % about))
+    return found
+
+
+def disturbed(trial: Trial, archives: str, words: List[str], hosts: List[Host], disk: str, count: int) -> None:
+    """A run without room and with a reader: a host fails at a quarter, and the run is killed at a half; then it goes
+    on."""
+    words = [*words, "--temporary", disk, "--timeout", "300"]
+    child = subprocess.Popen(
+        [*LESS, *trial.words("rough", "run", *words, archives)], stdout=subprocess.DEVNULL, stderr=subprocess.PIPE
+    )
+    wait_for(trial, child, "rough", count // 4)
+    hosts[1].stop()
+    wait_for(trial, child, "rough", count // 2)
+    child.send_signal(signal.SIGKILL)
+    message = child.communicate(timeout=MOST_SECONDS)[1]
+    trial.judge(child.returncode == -signal.SIGKILL, "the run is killed in time", message)
+    hosts[1].start()
+    time.sleep(1)
+    done = trial.run("rough", "run", *words, before=LESS)
+    trial.judge(done.returncode == 1 and b"no-room\t" in done.stdout, "the run that goes on", done.stderr)
+
+
+def rough_night(trial: Trial, archives: str, jobs: str) -> None:
+    """All of it at once. After one more run, with room, the catalogue is that of a run that nothing disturbed."""
+    trial.begin("warc-collection, a rough night")
+    names = hostile_files(os.path.join(archives, "hostile"))
+    count = len(names) + len(expected_below_others(archives))
+    reader = Reader(trial.path("rough", "catalogue.sqlite"))
+    reader.start()
+    os.makedirs(trial.path("disk"))
+    subprocess.run(["mount", "-t", "tmpfs", "-o", "size=4k", "tmpfs", trial.path("disk")], check=True)
+    try:
+        with made_hosts(trial.path("rough-hosts")) as (hosts, words):
+            disturbed(trial, archives, words, hosts, trial.path("disk"), count)
+            without = len(trial.ask("rough", "SELECT file FROM files WHERE state = 'no-room'"))
+            done = trial.run("rough", "run", *words, before=LESS)
+    finally:
+        subprocess.run(["umount", "--lazy", trial.path("disk")], check=True)
+    reader.is_over.set()
+    reader.join()
+    trial.judge(done.returncode == 1 and b"no-room" not in done.stdout, "the run with room", done.stderr)
+    done = trial.run("still", "run", "--jobs", jobs, archives, before=LESS)
+    trial.judge(done.returncode == 1 and to_read(done) == count, "the undisturbed run", done.stderr)
+    rough, still = contents(trial, "rough"), contents(trial, "still")
+    for table in still:
+        trial.judge(rough[table] == still[table], "the rows of " + table, list(rough[table] ^ still[table])[:6])
+    hostile = [os.path.basename(os.fsencode(str(row[0]))) for row in still["files"] if "/hostile/" in str(row[0])]
+    trial.judge(len(hostile) + 1 >= len(names) - 8, "the hostile files", hostile)
+    trial.judge(reader.times > 3, "the reader", reader.times)
+    trial.end(", %d files, %d of them without room at first, %d readers" % (count, without, reader.times))
+
+
+def expected_below_others(archives: str) -> List[str]:
+    """The paths of the archives that aren't hostile."""
+    walked = ((at, name) for at, _, names in os.walk(archives) for name in names)
+    return [os.path.join(at, name) for at, name in walked if "hostile" not in at and ".warc" in name]
+
+
+def main(program: str, count: int) -> int:
     root = os.path.join(TOP, "out", "stress")
     os.makedirs(root, exist_ok=True)
     folder = tempfile.mkdtemp(prefix="collection-", dir=root)
@@ -536,14 +638,13 @@ def main(program, count):
         killed_run(trial, small)
         odd_requests(trial)
         as_an_array(trial, small)
-        on_two_hosts(trial, archives)
+        on_two_hosts(trial, small)
         lost_host(trial, small)
+        rough_night(trial, archives, jobs)
     finally:
         if "STRESS_KEEP" not in os.environ:
             shutil.rmtree(folder)
-    print("collection: %d parts, %d tried, %d surprises" % (
-        len(trial.tried), sum(trial.tried.values()), trial.surprises))
-    return 1 if trial.surprises else 0
+    return trial.totals()
 
 
 if __name__ == "__main__":

@@ -1,0 +1,107 @@
+"""Captures over all files: which there are of a URI, and which files may have more that can't be given."""
+from __future__ import annotations
+
+import dataclasses
+from typing import Any, List, Optional, Sequence
+
+from .catalogue import Catalogue, Known
+from .program import instant_of
+from .states import READ, as_list
+from .texts import Stored, Trouble, decoded, escaped, say, stored_path
+
+MOST_NAMED = 20
+CAPTURES = (
+    "SELECT captures.file, position, instant, kind, given, status, media, length, reason, path, state, read_on"
+    " FROM captures JOIN files USING (file) LEFT JOIN readings USING (file) WHERE state <> 'gone' AND "
+)
+LATEST = (
+    "(SELECT instant FROM captures JOIN files USING (file) WHERE state <> 'gone' AND target = ? AND instant <= ?"
+    " ORDER BY instant DESC LIMIT 1)"
+)
+
+
+@dataclasses.dataclass(frozen=True)
+class Capture:
+    """A line of `captures`, with the file that it is in, the file's state and when it was read last."""
+
+    file: int
+    position: int
+    instant: str
+    kind: Stored
+    given: Optional[int]
+    status: Optional[int]
+    media: Optional[Stored]
+    length: Optional[int]
+    reason: Optional[str]
+    path: Stored
+    state: str
+    read_on: Optional[str]
+
+    def mark(self) -> Optional[str]:
+        """When the file was read, if it couldn't be read since."""
+        return None if self.state in READ else "read on %s" % self.read_on
+
+
+@dataclasses.dataclass(frozen=True)
+class Request:
+    """What is asked for: a URI, or one in hexadecimal digits, and a date."""
+
+    uri: str
+    is_hex: bool
+    date: Optional[str]
+
+    def target(self) -> Stored:
+        """The target as the catalogue keeps it."""
+        if not self.is_hex:
+            return stored_path(self.uri)
+        try:
+            return decoded(bytes.fromhex(self.uri))
+        except ValueError:
+            raise Trouble("bad hexadecimal digits") from None
+
+
+def captures_where(catalogue: Catalogue, condition: str, values: Sequence[Any]) -> List[Capture]:
+    return [Capture(*row) for row in catalogue.rows(CAPTURES + condition, values)]
+
+
+def captures_of(catalogue: Catalogue, target: Stored, instant: Optional[str] = None) -> List[Capture]:
+    """The captures of a target: all by their instants, or those of the latest instant that isn't after one."""
+    if instant is None:
+        return captures_where(catalogue, "target = ? ORDER BY instant, path, position", (target,))
+    condition = "target = ? AND instant = %s ORDER BY path, position" % LATEST
+    return captures_where(catalogue, condition, (target, target, instant))
+
+
+def chosen_captures(catalogue: Catalogue, request: Request, warc: Optional[str]) -> List[Capture]:
+    """The captures of the latest instant that isn't after the date asked for."""
+    target = request.target()
+    instant = instant_of(warc, request.date) if warc is not None and request.date is not None else None
+    found = captures_of(catalogue, target, instant)
+    if found:
+        return found
+    if captures_where(catalogue, "target = ? LIMIT 1", (target,)):
+        raise Trouble("P2 NotYet", 1)
+    raise Trouble("P1 NoCapture", 1)
+
+
+def may_have(catalogue: Catalogue, target: Stored) -> List[Known]:
+    """The files that may have a target, and whose captures of it aren't known or aren't those of its bytes now."""
+    has_it = "EXISTS (SELECT 1 FROM captures WHERE captures.file = files.file AND target = ?)"
+    # The bytes that were read last are still those of the file, as far as is known, and the target isn't among them.
+    is_same = "(readings.size, readings.modified) IS (files.size, files.modified) AND state IN ('failed', 'unread')"
+    condition = "state NOT IN (%s) AND (%s OR (state <> 'gone' AND NOT (%s))) ORDER BY path" % (
+        as_list(READ),
+        has_it,
+        "readings.run IS NOT NULL AND " + is_same,
+    )
+    return catalogue.files_where(condition, (target,))
+
+
+def warn_of_unknown(catalogue: Catalogue, target: Stored) -> None:
+    """Names the files that may have captures of a target that can't be given."""
+    unknown = may_have(catalogue, target)
+    for it in unknown[:MOST_NAMED]:
+        read = ", read on %s" % it.read_on if it.read_on else ""
+        say("may have it: %s (%s%s%s)" % (escaped(it.path), it.state, it.detail and ": " + escaped(it.detail), read))
+    if len(unknown) > MOST_NAMED:
+        say("and %d files more that may have it (see warc-collection status)" % (len(unknown) - MOST_NAMED))

@@ -1,0 +1,236 @@
+"""The catalogue: a folder with the database, the jobs that are under way, and the last report."""
+from __future__ import annotations
+
+import contextlib
+import dataclasses
+import fcntl
+import json
+import os
+import sqlite3
+from typing import Any, Dict, Iterator, List, Optional, Sequence, Tuple
+
+from .disk import Stamp, is_on_local_disk
+from .states import READ, as_list
+from .texts import Stored, Trouble, say, shown, stored_path
+
+VERSION = 2
+MANY_FILES = 100
+CACHE_KIB = 1_000_000
+BUSY_SECONDS = 60.0
+
+# The tables. PostgreSQL takes the same columns, but other keys. A row of `readings` says when the rows of a file in the
+# tables of OF_A_FILE were read, and from which bytes.
+TABLES = {
+    "settings": "name TEXT PRIMARY KEY, value TEXT",
+    "runs": "run BIGINT PRIMARY KEY, began TEXT, ended TEXT, scope TEXT, attempts BIGINT, hosts BIGINT,"
+    " files_read BIGINT, seconds DOUBLE PRECISION, good BIGINT, unchecked BIGINT, bad BIGINT, no_bytes BIGINT",
+    "files": "file BIGINT PRIMARY KEY, path TEXT UNIQUE, size BIGINT, modified BIGINT, state TEXT, detail TEXT,"
+    " records BIGINT, run BIGINT, changed BIGINT, inode BIGINT, sha256 TEXT",
+    "readings": "file BIGINT PRIMARY KEY, run BIGINT, read_on TEXT, size BIGINT, modified BIGINT, changed BIGINT,"
+    " inode BIGINT, records BIGINT, good BIGINT, unchecked BIGINT, bad BIGINT, no_bytes BIGINT",
+    "checks": "run BIGINT, file BIGINT, size BIGINT, modified BIGINT, state TEXT, detail TEXT, host TEXT,"
+    " seconds DOUBLE PRECISION, list_status BIGINT, fixity_status BIGINT, check_status BIGINT,"
+    " summary_status BIGINT, captures_status BIGINT, sha256 TEXT, PRIMARY KEY (run, file)",
+    "counts": "run BIGINT, file BIGINT, name TEXT, value TEXT, PRIMARY KEY (run, file, name)",
+    "changes": "run BIGINT, file BIGINT, change TEXT, state_before TEXT, state_after TEXT, path_before TEXT,"
+    " PRIMARY KEY (run, file)",
+    "records": "file BIGINT, position BIGINT, at_offset BIGINT, length BIGINT, kind TEXT, date TEXT, id TEXT,"
+    " target TEXT, PRIMARY KEY (file, position)",
+    "captures": "file BIGINT, position BIGINT, date TEXT, instant TEXT, kind TEXT, given BIGINT, status BIGINT,"
+    " media TEXT, length BIGINT, reason TEXT, target TEXT, PRIMARY KEY (file, position)",
+    "digests": "file BIGINT, position BIGINT, verdict TEXT, id TEXT, digest TEXT, PRIMARY KEY (file, position)",
+    "findings": "file BIGINT, line BIGINT, position BIGINT, finding TEXT, field TEXT, PRIMARY KEY (file, line)",
+    "years": "file BIGINT, year TEXT, kind TEXT, records BIGINT, bytes BIGINT, PRIMARY KEY (file, year, kind)",
+    "hosts": "file BIGINT, host TEXT, captures BIGINT, bytes BIGINT, PRIMARY KEY (file, host)",
+}
+OF_A_FILE = ("records", "captures", "digests", "findings", "years", "hosts")
+INDEXES = (
+    "captures_by_target ON captures (target, instant)",
+    "records_by_id ON records (lower(trim(id, '<>')))",
+    "records_of_series ON records (target) WHERE lower(kind) = 'continuation'",
+)
+# From a catalogue of version 1, which had no readings. Without the time of its last change each file is read once more.
+TO_VERSION_2 = (
+    *("ALTER TABLE runs ADD COLUMN %s BIGINT" % name for name in ("hosts", "files_read")),
+    "ALTER TABLE runs ADD COLUMN seconds DOUBLE PRECISION",
+    *("ALTER TABLE runs ADD COLUMN %s BIGINT" % name for name in ("good", "unchecked", "bad", "no_bytes")),
+    "ALTER TABLE files ADD COLUMN changed BIGINT",
+    "ALTER TABLE files ADD COLUMN inode BIGINT",
+    *("ALTER TABLE %s ADD COLUMN sha256 TEXT" % table for table in ("files", "checks")),
+    "ALTER TABLE changes ADD COLUMN path_before TEXT",
+    "CREATE TABLE readings (%s)" % TABLES["readings"],
+    "INSERT INTO readings (file, run, read_on, size, modified, records) SELECT file, run, began, size, modified, records"
+    " FROM files JOIN runs USING (run) WHERE state IN (%s)" % as_list(READ),
+)
+
+
+@dataclasses.dataclass(frozen=True)
+class Run:
+    """A run: its number, when it began and ended (None where it isn't at its end), and whether it reads all files."""
+
+    number: int
+    began: str
+    ended: Optional[str]
+    scope: str
+
+
+@dataclasses.dataclass(frozen=True)
+class Known:
+    """What the catalogue knows of a file: its state, and when its rows were read, from which bytes."""
+
+    file: int
+    path: Stored
+    state: str
+    detail: str
+    read_run: Optional[int]
+    read_on: Optional[str]
+    stamp: Optional[Stamp]
+    records: int
+
+    def is_stale(self) -> bool:
+        """Whether its rows are those of an earlier reading, since the last one failed."""
+        return self.state not in READ
+
+
+KNOWN = (
+    "SELECT files.file, path, state, detail, readings.run, read_on, readings.size, readings.modified, readings.changed,"
+    " readings.inode, readings.records FROM files LEFT JOIN readings USING (file) WHERE "
+)
+
+
+def known_file(row: Sequence[Any]) -> Known:
+    """A file as a row of KNOWN has it."""
+    stamp = None if None in row[6:10] else Stamp(*row[6:10])
+    return Known(row[0], row[1], row[2], row[3] or "", row[4], row[5], stamp, row[10] or 0)
+
+
+def is_busy(error: sqlite3.OperationalError) -> bool:
+    """Whether another process has the database."""
+    return "locked" in str(error) or "busy" in str(error)
+
+
+class Catalogue:
+    """A folder with the database, the jobs that are under way, and the last report."""
+
+    def __init__(self, folder: str, is_made: bool = False) -> None:
+        self.folder = os.path.abspath(folder)
+        self.path = os.path.join(self.folder, "catalogue.sqlite")
+        self.jobs = os.path.join(self.folder, "jobs")
+        if is_made:
+            os.makedirs(self.jobs, exist_ok=True)
+        elif not os.path.exists(self.path):
+            raise Trouble("no catalogue in %s: make one by warc-collection run" % shown(self.folder))
+        self.base = sqlite3.connect(self.path, timeout=BUSY_SECONDS, isolation_level=None)
+        self.base.execute("PRAGMA cache_size = -%d" % CACHE_KIB)
+        self.base.execute("PRAGMA synchronous = FULL")
+        version = self.one("PRAGMA user_version")[0]
+        if version > VERSION or (version < VERSION and not is_made):
+            raise Trouble("the catalogue in %s is of another version: run warc-collection run" % shown(self.folder))
+
+    def make_tables(self) -> None:
+        """Makes what isn't there, and brings an older catalogue to this version."""
+        with self.transaction():
+            is_old = self.one("SELECT count(*) FROM sqlite_master WHERE name = 'files'")[0]
+            if self.one("PRAGMA user_version")[0] < VERSION and is_old:
+                for statement in TO_VERSION_2:
+                    self.base.execute(statement)
+            for name, columns in TABLES.items():
+                ending = " WITHOUT ROWID" if name in OF_A_FILE else ""
+                self.base.execute("CREATE TABLE IF NOT EXISTS %s (%s)%s" % (name, columns, ending))
+            self.base.execute("PRAGMA user_version = %d" % VERSION)
+
+    def make_indexes(self) -> None:
+        for index in INDEXES:
+            self.base.execute("CREATE INDEX IF NOT EXISTS " + index)
+
+    def expect(self, count: int) -> None:
+        """Drops the indexes where it is faster to make them again after so many files are loaded."""
+        if count >= MANY_FILES and 4 * count >= self.one("SELECT count(*) FROM files")[0]:
+            for index in INDEXES:
+                self.base.execute("DROP INDEX IF EXISTS " + index.split()[0])
+
+    def patiently(self, statement: str) -> None:
+        """Does a statement that has to wait for readers, however long they take."""
+        while True:
+            try:
+                self.base.execute(statement)
+                return
+            except sqlite3.OperationalError as error:
+                if not is_busy(error):
+                    raise
+                say("%s waits for another process that uses the catalogue" % statement)
+
+    @contextlib.contextmanager
+    def transaction(self) -> Iterator[None]:
+        self.patiently("BEGIN IMMEDIATE")
+        try:
+            yield
+            self.patiently("COMMIT")
+        except BaseException:
+            if self.base.in_transaction:
+                self.base.execute("ROLLBACK")
+            raise
+
+    @contextlib.contextmanager
+    def savepoint(self) -> Iterator[None]:
+        """A part of a transaction that is undone where it fails."""
+        self.base.execute("SAVEPOINT part")
+        try:
+            yield
+        except BaseException:
+            self.base.execute("ROLLBACK TO part")
+            raise
+        finally:
+            self.base.execute("RELEASE part")
+
+    def rows(self, query: str, values: Sequence[Any] = ()) -> List[Tuple[Any, ...]]:
+        return self.base.execute(query, values).fetchall()
+
+    def one(self, query: str, values: Sequence[Any] = ()) -> Any:
+        return self.base.execute(query, values).fetchone()
+
+    def setting(self, name: str) -> Any:
+        row = self.one("SELECT value FROM settings WHERE name = ?", (name,))
+        return None if row is None else json.loads(row[0])
+
+    def set(self, name: str, value: Any) -> None:
+        self.base.execute("INSERT OR REPLACE INTO settings VALUES (?, ?)", (name, json.dumps(value)))
+
+    def last_run(self) -> Optional[Run]:
+        row = self.one("SELECT run, began, ended, scope FROM runs ORDER BY run DESC LIMIT 1")
+        return None if row is None else Run(*row)
+
+    def files_where(self, condition: str, values: Sequence[Any] = ()) -> List[Known]:
+        return [known_file(row) for row in self.rows(KNOWN + condition, values)]
+
+    def file_at(self, path: str) -> Known:
+        """The file of a path. A KeyError where the catalogue has none."""
+        found = self.files_where("path = ?", (stored_path(path),))
+        if not found:
+            raise KeyError(path)
+        return found[0]
+
+    def states(self) -> Dict[str, int]:
+        """How many files are in each state."""
+        return dict(self.base.execute("SELECT state, count(*) FROM files GROUP BY state"))
+
+    @contextlib.contextmanager
+    def locked(self) -> Iterator[None]:
+        """One run at a time. A run that may change the catalogue keeps its changes in a log of their own, if all that
+        use the catalogue are on this machine: then readers don't stop it."""
+        with open(os.path.join(self.folder, "lock"), "a", encoding="ascii") as lock:
+            try:
+                fcntl.flock(lock, fcntl.LOCK_EX | fcntl.LOCK_NB)
+            except OSError:
+                raise Trouble("another run uses this catalogue") from None
+            self.set_journal("WAL" if is_on_local_disk(self.folder) else "DELETE")
+            self.make_tables()
+            try:
+                yield
+            finally:
+                self.set_journal("DELETE")
+
+    def set_journal(self, mode: str) -> None:
+        """Sets how changes are kept. Where a reader has the database it stays as it is."""
+        with contextlib.suppress(sqlite3.OperationalError):
+            self.base.execute("PRAGMA journal_mode = " + mode)

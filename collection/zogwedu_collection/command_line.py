@@ -1,0 +1,183 @@
+"""The command line."""
+from __future__ import annotations
+
+import argparse
+import contextlib
+import io
+import os
+import signal
+import sqlite3
+import sys
+import traceback
+from typing import Callable, NoReturn, Union
+
+from . import __doc__ as about_all
+from .jobs import do_jobs
+from .texts import Trouble, say, shown
+
+Options = argparse.Namespace
+KEPT_RUNS = 10
+
+
+def do(options: Options) -> int:
+    """Does the command. A job begins anew for each few files, so it doesn't wait for what only others need."""
+    if options.command == "job":
+        return do_jobs(os.path.abspath(options.jobs_folder), options.numbers)
+    from .commands import COMMANDS
+
+    return COMMANDS[options.command](options)
+
+
+def add_run_options(parser: argparse.ArgumentParser) -> None:
+    add = parser.add_argument
+    add(
+        "paths",
+        nargs="*",
+        metavar="PATH",
+        help="a folder or a file of the collection; without one those of the last run",
+    )
+    names = "a file that names files, a name a line or ended by a zero byte"
+    add("--files", action="append", default=[], metavar="LIST", help=names)
+    add("--all", action="store_true", help="reads all files, and not only new and changed ones")
+    add("--timeout", type=float, metavar="SECONDS", help="the longest time that all that is done over a file may take")
+    digest = "keeps the SHA-256 of each whole file, and compares it with that of the run before"
+    add("--digest", action="store_true", help=digest)
+    add_program_options(parser)
+
+
+def add_program_options(parser: argparse.ArgumentParser) -> None:
+    program = "the program; without it the one beside this script or in PATH"
+    parser.add_argument("--warc", metavar="PROGRAM", help=program)
+    folder = "where compressed files are unpacked; TMPDIR or /tmp without it"
+    parser.add_argument("--temporary", metavar="FOLDER", help=folder)
+
+
+def add_forms(parser: argparse.ArgumentParser, what: str) -> None:
+    """The options that have something printed for scripts."""
+    forms = parser.add_mutually_exclusive_group()
+    parser.set_defaults(form="text")
+    names = "%s ended by zero bytes, with names as they are" % what
+    forms.add_argument("-0", dest="form", action="store_const", const="names", help=names)
+    forms.add_argument("--json", dest="form", action="store_const", const="json", help="%s as JSON" % what)
+
+
+def add_machines(parser: argparse.ArgumentParser) -> None:
+    add = parser.add_argument
+    add("--jobs", metavar="N", help="files at a time on each machine; as many as it has cores without it")
+    hosts = "machines that see the same files, as GNU parallel takes them: 4/host1,host2; : is this one"
+    add("--sshlogin", action="append", default=[], metavar="HOSTS", help=hosts)
+    add("--sshloginfile", action="append", default=[], metavar="FILE", help="a file with a machine a line")
+    add("--batch", type=int, metavar="N", help="files for each job; 1 here, 4 on other machines")
+    add("--quiet", action="store_true", help="no progress bar")
+
+
+def command_line() -> argparse.ArgumentParser:
+    about = (about_all or "").split("\n\n")[0]
+    parser = argparse.ArgumentParser(prog="warc-collection", description=about)
+    folder = "the folder of the catalogue; without it $WARC_CATALOGUE, or the folder catalogue here"
+    default = os.environ.get("WARC_CATALOGUE", "catalogue")
+    parser.add_argument("-c", "--catalogue", metavar="FOLDER", default=default, help=folder)
+    commands = parser.add_subparsers(dest="command", required=True, metavar="COMMAND")
+
+    def command(name: str, what: str) -> argparse.ArgumentParser:
+        return commands.add_parser(name, help=what, description=what[0].upper() + what[1:] + ".")
+
+    made = command("run", "reads what is new or changed, over all cores or many machines, and reports")
+    add_run_options(made)
+    add_machines(made)
+    add_run_options(command("plan", "writes the list of jobs, and prints the folder that holds it"))
+    made = command("job", "does jobs of a list, by their numbers from 1")
+    made.add_argument("jobs_folder", metavar="JOBS")
+    made.add_argument("numbers", nargs="*", type=int, metavar="NUMBER")
+    command("load", "takes in what jobs found")
+    made = command("status", "prints how many files are in each state, and those that need a look")
+    add_forms(made, "the files that need a look,")
+    add_questions(command)
+    add_upkeep(command)
+    return parser
+
+
+Command = Callable[[str, str], argparse.ArgumentParser]
+
+
+def add_questions(command: Command) -> None:
+    """The commands over captures."""
+    made = command("find", "prints the captures of a URI, or that as of a date")
+    add_request(made)
+    made.add_argument("date", metavar="DATE", nargs="?")
+    add_forms(made, "a line for each capture,")
+    made = command("replay", "writes the body that was captured of a URI, as of a date")
+    add_request(made)
+    made.add_argument("date", metavar="DATE")
+
+
+def add_request(parser: argparse.ArgumentParser) -> None:
+    parser.add_argument("--uri-hex", action="store_true", help="URI is given in hexadecimal digits")
+    parser.add_argument("uri", metavar="URI")
+    add_program_options(parser)
+
+
+def add_upkeep(command: Command) -> None:
+    """The commands over the catalogue itself."""
+    made = command("report", "writes the report, one HTML file")
+    made.add_argument("path", metavar="FILE")
+    add_forms(made, "in its place the files that need a look,")
+    made = command("export", "writes the tables as text, and a script for PostgreSQL's psql")
+    made.add_argument("folder", metavar="FOLDER")
+    made = command("forget", "forgets files that were removed on purpose")
+    made.add_argument("paths", nargs="+", metavar="PATH", help="a file, or a folder with all below it")
+    made = command("prune", "drops what earlier runs found of single files")
+    keep = "how many runs are kept, %d without it" % KEPT_RUNS
+    made.add_argument("--keep", type=int, default=KEPT_RUNS, metavar="RUNS", help=keep)
+
+
+def interrupt(_signal: int, _frame: object) -> NoReturn:
+    raise KeyboardInterrupt
+
+
+def done(options: Options) -> int:
+    """Does a command. Whatever goes wrong is a sentence and status 3, since 1 and 2 mean something else."""
+    try:
+        status = do(options)
+        sys.stdout.flush()
+        return status
+    except Trouble as trouble:
+        say(str(trouble))
+        return trouble.status
+    except KeyboardInterrupt:
+        say("stopped")
+    except BrokenPipeError:
+        pass
+    except (OSError, sqlite3.Error, MemoryError) as error:
+        say(sentence(error))
+    except Exception as error:  # a fault of this program
+        say("%s: %s" % (type(error).__name__, error))
+        traceback.print_exc()
+    return 3
+
+
+def sentence(error: Union[OSError, sqlite3.Error, MemoryError]) -> str:
+    if isinstance(error, OSError):
+        name = "" if error.filename is None else "%s: " % shown(os.fsdecode(error.filename))
+        return name + (error.strerror or str(error))
+    return "the catalogue: %s" % error if isinstance(error, sqlite3.Error) else "out of memory"
+
+
+def close_output() -> None:
+    """What couldn't be written isn't tried again when Python ends, which would end with a status of its own."""
+    try:
+        sys.stdout.flush()
+    except (OSError, ValueError):
+        with contextlib.suppress(OSError, ValueError):
+            os.dup2(os.open(os.devnull, os.O_WRONLY), sys.stdout.fileno())
+
+
+def main() -> int:
+    for stream in (sys.stdout, sys.stderr):
+        if isinstance(stream, io.TextIOWrapper):
+            stream.reconfigure(errors="backslashreplace")
+    for ending in (signal.SIGTERM, signal.SIGHUP):
+        signal.signal(ending, interrupt)
+    status = done(command_line().parse_args())
+    close_output()
+    return status

@@ -1,0 +1,145 @@
+"""What each command does."""
+from __future__ import annotations
+
+import argparse
+import os
+import sys
+from typing import Sequence, Tuple
+
+from .captures import Request, chosen_captures, warn_of_unknown
+from .catalogue import Catalogue
+from .export import export
+from .listing import all_good, capture_line, put, status_pieces
+from .moves import forget_files, prune
+from .program import usable_program
+from .replay import Answer, Replayer, settled, write_body
+from .report import write_report
+from .runs import Asked, Machines, do_run, load, make_plan
+from .texts import Trouble, counted, escaped, say, shown
+
+Options = argparse.Namespace
+
+
+def asked(options: Options) -> Asked:
+    words = options.paths, options.files, options.all, options.warc, options.temporary, options.timeout, options.digest
+    return Asked(*words)
+
+
+def print_status(catalogue: Catalogue, form: str = "text") -> int:
+    """Prints how many files there are in each state, and a line for each that needs a look. Returns the status."""
+    for piece in status_pieces(catalogue, form):
+        put(piece)
+    return 0 if all_good(catalogue) else 1
+
+
+def write_own_report(catalogue: Catalogue) -> None:
+    write_report(catalogue, os.path.join(catalogue.folder, "report.html"))
+
+
+def run_command(options: Options) -> int:
+    catalogue = Catalogue(options.catalogue, is_made=True)
+    machines = Machines(options.sshlogin, options.sshloginfile, options.jobs, options.batch, options.quiet)
+    with catalogue.locked():
+        plan = do_run(catalogue, asked(options), machines)
+        write_own_report(catalogue)
+    status = print_status(catalogue)
+    return 3 if plan.is_partly_unread else status
+
+
+def plan_command(options: Options) -> int:
+    catalogue = Catalogue(options.catalogue, is_made=True)
+    with catalogue.locked():
+        plan = make_plan(catalogue, asked(options))
+    put(os.fsencode(plan.folder) + b"\n")
+    return 3 if plan.is_partly_unread else 0
+
+
+def load_command(options: Options) -> int:
+    catalogue = Catalogue(options.catalogue)
+    with catalogue.locked():
+        load(catalogue)
+        write_own_report(catalogue)
+    return print_status(catalogue)
+
+
+def status_command(options: Options) -> int:
+    return print_status(Catalogue(options.catalogue), options.form)
+
+
+def find_command(options: Options) -> int:
+    catalogue, request = Catalogue(options.catalogue), Request(options.uri, options.uri_hex, options.date)
+    warn_of_unknown(catalogue, request.target())
+    warc = usable_program(options.warc) if options.date else None
+    for capture in chosen_captures(catalogue, request, warc):
+        put(capture_line(capture, options.form))
+    return 0
+
+
+def replay_command(options: Options) -> int:
+    catalogue, request = Catalogue(options.catalogue), Request(options.uri, options.uri_hex, options.date)
+    warc = usable_program(options.warc)
+    replayer = Replayer(catalogue, warc, options.temporary)
+    warn_of_unknown(catalogue, request.target())
+    chosen = chosen_captures(catalogue, request, warc)
+    answers = [answer for capture in chosen for answer in replayer.answers(capture)]
+    first = settled(answers)
+    write_body(first, sys.stdout.buffer)
+    print_answer(first, answers[1:])
+    return 0
+
+
+def print_answer(first: Answer, others: Sequence[Answer]) -> None:
+    """Says what was written, of which reading, from which files, and which others agree."""
+    lines = [first.chosen() + " " + first.line, first.joined()]
+    lines += ["%s: %s" % (mark, shown_file) for mark, shown_file in marks(first)]
+    lines += ["agrees: " + answer.described() for answer in others]
+    print("\n".join(filter(None, lines)), file=sys.stderr)
+
+
+def marks(answer: Answer) -> Sequence[Tuple[str, str]]:
+    """The files of an answer that couldn't be read since, with the time of their last reading."""
+    return [("read on %s" % file.read_on, escaped(file.path)) for file in answer.files if file.is_stale()]
+
+
+def report_command(options: Options) -> int:
+    write_report(Catalogue(options.catalogue), options.path, options.form)
+    return 0
+
+
+def export_command(options: Options) -> int:
+    export(Catalogue(options.catalogue), options.folder)
+    return 0
+
+
+def forget_command(options: Options) -> int:
+    catalogue = Catalogue(options.catalogue)
+    with catalogue.locked():
+        kept = forget_files(catalogue, [os.path.abspath(path) for path in options.paths])
+    for path in kept:
+        say("%s is in the collection, and isn't gone: not forgotten" % shown(path))
+    return 1 if kept else 0
+
+
+def prune_command(options: Options) -> int:
+    catalogue = Catalogue(options.catalogue)
+    if options.keep < 1:
+        raise Trouble("keep at least one run")
+    with catalogue.locked():
+        dropped = prune(catalogue, options.keep)
+    say("dropped %s" % counted(dropped, "row"))
+    return 0
+
+
+# The commands by their names.
+COMMANDS = {
+    "run": run_command,
+    "plan": plan_command,
+    "load": load_command,
+    "status": status_command,
+    "find": find_command,
+    "replay": replay_command,
+    "report": report_command,
+    "export": export_command,
+    "forget": forget_command,
+    "prune": prune_command,
+}

@@ -1,0 +1,203 @@
+"""A job: the commands over one file, with what they wrote in a folder. It runs on any machine that sees the file and the
+folder of the jobs."""
+from __future__ import annotations
+
+import contextlib
+import dataclasses
+import hashlib
+import json
+import os
+import socket
+import subprocess
+import time
+from typing import Dict, IO, Iterator, List, Optional, Set, Tuple
+
+from .disk import Stamp, open_regular, open_stamp, reason_of, stamp_of
+from .program import Settings, said
+from .texts import counted, last_line
+from .unpack import PIECE, Damaged, Members, is_compressed, unpacked
+
+COMMANDS = ("list", "fixity", "check", "summary", "captures")
+DONE = {"list": (0,), "fixity": (0, 1, 4), "check": (0, 1), "summary": (0,), "captures": (0, 1)}
+NO_CAPTURES = "P1 NoCapture"
+# The digest of no bytes, which wget states in each revisit, though the revisit has a block.
+OF_NO_BYTES = b"sha1:3I42H3S6NNFQ2MSVX7XZKYAYSCX5QBYJ"
+
+
+@dataclasses.dataclass
+class Outcome:
+    """What came of a job."""
+
+    path: str
+    state: str = "failed"
+    detail: str = ""
+    stamp: Optional[Stamp] = None
+    host: str = dataclasses.field(default_factory=lambda: os.environ.get("PARALLEL_SSHHOST") or socket.gethostname())
+    seconds: float = 0.0
+    statuses: Dict[str, Optional[int]] = dataclasses.field(default_factory=dict)
+    sha256: Optional[str] = None
+    no_bytes: int = 0
+
+    def write(self, folder: str) -> None:
+        with open(os.path.join(folder, "outcome"), "w", encoding="ascii") as out:
+            json.dump(dataclasses.asdict(self), out)
+
+
+def read_outcome(folder: str) -> Outcome:
+    """The outcome that a job wrote. What isn't one is a ValueError, a KeyError or a TypeError."""
+    with open(os.path.join(folder, "outcome"), encoding="ascii") as file:
+        values = json.load(file)
+    stamp = values.pop("stamp")
+    outcome = Outcome(**values)
+    outcome.stamp = None if stamp is None else Stamp(**stamp)
+    if not isinstance(outcome.path, str) or not isinstance(outcome.statuses, dict):
+        raise ValueError("no outcome")
+    return outcome
+
+
+class Source:
+    """What the program reads: the file itself, what it holds unpacked, or a pipe where there is no room to unpack it."""
+
+    def __init__(self, file: IO[bytes], path: str, temporary: Optional[str]) -> None:
+        self.file = file
+        self.seekable: Optional[IO[bytes]] = unpacked(file, temporary) if is_compressed(path) else file
+
+    def run(self, words: List[str], out: IO[bytes]) -> Tuple[int, str]:
+        """Runs the program over it. Returns its exit status and its message."""
+        if self.seekable is not None:
+            self.seekable.seek(0)
+            done = subprocess.run(words, stdin=self.seekable, stdout=out, stderr=subprocess.PIPE, check=False)
+            return done.returncode, said(done.stderr)
+        with subprocess.Popen(words, stdin=subprocess.PIPE, stdout=out, stderr=subprocess.PIPE) as child:
+            assert child.stdin is not None and child.stderr is not None
+            self.feed(child.stdin)
+            message = child.stderr.read()
+        return child.returncode, said(message)
+
+    def feed(self, pipe: IO[bytes]) -> None:
+        """Writes what the file holds to a pipe, until its reader goes away."""
+        self.file.seek(0)
+        with contextlib.suppress(BrokenPipeError), pipe:
+            for piece in Members(self.file):
+                pipe.write(piece)
+
+    def close(self) -> None:
+        if self.seekable is not None and self.seekable is not self.file:
+            self.seekable.close()
+
+
+def sha256_of(file: IO[bytes]) -> str:
+    """The SHA-256 of a whole file."""
+    digest = hashlib.sha256()
+    file.seek(0)
+    for piece in iter(lambda: file.read(PIECE), b""):
+        digest.update(piece)
+    return digest.hexdigest()
+
+
+def lines_of(folder: str, command: str) -> Iterator[bytes]:
+    """The lines that a command wrote, without their ends. No column holds a line feed."""
+    path = os.path.join(folder, command)
+    if os.path.exists(path):
+        with open(path, "rb") as file:
+            for line in file:
+                if not line.endswith(b"\n"):
+                    raise ValueError("a line without an end")
+                yield line[:-1]
+
+
+class Job:
+    """The commands over one file, with what they wrote in a folder."""
+
+    def __init__(self, settings: Settings, path: str, folder: str) -> None:
+        self.settings = settings
+        self.folder = folder
+        self.outcome = Outcome(path)
+
+    def do(self) -> Outcome:
+        """Does the job. Returns what came of it."""
+        began, outcome = time.monotonic(), self.outcome
+        try:
+            with open_regular(outcome.path) as file:
+                outcome.stamp = open_stamp(file)
+                outcome.state, outcome.detail = self.verdict_on(file)
+                if not outcome.stamp == open_stamp(file) == stamp_of(os.stat(outcome.path)):
+                    outcome.state, outcome.detail = "changing", "it changed while it was read"
+        except OSError as error:
+            outcome.state, outcome.detail = "failed", reason_of(error, outcome.path)
+        except MemoryError:
+            outcome.state, outcome.detail = "failed", "out of memory"
+        outcome.seconds = round(time.monotonic() - began, 3)
+        return outcome
+
+    def verdict_on(self, file: IO[bytes]) -> Tuple[str, str]:
+        """Reads the file. Returns its state and a few words about it."""
+        if self.settings.digest:
+            self.outcome.sha256 = sha256_of(file)
+            file.seek(0)
+        try:
+            source = Source(file, self.outcome.path, self.settings.temporary)
+            with contextlib.closing(source):
+                return self.judge(source)
+        except Damaged as damage:
+            return "gunzip", str(damage)
+
+    def judge(self, source: Source) -> Tuple[str, str]:
+        """Runs the commands, up to one that fails. A pipe isn't read for the captures, which need any offset."""
+        for command in COMMANDS:
+            if command == "captures" and source.seekable is None:
+                break
+            with open(os.path.join(self.folder, command), "wb") as out:
+                status, message = source.run([self.settings.warc, command, "-"], out)
+            self.outcome.statuses[command] = status
+            if status == 2:
+                return "refused", "%s; %s" % (message, self.salvaged(source))
+            if status not in DONE[command] or (command == "captures" and status and message != NO_CAPTURES):
+                why = "ended by signal %d" % -status if status < 0 else message or "status %d" % status
+                return "failed", "%s: %s" % (command, why)
+        return self.verdict(source)
+
+    def salvaged(self, source: Source) -> str:
+        """How much of a refused archive can be read, in the program's words."""
+        with open(os.devnull, "wb") as nowhere:
+            return last_line(source.run([self.settings.warc, "salvage", "-"], nowhere)[1])
+
+    def verdict(self, source: Source) -> Tuple[str, str]:
+        """The state of a file that could be read, and why it isn't better."""
+        bad, unchecked, empty = self.blocks()
+        self.outcome.no_bytes = len(empty)
+        ignored = {b"%d N4" % position for position in empty}
+        findings = sum(line not in ignored for line in lines_of(self.folder, "check"))
+        # Revisits with such a digest are counted apart: they are no damage.
+        where = self.settings.temporary or os.environ.get("TMPDIR") or "/tmp"
+        words = {
+            "bad": bad and counted(bad, "block doesn't have its digest", "blocks don't have their digests"),
+            "unchecked": unchecked and counted(unchecked, "block") + " can't be checked",
+            "findings": findings and counted(findings, "finding"),
+            "no-room": source.seekable is None and "no room to unpack it in " + where,
+            "good": empty and counted(len(empty), "revisit") + " with the digest of no bytes",
+        }
+        state = next((state for state in ("no-room", "bad", "unchecked", "findings") if words[state]), "good")
+        return state, "; ".join(str(word) for word in words.values() if word)
+
+    def blocks(self) -> Tuple[int, int, Set[int]]:
+        """How many blocks are bad and can't be checked, and the positions of revisits with the digest of no bytes."""
+        bad, unchecked, empty = 0, 0, set()
+        for line in lines_of(self.folder, "fixity"):
+            if b"\t" in line:
+                position, verdict, rest = line.split(b"\t", 2)
+                bad += verdict == b"bad"
+                unchecked += verdict == b"unchecked"
+                if verdict == b"bad" and rest.endswith(b"\t" + OF_NO_BYTES):
+                    empty.add(int(position))
+        empty &= self.revisits() if empty else set()
+        return bad - len(empty), unchecked, empty
+
+    def revisits(self) -> Set[int]:
+        """The positions of the revisits."""
+        found = set()
+        for line in lines_of(self.folder, "list"):
+            columns = line.split(b"\t", 4)
+            if columns[3].lower() == b"revisit":
+                found.add(int(columns[0]))
+        return found

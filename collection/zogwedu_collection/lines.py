@@ -1,0 +1,151 @@
+"""What the program wrote of a file, line by line, as rows for the catalogue. Rows are tuples, as SQLite takes them."""
+from __future__ import annotations
+
+import collections
+import dataclasses
+import functools
+import urllib.parse
+from typing import Counter, Dict, Iterator, List, NamedTuple, Optional, Tuple
+
+from .job import lines_of
+from .texts import Stored, decoded
+
+WEB_SCHEMES = ("http", "https", "ftp")
+
+
+class RecordRow(NamedTuple):
+    """A line of `list`."""
+
+    file: int
+    position: int
+    offset: int
+    length: int
+    kind: Stored
+    date: Stored
+    name: Stored
+    target: Optional[Stored]
+
+
+class CaptureRow(NamedTuple):
+    """A line of `captures`."""
+
+    file: int
+    position: int
+    date: Stored
+    instant: Stored
+    kind: Stored
+    given: Optional[int]
+    status: Optional[int]
+    media: Optional[Stored]
+    length: Optional[int]
+    reason: Optional[Stored]
+    target: Optional[Stored]
+
+
+class DigestRow(NamedTuple):
+    """A line of `fixity`."""
+
+    file: int
+    position: int
+    verdict: Stored
+    name: Stored
+    digest: Optional[Stored]
+
+
+class FindingRow(NamedTuple):
+    """A line of `check`."""
+
+    file: int
+    line: int
+    position: Optional[int]
+    finding: Stored
+    field: Optional[Stored]
+
+
+@dataclasses.dataclass
+class Sums:
+    """Sums over the records of a file by year and kind, and over its captures by host, for the report."""
+
+    years: Counter[Tuple[bytes, bytes]] = dataclasses.field(default_factory=collections.Counter)
+    year_bytes: Counter[Tuple[bytes, bytes]] = dataclasses.field(default_factory=collections.Counter)
+    hosts: Counter[str] = dataclasses.field(default_factory=collections.Counter)
+    host_bytes: Counter[str] = dataclasses.field(default_factory=collections.Counter)
+
+
+def blank(value: bytes) -> Optional[Stored]:
+    """The text of a column, or None for the `-` of a value that isn't there."""
+    return None if value == b"-" else decoded(value)
+
+
+def number(value: bytes) -> Optional[int]:
+    return None if value == b"-" else int(value)
+
+
+def list_columns(line: bytes) -> List[bytes]:
+    """The columns of a line of `list`. An id may hold a tab inside its brackets, and a target may hold tabs."""
+    *first, rest = line.split(b"\t", 5)
+    if rest.startswith(b"<"):
+        name, _, target = rest.partition(b">\t")
+        return [*first, name + b">", target]
+    name, _, target = rest.partition(b"\t")
+    return [*first, name, target]
+
+
+def record_rows(file: int, folder: str, sums: Sums) -> Iterator[RecordRow]:
+    """The rows of `list`."""
+    for line in lines_of(folder, "list"):
+        position, offset, length, kind, date, name, target = list_columns(line)
+        key = date[:4], kind.lower()
+        sums.years[key] += 1
+        sums.year_bytes[key] += int(length)
+        yield RecordRow(
+            file, int(position), int(offset), int(length), decoded(kind), decoded(date), decoded(name), blank(target)
+        )
+
+
+def capture_rows(file: int, folder: str, sums: Sums) -> Iterator[CaptureRow]:
+    """The rows of `captures`."""
+    for line in lines_of(folder, "captures"):
+        position, date, instant, kind, given, status, media, length, reason, uri = line.split(b"\t", 9)
+        target, size = blank(uri), number(length)
+        host = host_of(target) if isinstance(target, str) else "-"
+        sums.hosts[host] += 1
+        sums.host_bytes[host] += size or 0
+        about = decoded(date), decoded(instant), decoded(kind), number(given), number(status), blank(media)
+        yield CaptureRow(file, int(position), *about, size, blank(reason), target)
+
+
+def digest_rows(file: int, folder: str) -> Iterator[DigestRow]:
+    """The rows of `fixity`. Its last line counts all records, and has no tab."""
+    for line in lines_of(folder, "fixity"):
+        if b"\t" in line:
+            position, verdict, name, digest = line.split(b"\t", 3)
+            yield DigestRow(file, int(position), decoded(verdict), decoded(name), blank(digest))
+
+
+def finding_rows(file: int, folder: str) -> Iterator[FindingRow]:
+    """The rows of `check`."""
+    for place, line in enumerate(lines_of(folder, "check")):
+        position, finding, *field = line.split(b" ", 2)
+        yield FindingRow(file, place, number(position), decoded(finding), decoded(field[0]) if field else None)
+
+
+def summary_of(folder: str) -> Dict[str, str]:
+    """The lines of `summary`: values by their names."""
+    pairs = (line.decode("utf-8", "replace").split("\t", 1) for line in lines_of(folder, "summary"))
+    return {name: value for name, value in pairs}
+
+
+def host_of(target: str) -> str:
+    """The host of a target of the web, in lower case; for another target its scheme."""
+    return host_before_path("/".join(target.split("/", 3)[:3]))
+
+
+@functools.lru_cache(maxsize=100_000)
+def host_before_path(target: str) -> str:
+    try:
+        parts = urllib.parse.urlsplit(target)
+        host = parts.hostname if parts.scheme in WEB_SCHEMES else None
+        return host or (parts.scheme + ":" if parts.scheme else "-")
+    except ValueError:
+        return "-"

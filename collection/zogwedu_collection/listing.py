@@ -1,0 +1,108 @@
+"""What `status` and `find` print: lines for people, and zero bytes or JSON for scripts."""
+from __future__ import annotations
+
+import dataclasses
+import json
+import sys
+from typing import Any, Dict, Iterator, List, Optional, Union
+
+from .captures import Capture
+from .catalogue import Catalogue
+from .states import STATES
+from .texts import Stored, escaped, path_bytes, real_path
+
+NO_BYTES = "revisits with the digest of no bytes, as wget writes them; they aren't counted as bad"
+LOOK = "SELECT state, path, detail, read_on FROM files LEFT JOIN readings USING (file) WHERE state <> 'good'"
+
+
+@dataclasses.dataclass(frozen=True)
+class Look:
+    """A file that needs a look: its state and why, and when it could be read last."""
+
+    state: str
+    path: Stored
+    detail: str
+    read_on: Optional[str]
+
+
+def put(value: Union[str, bytes]) -> None:
+    """Writes to standard output: text as it can be shown there, or bytes."""
+    if isinstance(value, str):
+        sys.stdout.write(value)
+        return
+    sys.stdout.flush()
+    sys.stdout.buffer.write(value)
+
+
+def looks(catalogue: Catalogue) -> List[Look]:
+    """The files that need a look."""
+    return [Look(row[0], row[1], row[2] or "", row[3]) for row in catalogue.rows(LOOK + " ORDER BY state, path")]
+
+
+def no_bytes(catalogue: Catalogue) -> int:
+    """How many revisits state the digest of no bytes."""
+    query = "SELECT coalesce(sum(no_bytes), 0) FROM readings JOIN files USING (file) WHERE state <> 'gone'"
+    return int(catalogue.one(query)[0])
+
+
+def status_text(catalogue: Catalogue) -> Iterator[str]:
+    """How many files there are in each state, and a line for each that needs a look."""
+    states, empty = catalogue.states(), no_bytes(catalogue)
+    yield from ("%s\t%d\t%s\n" % (state, states[state], about) for state, about in STATES.items() if state in states)
+    if empty:
+        yield "no-bytes\t%d\t%s\n" % (empty, NO_BYTES)
+    yield from ("%s\t%s\t%s\n" % (it.state, escaped(it.path), escaped(it.detail)) for it in looks(catalogue))
+
+
+def status_names(catalogue: Catalogue) -> Iterator[bytes]:
+    """A line for each file that needs a look, with its name as it is, ended by a zero byte."""
+    for it in looks(catalogue):
+        yield b"%s\t%s\t%s\0" % (it.state.encode(), path_bytes(it.path), escaped(it.detail).encode("utf-8", "replace"))
+
+
+def status_json(catalogue: Catalogue) -> str:
+    """The states, and the files that need a look, as JSON. A byte of a name that isn't UTF-8 is a lone surrogate, as
+    Python has it."""
+    files = [dict(dataclasses.asdict(it), path=real_path(it.path)) for it in looks(catalogue)]
+    last = catalogue.last_run()
+    about = {"run": last.number if last else None, "states": catalogue.states(), "no_bytes": no_bytes(catalogue)}
+    return json.dumps(dict(about, files=files), indent=1) + "\n"
+
+
+def all_good(catalogue: Catalogue) -> bool:
+    return set(catalogue.states()) <= {"good"}
+
+
+def status_pieces(catalogue: Catalogue, form: str) -> Iterator[Union[str, bytes]]:
+    """What `status` prints in a form: text, names or json."""
+    if form == "names":
+        return status_names(catalogue)
+    return iter([status_json(catalogue)]) if form == "json" else status_text(catalogue)
+
+
+def capture_cells(it: Capture) -> List[Any]:
+    """The columns of `find` after the file."""
+    return [it.position, it.instant, it.kind, it.given, it.status, it.media, it.length, it.reason, it.mark()]
+
+
+def cell(value: Union[None, int, Stored]) -> str:
+    if value is None:
+        return "-"
+    return str(value) if isinstance(value, int) else escaped(value)
+
+
+def capture_line(it: Capture, form: str) -> Union[str, bytes]:
+    """A line of `find` in a form."""
+    line = "\t".join(cell(value) for value in capture_cells(it))
+    if form == "names":
+        return path_bytes(it.path) + b"\t" + line.encode("utf-8", "replace") + b"\0"
+    if form == "json":
+        return json.dumps(capture_values(it)) + "\n"
+    return escaped(it.path) + "\t" + line + "\n"
+
+
+def capture_values(it: Capture) -> Dict[str, Any]:
+    """A capture as JSON has it."""
+    values = {name: escaped(value) if isinstance(value, bytes) else value for name, value in vars(it).items()}
+    del values["file"]
+    return dict(values, path=real_path(it.path))

@@ -1,0 +1,99 @@
+"""Files that were moved or removed on purpose: a move is seen by what the file holds, and `forget` drops the rest."""
+from __future__ import annotations
+
+from typing import List, Optional, Sequence
+
+from .catalogue import OF_A_FILE, Catalogue
+from .discover import is_below
+from .states import READ, as_list
+from .texts import real_path
+
+ABOUT_A_FILE = (*OF_A_FILE, "readings", "checks", "counts", "changes", "files")
+COLUMNS = {"records": "position, at_offset, length, kind, date, id, target", "digests": "position, verdict, id, digest"}
+
+
+def settle_moves(catalogue: Catalogue, run: int) -> None:
+    """Joins each file that is new in a run with the file that is gone and held the same: then it was moved."""
+    new = catalogue.rows(
+        "SELECT file FROM changes JOIN files USING (file) WHERE changes.run = ? AND change = 'new'"
+        " AND state IN (%s) ORDER BY file" % as_list(READ),
+        (run,),
+    )
+    for (file,) in new:
+        before = same_file(catalogue, file)
+        if before is not None:
+            join_files(catalogue, run, before, file)
+
+
+def same_file(catalogue: Catalogue, file: int) -> Optional[int]:
+    """The one file that is gone and has the size, the ids and the digests of a file, or None. Where both have the SHA-256
+    of the whole file it decides."""
+    rows = catalogue.rows(
+        "SELECT old.file, old.sha256, new.sha256 FROM files AS new JOIN readings AS last ON last.file = new.file"
+        " JOIN files AS old ON old.state = 'gone' JOIN readings AS earlier ON earlier.file = old.file"
+        " WHERE new.file = ? AND earlier.size = last.size AND earlier.records = last.records AND last.records > 0",
+        (file,),
+    )
+    same = [
+        old
+        for old, before, now in rows
+        if (before == now if before and now else all(has_same(catalogue, table, old, file) for table in COLUMNS))
+    ]
+    return same[0] if len(same) == 1 else None
+
+
+def has_same(catalogue: Catalogue, table: str, one: int, other: int) -> bool:
+    """Whether two files have the same rows in a table."""
+    part = "SELECT %s FROM %s WHERE file = ?" % (COLUMNS[table], table)
+    query = "SELECT 1 FROM (%s EXCEPT %s) UNION ALL SELECT 1 FROM (%s EXCEPT %s) LIMIT 1" % (part, part, part, part)
+    return catalogue.one(query, (one, other, other, one)) is None
+
+
+def join_files(catalogue: Catalogue, run: int, before: int, file: int) -> None:
+    """Gives a file the history of the one that it was. The path that it had stays with the change."""
+    path = catalogue.one("SELECT path, state FROM files WHERE file = ?", (before,))[0]
+    for table in (*OF_A_FILE, "readings", "files"):
+        catalogue.base.execute("DELETE FROM %s WHERE file = ?" % table, (before,))
+    catalogue.base.execute("DELETE FROM changes WHERE file = ? AND change = 'gone'", (before,))
+    for table in ("checks", "counts", "changes"):
+        catalogue.base.execute(
+            "UPDATE OR REPLACE %s SET file = ? WHERE file = ? AND run < ?" % table, (file, before, run)
+        )
+        catalogue.base.execute("DELETE FROM %s WHERE file = ?" % table, (before,))
+    catalogue.base.execute(
+        "UPDATE changes SET change = 'moved', path_before = ? WHERE run = ? AND file = ?", (path, run, file)
+    )
+
+
+def forget_files(catalogue: Catalogue, paths: Sequence[str]) -> List[str]:
+    """Forgets the files of these paths, or below them, that are gone or outside of the collection. Returns the others."""
+    collection = catalogue.setting("paths") or []
+    kept = []
+    with catalogue.transaction():
+        for file, stored, state in catalogue.rows("SELECT file, path, state FROM files ORDER BY path"):
+            path = real_path(stored)
+            if is_below(path, paths) and state != "gone" and is_below(path, collection):
+                kept.append(path)
+            elif is_below(path, paths):
+                forget(catalogue, file)
+    return kept
+
+
+def forget(catalogue: Catalogue, file: int) -> None:
+    """Drops all that is known of a file."""
+    for table in ABOUT_A_FILE:
+        catalogue.base.execute("DELETE FROM %s WHERE file = ?" % table, (file,))
+
+
+def prune(catalogue: Catalogue, keep: int) -> int:
+    """Drops what runs before the last ones found of single files. The sums of each run, and the last that is known of
+    each file, stay. Returns the number of rows."""
+    oldest = catalogue.one("SELECT max(run) FROM runs")[0] or 0
+    dropped = 0
+    with catalogue.transaction():
+        for table in ("checks", "counts", "changes"):
+            last = "SELECT max(run) FROM %s AS later WHERE later.file = %s.file" % (table, table)
+            query = "DELETE FROM %s WHERE run <= ? AND run < (%s)" % (table, last)
+            dropped += catalogue.base.execute(query, (oldest - keep,)).rowcount
+    catalogue.patiently("VACUUM")
+    return dropped

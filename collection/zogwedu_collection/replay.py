@@ -1,0 +1,279 @@
+"""Replay, also where what a revisit names is in another file. Files that have to be joined are joined in a temporary
+file, and the program decides what their captures give."""
+from __future__ import annotations
+
+import collections
+import contextlib
+import dataclasses
+import hashlib
+import re
+import shutil
+import subprocess
+import tempfile
+from typing import Deque, Dict, IO, Iterable, Iterator, List, Optional, Sequence, Set, Tuple
+
+from .captures import Capture, captures_where
+from .catalogue import Catalogue, Known
+from .disk import open_regular, open_stamp, reason_of
+from .program import instant_of, said
+from .texts import Trouble, escaped, say, real_path
+from .unpack import PIECE, Damaged, Members, is_compressed, write_all
+
+MOST_CANDIDATES = 64
+# The most captures that are asked what they lack, for one that is replayed.
+MOST_ASKED = 256
+UNRESOLVED = ("P4", "P5", "P7 Segment G2", "P7 Segment G4")
+NAMES = ("WARC-Refers-To", "WARC-Refers-To-Target-URI", "WARC-Refers-To-Date")
+
+
+@dataclasses.dataclass(frozen=True)
+class Answer:
+    """What a capture gives: a body with its digest and the line about it, or a reason; and the files that were joined."""
+
+    capture: Capture
+    files: Tuple[Known, ...]
+    body: Optional[IO[bytes]] = None
+    digest: Optional[str] = None
+    line: str = ""
+    reason: Optional[str] = None
+
+    def fact(self) -> Tuple[Optional[str], str, Optional[str]]:
+        """What must agree between two answers."""
+        return self.digest, self.line.partition(" status ")[2], self.reason
+
+    def joined(self) -> str:
+        return "joined " + " ".join(escaped(file.path) for file in self.files) if len(self.files) > 1 else ""
+
+    def described(self) -> str:
+        """A line about the answer."""
+        what = self.reason or "%s sha256 %s" % (self.line, self.digest)
+        return " ".join(filter(None, (self.chosen(), what, self.joined())))
+
+    def chosen(self) -> str:
+        return "chosen %s %d" % (escaped(self.capture.path), self.capture.position)
+
+
+def is_unresolved(reason: Optional[str]) -> bool:
+    """Whether another file may have what a capture lacks."""
+    return reason is not None and reason.startswith(UNRESOLVED)
+
+
+def digest_of(file: IO[bytes]) -> str:
+    digest = hashlib.sha256()
+    file.seek(0)
+    for piece in iter(lambda: file.read(PIECE), b""):
+        digest.update(piece)
+    return digest.hexdigest()
+
+
+class Files:
+    """Opens the files of captures, and joins them. Each must be the file that was read, before and afterwards."""
+
+    def __init__(self, catalogue: Catalogue, temporary: Optional[str]) -> None:
+        self.catalogue = catalogue
+        self.temporary = temporary
+
+    def known(self, file: int) -> Known:
+        return self.catalogue.files_where("files.file = ?", (file,))[0]
+
+    @contextlib.contextmanager
+    def opened(self, known: Known) -> Iterator[IO[bytes]]:
+        """A file whose bytes are those of its last reading, while it is open."""
+        path = real_path(known.path)
+        if known.state == "rotten":
+            raise Trouble("%s doesn't have the bytes that run %s read" % (escaped(known.path), known.read_run))
+        try:
+            with open_regular(path) as file:
+                self.check(known, file)
+                yield file
+                self.check(known, file)
+        except Damaged as damage:
+            raise Trouble("%s: %s" % (escaped(known.path), damage)) from None
+        except OSError as error:
+            raise Trouble("%s: %s" % (escaped(known.path), reason_of(error, path))) from None
+
+    def check(self, known: Known, file: IO[bytes]) -> None:
+        """Refuses a file that isn't the one that was read."""
+        if open_stamp(file) != known.stamp:
+            run = "" if known.read_run is None else " since run %d read it" % known.read_run
+            raise Trouble("%s changed%s: run again" % (escaped(known.path), run))
+
+    @contextlib.contextmanager
+    def joined(self, files: Sequence[Known]) -> Iterator[IO[bytes]]:
+        """The bytes of files, unpacked, one after another. A lone file that isn't compressed is given as it is."""
+        if len(files) == 1 and not is_compressed(real_path(files[0].path)):
+            with self.opened(files[0]) as file:
+                yield file
+            return
+        with tempfile.TemporaryFile(dir=self.temporary, buffering=0) as joined:
+            for known in files:
+                self.copy(known, joined)
+            yield joined
+
+    def copy(self, known: Known, joined: IO[bytes]) -> None:
+        """Copies the bytes of a file, unpacked."""
+        with self.opened(known) as file:
+            if is_compressed(real_path(known.path)):
+                write_pieces(joined, Members(file))
+            else:
+                write_pieces(joined, iter(lambda: file.read(PIECE), b""))
+
+
+def write_pieces(out: IO[bytes], pieces: Iterable[bytes]) -> None:
+    for piece in pieces:
+        write_all(out, piece)
+
+
+class Replayer:
+    """Gives the bodies of captures."""
+
+    def __init__(self, catalogue: Catalogue, warc: str, temporary: Optional[str]) -> None:
+        self.catalogue = catalogue
+        self.warc = warc
+        self.files = Files(catalogue, temporary)
+        self.temporary = temporary
+        self.asked: Dict[Tuple[int, Optional[int]], List[Capture]] = {}
+
+    def program(self, command: str, source: IO[bytes], position: int) -> Tuple[IO[bytes], int, str]:
+        """Runs a command over a file and a position. Its output is a temporary file."""
+        out = tempfile.TemporaryFile(dir=self.temporary)
+        source.seek(0)
+        words = [self.warc, command, "-", str(position)]
+        done = subprocess.run(words, stdin=source, stdout=out, stderr=subprocess.PIPE, check=False)
+        out.seek(0)
+        return out, done.returncode, said(done.stderr)
+
+    def body(self, capture: Capture, before: Sequence[int] = ()) -> Answer:
+        """What a capture gives, with the files `before` joined in front of its own."""
+        files = tuple(self.files.known(file) for file in (*before, capture.file))
+        first = sum(file.records for file in files[:-1])
+        with self.files.joined(files) as source:
+            out, status, message = self.program("body", source, first + capture.position)
+        if status == 1:
+            out.close()
+            return Answer(capture, files, reason=message)
+        given = re.fullmatch(r"chosen \d+ given (\d+) (.*)", message)
+        if status != 0 or given is None:
+            out.close()
+            raise Trouble("%s: %s" % (", ".join(escaped(file.path) for file in files), message))
+        file, position = place_in(files, int(given[1]))
+        line = "given %s %d %s" % (escaped(file.path), position, given[2])
+        return Answer(capture, files, out, digest_of(out), line)
+
+    def named(self, capture: Capture) -> List[Optional[str]]:
+        """What the head of a revisit names: the id, the target and the date of its referent."""
+        import email.parser  # here, since it is slow to load
+
+        with self.files.joined([self.files.known(capture.file)]) as source:
+            out, status, message = self.program("head", source, capture.position)
+        with out:
+            if status != 0:
+                raise Trouble(message)
+            fields = out.read().partition(b"\r\n")[2].decode("utf-8", "replace")
+        head = email.parser.HeaderParser().parsestr(fields, headersonly=True)
+        return [" ".join(str(head[name]).split()).strip("<> ") if head[name] else None for name in NAMES]
+
+    def candidates(self, capture: Capture) -> List[Capture]:
+        """Captures of other files that may be what a capture lacks. The program judges whether they are. No capture is
+        asked twice."""
+        key = capture.file, capture.position
+        if key not in self.asked:
+            self.asked[key] = self.find_candidates(capture)
+            if len(self.asked[key]) == MOST_CANDIDATES:
+                say("only %d captures that may be meant are compared" % MOST_CANDIDATES)
+        return self.asked[key]
+
+    def find_candidates(self, capture: Capture) -> List[Capture]:
+        reason = capture.reason or ""
+        if reason.startswith("P4"):
+            # The payload of a revisit that names nothing is that of a response or a resource of its target.
+            return self.where(
+                "captures.file <> ? AND lower(kind) IN ('response', 'resource')"
+                " AND target = (SELECT target FROM records WHERE file = ? AND position = ?)",
+                (capture.file, capture.file, capture.position),
+                "instant > '%s', instant DESC" % capture.instant.replace("'", ""),
+            )
+        if reason.startswith("P7"):
+            return self.of_series(capture)
+        name, uri, date = self.named(capture)
+        found: List[Capture] = []
+        if name:
+            ids = "SELECT file, position FROM records WHERE lower(trim(id, '<>')) = ?"
+            condition = "(captures.file, position) IN (%s) AND captures.file <> ?" % ids
+            found = self.where(condition, (name.lower(), capture.file))
+        if not found and uri and date:
+            with contextlib.suppress(Trouble):
+                values = uri, instant_of(self.warc, date), capture.file
+                found = self.where("target = ? AND instant = ? AND captures.file <> ?", values)
+        return found
+
+    def where(self, condition: str, values: Sequence[object], order: str = "instant DESC") -> List[Capture]:
+        ordered = "%s ORDER BY %s LIMIT %d" % (condition, order, MOST_CANDIDATES)
+        return captures_where(self.catalogue, ordered, values)
+
+    def of_series(self, capture: Capture) -> List[Capture]:
+        """One capture for each file with continuations of the target of the record that a capture leads to."""
+        query = (
+            "SELECT DISTINCT file, path, state FROM records JOIN files USING (file) WHERE state <> 'gone' AND file <> ?"
+            " AND lower(kind) = 'continuation'"
+            " AND target = (SELECT target FROM records WHERE file = ? AND position = ?) LIMIT %d" % MOST_CANDIDATES
+        )
+        rows = self.catalogue.rows(query, (capture.file, capture.file, capture.given))
+        empty = Capture(0, -1, "", "continuation", None, None, None, None, None, "", "", None)
+        return [dataclasses.replace(empty, file=file, path=path, state=state) for file, path, state in rows]
+
+    def needed(self, first: Capture, last: int) -> List[int]:
+        """The files that a candidate may need before its own, farthest first, and its own. One search in breadth: each
+        capture is asked once, however many lead to it, and there is a most."""
+        visited: Set[Tuple[int, int]] = {(first.file, first.position)}
+        waiting: Deque[Capture] = collections.deque([first])
+        files = [first.file]
+        while waiting and len(visited) < MOST_ASKED:
+            capture = waiting.popleft()
+            found = self.candidates(capture) if is_unresolved(capture.reason) else []
+            new = [it for it in found if (it.file, it.position) not in visited]
+            visited.update((it.file, it.position) for it in new)
+            waiting.extend(new)
+            files += [file for file in dict.fromkeys(it.file for it in new) if file not in files]
+        if waiting:
+            say("only the first %d captures that may be meant are looked at" % MOST_ASKED)
+        return [file for file in reversed(files) if file != last]
+
+    def answers(self, capture: Capture) -> List[Answer]:
+        """What a capture gives. Where it lacks something: what it gives with each file that may have it."""
+        if not is_unresolved(capture.reason):
+            return [self.body(capture)]
+        groups = [self.needed(it, capture.file) for it in self.candidates(capture)]
+        groups = [group for place, group in enumerate(groups) if group not in groups[:place]]
+        answers = [self.body(capture, group) for group in groups]
+        settled = [it for it in answers if not is_unresolved(it.reason)]
+        if not settled and len(groups) > 1:
+            settled = [self.body(capture, list(dict.fromkeys(file for group in groups for file in group)))]
+        return settled or answers[:1] or [self.body(capture)]
+
+
+def place_in(files: Sequence[Known], position: int) -> Tuple[Known, int]:
+    """The file and the position in it of a record of joined files."""
+    for file in files:
+        if position < file.records:
+            return file, position
+        position -= file.records
+    raise Trouble("a record is in none of the joined files")
+
+
+def settled(answers: Sequence[Answer]) -> Answer:
+    """The first of answers that agree and give a body."""
+    first = answers[0]
+    disagree = len({answer.fact() for answer in answers}) > 1
+    if not disagree and not first.reason:
+        return first
+    for answer in answers:
+        say(answer.described())
+    raise Trouble("files disagree on this capture: nothing was written" if disagree else first.reason or "", 1)
+
+
+def write_body(answer: Answer, out: IO[bytes]) -> None:
+    assert answer.body is not None
+    answer.body.seek(0)
+    shutil.copyfileobj(answer.body, out)
+    out.flush()

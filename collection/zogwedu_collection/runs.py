@@ -1,0 +1,187 @@
+"""Runs: the list of jobs, GNU parallel that does them, and what is done of them."""
+from __future__ import annotations
+
+import contextlib
+import dataclasses
+import os
+import shlex
+import shutil
+import subprocess
+import sys
+from typing import Iterator, List, Optional, Sequence
+
+from .catalogue import Catalogue, Run
+from .discover import files_to_do, found_files, note_changes
+from .jobs import write_jobs
+from .program import Settings, not_done, own_words, program_path, version_of
+from .take_in import end_run, take_in, take_in_all
+from .texts import Trouble, now, say, shown
+
+SSH = "ssh -o BatchMode=yes -o ConnectTimeout=10 -o ServerAliveInterval=10 -o ServerAliveCountMax=3"
+BRACE = "'\"$(printf '\\173')\"'"
+
+
+@dataclasses.dataclass(frozen=True)
+class Plan:
+    """A list of jobs: its run, its folder, how many there are, and whether a part of the collection couldn't be read."""
+
+    run: int
+    folder: str
+    count: int
+    is_partly_unread: bool
+
+
+@dataclasses.dataclass(frozen=True)
+class Asked:
+    """What is asked of a run: folders and files, lists of files, whether all are read, and how."""
+
+    paths: Sequence[str]
+    lists: Sequence[str]
+    is_over_all: bool
+    warc: Optional[str] = None
+    temporary: Optional[str] = None
+    timeout: Optional[float] = None
+    digest: bool = False
+
+    def settings(self) -> Settings:
+        warc = program_path(self.warc)
+        temporary = None if self.temporary is None else os.path.abspath(self.temporary)
+        return Settings(warc, version_of(warc), temporary, self.timeout, self.digest)
+
+
+@dataclasses.dataclass(frozen=True)
+class Machines:
+    """Where jobs are done, in GNU parallel's words."""
+
+    logins: Sequence[str]
+    login_files: Sequence[str]
+    jobs: Optional[str]
+    batch: Optional[int]
+    is_quiet: bool
+
+
+def begin_run(catalogue: Catalogue, is_over_all: bool) -> Run:
+    """Goes on with a run that isn't at its end, or begins one."""
+    last = catalogue.last_run()
+    if last is not None and last.ended is None:
+        say("run %d goes on" % last.number)
+        last = dataclasses.replace(last, scope="all" if is_over_all else last.scope)
+        catalogue.base.execute("UPDATE runs SET scope = ? WHERE run = ?", (last.scope, last.number))
+        return last
+    run = Run(1 if last is None else last.number + 1, now(), None, "all" if is_over_all else "changed")
+    catalogue.base.execute(
+        "INSERT INTO runs (run, began, scope, attempts) VALUES (?, ?, ?, 0)", (run.number, run.began, run.scope)
+    )
+    return run
+
+
+def make_plan(catalogue: Catalogue, asked: Asked) -> Plan:
+    """Takes in what earlier jobs left, looks for files, and writes the list of jobs."""
+    settings = asked.settings()
+    take_in_all(catalogue)
+    with catalogue.transaction():
+        if asked.paths or asked.lists:
+            catalogue.set("paths", [os.path.abspath(path) for path in asked.paths])
+            catalogue.set("lists", [os.path.abspath(path) for path in asked.lists])
+        paths, lists = catalogue.setting("paths"), catalogue.setting("lists")
+        if paths is None:
+            raise Trouble("name the folders of the collection")
+        run = begin_run(catalogue, asked.is_over_all)
+        found = found_files(paths, lists)
+        note_changes(catalogue, run.number, found, paths)
+        chosen = files_to_do(catalogue, run, found, asked.digest)
+        catalogue.base.execute("UPDATE runs SET attempts = attempts + 1 WHERE run = ?", (run.number,))
+        attempt = catalogue.one("SELECT attempts FROM runs WHERE run = ?", (run.number,))[0]
+    folder = os.path.join(catalogue.jobs, "%d-%d" % (run.number, attempt))
+    write_jobs(folder, settings, chosen)
+    there = sum(stamp is not None for stamp in found.files.values())
+    say("run %d: %d files, %d to read" % (run.number, there, len(chosen)))
+    return Plan(run.number, folder, len(chosen), bool(found.unread))
+
+
+def for_parallel(words: Sequence[str]) -> str:
+    """Words for a shell, without a brace: GNU parallel runs what it finds between braces."""
+    return " ".join(shlex.quote(word) if "{" not in word else "'%s'" % braceless(word) for word in words)
+
+
+def braceless(word: str) -> str:
+    return word.replace("'", "'\"'\"'").replace("{", BRACE)
+
+
+def parallel_words(machines: Machines, folder: str, count: int) -> List[str]:
+    """The words that have GNU parallel do the jobs of a list. It ends with the run, where the system can see to that."""
+    is_far = bool(machines.logins or machines.login_files)
+    words = ["setpriv", "--pdeathsig", "TERM"] if shutil.which("setpriv") else []
+    words += ["parallel", "--will-cite", "--joblog", os.path.join(folder, "joblog"), "--retries", "3"]
+    words += ["-n", str(machines.batch or (4 if is_far else 1))]
+    words += ["--jobs", machines.jobs] if machines.jobs else []
+    words += ["--bar"] if sys.stderr.isatty() and not machines.is_quiet and count else []
+    words += [word for host in machines.logins for word in ("--sshlogin", host)]
+    words += [word for path in machines.login_files for word in ("--sshloginfile", path)]
+    words += ["--ssh", SSH] if is_far else []
+    return [*words, for_parallel([*own_words(), "job", folder]) + " {}"]
+
+
+def stop(child: subprocess.Popen[bytes]) -> None:
+    """GNU parallel waits for its jobs at a first SIGTERM, and stops them at a second one."""
+    for _ in range(2):
+        if child.poll() is None:
+            child.terminate()
+            with contextlib.suppress(subprocess.TimeoutExpired):
+                child.wait(1)
+    if child.poll() is None:
+        child.kill()
+        child.wait()
+
+
+@contextlib.contextmanager
+def in_parallel(machines: Machines, plan: Plan) -> Iterator[subprocess.Popen[bytes]]:
+    """GNU parallel, while it does the jobs. Whatever happens, it is at its end afterwards."""
+    if shutil.which("parallel") is None:
+        raise Trouble("GNU parallel isn't installed")
+    with open(os.path.join(plan.folder, "numbers"), "w+", encoding="ascii") as numbers:
+        numbers.writelines("%d\n" % number for number in range(1, plan.count + 1))
+        numbers.seek(0)
+        words = parallel_words(machines, plan.folder, plan.count)
+        child = subprocess.Popen(words, stdin=numbers)
+    try:
+        yield child
+    finally:
+        stop(child)
+
+
+def do_in_parallel(catalogue: Catalogue, machines: Machines, plan: Plan) -> None:
+    """Has GNU parallel do the jobs, and takes in what is done meanwhile."""
+    try:
+        with in_parallel(machines, plan) as child:
+            catalogue.expect(plan.count)
+            while child.poll() is None:
+                take_in(catalogue, plan.run, plan.folder)
+                with contextlib.suppress(subprocess.TimeoutExpired):
+                    child.wait(1)
+    except KeyboardInterrupt:
+        take_in(catalogue, plan.run, plan.folder)
+        catalogue.make_indexes()
+        raise Trouble("stopped; run it again to go on") from None
+
+
+def do_run(catalogue: Catalogue, asked: Asked, machines: Machines) -> Plan:
+    """A run: its plan, its jobs, and its end."""
+    plan = make_plan(catalogue, asked)
+    if plan.count:
+        do_in_parallel(catalogue, machines, plan)
+    left = end_run(catalogue, plan.run, plan.folder)
+    shutil.rmtree(plan.folder, ignore_errors=True)
+    if left:
+        raise Trouble(not_done(left, plan.run) + "; run it again to go on")
+    return plan
+
+
+def load(catalogue: Catalogue) -> int:
+    """Takes in what jobs left, and ends the run where all are done. Returns its number."""
+    left, last = take_in_all(catalogue, is_last=False), catalogue.last_run()
+    if last is None:
+        raise Trouble("no run in %s: plan one" % shown(catalogue.folder))
+    if left:
+        raise Trouble(not_done(left, last.number) + ": load again later, or plan again")
+    return last.number

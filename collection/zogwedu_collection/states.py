@@ -1,0 +1,25 @@
+"""The states of a file, and which of them are good, are readings, or are tried again."""
+from __future__ import annotations
+
+STATES = {
+    "good": "nothing was found",
+    "findings": "can be read; check found something",
+    "unchecked": "can be read; some blocks can't be checked",
+    "bad": "a block doesn't have its digest",
+    "rotten": "other bytes than before, with the same size and time",
+    "refused": "damaged: no archive as a whole",
+    "gunzip": "the compressed file is damaged",
+    "no-room": "no room to unpack it: its captures aren't known",
+    "failed": "couldn't be read",
+    "changing": "changed while it was read",
+    "unread": "not read yet",
+    "gone": "isn't there any more",
+}
+# The rows of such a reading replace those of the one before.
+READ = ("good", "findings", "unchecked", "bad")
+TRIED_AGAIN = ("no-room", "failed", "changing", "unread", "gone")
+
+
+def as_list(states: tuple[str, ...]) -> str:
+    """States as a list for SQL."""
+    return ", ".join("'%s'" % state for state in states)

@@ -1,0 +1,284 @@
+"""Taking in what jobs found: of each file the whole, or nothing."""
+from __future__ import annotations
+
+import contextlib
+import dataclasses
+import os
+import re
+import shutil
+import sqlite3
+from typing import Any, List, Optional, Tuple
+
+from .catalogue import OF_A_FILE, Catalogue
+from .disk import Stamp
+from .job import COMMANDS, Outcome, read_outcome
+from .jobs import listed_jobs
+from .lines import Sums, capture_rows, digest_rows, finding_rows, record_rows, summary_of
+from .moves import settle_moves
+from .states import READ
+from .texts import decoded, now, say, shown, stored_path
+
+MOST_ROWS = 200_000
+# What a job's folder that isn't whole, as after a power cut, makes of reading it.
+NOT_WHOLE = (
+    *(OSError, ValueError, KeyError, TypeError, IndexError, AttributeError, OverflowError),
+    *(sqlite3.IntegrityError, sqlite3.DataError, sqlite3.InterfaceError),
+)
+# States that say something of the bytes of a file, and not of the machine that read it.
+ABOUT_BYTES = (*READ, "refused", "gunzip", "no-room", "rotten")
+
+
+@dataclasses.dataclass(frozen=True)
+class Before:
+    """What the catalogue has of a file before a job's outcome is taken in."""
+
+    file: int
+    size: Optional[int]
+    modified: Optional[int]
+    state: str
+    sha256: Optional[str]
+    has_reading: bool
+
+    def has_same_time(self, stamp: Optional[Stamp]) -> bool:
+        return stamp is not None and (stamp.size, stamp.modified) == (self.size, self.modified)
+
+
+def before_job(catalogue: Catalogue, path: str) -> Before:
+    query = (
+        "SELECT file, files.size, files.modified, state, sha256, readings.run IS NOT NULL"
+        " FROM files LEFT JOIN readings USING (file) WHERE path = ?"
+    )
+    row = catalogue.one(query, (stored_path(path),))
+    if row is None:
+        raise KeyError(path)
+    return Before(*row)
+
+
+def take_in_all(catalogue: Catalogue, is_last: bool = True) -> int:
+    """Takes in what the jobs of the last run left in its folders. Returns the number of jobs left. `is_last`: no job is
+    under way any more, so that the folders are removed."""
+    last, left = catalogue.last_run(), 0
+    for name in os.listdir(catalogue.jobs):
+        folder = os.path.join(catalogue.jobs, name)
+        is_open = last is not None and last.ended is None and re.fullmatch(r"%d-\d+" % last.number, name)
+        if last is not None and is_open:
+            left = end_run(catalogue, last.number, folder)
+        if is_last or left == 0:
+            shutil.rmtree(folder, ignore_errors=True)
+    return left
+
+
+def names_in(folder: str) -> List[str]:
+    """The names in a folder; none where it can't be read."""
+    try:
+        return os.listdir(folder)
+    except OSError:
+        return []
+
+
+def end_run(catalogue: Catalogue, run: int, folder: str) -> int:
+    """Ends a run whose jobs are all done. Returns how many aren't."""
+    catalogue.expect(len(names_in(os.path.join(folder, "done"))))
+    take_in(catalogue, run, folder)
+    catalogue.make_indexes()
+    try:
+        paths = listed_jobs(folder)
+    except (OSError, ValueError) as error:
+        say("the list of jobs in %s can't be read: %s" % (shown(folder), error))
+        return 1
+    query = "SELECT path FROM files JOIN checks USING (file) WHERE checks.run = ? AND state <> 'unread'"
+    done = {path for path, in catalogue.rows(query.replace("state", "files.state"), (run,))}
+    left = sum(stored_path(path) not in done for path in paths)
+    if left == 0:
+        close_run(catalogue, run)
+    return left
+
+
+def close_run(catalogue: Catalogue, run: int) -> None:
+    """Notes the end of a run, which files were moved, and the sums over the whole collection for the report."""
+    with catalogue.transaction():
+        settle_moves(catalogue, run)
+        totals = catalogue.one(
+            "SELECT coalesce(sum(good), 0), coalesce(sum(unchecked), 0), coalesce(sum(bad), 0),"
+            " coalesce(sum(no_bytes), 0) FROM readings JOIN files USING (file) WHERE state <> 'gone'"
+        )
+        work = catalogue.one(
+            "SELECT count(DISTINCT host), count(*), coalesce(sum(seconds), 0) FROM checks WHERE run = ?", (run,)
+        )
+        catalogue.base.execute(
+            "UPDATE runs SET ended = ?, hosts = ?, files_read = ?, seconds = ?, good = ?, unchecked = ?, bad = ?,"
+            " no_bytes = ? WHERE run = ?",
+            (now(), *work, *totals, run),
+        )
+
+
+def take_in(catalogue: Catalogue, run: int, folder: str) -> None:
+    """Takes in each job that is done: many in one transaction. What is taken in twice replaces itself."""
+    names = names_in(os.path.join(folder, "done"))
+    while names:
+        taken = take_in_some(catalogue, run, folder, names)
+        for name in taken:
+            drop(folder, name)
+
+
+def take_in_some(catalogue: Catalogue, run: int, folder: str, names: List[str]) -> List[str]:
+    """Takes in the last of these jobs, and takes them from the list. Returns them."""
+    taken, rows = [], 0
+    with catalogue.transaction():
+        while names and rows < MOST_ROWS:
+            taken.append(names.pop())
+            rows += take_in_job(catalogue, run, folder, taken[-1])
+    return taken
+
+
+def drop(folder: str, name: str) -> None:
+    """Removes the folder of a job. It loses its name first, so that no half of it is ever taken in."""
+    away = os.path.join(folder, "work", "taken." + name)
+    shutil.rmtree(away, ignore_errors=True)
+    with contextlib.suppress(OSError):
+        os.rename(os.path.join(folder, "done", name), away)
+    shutil.rmtree(away, ignore_errors=True)
+
+
+def take_in_job(catalogue: Catalogue, run: int, folder: str, name: str) -> int:
+    """Takes in what a job found. Returns the number of rows. What isn't whole is left out, and its file is unread."""
+    own = os.path.join(folder, "done", name)
+    try:
+        with catalogue.savepoint():
+            return load_job(catalogue, run, own)
+    except NOT_WHOLE as error:
+        say(
+            "what job %s left isn't whole, and its file is to be read again: %s" % (name, error or type(error).__name__)
+        )
+    with contextlib.suppress(OSError, ValueError, IndexError, KeyError):
+        file = catalogue.file_at(listed_jobs(folder)[int(name) - 1]).file
+        catalogue.base.execute("UPDATE files SET state = 'unread', detail = '' WHERE file = ?", (file,))
+    return 1
+
+
+def judged(before: Before, outcome: Outcome) -> None:
+    """Corrects the state by the digest of the whole file: other bytes with the same size and time are rotten."""
+    if outcome.state not in ABOUT_BYTES or not before.has_same_time(outcome.stamp):
+        return
+    differs = before.sha256 is not None and outcome.sha256 is not None and before.sha256 != outcome.sha256
+    is_still = before.state == "rotten" and outcome.sha256 is None
+    if differs or is_still:
+        outcome.state = "rotten"
+        outcome.detail = "its SHA-256 was %s%s" % (before.sha256, ", and is %s" % outcome.sha256 if differs else "")
+
+
+def load_job(catalogue: Catalogue, run: int, folder: str) -> int:
+    """Loads what a job found. Returns the number of rows."""
+    outcome = read_outcome(folder)
+    before = before_job(catalogue, outcome.path)
+    judged(before, outcome)
+    stamp, file = outcome.stamp, before.file
+    statuses = [outcome.statuses.get(command) for command in COMMANDS]
+    size_and_time = (None, None) if stamp is None else (stamp.size, stamp.modified)
+    catalogue.base.execute(
+        "INSERT OR REPLACE INTO checks (run, file, size, modified, state, detail, host, seconds, list_status,"
+        " fixity_status, check_status, summary_status, captures_status, sha256)"
+        " VALUES (?, ?, ?, ?, ?, ?, ?, ?, ?, ?, ?, ?, ?, ?)",
+        (run, file, *size_and_time, outcome.state, outcome.detail, outcome.host, outcome.seconds, *statuses)
+        + (outcome.sha256,),
+    )
+    catalogue.base.execute("DELETE FROM counts WHERE run = ? AND file = ?", (run, file))
+    rows = 0
+    if stamp is not None and (outcome.state in READ or (outcome.state == "no-room" and not before.has_reading)):
+        rows = load_rows(catalogue, run, file, folder, outcome, stamp)
+    note_state(catalogue, run, before, outcome)
+    note_change(catalogue, run, file, outcome)
+    return rows + 20
+
+
+def note_state(catalogue: Catalogue, run: int, before: Before, outcome: Outcome) -> None:
+    """Notes the state of a file. The size, the time and the digest are those of the bytes that were judged last."""
+    put, file, stamp = catalogue.base.execute, before.file, outcome.stamp
+    put("UPDATE files SET state = ?, detail = ?, run = ? WHERE file = ?", (outcome.state, outcome.detail, run, file))
+    if stamp is None or (outcome.state not in ABOUT_BYTES and before.size is not None):
+        return
+    sha256 = outcome.sha256 if outcome.state in ABOUT_BYTES else None
+    if outcome.state == "rotten" or (sha256 is None and before.has_same_time(stamp)):
+        sha256 = before.sha256
+    put(
+        "UPDATE files SET size = ?, modified = ?, changed = ?, inode = ?, sha256 = ? WHERE file = ?",
+        (stamp.size, stamp.modified, stamp.changed, stamp.inode, sha256, file),
+    )
+
+
+def note_change(catalogue: Catalogue, run: int, file: int, outcome: Outcome) -> None:
+    """Notes how a file changed since the run that read it before."""
+    before = catalogue.one(
+        "SELECT state, size, modified FROM checks WHERE file = ? AND run < ? ORDER BY run DESC LIMIT 1", (file, run)
+    )
+    query = "SELECT change FROM changes WHERE file = ? AND run < ? ORDER BY run DESC LIMIT 1"
+    was_gone = catalogue.one(query, (file, run)) == ("gone",)
+    change = change_of(before, outcome, was_gone)
+    catalogue.base.execute("DELETE FROM changes WHERE run = ? AND file = ?", (run, file))
+    if change != "same" or before[0] != outcome.state:
+        catalogue.base.execute(
+            "INSERT INTO changes (run, file, change, state_before, state_after) VALUES (?, ?, ?, ?, ?)",
+            (run, file, change, before and before[0], outcome.state),
+        )
+
+
+def change_of(before: Any, outcome: Outcome, was_gone: bool) -> str:
+    """How a file changed. `before`: its state, size and time as an earlier run had them, or None."""
+    if before is None:
+        return "new"
+    if was_gone:
+        return "back"
+    stamp = outcome.stamp
+    if stamp is None or before[1] is None or (stamp.size, stamp.modified) == before[1:]:
+        return "same"
+    return "grown" if stamp.size > before[1] else "changed"
+
+
+def load_rows(catalogue: Catalogue, run: int, file: int, folder: str, outcome: Outcome, stamp: Stamp) -> int:
+    """Loads what the commands wrote of a file, in the place of its rows. Returns the number of records. The numbers of
+    lines must be those that `summary` has, so that nothing that was cut off is taken for the whole."""
+    for table in OF_A_FILE:
+        catalogue.base.execute("DELETE FROM %s WHERE file = ?" % table, (file,))
+    sums, put = Sums(), catalogue.base.executemany
+    summary = summary_of(folder)
+    good, bad, unchecked = (int(summary[name]) for name in ("good", "bad", "unchecked"))
+    records = put("INSERT INTO records VALUES (?, ?, ?, ?, ?, ?, ?, ?)", record_rows(file, folder, sums)).rowcount
+    captures = put(
+        "INSERT INTO captures VALUES (?, ?, ?, ?, ?, ?, ?, ?, ?, ?, ?)", capture_rows(file, folder, sums)
+    ).rowcount
+    digests = put("INSERT INTO digests VALUES (?, ?, ?, ?, ?)", digest_rows(file, folder)).rowcount
+    put("INSERT INTO findings VALUES (?, ?, ?, ?, ?)", finding_rows(file, folder))
+    whole = [int(summary["records"]), int(summary["captures"]), bad + unchecked]
+    seen = [max(count, 0) for count in (records, captures, digests)]
+    if outcome.state == "no-room":
+        seen[1] = whole[1]
+    if seen != whole or good + bad + unchecked != whole[0]:
+        raise ValueError("%s records, captures and digests are there, and summary has %s" % (seen, whole))
+    load_sums(catalogue, file, sums)
+    put("INSERT INTO counts VALUES (?, ?, ?, ?)", ((run, file, name, value) for name, value in summary.items()))
+    counts = good, unchecked, bad - outcome.no_bytes, outcome.no_bytes
+    put_reading(catalogue, run, file, stamp, (whole[0], *counts) if outcome.state in READ else None)
+    return whole[0]
+
+
+def load_sums(catalogue: Catalogue, file: int, sums: Sums) -> None:
+    """Loads the sums over the records and captures of a file."""
+    years = (
+        (file, decoded(year), decoded(kind), count, sums.year_bytes[year, kind])
+        for (year, kind), count in sums.years.items()
+    )
+    catalogue.base.executemany("INSERT INTO years VALUES (?, ?, ?, ?, ?)", years)
+    hosts = ((file, host, count, sums.host_bytes[host]) for host, count in sums.hosts.items())
+    catalogue.base.executemany("INSERT INTO hosts VALUES (?, ?, ?, ?)", hosts)
+
+
+def put_reading(catalogue: Catalogue, run: int, file: int, stamp: Stamp, counts: Optional[Tuple[int, ...]]) -> None:
+    """Notes when the rows of a file were read, and from which bytes. Without counts they aren't the whole."""
+    catalogue.base.execute("DELETE FROM readings WHERE file = ?", (file,))
+    if counts is not None:
+        catalogue.base.execute("UPDATE files SET records = ? WHERE file = ?", (counts[0], file))
+        catalogue.base.execute(
+            "INSERT INTO readings (file, run, read_on, size, modified, changed, inode, records, good, unchecked, bad,"
+            " no_bytes) VALUES (?, ?, ?, ?, ?, ?, ?, ?, ?, ?, ?, ?)",
+            (file, run, now(), stamp.size, stamp.modified, stamp.changed, stamp.inode, *counts),
+        )
