@@ -13,12 +13,16 @@ seed=${STRESS_SEED:-1}
 archives=${STRESS_ARCHIVES:-2000}
 status=0
 bash tools/need.sh strace:strace valgrind:valgrind parallel:parallel /usr/sbin/sshd:openssh-server wget:wget \
-    ip:iproute2 zstd:zstd || exit 1
+    ip:iproute2 zstd:zstd setpriv:util-linux || exit 1
+# Debian's Python has Debian's hypothesis.
+python=$(command -v /usr/bin/python3 || command -v python3)
 python3 tests/stress/differential.py bin/warc "$count" "$seed" || status=1
 python3 tests/stress/system.py bin/warc || status=1
 python3 tests/stress/memory.py bin/warc || status=1
 python3 tests/stress/terminal.py bin/warc || status=1
 python3 tests/stress/zwarc.py bin/warc || status=1
+"$python" tests/stress/collection_rows.py || status=1
+python3 tests/stress/collection_faults.py bin/warc || status=1
 python3 tests/stress/collection.py bin/warc "$archives" || status=1
 make -s test-callers || status=1
 exit $status

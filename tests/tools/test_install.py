@@ -19,6 +19,7 @@ FOLDERS = ("tools", "shell", "collection", "docs", "examples", "rust", "python")
 WORDS = "crates/warc_arguments/src/words.rt"
 STAND_INS = (
     "bin/warc",
+    "out/warc-collection",
     "out/man/man1/warc.1",
     "out/man/man5/warc.5",
     *(f"out/completions/{it}.bash" for it in ("warc", "zwarc", "warc-collection")),

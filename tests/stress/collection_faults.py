@@ -1,0 +1,729 @@
+#!/usr/bin/env python3
+"""Runs warc-collection where something fails: no room, no program, killed processes, torn files, hostile names.
+
+    python3 tests/stress/collection_faults.py WARC [PART ..]
+
+Prints a line for each part, each surprise, and last a line with the totals. The exit status is 1 if there was a surprise.
+Needs root, mount, setpriv, strace and GNU parallel; PostgreSQL is left out where it isn't installed.
+"""
+from __future__ import annotations
+
+import contextlib
+import glob
+import gzip
+import json
+import os
+import re
+import shutil
+import signal
+import socket
+import sqlite3
+import stat
+import subprocess
+import sys
+import tempfile
+import time
+from typing import Callable, Dict, Iterator, List
+
+from collection_trial import TOP, Trial, put, put_script, record, running_with, to_read
+
+URI = b"http://a.example/"
+DATE = "2020-01-01T00:00:00Z"
+NO_BYTES = "sha1:3I42H3S6NNFQ2MSVX7XZKYAYSCX5QBYJ"
+REVISIT = "http://netpreserve.org/warc/1.1/revisit/identical-payload-digest"
+HEAD = b"HTTP/1.1 200 OK\r\nContent-Type: text/html\r\n\r\n"
+# root without the right to open each file, as a machine whose disk refuses to read one
+LESS = ("setpriv", "--bounding-set=-dac_override,-dac_read_search", "--inh-caps=-dac_override,-dac_read_search")
+
+
+def page(number: int = 1, block: bytes = b"abc", target: bytes = URI, date: str = DATE) -> bytes:
+    return record("resource", number, date, target, block)
+
+
+@contextlib.contextmanager
+def small_disk(folder: str, size: str) -> Iterator[str]:
+    """A disk in memory, of a size."""
+    os.makedirs(folder, exist_ok=True)
+    subprocess.run(["mount", "-t", "tmpfs", "-o", "size=" + size, "tmpfs", folder], check=True)
+    try:
+        yield folder
+    finally:
+        subprocess.run(["umount", folder], check=True)
+
+
+# Wrong or lost answers
+
+
+def no_room(trial: Trial) -> None:
+    """A compressed file without room to unpack is no good file, is named, and is read again."""
+    folder = trial.path("archives")
+    put(folder + "/big.warc.gz", gzip.compress(page(1, b"x" * 300_000)))
+    with small_disk(trial.path("disk"), "64k") as disk:
+        done = trial.run("c", "run", "--temporary", disk, folder)
+    trial.judge(done.returncode == 1 and b"no-room\t1" in done.stdout, "the state", done.stdout)
+    for command in ("find", "replay"):
+        done = trial.run("c", command, URI.decode(), "9999")
+        trial.judge(done.returncode == 1 and b"big.warc.gz" in done.stderr, command + " names it", done.stderr)
+    done = trial.run("c", "run")
+    trial.judge(done.returncode == 0 and to_read(done) == 1, "with room", done.stdout + done.stderr)
+    done = trial.run("c", "replay", URI.decode(), "9999")
+    trial.judge(done.stdout == b"x" * 300_000, "its page", done.stderr)
+    with small_disk(trial.path("disk"), "64k") as disk:
+        done = trial.run("c", "run", "--all", "--temporary", disk)
+    done = trial.run("c", "find", URI.decode())
+    trial.judge(b"read on 2" in done.stdout and b"big.warc.gz" in done.stderr, "rows of before", done.stdout)
+
+
+def failing_machine(trial: Trial) -> None:
+    """A limit, or a tool that is killed, isn't damage of the archive."""
+    folder = trial.path("archives")
+    put(folder + "/big.warc.gz", gzip.compress(page(1, b"x" * 600_000)))
+    done = trial.run("c", "run", folder, before=["bash", "-c", 'ulimit -f 300; exec "$0" "$@"'])
+    trial.judge(trial.states("c")["big.warc.gz"] in ("no-room", "failed"), "a limit on files", done.stdout)
+    done = trial.run("c", "run")
+    trial.judge(done.returncode == 0 and to_read(done) == 1, "without the limit", done.stdout)
+    for number, text in enumerate(("kill -9 $$", "echo 'gzip: stdin: Input/output error' >&2; exit 1")):
+        tools = os.path.dirname(put_script(trial.path("tools%d" % number, "gunzip"), text + "\n"))
+        env = {"PATH": tools + ":" + os.environ["PATH"]}
+        done = trial.run("c", "run", "--all", env=env)
+        trial.judge(done.returncode == 0, "a tool that fails: " + text, done.stdout)
+
+
+def damaged_members(trial: Trial) -> None:
+    """zlib alone judges the compressed bytes, and says after how many of them the file is damaged."""
+    folder, one = trial.path("archives"), gzip.compress(page(1))
+    two = one + gzip.compress(page(2))
+    bytes_of = {
+        "padded": (two + bytes(5000), "good"),
+        "garbage": (two + b"garbage", "damaged after %d bytes" % len(two)),
+        "behind-padding": (two + bytes(10) + b"x", "damaged after %d bytes" % len(two)),
+        "cut": (two[:-9], "damaged after %d bytes" % len(one)),
+        "empty": (b"", "damaged after 0 bytes"),
+        "plain": (page(1), "damaged after 0 bytes"),
+        "flipped": (one + bytes([two[len(one)]]) + two[len(one) + 1 : -8] + b"12345678", "damaged after %d" % len(one)),
+    }
+    for name, (data, _) in bytes_of.items():
+        put("%s/%s.warc.gz" % (folder, name), data)
+    trial.run("c", "run", folder)
+    rows = trial.ask("c", "SELECT path, state, detail FROM files")
+    found = {os.path.basename(str(path)).split(".")[0]: "%s %s" % (state, detail) for path, state, detail in rows}
+    for name, (_, expected) in bytes_of.items():
+        is_right = found[name].startswith("good" if expected == "good" else "gunzip " + expected)
+        trial.judge(is_right, name, found[name])
+
+
+def no_program(trial: Trial) -> None:
+    """A program that isn't there ends a run before anything is forgotten."""
+    folder = trial.path("archives")
+    put(folder + "/a.warc", page())
+    trial.run("c", "run", folder)
+    not_warc = put_script(trial.path("other"), "echo hello\n")
+    for program in ("/nothing", not_warc):
+        done = trial.run("c", "run", "--all", "--warc", program)
+        trial.judge(done.returncode == 3, "a run with " + program, done.stdout + done.stderr)
+    trial.judge(trial.count("c", "captures") == 1, "the captures are kept")
+    copy = shutil.copy(trial.warc, trial.path("warc"))
+    done = trial.run("c", "plan", "--all", "--warc", copy)
+    jobs = os.fsdecode(done.stdout.strip())
+    os.unlink(copy)
+    done = subprocess.run([trial.script, "job", jobs, "1"], capture_output=True, check=False)
+    trial.judge(done.returncode == 3 and not os.listdir(jobs + "/done"), "a job without a program", done.stderr)
+    trial.judge(trial.count("c", "captures") == 1, "the captures are still kept")
+
+
+def kept_rows(trial: Trial) -> None:
+    """A file that can't be read keeps the rows of its last good reading, and these are marked."""
+    path = put(trial.path("archives", "a.warc"), page())
+    trial.run("c", "run", trial.path("archives"))
+    os.chmod(path, 0)
+    done = trial.run("c", "run", before=LESS)
+    trial.judge(trial.states("c") == {"a.warc": "failed"} and done.returncode == 1, "no permission", done.stdout)
+    done = trial.run("c", "find", URI.decode())
+    trial.judge(b"\tread on 2" in done.stdout and b"a.warc" in done.stderr, "find", done.stdout + done.stderr)
+    done = trial.run("c", "find", "http://other.example/")
+    trial.judge(b"a.warc" not in done.stderr, "another URI", done.stderr)
+    os.chmod(path, 0o644)
+    trial.run("c", "run")
+    done = trial.run("c", "find", URI.decode())
+    trial.judge(b"read on" not in done.stdout + done.stderr and URI not in done.stderr, "read again", done.stdout)
+
+
+def unchecked_blocks(trial: Trial) -> None:
+    """A digest that can't be checked isn't a good one."""
+    put(trial.path("archives", "a.warc"), page(1) + record("resource", 2, DATE, URI, b"x", block_digest="sha256:ab"))
+    done = trial.run("c", "run", trial.path("archives"))
+    trial.judge(trial.states("c") == {"a.warc": "unchecked"} and done.returncode == 1, "the state", done.stdout)
+    trial.judge("1 block can't be checked" in trial.detail("c"), "the words", trial.detail("c"))
+
+
+def changed_behind(trial: Trial) -> None:
+    """A file that is changed while it is replayed gives nothing; one with the same size and time is read again."""
+    path = put(trial.path("archives", "a.warc"), page())
+    trial.run("c", "run", trial.path("archives"))
+    other = put(trial.path("other.warc"), page(1, b"xyz"))
+    text = '[ "$1" = body ] && cp %s %s && touch -d @%d %s\nexec %s "$@"\n'
+    slow = put_script(trial.path("warc"), text % (other, path, os.stat(path).st_mtime, path, trial.warc))
+    os.utime(path, ns=(0, int(os.stat(path).st_mtime) * 10**9))
+    trial.run("c", "run")
+    done = trial.run("c", "replay", "--warc", slow, URI.decode(), "9999")
+    trial.judge((done.returncode, done.stdout) == (3, b""), "changed while it is read", done.stdout + done.stderr)
+    before = os.stat(path)
+    put(path + ".new", page(1, b"pqr"))
+    os.utime(path + ".new", ns=(before.st_atime_ns, before.st_mtime_ns))
+    trial.run("c", "run")
+    os.rename(path + ".new", path)
+    done = trial.run("c", "replay", URI.decode(), "9999")
+    trial.judge((done.returncode, done.stdout) == (3, b""), "another inode", done.stdout + done.stderr)
+    done = trial.run("c", "run")
+    trial.judge(to_read(done) == 1, "a run after that", done.stderr)
+
+
+def small_mistakes(trial: Trial) -> None:
+    """Names in capitals, numbers that no job has, folders that are missing."""
+    put(trial.path("archives", "B.WARC.GZ"), gzip.compress(page()))
+    trial.run("c", "run", trial.path("archives"))
+    trial.judge(trial.states("c") == {"B.WARC.GZ": "good"}, "capitals", trial.states("c"))
+    jobs = os.fsdecode(trial.run("c", "plan", "--all").stdout.strip())
+    for number in ("0", "2", "99999999"):
+        done = subprocess.run([trial.script, "job", jobs, number], capture_output=True, check=False)
+        is_right = done.returncode == 3 and b"Traceback" not in done.stderr and not os.listdir(jobs + "/done")
+        trial.judge(is_right, "job " + number, done.stderr)
+    done = trial.run("d", "plan", trial.path("missing"))
+    trial.judge(done.returncode == 3, "a folder that is missing", done.stderr)
+
+
+# Runs that don't end or can't go on
+
+
+def many_revisits(trial: Trial) -> None:
+    """Revisits that name nothing, in many files: one search, and the page of the one file that has it."""
+    folder, body = trial.path("archives"), HEAD + b"page"
+    fields = {"content_type": "application/http;msgtype=response", "WARC_Payload_Digest": "sha1:" + "A" * 32}
+    put(folder + "/page.warc", record("response", 1, DATE, URI, body, **fields))
+    for number in range(2, 9):
+        date = "2020-01-%02dT00:00:00Z" % number
+        data = record("revisit", number, date, URI, HEAD, WARC_Profile=REVISIT, **fields)
+        put(folder + "/%d.warc" % number, data)
+        lost = record("revisit", number + 20, date, URI + b"lost", HEAD, WARC_Profile=REVISIT, **fields)
+        put(folder + "/lost%d.warc" % number, lost)
+    trial.run("c", "run", folder)
+    done = trial.run("c", "replay", URI.decode(), "9999", seconds=120)
+    trial.judge(done.stdout == b"page" and b"page.warc" in done.stderr, "the page", done.stderr)
+    done = trial.run("c", "replay", URI.decode() + "lost", "9999", seconds=120)
+    trial.judge(done.returncode == 1 and b"P4 NoReference" in done.stderr, "no page", done.stderr)
+
+
+def chained_revisits(trial: Trial) -> None:
+    """Revisits that name records of other files, in a ring and in a row."""
+    folder, name = trial.path("archives"), "<urn:uuid:00000000-0000-4000-8000-%012d>"
+    fields = {"content_type": "application/http;msgtype=response", "WARC_Profile": REVISIT}
+    for number in range(1, 9):
+        ring = record("revisit", number, DATE, URI + b"ring", HEAD, WARC_Refers_To=name % (number % 8 + 1), **fields)
+        put(folder + "/ring%d.warc" % number, ring)
+        date = "2021-01-%02dT00:00:00Z" % number
+        row = record("revisit", number + 20, date, URI + b"row", HEAD, WARC_Refers_To=name % (number + 19), **fields)
+        put(folder + "/row%d.warc" % number, row)
+    put(folder + "/row0.warc", record("response", 20, DATE, URI + b"row", HEAD + b"row", **fields))
+    trial.run("c", "run", folder)
+    done = trial.run("c", "replay", URI.decode() + "row", "9999", seconds=120)
+    trial.judge(done.stdout == b"row", "a row of revisits", done.stderr)
+    done = trial.run("c", "replay", URI.decode() + "ring", "9999", seconds=120)
+    trial.judge(done.returncode == 1 and not done.stdout, "a ring of revisits", done.stderr)
+
+
+def no_regular_files(trial: Trial) -> None:
+    """Pipes, sockets and devices with the name of an archive are left out, and a job isn't held up by one."""
+    folder = trial.path("archives")
+    path = put(folder + "/a.warc", page())
+    os.mkfifo(folder + "/pipe.warc")
+    os.mknod(folder + "/zero.warc", 0o600 | stat.S_IFCHR, os.makedev(1, 5))
+    with socket.socket(socket.AF_UNIX) as server:
+        server.bind(folder + "/socket.warc")
+        done = trial.run("c", "run", "--timeout", "5", folder, seconds=60)
+    trial.judge(done.returncode == 0 and to_read(done) == 1, "a run", done.stdout + done.stderr)
+    trial.judge(all(name in done.stderr for name in (b"pipe.warc", b"zero.warc", b"socket.warc")), "names", done.stderr)
+    jobs = os.fsdecode(trial.run("d", "plan", path).stdout.strip())
+    os.unlink(path)
+    os.mkfifo(path)
+    with contextlib.suppress(subprocess.TimeoutExpired):
+        subprocess.run([trial.script, "job", jobs, "1"], timeout=30, check=False)
+    trial.run("d", "load")
+    trial.judge(trial.states("d") == {"a.warc": "failed"}, "a pipe in the place of a file", trial.states("d"))
+
+
+def limited_time(trial: Trial) -> None:
+    """The time holds for all that a job does: the commands together, and unpacking."""
+    put(trial.path("archives", "a.warc"), page())
+    slow = put_script(trial.path("slow"), '[ "$1" = --version ] || sleep 1\nexec %s "$@"\n' % trial.warc)
+    trial.run("c", "run", "--warc", slow, "--timeout", "3", trial.path("archives"), seconds=60)
+    trial.judge(trial.states("c") == {"a.warc": "failed"}, "five seconds in three", trial.states("c"))
+    trial.judge("took too long" in trial.detail("c"), "the words", trial.detail("c"))
+    bomb = gzip.compress(bytes(1 << 27)) * 400
+    put(trial.path("bombs", "bomb.warc.gz"), bomb)
+    with small_disk(trial.path("disk"), "64k") as disk:
+        begun = time.monotonic()
+        trial.run("d", "run", "--temporary", disk, "--timeout", "2", trial.path("bombs"), seconds=90)
+    trial.judge(time.monotonic() - begun < 20, "fifty gigabytes of zeros", time.monotonic() - begun)
+    trial.judge("took too long" in trial.detail("d"), "their words", trial.detail("d"))
+    trial.judge(not running_with(trial.path("slow")), "nothing runs on")
+
+
+def torn_jobs(trial: Trial) -> None:
+    """What a power cut left of a job is dropped, and its file is read again."""
+    put(trial.path("archives", "a.warc"), b"".join(page(number) for number in range(1, 5)))
+    for place, (name, data) in enumerate(tears().items()):
+        catalogue = "c%d" % place
+        jobs = os.fsdecode(trial.run(catalogue, "plan", trial.path("archives")).stdout.strip())
+        subprocess.run([trial.script, "job", jobs, "1"], check=True)
+        with open(os.path.join(jobs, "done", "1", name.split()[0]), "rb+") as file:
+            file.truncate(data)
+        done = trial.run(catalogue, "load")
+        trial.judge(done.returncode == 3, "load after a torn " + name, done.stderr)
+        trial.judge(trial.states(catalogue) == {"a.warc": "unread"}, "the state after a torn " + name)
+        done = trial.run(catalogue, "run")
+        is_whole = trial.count(catalogue, "records") == 4 and trial.count(catalogue, "captures") == 4
+        trial.judge(done.returncode == 0 and is_whole, "a run after a torn " + name, done.stdout + done.stderr)
+
+
+def tears() -> Dict[str, int]:
+    """The files of a job, and how many bytes are left of each."""
+    return {
+        "outcome": 0,
+        "outcome half": 20,
+        "list": 0,
+        "list half": 100,
+        "captures": 0,
+        "summary": 0,
+        "summary half": 9,
+    }
+
+
+def synced_jobs(trial: Trial) -> None:
+    """Each file of a job, and its folder, is on the disk before the job has its name, and the name afterwards."""
+    put(trial.path("archives", "a.warc"), page())
+    jobs = os.fsdecode(trial.run("c", "plan", trial.path("archives")).stdout.strip())
+    log = trial.path("strace")
+    words = ["strace", "-f", "-qq", "-y", "-e", "trace=fsync,fdatasync,rename,renameat,renameat2", "-o", log]
+    subprocess.run([*words, trial.script, "job", jobs, "1"], check=True)
+    with open(log, encoding="utf-8", errors="replace") as file:
+        calls = file.read()
+    before, _, after = calls.partition("/done/1")
+    work = "fsync(" in before and "/work/1." in before
+    for name in ("outcome", "list", "captures", "summary"):
+        trial.judge(work and "/%s>" % name in before, name + " is synced before", calls)
+    folders = [line for line in before.splitlines() if "fsync" in line and "/work/1." in line and ">)" in line]
+    trial.judge(any("/" not in line.rpartition("/work/1.")[2].split(">")[0] for line in folders), "the folder", calls)
+    trial.judge("fsync" in after and "/done>" in after, "the name is synced afterwards", calls)
+
+
+def failing_load(trial: Trial) -> None:
+    """Where loading fails, GNU parallel and its jobs end with the run."""
+    for number in range(8):
+        put(trial.path("archives", "%d.warc" % number), page(number))
+    slow = put_script(trial.path("slow"), '[ "$1" = --version ] || sleep 1\nexec %s "$@"\n' % trial.warc)
+    words = trial.words("c", "run", "--jobs", "1", "--warc", slow, trial.path("archives"))
+    with open(trial.path("messages"), "wb") as messages:
+        child = subprocess.Popen(words, stdout=subprocess.DEVNULL, stderr=messages)
+    while b" to read\n" not in read(trial.path("messages")) and child.poll() is None:
+        time.sleep(0.1)
+    with contextlib.closing(trial.base("c")) as base:
+        base.execute("DROP TABLE hosts")
+    child.wait(120)
+    time.sleep(1)
+    left, message = running_with(trial.path("c", "jobs")), read(trial.path("messages"))
+    trial.judge(child.returncode == 3 and b"Traceback" not in message, "the run", message)
+    trial.judge(not left, "what runs on", left)
+    for process in left:
+        with contextlib.suppress(ProcessLookupError):
+            os.kill(process, signal.SIGKILL)
+
+
+def long_readers(trial: Trial) -> None:
+    """A reader that holds the database doesn't end a run, whether or not its disk is one of this machine."""
+    put(trial.path("archives", "a.warc"), page())
+    trial.run("local", "run", trial.path("archives"))
+    for name in ("lower", "upper", "work", "far"):
+        os.makedirs(trial.path("disk", name))
+    with small_disk(trial.path("disk"), "64m") as disk:
+        for name in ("lower", "upper", "work", "far"):
+            os.makedirs(os.path.join(disk, name))
+        layers = "lowerdir=%s/lower,upperdir=%s/upper,workdir=%s/work" % (disk, disk, disk)
+        subprocess.run(["mount", "-t", "overlay", "-o", layers, "overlay", disk + "/far"], check=True)
+        try:
+            trial.run("disk/far", "run", trial.path("archives"))
+            for catalogue, seconds in (("local", 3), ("disk/far", 25)):
+                run_beside_reader(trial, catalogue, seconds)
+        finally:
+            subprocess.run(["umount", disk + "/far"], check=True)
+
+
+def run_beside_reader(trial: Trial, catalogue: str, seconds: int) -> None:
+    """A run while another process reads for some seconds."""
+    with contextlib.closing(trial.base(catalogue)) as base:
+        base.execute("BEGIN")
+        base.execute("SELECT count(*) FROM captures").fetchone()
+        words = trial.words(catalogue, "run", "--all")
+        child = subprocess.Popen(words, stdout=subprocess.PIPE, stderr=subprocess.PIPE)
+        time.sleep(seconds)
+        base.execute("COMMIT")
+    out, message = child.communicate(timeout=120)
+    trial.judge(child.returncode == 0, "%s: a run beside a reader" % catalogue, out + message)
+
+
+def stopped_export(trial: Trial) -> None:
+    """An export that doesn't go on, while it writes, holds up no run."""
+    put(trial.path("archives", "a.warc"), page())
+    trial.run("c", "run", trial.path("archives"))
+    with contextlib.closing(trial.base("c")) as base:
+        rows = ((1, place, "x", "urn:%d" % place) for place in range(1, 300_000))
+        base.executemany("INSERT INTO captures (file, position, instant, target) VALUES (?, ?, ?, ?)", rows)
+        base.commit()
+    os.makedirs(trial.path("tables"))
+    child = subprocess.Popen(trial.words("c", "export", trial.path("tables")))
+    while child.poll() is None and not any("captures.tsv" in name for name in os.listdir(trial.path("tables"))):
+        time.sleep(0.001)
+    child.send_signal(signal.SIGSTOP)
+    trial.judge(child.poll() is None, "the export is stopped in time")
+    try:
+        with contextlib.closing(sqlite3.connect(trial.path("c", "catalogue.sqlite"), timeout=2)) as base:
+            base.execute("INSERT INTO settings VALUES ('x', '1')")
+            base.commit()
+    except sqlite3.OperationalError as error:
+        trial.judge(False, "a change while it is stopped", error)
+    child.send_signal(signal.SIGCONT)
+    trial.judge(child.wait(120) == 0, "the export")
+    trial.judge(read(trial.path("tables", "captures.tsv")).count(b"\n") == 300_000, "its rows")
+
+
+def hostile_tables(trial: Trial) -> None:
+    """PostgreSQL takes each row as it is, also from a client in LATIN1."""
+    binaries = sorted(glob.glob("/usr/lib/postgresql/*/bin"))
+    if not binaries or shutil.which("psql") is None:
+        print("PostgreSQL: left out, since it isn't installed", flush=True)
+        return
+    folder = trial.path("archives")
+    targets = [b"http://%s/" % (b"h" * 6000), b"http://a\xff.example/", "http://ä.example/→".encode(), b"urn:\\N"]
+    targets += [b"urn:a\tb", b"urn:" + b"long" * 10_000, b"-", b"urn:\\.", "urn:\U0001f600".encode()]
+    data = b"".join(page(number, b"x", target) for number, target in enumerate(targets, 1))
+    kind = record("x" * 5000, 80, DATE, URI, b"")
+    put(folder + "/a.warc", data + kind)
+    put(os.path.join(folder, os.fsdecode(b"odd \xff\n\t\\\"'.warc")), data[:-4])
+    trial.run("c", "run", folder)
+    trial.judge(trial.count("c", "captures") == len(targets), "the captures", trial.states("c"))
+    done = trial.run("c", "export", trial.path("tables"))
+    trial.judge(done.returncode == 0, "the export", done.stderr)
+    with database(trial.path("server"), binaries[-1]) as words:
+        loaded = subprocess.run(
+            [*words, "-f", "load.sql"],
+            cwd=trial.path("tables"),
+            env=dict(os.environ, PGCLIENTENCODING="LATIN1"),
+            capture_output=True,
+            check=False,
+        )
+        trial.judge(loaded.returncode == 0, "load.sql", loaded.stderr)
+        for path in sorted(glob.glob(trial.path("tables", "*.tsv"))):
+            compare_table(trial, words, path)
+
+
+def compare_table(trial: Trial, words: List[str], path: str) -> None:
+    """The rows that PostgreSQL has must be those of the file."""
+    name = os.path.basename(path).partition(".")[0]
+    given = subprocess.run(
+        [*words, "-c", "COPY %s TO STDOUT" % name], env=dict(os.environ, PGCLIENTENCODING="UTF8"), capture_output=True
+    )
+    with open(path, "rb") as file:
+        expected = sorted(file.read().splitlines())
+    seen = sorted(given.stdout.splitlines())
+    # Numbers with a fraction are written otherwise.
+    is_right = len(seen) == len(expected) if name in ("checks", "runs") else seen == expected
+    trial.judge(is_right, "the rows of " + name, given.stderr + b"\n".join(set(seen) ^ set(expected))[:500])
+
+
+@contextlib.contextmanager
+def database(folder: str, binaries: str) -> Iterator[List[str]]:
+    """A server of PostgreSQL on a socket in a folder, as the user postgres. Gives the words of its client."""
+    place = tempfile.mkdtemp(prefix="warc-pg-")
+    shutil.chown(place, "postgres", "postgres")
+    as_user = ["setpriv", "--reuid=postgres", "--regid=postgres", "--clear-groups", "env", "HOME=" + place]
+    quiet = {"cwd": place, "stdout": subprocess.DEVNULL, "check": True}
+    make = [binaries + "/initdb", "-D", place + "/data", "-E", "UTF8", "--locale=C.UTF-8", "-A", "trust"]
+    subprocess.run([*as_user, *make], **quiet)  # type: ignore[call-overload]
+    server = [binaries + "/pg_ctl", "-D", place + "/data", "-w", "-l", place + "/log"]
+    options = "-c listen_addresses='' -c unix_socket_directories=%s -c fsync=off" % place
+    subprocess.run([*as_user, *server, "-o", options, "start"], **quiet)  # type: ignore[call-overload]
+    try:
+        yield ["psql", "-q", "-X", "-h", place, "-U", "postgres", "-d", "postgres"]
+    finally:
+        subprocess.run([*as_user, *server, "-m", "immediate", "stop"], **quiet)  # type: ignore[call-overload]
+        shutil.rmtree(place)
+
+
+def failing_output(trial: Trial) -> None:
+    """Where output fails the status is 3, since 1 means that there is nothing."""
+    put(trial.path("archives", "a.warc"), page())
+    trial.run("c", "run", trial.path("archives"))
+    for words in (("replay", URI.decode(), "9999"), ("status",), ("find", URI.decode()), ("status", "--json")):
+        with open("/dev/full", "wb") as full:
+            done = subprocess.run(trial.words("c", *words), stdout=full, stderr=subprocess.PIPE, check=False)
+        is_right = done.returncode == 3 and b"Traceback" not in done.stderr and b"No space" in done.stderr
+        trial.judge(is_right, "%s on a full disk" % words[0], (done.returncode, done.stderr))
+    put(trial.path("broken", "catalogue.sqlite"), b"no database" * 1000)
+    for words in (("status",), ("find", URI.decode()), ("run",)):
+        done = trial.run("broken", *words)
+        trial.judge(done.returncode == 3, "%s of a broken catalogue" % words[0], done.stderr)
+
+
+def reports_elsewhere(trial: Trial) -> None:
+    """A report replaces a regular file, and is written through anything else."""
+    put(trial.path("archives", "a.warc"), page())
+    trial.run("c", "run", trial.path("archives"))
+    for name, minor, status in (("null", 3, 0), ("full", 7, 3)):
+        device = trial.path(name)
+        os.mknod(device, 0o666 | stat.S_IFCHR, os.makedev(1, minor))
+        done = trial.run("c", "report", device)
+        is_device = stat.S_ISCHR(os.lstat(device).st_mode)
+        trial.judge(is_device and done.returncode == status, "a device: " + name, (is_device, done.stderr))
+    target, link = put(trial.path("target.html"), b"old"), trial.path("link.html")
+    os.symlink(target, link)
+    trial.run("c", "report", link)
+    with open(target, "rb") as file:
+        trial.judge(os.path.islink(link) and b"<!DOCTYPE" in file.read(), "a link")
+    victim = put(trial.path("victim"), b"victim")
+    for name in ("tables/files.tsv", "tables/load.sql", "plain.html.new"):
+        os.makedirs(os.path.dirname(trial.path(name)), exist_ok=True)
+        os.symlink(victim, trial.path(name))
+    trial.run("c", "report", trial.path("plain.html"))
+    trial.run("c", "export", trial.path("tables"))
+    with open(victim, "rb") as file:
+        trial.judge(file.read() == b"victim", "links in the place of files that are written")
+    mode = stat.S_IMODE(os.stat(trial.path("plain.html")).st_mode)
+    trial.judge(mode == 0o644, "the mode of the report", oct(mode))
+
+
+# At the edge
+
+ODD_NAMES = (
+    b"a\ngood\t1\tnothing was found\n.warc",
+    b"b\x1b]0;owned\x07.warc",
+    "c\u202ecraw.warc".encode(),
+    b"d\xff\xfe.warc",
+    b"e\t\\n.warc",
+    "f\x9b31m.warc".encode(),
+    b"g'\"$(x) {}{= =}.warc",
+)
+
+
+def odd_names(trial: Trial) -> None:
+    """No name forges a line or is obeyed by a terminal; scripts get each name as it is."""
+    folder = os.fsencode(trial.path("archives"))
+    paths = [os.path.join(folder, name) for name in ODD_NAMES]
+    for path in paths:
+        put(os.fsdecode(path), page(1) + b"x")
+    done = trial.run("c", "run", os.fsdecode(folder))
+    lines = done.stdout.decode("utf-8", "replace").splitlines()
+    trial.judge(len(lines) == 1 + len(paths), "a line for each file", lines)
+    text = (done.stdout + done.stderr).decode("utf-8", "replace")
+    unsafe = [character for character in text if not character.isprintable() and character not in "\n\t"]
+    trial.judge(not unsafe, "characters that can't be seen", unsafe)
+    done = trial.run("c", "status", "-0")
+    names = [line.split(b"\t", 1)[1].rsplit(b"\t", 1)[0] for line in done.stdout.split(b"\0")[:-1]]
+    trial.judge(sorted(names) == sorted(paths), "status -0", names)
+    done = trial.run("c", "status", "--json")
+    found = [os.fsencode(file["path"]) for file in json.loads(done.stdout or b'{"files": []}')["files"]]
+    trial.judge(sorted(found) == sorted(paths), "status --json", found)
+    for form in ("-0", "--json"):
+        done = trial.run("c", "report", form, trial.path("list" + form))
+        is_right = done.returncode == 0 and trial.run("c", "status", form).stdout == read(trial.path("list" + form))
+        trial.judge(is_right, "report " + form, done.stderr)
+    for path in paths:
+        put(os.fsdecode(path), page(1))
+    trial.run("c", "run")
+    lines = trial.run("c", "find", URI.decode()).stdout.decode("utf-8", "replace").splitlines()
+    trial.judge(len(lines) == len(paths), "find", lines)
+    rows = trial.run("c", "find", "-0", URI.decode()).stdout.split(b"\0")[:-1]
+    trial.judge(sorted(row.rsplit(b"\t", 9)[0] for row in rows) == sorted(paths), "find -0", rows)
+    rows = trial.run("c", "find", "--json", URI.decode()).stdout.splitlines()
+    trial.judge(sorted(os.fsencode(json.loads(row)["path"]) for row in rows) == sorted(paths), "find --json", rows)
+
+
+def read(path: str) -> bytes:
+    if not os.path.exists(path):
+        return b""
+    with open(path, "rb") as file:
+        return file.read()
+
+
+def odd_settings(trial: Trial) -> None:
+    """The catalogue's path is no program of GNU parallel's, and the output may be in latin-1."""
+    put(trial.path("archives", "\u2192.warc"), page(1) + b"x")
+    owned = trial.path("owned")
+    for name in ("cat{= `touch %s` =}" % owned.replace("/", "\\x2f"), "c{.}'$x {}", "{= $_=1 =}"):
+        done = trial.run(name, "run", trial.path("archives"))
+        trial.judge(done.returncode == 1, "a catalogue called " + name, done.stderr)
+    trial.judge(not os.path.exists(owned), "no program is run")
+    done = trial.run("{= $_=1 =}", "status", env={"PYTHONIOENCODING": "latin-1", "PYTHONUTF8": "0"})
+    trial.judge(done.returncode == 1 and b"refused" in done.stdout, "latin-1", done.stdout + done.stderr)
+
+
+def many_users(trial: Trial) -> None:
+    """ssh is as the user has it, and jobs can be loaded by another user."""
+    put(trial.path("archives", "a.warc"), page())
+    log = trial.path("ssh.log")
+    tools = os.path.dirname(put_script(trial.path("tools", "ssh"), 'echo "$@" >> %s\nexit 255\n' % log))
+    env = {"PATH": tools + ":" + os.environ["PATH"]}
+    trial.run("c", "run", "--sshlogin", "1/far.example", trial.path("archives"), env=env, seconds=120)
+    said = read(log)
+    trial.judge(b"far.example" in said and b"StrictHostKeyChecking" not in said, "the words for ssh", said)
+    jobs = os.fsdecode(trial.run("d", "plan", trial.path("archives")).stdout.strip())
+    subprocess.run(["sh", "-c", 'umask 022; exec "$0" "$@"', trial.script, "job", jobs, "1"], check=True)
+    mode = stat.S_IMODE(os.stat(jobs + "/done/1").st_mode)
+    trial.judge(mode == 0o755, "the mode of a job", oct(mode))
+
+
+def old_runs(trial: Trial) -> None:
+    """`prune` drops what earlier runs found of single files, and keeps the sums of each run."""
+    put(trial.path("archives", "a.warc"), page())
+    for _ in range(6):
+        trial.run("c", "run", "--all", trial.path("archives"))
+    done = trial.run("c", "prune", "--keep", "2")
+    trial.judge(done.returncode == 0 and trial.count("c", "checks") == 2, "checks", trial.count("c", "checks"))
+    trial.run("c", "report", trial.path("r.html"))
+    runs = re.findall(rb"<tr><td>(\d)</td>", read(trial.path("r.html")))
+    trial.judge(runs == [b"6", b"5", b"4", b"3", b"2", b"1"], "the report", runs)
+    trial.judge(trial.count("c", "runs") == 6, "runs")
+    done = trial.run("c", "find", URI.decode())
+    trial.judge(done.stdout.count(b"\n") == 1, "find", done.stdout)
+
+
+# A night that can be green
+
+
+def revisits_of_wget(trial: Trial) -> None:
+    """A revisit with the digest of no bytes isn't bad; a response with it is, and so is another digest."""
+    revisit = {"content_type": "application/http;msgtype=response", "WARC_Profile": REVISIT}
+    revisit["WARC_Refers_To"] = "<urn:uuid:00000000-0000-4000-8000-000000000001>"
+    first = record("response", 1, DATE, URI, HEAD + b"x", content_type="application/http;msgtype=response")
+    wget = record("revisit", 2, DATE, URI, HEAD, block_digest=NO_BYTES, **revisit)
+    put(trial.path("good", "wget.warc"), first + wget)
+    done = trial.run("c", "run", trial.path("good"))
+    trial.judge(done.returncode == 0 and trial.states("c") == {"wget.warc": "good"}, "wget", done.stdout)
+    trial.judge(b"no-bytes\t1\t" in done.stdout, "they are counted", done.stdout)
+    put(trial.path("bad", "response.warc"), record("resource", 3, DATE, URI, b"x", block_digest=NO_BYTES))
+    other = record("revisit", 4, DATE, URI, HEAD, block_digest="sha1:" + "A" * 32, **revisit)
+    put(trial.path("bad", "revisit.warc"), first + wget + other)
+    trial.run("c", "run", trial.path("good"), trial.path("bad"))
+    states = trial.states("c")
+    trial.judge(states["response.warc"] == states["revisit.warc"] == "bad", "what is bad", states)
+
+
+def moves(trial: Trial) -> None:
+    """A file that was moved is known again; one that was removed can be forgotten."""
+    path = put(trial.path("archives", "a.warc"), page() + page(2, b"more"))
+    same = put(trial.path("archives", "same.warc"), page(3) + page(4, b"mine"))
+    trial.run("c", "run", trial.path("archives"))
+    os.makedirs(trial.path("archives", "new"))
+    shutil.copy(path, trial.path("archives", "new", "b.warc"))
+    os.unlink(path)
+    os.unlink(same)
+    done = trial.run("c", "run")
+    trial.judge(trial.states("c") == {"b.warc": "good", "same.warc": "gone"}, "a move", trial.states("c"))
+    rows = trial.ask("c", "SELECT change FROM changes WHERE run = 2 ORDER BY change")
+    trial.judge(rows == [("gone",), ("moved",)] and done.returncode == 1, "the changes", rows)
+    trial.judge(trial.count("c", "captures") == 4, "the captures", trial.count("c", "captures"))
+    done = trial.run("c", "forget", trial.path("archives", "new"))
+    trial.judge(done.returncode == 1 and trial.count("c", "files") == 2, "a file that is there", done.stderr)
+    done = trial.run("c", "forget", same)
+    trial.judge(done.returncode == 0 and trial.count("c", "files") == 1, "forget", done.stderr)
+    done = trial.run("c", "run")
+    trial.judge(done.returncode == 0 and b"gone" not in done.stdout, "the night after", done.stdout)
+
+
+def named_files(trial: Trial) -> None:
+    """Files with findings are named; files that can't be read are named where they may have the URI."""
+    put(trial.path("archives", "found.warc"), page(1) + page(1))
+    put(trial.path("archives", "torn.warc"), page(2, target=URI + b"torn")[:-9])
+    done = trial.run("c", "run", trial.path("archives"))
+    trial.judge(
+        b"findings\t%s" % os.fsencode(trial.path("archives", "found.warc")) in done.stdout, "status", done.stdout
+    )
+    trial.judge(b"found.warc" in read(trial.path("c", "report.html")), "the report")
+    done = trial.run("c", "find", URI.decode() + "torn")
+    trial.judge(b"torn.warc" in done.stderr and b"found.warc" not in done.stderr, "find", done.stderr)
+    os.unlink(trial.path("archives", "torn.warc"))
+    trial.run("c", "run")
+    done = trial.run("c", "find", URI.decode())
+    trial.judge(
+        b"torn.warc" not in done.stderr and b"can't be given" not in done.stderr, "a file that is gone", done.stderr
+    )
+
+
+def rot(trial: Trial) -> None:
+    """Bytes that change under an old time stamp are seen by the digest of the whole file, until they are back."""
+    data = record("resource", 1, DATE, URI, b"abc", block_digest="-")
+    path = put(trial.path("archives", "a.warc"), data + page(2, target=URI + b"2"))
+    trial.run("c", "run", trial.path("archives"))
+    done = trial.run("c", "run", "--digest")
+    trial.judge(to_read(done) == 1, "the first digest", done.stderr)
+    before = os.stat(path)
+    for text, state in ((b"axc", "rotten"), (b"axc", "rotten"), (b"abc", "unchecked")):
+        put(path, data.replace(b"abc", text) + page(2, target=URI + b"2"))
+        os.utime(path, ns=(before.st_atime_ns, before.st_mtime_ns))
+        done = trial.run("c", "run", "--digest", "--all")
+        trial.judge(trial.states("c") == {"a.warc": state}, "bytes %s" % text.decode(), done.stdout + done.stderr)
+        if state == "rotten":
+            done = trial.run("c", "replay", URI.decode(), "9999")
+            trial.judge((done.returncode, done.stdout) == (3, b""), "a replay of rotten bytes", done.stderr)
+
+
+def older_catalogue(trial: Trial) -> None:
+    """A catalogue of version 0.2.0 goes on: its runs and its rows are kept."""
+    put(trial.path("archives", "a.warc"), page())
+    trial.run("c", "run", trial.path("archives"))
+    with contextlib.closing(trial.base("c")) as base:
+        base.executescript(
+            "ALTER TABLE runs DROP COLUMN hosts; ALTER TABLE runs DROP COLUMN files_read;"
+            "ALTER TABLE runs DROP COLUMN seconds; ALTER TABLE runs DROP COLUMN good;"
+            "ALTER TABLE runs DROP COLUMN unchecked; ALTER TABLE runs DROP COLUMN bad;"
+            "ALTER TABLE runs DROP COLUMN no_bytes; ALTER TABLE files DROP COLUMN changed;"
+            "ALTER TABLE files DROP COLUMN inode; ALTER TABLE files DROP COLUMN sha256;"
+            "ALTER TABLE checks DROP COLUMN sha256; ALTER TABLE changes DROP COLUMN path_before;"
+            "ALTER TABLE checks ADD COLUMN gunzip_status BIGINT; DROP TABLE readings; PRAGMA user_version = 0;"
+        )
+    done = trial.run("c", "find", URI.decode())
+    trial.judge(done.returncode == 3 and b"version" in done.stderr, "a question before a run", done.stderr)
+    done = trial.run("c", "run")
+    trial.judge(done.returncode == 0 and to_read(done) == 1, "a run", done.stdout + done.stderr)
+    trial.judge((trial.count("c", "runs"), trial.count("c", "captures")) == (2, 1), "its rows")
+    done = trial.run("c", "replay", URI.decode(), "9999")
+    trial.judge(done.stdout == b"abc", "a replay", done.stderr)
+    trial.judge(trial.run("c", "export", trial.path("tables")).returncode == 0, "an export")
+
+
+PARTS: List[Callable[[Trial], None]] = [
+    *(no_room, failing_machine, damaged_members, no_program, kept_rows, unchecked_blocks, changed_behind),
+    *(small_mistakes, many_revisits, chained_revisits, no_regular_files, limited_time, torn_jobs, synced_jobs),
+    *(failing_load, long_readers, stopped_export, hostile_tables, failing_output, reports_elsewhere, odd_names),
+    *(odd_settings, many_users, old_runs, revisits_of_wget, moves, named_files, rot, older_catalogue),
+]
+
+
+def main(warc: str, names: List[str]) -> int:
+    root = os.path.join(TOP, "out", "stress")
+    os.makedirs(root, exist_ok=True)
+    folder = tempfile.mkdtemp(prefix="faults-", dir=root)
+    trial = Trial(warc, folder)
+    try:
+        for part in [part for part in PARTS if not names or part.__name__ in names]:
+            trial.folder = os.path.join(folder, part.__name__)
+            os.makedirs(trial.folder)
+            trial.begin("warc-collection, " + part.__name__.replace("_", " "))
+            part(trial)
+            trial.end()
+    finally:
+        if "STRESS_KEEP" not in os.environ:
+            shutil.rmtree(folder, ignore_errors=True)
+    return trial.totals()
+
+
+if __name__ == "__main__":
+    sys.exit(main(sys.argv[1], sys.argv[2:]))

@@ -1,0 +1,161 @@
+#!/usr/bin/env python3
+"""Properties of warc-collection's small parts, over names and rows that hypothesis makes.
+
+    python3 tests/stress/collection_rows.py [COUNT]
+
+Names are shown without a character that a terminal obeys, and no two names alike; rows come back from the text for
+PostgreSQL; columns come back from the lines of the program; compressed members are taken apart as Python's gzip does;
+words reach a command through the shell as they were. The exit status is 1 if a property doesn't hold. Without hypothesis
+(Debian's python3-hypothesis) this is left out.
+"""
+from __future__ import annotations
+
+import gzip
+import io
+import os
+import subprocess
+import sys
+import unicodedata
+from typing import Callable, List, Optional, Tuple, Union
+
+TOP = os.path.dirname(os.path.dirname(os.path.dirname(os.path.abspath(__file__))))
+sys.path.insert(0, os.path.join(TOP, "collection"))
+
+from zogwedu_collection import export, lines, runs, texts, unpack  # noqa: E402
+
+try:
+    from hypothesis import given, settings
+    from hypothesis import strategies as st
+    from hypothesis.configuration import set_hypothesis_home_dir
+except ImportError:
+    print("collection_rows.py: left out, since python3-hypothesis isn't installed")
+    sys.exit(0)
+
+set_hypothesis_home_dir(os.path.join(TOP, "out", "hypothesis"))
+Value = Union[None, int, str, bytes]
+COUNT = int(sys.argv[1]) if len(sys.argv) > 1 else 500
+NAMES = st.one_of(st.binary(min_size=1), st.text(min_size=1).map(lambda name: name.encode("utf-8", "replace")))
+PLAIN = st.binary().map(lambda value: value.replace(b"\n", b"").replace(b"\t", b""))
+TABBED = st.binary().map(lambda value: value.replace(b"\n", b""))
+TEXTS = st.text(st.characters(blacklist_categories=("Cs",)))
+SIZES = st.integers(0, 1 << 48)
+FAST = settings(max_examples=COUNT, deadline=None)
+SLOW = settings(max_examples=max(COUNT // 10, 1), deadline=None)
+
+
+def unescaped(shown: str) -> bytes:
+    """The name that was shown: the escapes are undone."""
+    out, rest = b"", shown
+    while rest:
+        size, piece = first_piece(rest)
+        out, rest = out + piece, rest[size:]
+    return out
+
+
+def first_piece(shown: str) -> Tuple[int, bytes]:
+    """The first character or escape: how long it is, and its bytes."""
+    if shown[0] != "\\":
+        return 1, shown[0].encode("utf-8")
+    if shown[1] in "nrt\\":
+        return 2, {"n": b"\n", "r": b"\r", "t": b"\t", "\\": b"\\"}[shown[1]]
+    size = {"x": 4, "u": 6, "U": 10}[shown[1]]
+    code = int(shown[2:size], 16)
+    return size, bytes([code]) if shown[1] == "x" else chr(code).encode("utf-8")
+
+
+@FAST
+@given(NAMES)
+def names_are_shown_safely(name: bytes) -> None:
+    shown = texts.escaped(texts.decoded(name))
+    assert not [it for it in shown if unicodedata.category(it) in ("Cc", "Cf", "Cs", "Zl", "Zp")]
+    assert unescaped(shown) == name
+
+
+@FAST
+@given(NAMES.filter(lambda name: b"\0" not in name))
+def paths_come_back(name: bytes) -> None:
+    assert os.fsencode(texts.real_path(texts.stored_path(os.fsdecode(name)))) == name
+
+
+def uncopied(cell: str) -> Optional[str]:
+    """A cell as PostgreSQL reads it."""
+    if cell == "\\N":
+        return None
+    names, out, rest = {"t": "\t", "n": "\n", "r": "\r", "\\": "\\"}, "", cell
+    while rest:
+        out += names[rest[1]] if rest[0] == "\\" else rest[0]
+        rest = rest[2 if rest[0] == "\\" else 1 :]
+    return out
+
+
+@FAST
+@given(st.one_of(st.none(), st.integers(-(1 << 62), 1 << 62), TEXTS, st.binary()))
+def cells_come_back(value: Value) -> None:
+    cell = export.copied(value)
+    assert not set("\t\n\r\0") & set(cell)
+    text = value.decode("utf-8", "backslashreplace") if isinstance(value, bytes) else value
+    assert uncopied(cell) == (None if text is None else str(text).replace("\0", "\\x00"))
+
+
+@FAST
+@given(SIZES, SIZES, SIZES, PLAIN, PLAIN, TABBED.filter(lambda name: b">" not in name), TABBED)
+def lines_of_list_come_back(
+    position: int, offset: int, length: int, kind: bytes, date: bytes, name: bytes, target: bytes
+) -> None:
+    columns = [b"%d" % position, b"%d" % offset, b"%d" % length, kind, date, b"<" + name + b">", target]
+    assert lines.list_columns(b"\t".join(columns)) == columns
+
+
+@FAST
+@given(st.text())
+def each_target_has_a_host(target: str) -> None:
+    assert isinstance(lines.host_of(target), str)
+
+
+@SLOW
+@given(st.lists(st.binary(max_size=5000), min_size=1, max_size=4), st.integers(0, 3000), st.integers(1, 6000))
+def members_are_taken_apart(blocks: List[bytes], padding: int, piece: int) -> None:
+    data = b"".join(gzip.compress(block) for block in blocks)
+    unpack.PIECE = piece
+    assert b"".join(unpack.Members(io.BytesIO(data + bytes(padding)))) == b"".join(blocks)
+    for end in (b"x", b"\x1f\x8b", bytes(padding) + b"\x1f"):
+        assert damage(data + end) == "damaged after %d bytes" % len(data)
+
+
+@SLOW
+@given(st.binary(max_size=3000), st.data())
+def cut_members_are_damaged(block: bytes, data: st.DataObject) -> None:
+    first, second = gzip.compress(b"first"), gzip.compress(block)
+    cut = data.draw(st.integers(1, len(second) - 1))
+    assert damage(first + second[:cut]) == "damaged after %d bytes" % len(first)
+
+
+def damage(data: bytes) -> Optional[str]:
+    """What is said of damaged members."""
+    try:
+        b"".join(unpack.Members(io.BytesIO(data)))
+    except unpack.Damaged as error:
+        return str(error).partition(":")[0]
+    return None
+
+
+@SLOW
+@given(
+    st.lists(st.text(st.characters(blacklist_categories=("Cs",), blacklist_characters="\0")), min_size=1, max_size=3)
+)
+def words_reach_a_command(words: List[str]) -> None:
+    command = runs.for_parallel(words)
+    assert "{" not in command
+    done = subprocess.run(["sh", "-c", "printf '%s\\0' " + command], stdout=subprocess.PIPE, check=True)
+    assert done.stdout == b"".join(word.encode() + b"\0" for word in words)
+
+
+PROPERTIES: List[Callable[[], None]] = [
+    *(names_are_shown_safely, paths_come_back, cells_come_back, lines_of_list_come_back, each_target_has_a_host),
+    *(members_are_taken_apart, cut_members_are_damaged, words_reach_a_command),
+]
+
+if __name__ == "__main__":
+    for holds in PROPERTIES:
+        holds()
+    print("warc-collection, names and rows: %d properties hold" % len(PROPERTIES))
