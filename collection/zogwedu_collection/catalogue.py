@@ -16,7 +16,9 @@ from .texts import Stored, Trouble, say, shown, stored_path
 VERSION = 2
 MANY_FILES = 100
 CACHE_KIB = 1_000_000
-BUSY_SECONDS = 60.0
+# How long a question waits for the end of a transaction, and a run for a reader before it says that it waits.
+BUSY_SECONDS = 600.0
+PATIENCE_SECONDS = 10
 
 # The tables. PostgreSQL takes the same columns, but other keys. A row of `readings` says when the rows of a file in the
 # tables of OF_A_FILE were read, and from which bytes.
@@ -130,22 +132,29 @@ class Catalogue:
     def make_tables(self) -> None:
         """Makes what isn't there, and brings an older catalogue to this version."""
         with self.transaction():
-            is_old = self.one("SELECT count(*) FROM sqlite_master WHERE name = 'files'")[0]
-            if self.one("PRAGMA user_version")[0] < VERSION and is_old:
-                for statement in TO_VERSION_2:
-                    self.base.execute(statement)
+            self.bring_up_to_date()
             for name, columns in TABLES.items():
                 ending = " WITHOUT ROWID" if name in OF_A_FILE else ""
                 self.base.execute("CREATE TABLE IF NOT EXISTS %s (%s)%s" % (name, columns, ending))
             self.base.execute("PRAGMA user_version = %d" % VERSION)
 
+    def bring_up_to_date(self) -> None:
+        """Changes the tables of an older catalogue."""
+        is_old = self.one("SELECT count(*) FROM sqlite_master WHERE name = 'files'")[0]
+        if is_old and self.one("PRAGMA user_version")[0] < VERSION:
+            for statement in TO_VERSION_2:
+                self.base.execute(statement)
+
     def make_indexes(self) -> None:
-        for index in INDEXES:
-            self.base.execute("CREATE INDEX IF NOT EXISTS " + index)
+        with self.transaction():
+            for index in INDEXES:
+                self.base.execute("CREATE INDEX IF NOT EXISTS " + index)
 
     def expect(self, count: int) -> None:
         """Drops the indexes where it is faster to make them again after so many files are loaded."""
-        if count >= MANY_FILES and 4 * count >= self.one("SELECT count(*) FROM files")[0]:
+        if count < MANY_FILES or 4 * count < self.one("SELECT count(*) FROM files")[0]:
+            return
+        with self.transaction():
             for index in INDEXES:
                 self.base.execute("DROP INDEX IF EXISTS " + index.split()[0])
 
@@ -223,6 +232,7 @@ class Catalogue:
                 fcntl.flock(lock, fcntl.LOCK_EX | fcntl.LOCK_NB)
             except OSError:
                 raise Trouble("another run uses this catalogue") from None
+            self.base.execute("PRAGMA busy_timeout = %d" % (PATIENCE_SECONDS * 1000))
             self.set_journal("WAL" if is_on_local_disk(self.folder) else "DELETE")
             self.make_tables()
             try:

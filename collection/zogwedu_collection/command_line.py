@@ -173,11 +173,18 @@ def close_output() -> None:
 
 
 def main() -> int:
+    """Does what the command line says. Returns the exit status."""
     for stream in (sys.stdout, sys.stderr):
         if isinstance(stream, io.TextIOWrapper):
             stream.reconfigure(errors="backslashreplace")
-    for ending in (signal.SIGTERM, signal.SIGHUP):
-        signal.signal(ending, interrupt)
+    end_when_told()
     status = done(command_line().parse_args())
     close_output()
     return status
+
+
+def end_when_told() -> None:
+    """Ends in order at a signal that ends a program."""
+    for ending in (signal.SIGTERM, signal.SIGHUP):
+        if signal.getsignal(ending) != signal.SIG_IGN:  # nohup has a run go on
+            signal.signal(ending, interrupt)

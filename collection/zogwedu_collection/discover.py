@@ -2,6 +2,7 @@
 from __future__ import annotations
 
 import dataclasses
+import itertools
 import os
 from typing import Dict, Iterator, List, Optional, Sequence
 
@@ -62,12 +63,11 @@ def found_files(paths: Sequence[str], lists: Sequence[str]) -> Found:
     """Each file of the collection once."""
     found = Found()
     folders = [path for path in paths if os.path.isdir(path)]
-    for name in (name for folder in folders for name in files_below(folder, found)):
-        found.add(name, False)
-    for name in (path for path in paths if path not in folders):
-        found.add(name, True)
-    for name in (name for path in lists for name in listed_files(path, found)):
-        found.add(name, False)
+    below = (name for folder in folders for name in files_below(folder, found))
+    named = [path for path in paths if path not in folders]
+    listed = (name for path in lists for name in listed_files(path, found))
+    for name in itertools.chain(below, named, listed):
+        found.add(name, name in named)
     return found
 
 
@@ -80,11 +80,11 @@ def note_changes(catalogue: Catalogue, run: int, found: Found, paths: Sequence[s
     rows = catalogue.rows("SELECT path, file, state FROM files")
     known = {real_path(row[0]): (row[1], row[2]) for row in rows}
     number = catalogue.one("SELECT coalesce(max(file), 0) FROM files")[0]
-    for path in [path for path, stamp in found.files.items() if stamp is not None and path not in known]:
-        number += 1
-        catalogue.base.execute(
-            "INSERT INTO files (file, path, state, detail) VALUES (?, ?, 'unread', '')", (number, stored_path(path))
-        )
+    new = [path for path, stamp in found.files.items() if stamp is not None and path not in known]
+    catalogue.base.executemany(
+        "INSERT INTO files (file, path, state, detail) VALUES (?, ?, 'unread', '')",
+        ((number + place, stored_path(path)) for place, path in enumerate(new, 1)),
+    )
     lost = [path for path in known if is_lost(path, found, paths)]
     for file, state in (known[path] for path in lost if known[path][1] != "gone"):
         catalogue.base.execute("UPDATE files SET state = 'gone', detail = '' WHERE file = ?", (file,))

@@ -48,9 +48,9 @@ def do_jobs(folder: str, numbers: Sequence[int]) -> int:
             settings = Settings(**json.load(file))
     except (OSError, ValueError, TypeError) as error:
         raise Trouble("no list of jobs in %s: %s" % (shown(folder), error)) from None
-    for number in numbers:
-        if not 1 <= number <= len(paths):
-            raise Trouble("no job %d: the list has 1 to %d" % (number, len(paths)))
+    wrong = [number for number in numbers if not 1 <= number <= len(paths)]
+    if wrong:
+        raise Trouble("no job %d: the list has 1 to %d" % (wrong[0], len(paths)))
     check_program(settings)
     for number in numbers:
         if not os.path.exists(os.path.join(folder, "done", str(number))):

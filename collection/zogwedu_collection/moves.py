@@ -52,14 +52,12 @@ def has_same(catalogue: Catalogue, table: str, one: int, other: int) -> bool:
 def join_files(catalogue: Catalogue, run: int, before: int, file: int) -> None:
     """Gives a file the history of the one that it was. The path that it had stays with the change."""
     path = catalogue.one("SELECT path, state FROM files WHERE file = ?", (before,))[0]
-    for table in (*OF_A_FILE, "readings", "files"):
-        catalogue.base.execute("DELETE FROM %s WHERE file = ?" % table, (before,))
     catalogue.base.execute("DELETE FROM changes WHERE file = ? AND change = 'gone'", (before,))
     for table in ("checks", "counts", "changes"):
         catalogue.base.execute(
             "UPDATE OR REPLACE %s SET file = ? WHERE file = ? AND run < ?" % table, (file, before, run)
         )
-        catalogue.base.execute("DELETE FROM %s WHERE file = ?" % table, (before,))
+    forget(catalogue, before)
     catalogue.base.execute(
         "UPDATE changes SET change = 'moved', path_before = ? WHERE run = ? AND file = ?", (path, run, file)
     )

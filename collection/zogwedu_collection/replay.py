@@ -184,6 +184,7 @@ class Replayer:
         return self.asked[key]
 
     def find_candidates(self, capture: Capture) -> List[Capture]:
+        """Looks for candidates, by what the capture lacks and names."""
         reason = capture.reason or ""
         if reason.startswith("P4"):
             # The payload of a revisit that names nothing is that of a response or a resource of its target.

@@ -91,23 +91,19 @@ def records_by_year(catalogue: Catalogue) -> Counter[Tuple[str, str]]:
 def by_year(catalogue: Catalogue) -> Tuple[List[str], List[str], Counter[Tuple[str, str]]]:
     """Records by year and type: the years, the types, and the counts. Rare types are one; so are early years."""
     counts = records_by_year(catalogue)
-    by_kind: Counter[str] = collections.Counter()
-    merged: Counter[Tuple[str, str]] = collections.Counter()
-    by_kind.update({kind: 0 for _, kind in counts})
-    for kind in by_kind:
-        by_kind[kind] = sum(count for (_, other), count in counts.items() if other == kind)
-    kinds = [kind for kind, _ in by_kind.most_common(MOST_KINDS)]
+    all_kinds = {kind: sum(counts[pair] for pair in counts if pair[1] == kind) for _, kind in counts}
+    kinds = [kind for kind, _ in collections.Counter(all_kinds).most_common(MOST_KINDS)]
     years = sorted({year for year, _ in counts})
     early = set(years[:-MOST_YEARS])
-    pairs = [("earlier" if year in early else year, kind if kind in kinds else "other") for year, kind in counts]
-    merged.update({pair: 0 for pair in pairs})
-    for pair, count in zip(pairs, counts.values()):
-        merged[pair] += count
-    kinds += ["other"] if len(by_kind) > len(kinds) else []
+    merged: Counter[Tuple[str, str]] = collections.Counter()
+    for (year, kind), count in counts.items():
+        merged["earlier" if year in early else year, kind if kind in kinds else "other"] += count
+    kinds += ["other"] if len(all_kinds) > len(kinds) else []
     return (["earlier"] if early else []) + years[-MOST_YEARS:], kinds, merged
 
 
 def year_section(catalogue: Catalogue) -> str:
+    """A picture of the records by year and type."""
     years, kinds, counts = by_year(catalogue)
     title, note = "Records by type and year", "By the year of the record's own date."
     if not years:
@@ -123,6 +119,7 @@ def year_section(catalogue: Catalogue) -> str:
 
 
 def host_section(catalogue: Catalogue) -> str:
+    """The hosts with most captures."""
     query = (
         "SELECT host, sum(captures), sum(bytes), count(*) FROM hosts JOIN files USING (file)"
         " WHERE state <> 'gone' GROUP BY host ORDER BY sum(captures) DESC, host LIMIT %d" % MOST_HOSTS
@@ -148,6 +145,7 @@ def host_section(catalogue: Catalogue) -> str:
 
 
 def change_section(catalogue: Catalogue, run: int) -> str:
+    """How files changed in a run."""
     counts = catalogue.rows(
         "SELECT change, count(*) FROM changes WHERE run = ? GROUP BY change ORDER BY change", (run,)
     )
@@ -195,6 +193,7 @@ def about_run(catalogue: Catalogue) -> Tuple[int, str]:
 
 
 def report_text(catalogue: Catalogue) -> str:
+    """The report as HTML."""
     run, about = about_run(catalogue)
     states = catalogue.states()
     parts = (

@@ -7,7 +7,7 @@ import os
 import re
 import shutil
 import sqlite3
-from typing import Any, List, Optional, Tuple
+from typing import Any, List, Optional, Sequence, Tuple
 
 from .catalogue import OF_A_FILE, Catalogue
 from .disk import Stamp
@@ -116,9 +116,12 @@ def take_in(catalogue: Catalogue, run: int, folder: str) -> None:
     """Takes in each job that is done: many in one transaction. What is taken in twice replaces itself."""
     names = names_in(os.path.join(folder, "done"))
     while names:
-        taken = take_in_some(catalogue, run, folder, names)
-        for name in taken:
-            drop(folder, name)
+        drop_all(folder, take_in_some(catalogue, run, folder, names))
+
+
+def drop_all(folder: str, names: Sequence[str]) -> None:
+    for name in names:
+        drop(folder, name)
 
 
 def take_in_some(catalogue: Catalogue, run: int, folder: str, names: List[str]) -> List[str]:

@@ -13,12 +13,14 @@ import glob
 import gzip
 import json
 import os
+import random
 import re
 import shutil
 import signal
 import socket
 import sqlite3
 import stat
+import string
 import subprocess
 import sys
 import tempfile
@@ -72,6 +74,9 @@ def no_room(trial: Trial) -> None:
         done = trial.run("c", "run", "--all", "--temporary", disk)
     done = trial.run("c", "find", URI.decode())
     trial.judge(b"read on 2" in done.stdout and b"big.warc.gz" in done.stderr, "rows of before", done.stdout)
+    done = trial.run("c", "replay", URI.decode(), "9999")
+    is_right = done.stdout == b"x" * 300_000 and b"\nread on 2" in done.stderr
+    trial.judge(is_right, "a replay of the rows of before", done.stderr)
 
 
 def failing_machine(trial: Trial) -> None:
@@ -402,10 +407,12 @@ def hostile_tables(trial: Trial) -> None:
         print("PostgreSQL: left out, since it isn't installed", flush=True)
         return
     folder = trial.path("archives")
-    targets = [b"http://%s/" % (b"h" * 6000), b"http://a\xff.example/", "http://ä.example/→".encode(), b"urn:\\N"]
-    targets += [b"urn:a\tb", b"urn:" + b"long" * 10_000, b"-", b"urn:\\.", "urn:\U0001f600".encode()]
+    # Letters that can't be made shorter: PostgreSQL compresses a key.
+    letters = "".join(random.Random(1).choices(string.ascii_lowercase, k=6000))
+    targets = [b"http://%s/" % letters.encode(), b"http://a\xff.example/", "http://ä.example/→".encode(), b"urn:\\N"]
+    targets += [b"urn:a\tb", b"urn:" + letters.encode() * 8, b"-", b"urn:\\.", "urn:\U0001f600".encode()]
     data = b"".join(page(number, b"x", target) for number, target in enumerate(targets, 1))
-    kind = record("x" * 5000, 80, DATE, URI, b"")
+    kind = record(letters, 80, DATE, URI, b"")
     put(folder + "/a.warc", data + kind)
     put(os.path.join(folder, os.fsdecode(b"odd \xff\n\t\\\"'.warc")), data[:-4])
     trial.run("c", "run", folder)
