@@ -11,7 +11,7 @@ from .catalogue import Catalogue
 from .disk import written
 from .listing import LOOK, no_bytes, status_json, status_names
 from .markup import Columns, bar, chip, folded, grouped, legend, path_cell, plain_time, quoted, section, sized, table
-from .states import STATES
+from .states import READ, STATES
 from .texts import escaped, now, stored_path
 
 KIND_COLOURS = "#3b6fb6 #e0803a #3f9c76 #b8475a #8464b5 #c4a32e #5aa9c7 #8a6b52 #8d99a6".split()
@@ -168,7 +168,11 @@ def change_section(catalogue: Catalogue, run: int) -> str:
 def look_section(catalogue: Catalogue) -> str:
     query = LOOK + " ORDER BY state = 'gone', state = 'findings', state, path LIMIT %d" % MOST_SHOWN
     rows = [
-        (chip(state), path_cell(path), quoted(detail) + (", read on " + read_on if read_on and state != "good" else ""))
+        (
+            chip(state),
+            path_cell(path),
+            quoted(detail) + (", read on " + read_on if read_on and state not in READ else ""),
+        )
         for state, path, detail, read_on in catalogue.rows(query)
     ]
     total = catalogue.one("SELECT count(*) FROM files WHERE state <> 'good'")[0]

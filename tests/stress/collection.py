@@ -230,8 +230,11 @@ def growing_file(trial: Trial) -> None:
 
     def append() -> None:
         with open(path, "ab", buffering=0) as out:
-            while not stop.wait(0.001):
+            # Not for ever, and not faster than a slow program reads.
+            for _ in range(600):
                 out.write(record)
+                if stop.wait(0.05):
+                    return
 
     writer = threading.Thread(target=append)
     writer.start()

@@ -37,7 +37,11 @@ COUNT = int(sys.argv[1]) if len(sys.argv) > 1 else 500
 NAMES = st.one_of(st.binary(min_size=1), st.text(min_size=1).map(lambda name: name.encode("utf-8", "replace")))
 PLAIN = st.binary().map(lambda value: value.replace(b"\n", b"").replace(b"\t", b""))
 TABBED = st.binary().map(lambda value: value.replace(b"\n", b""))
-TEXTS = st.text(st.characters(blacklist_categories=("Cs",)))
+# Half of the characters are those that a shell, a line or a URI gives a meaning.
+ODD = st.sampled_from("\t\n\r\0\\{}'\"$` =[]:/@")
+TEXTS = st.text(st.one_of(ODD, st.characters(blacklist_categories=("Cs",))))
+WORDS = TEXTS.map(lambda word: word.replace("\0", ""))
+TARGETS = TEXTS.map(lambda target: "http://" + target)
 SIZES = st.integers(0, 1 << 48)
 FAST = settings(max_examples=COUNT, deadline=None)
 SLOW = settings(max_examples=max(COUNT // 10, 1), deadline=None)
@@ -107,7 +111,7 @@ def lines_of_list_come_back(
 
 
 @FAST
-@given(st.text())
+@given(st.one_of(TEXTS, TARGETS))
 def each_target_has_a_host(target: str) -> None:
     assert isinstance(lines.host_of(target), str)
 
@@ -140,10 +144,9 @@ def damage(data: bytes) -> Optional[str]:
 
 
 @SLOW
-@given(
-    st.lists(st.text(st.characters(blacklist_categories=("Cs",), blacklist_characters="\0")), min_size=1, max_size=3)
-)
+@given(st.lists(WORDS, min_size=1, max_size=3))
 def words_reach_a_command(words: List[str]) -> None:
+    words = [*words, *(word + "'{= 1 =}" for word in words)]
     command = runs.for_parallel(words)
     assert "{" not in command
     done = subprocess.run(["sh", "-c", "printf '%s\\0' " + command], stdout=subprocess.PIPE, check=True)
