@@ -51,6 +51,8 @@ INDEXES = (
     "records_by_id ON records (lower(trim(id, '<>')))",
     "records_of_series ON records (target) WHERE lower(kind) = 'continuation'",
 )
+# Each file that is loaded asks for what was found of it before.
+SMALL_INDEXES = ("checks_by_file ON checks (file, run)", "changes_by_file ON changes (file, run)")
 # From a catalogue of version 1, which had no readings. Without the time of its last change each file is read once more.
 TO_VERSION_2 = (
     *("ALTER TABLE runs ADD COLUMN %s BIGINT" % name for name in ("hosts", "files_read")),
@@ -133,10 +135,16 @@ class Catalogue:
         """Makes what isn't there, and brings an older catalogue to this version."""
         with self.transaction():
             self.bring_up_to_date()
-            for name, columns in TABLES.items():
-                ending = " WITHOUT ROWID" if name in OF_A_FILE else ""
-                self.base.execute("CREATE TABLE IF NOT EXISTS %s (%s)%s" % (name, columns, ending))
+            for statement in self.missing():
+                self.base.execute(statement)
             self.base.execute("PRAGMA user_version = %d" % VERSION)
+
+    def missing(self) -> Iterator[str]:
+        """What makes the tables and the small indexes, where they aren't there."""
+        for name, columns in TABLES.items():
+            ending = " WITHOUT ROWID" if name in OF_A_FILE else ""
+            yield "CREATE TABLE IF NOT EXISTS %s (%s)%s" % (name, columns, ending)
+        yield from ("CREATE INDEX IF NOT EXISTS " + index for index in SMALL_INDEXES)
 
     def bring_up_to_date(self) -> None:
         """Changes the tables of an older catalogue."""

@@ -2,6 +2,7 @@
 from __future__ import annotations
 
 import dataclasses
+import errno
 import itertools
 import os
 from typing import Dict, Iterator, List, Optional, Sequence
@@ -12,6 +13,8 @@ from .states import TRIED_AGAIN
 from .texts import real_path, say, shown, stored_path
 
 SUFFIXES = (b".warc", b".warc.gz")
+# What the system says of a file that isn't there. Of any other error nothing follows.
+NOT_THERE = (errno.ENOENT, errno.ENOTDIR)
 
 
 @dataclasses.dataclass
@@ -27,12 +30,13 @@ class Found:
         try:
             is_file = is_regular(name)
             self.files[name] = stamp_of(os.stat(name)) if is_file else None
-            why = None if is_file else "not a regular file; it is left out"
+            why, is_unknown = None if is_file else "not a regular file; it is left out", False
         except OSError as error:
             self.files[name], why = None, error.strerror or str(error)
+            is_unknown = error.errno not in NOT_THERE
         if why is not None:
             say("%s: %s" % (shown(name), why))
-            self.unread += [name] if is_asked_for else []
+            self.unread += [name] if is_asked_for or is_unknown else []
 
     def note(self, error: OSError) -> None:
         """Notes a folder that couldn't be read."""

@@ -1,7 +1,8 @@
 """Files that were moved or removed on purpose: a move is seen by what the file holds, and `forget` drops the rest."""
 from __future__ import annotations
 
-from typing import List, Optional, Sequence
+import collections
+from typing import Dict, List, Sequence, Set
 
 from .catalogue import OF_A_FILE, Catalogue
 from .discover import is_below
@@ -14,32 +15,30 @@ COLUMNS = {"records": "position, at_offset, length, kind, date, id, target", "di
 
 def settle_moves(catalogue: Catalogue, run: int) -> None:
     """Joins each file that is new in a run with the file that is gone and held the same: then it was moved."""
-    new = catalogue.rows(
-        "SELECT file FROM changes JOIN files USING (file) WHERE changes.run = ? AND change = 'new'"
-        " AND state IN (%s) ORDER BY file" % as_list(READ),
+    joined: Set[int] = set()
+    for file, before in same_files(catalogue, run).items():
+        left = [old for old in before if old not in joined]
+        if len(left) == 1:
+            join_files(catalogue, run, left[0], file)
+            joined.update(left)
+
+
+def same_files(catalogue: Catalogue, run: int) -> Dict[int, List[int]]:
+    """For each file that is new in a run, those that are gone and have its size, its ids and its digests. Where both have
+    the SHA-256 of the whole file it decides."""
+    rows = catalogue.rows(
+        "SELECT new.file, new.sha256, old.file, old.sha256 FROM changes JOIN files AS new ON new.file = changes.file"
+        " JOIN readings AS last ON last.file = new.file"
+        " JOIN readings AS earlier ON earlier.size = last.size AND earlier.records = last.records"
+        " JOIN files AS old ON old.file = earlier.file WHERE changes.run = ? AND change = 'new'"
+        " AND new.state IN (%s) AND old.state = 'gone' AND last.records > 0 ORDER BY new.file" % as_list(READ),
         (run,),
     )
-    for (file,) in new:
-        before = same_file(catalogue, file)
-        if before is not None:
-            join_files(catalogue, run, before, file)
-
-
-def same_file(catalogue: Catalogue, file: int) -> Optional[int]:
-    """The one file that is gone and has the size, the ids and the digests of a file, or None. Where both have the SHA-256
-    of the whole file it decides."""
-    rows = catalogue.rows(
-        "SELECT old.file, old.sha256, new.sha256 FROM files AS new JOIN readings AS last ON last.file = new.file"
-        " JOIN files AS old ON old.state = 'gone' JOIN readings AS earlier ON earlier.file = old.file"
-        " WHERE new.file = ? AND earlier.size = last.size AND earlier.records = last.records AND last.records > 0",
-        (file,),
-    )
-    same = [
-        old
-        for old, before, now in rows
-        if (before == now if before and now else all(has_same(catalogue, table, old, file) for table in COLUMNS))
-    ]
-    return same[0] if len(same) == 1 else None
+    found: Dict[int, List[int]] = collections.defaultdict(list)
+    for file, now, old, before in rows:
+        is_same = before == now if before and now else all(has_same(catalogue, table, old, file) for table in COLUMNS)
+        found[file] += [old] if is_same else []
+    return found
 
 
 def has_same(catalogue: Catalogue, table: str, one: int, other: int) -> bool:
@@ -90,8 +89,8 @@ def prune(catalogue: Catalogue, keep: int) -> int:
     dropped = 0
     with catalogue.transaction():
         for table in ("checks", "counts", "changes"):
-            last = "SELECT max(run) FROM %s AS later WHERE later.file = %s.file" % (table, table)
-            query = "DELETE FROM %s WHERE run <= ? AND run < (%s)" % (table, last)
+            last = "SELECT file, max(run) FROM %s GROUP BY file" % table
+            query = "DELETE FROM %s WHERE run <= ? AND (file, run) NOT IN (%s)" % (table, last)
             dropped += catalogue.base.execute(query, (oldest - keep,)).rowcount
     catalogue.patiently("VACUUM")
     return dropped

@@ -86,8 +86,8 @@ def end_run(catalogue: Catalogue, run: int, folder: str) -> int:
     except (OSError, ValueError) as error:
         say("the list of jobs in %s can't be read: %s" % (shown(folder), error))
         return 1
-    query = "SELECT path FROM files JOIN checks USING (file) WHERE checks.run = ? AND state <> 'unread'"
-    done = {path for path, in catalogue.rows(query.replace("state", "files.state"), (run,))}
+    query = "SELECT path FROM files JOIN checks USING (file) WHERE checks.run = ? AND files.state <> 'unread'"
+    done = {path for path, in catalogue.rows(query, (run,))}
     left = sum(stored_path(path) not in done for path in paths)
     if left == 0:
         close_run(catalogue, run)

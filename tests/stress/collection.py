@@ -531,7 +531,7 @@ def hostile_files(folder: str) -> Set[bytes]:
     for device, minor in (("null", 3), ("zero", 5), ("full", 7)):
         os.mknod(os.path.join(folder, device + ".warc"), 0o666 | stat.S_IFCHR, os.makedev(1, minor))
     os.symlink("/nowhere", os.path.join(folder, "dangling.warc"))
-    os.symlink("/proc/self/mem", os.path.join(folder, "memory.warc"))
+    os.symlink("/dev/zero", os.path.join(folder, "link.warc"))
     return {*files, b"huge0.warc", b"huge1.warc"}
 
 
@@ -596,7 +596,9 @@ def rough_night(trial: Trial, archives: str, jobs: str) -> None:
     reader = Reader(trial.path("rough", "catalogue.sqlite"))
     reader.start()
     os.makedirs(trial.path("disk"))
-    subprocess.run(["mount", "-t", "tmpfs", "-o", "size=4k", "tmpfs", trial.path("disk")], check=True)
+    subprocess.run(["mount", "-t", "tmpfs", "-o", "size=64k", "tmpfs", trial.path("disk")], check=True)
+    with contextlib.suppress(OSError), open(trial.path("disk", "full"), "wb", buffering=0) as full:
+        full.write(bytes(1 << 20))
     try:
         with made_hosts(trial.path("rough-hosts")) as (hosts, words):
             disturbed(trial, archives, words, hosts, trial.path("disk"), count)

@@ -153,6 +153,17 @@ def kept_rows(trial: Trial) -> None:
     trial.judge(b"read on" not in done.stdout + done.stderr and URI not in done.stderr, "read again", done.stdout)
 
 
+def unknown_names(trial: Trial) -> None:
+    """A file that a list names isn't gone where nobody can say whether it is there."""
+    path = put(trial.path("shut", "a.warc"), page())
+    names = put(trial.path("names"), os.fsencode(path) + b"\n")
+    trial.run("c", "run", "--files", names)
+    os.chmod(trial.path("shut"), 0)
+    done = trial.run("c", "run", before=LESS)
+    os.chmod(trial.path("shut"), 0o755)
+    trial.judge(trial.states("c") == {"a.warc": "good"} and done.returncode == 3, "a folder that is shut", done.stderr)
+
+
 def unchecked_blocks(trial: Trial) -> None:
     """A digest that can't be checked isn't a good one."""
     put(trial.path("archives", "a.warc"), page(1) + record("resource", 2, DATE, URI, b"x", block_digest="sha256:ab"))
@@ -707,7 +718,16 @@ def older_catalogue(trial: Trial) -> None:
 
 
 PARTS: List[Callable[[Trial], None]] = [
-    *(no_room, failing_machine, damaged_members, no_program, kept_rows, unchecked_blocks, changed_behind),
+    *(
+        no_room,
+        failing_machine,
+        damaged_members,
+        no_program,
+        kept_rows,
+        unknown_names,
+        unchecked_blocks,
+        changed_behind,
+    ),
     *(small_mistakes, many_revisits, chained_revisits, no_regular_files, limited_time, torn_jobs, synced_jobs),
     *(failing_load, long_readers, stopped_export, hostile_tables, failing_output, reports_elsewhere, odd_names),
     *(odd_settings, many_users, old_runs, revisits_of_wget, moves, named_files, rot, older_catalogue),
