@@ -1,7 +1,7 @@
 #!/usr/bin/env python3
 """Runs warc-collection over many archives, on this machine and on two hosts that it makes, and stops it half-way.
 
-    python3 tests/stress/collection.py WARC COUNT
+    python3 tests/stress/collection.py WARC COUNT [PART ..]
 
 Makes COUNT archives, half of them by wget over loopback and half by hand: good, damaged, compressed, cut and growing.
 What the catalogue holds of each must be what the second reading in tests/reference gives: nothing lost, nothing counted
@@ -26,7 +26,7 @@ import tempfile
 import threading
 import time
 import zlib
-from typing import Dict, Iterator, List, Optional, Set, Tuple
+from typing import Callable, Dict, Iterator, List, Optional, Set, Tuple
 
 from collection_trial import HERE, MOST_SECONDS, TOP, Trial, put, put_script, to_read
 
@@ -40,6 +40,7 @@ IMAGE = b"\x89PNG\r\n\x1a\n" + bytes(range(256)) * 4
 NO_BYTES = b"sha1:3I42H3S6NNFQ2MSVX7XZKYAYSCX5QBYJ"
 # root without the right to open each file
 LESS = ("setpriv", "--bounding-set=-dac_override,-dac_read_search", "--inh-caps=-dac_override,-dac_read_search")
+JOBS = str(os.environ.get("STRESS_JOBS", os.cpu_count()))
 Expected = Tuple[str, int, int, int, int]
 
 
@@ -72,7 +73,7 @@ def crawl(folder: str, name: str, site: str, is_compressed: bool, index: Optiona
     subprocess.run([*words, site + "/page/" + name, site + "/image.png"], cwd=folder, check=True)
 
 
-def crawls(folder: str, count: int) -> str:
+def crawls(folder: str, count: int) -> None:
     """Crawls by wget: every third is compressed, and all but the first have the image as a revisit."""
     os.makedirs(folder)
     server = http.server.ThreadingHTTPServer(("127.0.0.1", 0), Site)
@@ -83,7 +84,6 @@ def crawls(folder: str, count: int) -> str:
     for number in range(1, count):
         crawl(folder, "crawl-%d" % number, site, number % 3 == 0, "crawl-0.cdx")
     server.shutdown()
-    return site
 
 
 def made_by_hand(folder: str, count: int) -> None:
@@ -182,23 +182,23 @@ def compare(trial: Trial, catalogue: str, expected: Dict[bytes, Expected], run: 
     base.close()
 
 
-def on_this_machine(trial: Trial, archives: str, jobs: str) -> None:
+def on_this_machine(trial: Trial, archives: str) -> None:
     """All cores: all files, then none, then those that changed."""
     trial.begin("warc-collection, this machine")
     expected = expected_below(archives)
-    done = trial.run("here", "run", "--jobs", jobs, archives)
+    done = trial.run("here", "run", "--jobs", JOBS, archives)
     trial.judge(done.returncode == 1 and to_read(done) == len(expected), "the first run", done.stderr)
     compare(trial, "here", expected, 1)
-    done = trial.run("here", "run", "--jobs", jobs)
+    done = trial.run("here", "run", "--jobs", JOBS)
     trial.judge(done.returncode == 1 and to_read(done) == 0, "a second run", done.stderr)
     changed = grow(archives, expected)
     after = expected_below(archives)
     # A damaged file keeps the rows that it had while it was good, and only such a file.
     kept = {path: (after[path][0], *expected[path][1:]) for path in after if is_kept(path, expected, after)}
-    done = trial.run("here", "run", "--jobs", jobs)
+    done = trial.run("here", "run", "--jobs", JOBS)
     trial.judge(done.returncode == 1 and to_read(done) == changed, "a run after changes", done.stderr)
     compare(trial, "here", {**after, **kept})
-    done = trial.run("here", "run", "--jobs", jobs, "--all")
+    done = trial.run("here", "run", "--jobs", JOBS, "--all")
     trial.judge(done.returncode == 1 and to_read(done) == len(after), "a run over all", done.stderr)
     compare(trial, "here", {**after, **kept}, 4)
     trial.end(", %d archives" % len(after))
@@ -220,7 +220,7 @@ def grow(archives: str, expected: Dict[bytes, Expected]) -> int:
     return len(paths[::10]) + 1
 
 
-def growing_file(trial: Trial) -> None:
+def growing_file(trial: Trial, _archives: str) -> None:
     """A file that grows while it is read is called so, and nothing of it is kept."""
     trial.begin("warc-collection, a growing file")
     folder = trial.path("growing")
@@ -248,10 +248,10 @@ def growing_file(trial: Trial) -> None:
     trial.end()
 
 
-def across_files(trial: Trial, archives: str, site: str) -> None:
+def across_files(trial: Trial, archives: str) -> None:
     """A revisit whose referent is in another file gives its body; where files disagree nothing is given."""
     trial.begin("warc-collection, replays across files")
-    target = site + "/image.png"
+    target = str(trial.ask("here", "SELECT target FROM captures WHERE target LIKE '%/image.png' LIMIT 1")[0][0])
     kinds = trial.ask("here", "SELECT kind, reason FROM captures WHERE target = ? GROUP BY kind, reason", target)
     trial.judge(("revisit", "P5 Unresolved") in kinds, "revisits that lack a record", kinds)
     query = "SELECT DISTINCT instant FROM captures WHERE target = ? ORDER BY random() LIMIT 5"
@@ -323,7 +323,7 @@ def killed_run(trial: Trial, archives: str) -> None:
     trial.end()
 
 
-def odd_requests(trial: Trial) -> None:
+def odd_requests(trial: Trial, _archives: str) -> None:
     """A folder that is missing, a list of names, a command that takes too long, no program."""
     trial.begin("warc-collection, odd requests")
     folder = trial.path("odd")
@@ -501,38 +501,48 @@ def lost_host(trial: Trial, archives: str) -> None:
 # Hostile files, and a machine that fails
 
 
-def hostile_files(folder: str) -> Set[bytes]:
-    """Forty files that nobody wants. Returns the names of those that are files at all."""
-    good = generate.archive(3)
-    packed = gzip.compress(good)
-    files = {
-        **{b"odd%d\n\x1b]0;x\x07\xff'\"$(x){= 1 =}.warc" % number: good for number in range(8)},
-        **{b"torn%d.warc" % number: good[: -9 - number] for number in range(4)},
-        **{b"torn%d.warc.gz" % number: packed[: -9 - number] for number in range(4)},
-        **{b"shut%d.warc" % number: good for number in range(3)},
-        **{b"bomb%d.warc.gz" % number: gzip.compress(bytes(1 << 27)) for number in range(2)},
-        b"garbage.warc.gz": packed + b"garbage",
-        b"padded.warc.gz": packed + bytes(10_000),
-        b"empty.warc": b"",
-        b"empty.warc.gz": b"",
-        b"CAPITAL.WARC.GZ": packed,
-        b"packed.warc": packed,
-        b"plain.warc.gz": good,
-    }
-    for name, data in files.items():
-        put(os.path.join(folder, os.fsdecode(name)), data)
-    for number in range(3):
-        os.chmod(os.path.join(folder, "shut%d.warc" % number), 0)
+# Hostile files that can be opened: their bytes, and the state of each.
+GOOD = generate.archive(3)
+PACKED = gzip.compress(GOOD)
+HOSTILE: Dict[bytes, Tuple[bytes, str]] = {
+    **{b"odd%d\n\x1b]0;x\x07\xff'\"$(x){= 1 =}.warc" % number: (GOOD, "") for number in range(8)},
+    **{b"torn%d.warc" % number: (GOOD[: -9 - number], "refused") for number in range(4)},
+    **{b"torn%d.warc.gz" % number: (PACKED[: -9 - number], "gunzip") for number in range(4)},
+    **{b"shut%d.warc" % number: (GOOD, "failed") for number in range(3)},
+    **{b"bomb%d.warc.gz" % number: (gzip.compress(bytes(1 << 27)), "refused") for number in range(2)},
+    b"garbage.warc.gz": (PACKED + b"garbage", "gunzip"),
+    b"padded.warc.gz": (PACKED + bytes(10_000), ""),
+    b"empty.warc": (b"", "findings"),
+    b"empty.warc.gz": (b"", "gunzip"),
+    b"CAPITAL.WARC.GZ": (PACKED, ""),
+    b"packed.warc": (PACKED, "refused"),
+    b"plain.warc.gz": (GOOD, "gunzip"),
+}
+
+
+def hostile_files(folder: str) -> Dict[bytes, str]:
+    """Forty files that nobody wants. Returns the states of those that are files at all."""
+    put(os.path.join(folder, "reference"), GOOD)
+    good = expected_of(os.fsencode(os.path.join(folder, "reference")))[0]
+    for name, (data, _) in HOSTILE.items():
+        path = put(os.path.join(folder, os.fsdecode(name)), data)
+        os.chmod(path, 0 if name.startswith(b"shut") else 0o644)
     for number in range(2):
         with open(os.path.join(folder, "huge%d.warc" % number), "wb") as out:
             out.truncate(1 << 40)
-    for number in range(4):
+    no_files(folder)
+    states = {name: state or good for name, (_, state) in HOSTILE.items()}
+    return {**states, b"huge0.warc": "refused", b"huge1.warc": "refused"}
+
+
+def no_files(folder: str) -> None:
+    """Pipes, devices and links with the names of archives."""
+    for number in range(5):
         os.mkfifo(os.path.join(folder, "pipe%d.warc" % number))
     for device, minor in (("null", 3), ("zero", 5), ("full", 7)):
         os.mknod(os.path.join(folder, device + ".warc"), 0o666 | stat.S_IFCHR, os.makedev(1, minor))
     os.symlink("/nowhere", os.path.join(folder, "dangling.warc"))
     os.symlink("/dev/zero", os.path.join(folder, "link.warc"))
-    return {*files, b"huge0.warc", b"huge1.warc"}
 
 
 class Reader(threading.Thread):
@@ -556,6 +566,11 @@ class Reader(threading.Thread):
             base.execute("SELECT count(*) FROM files").fetchone()
             self.times += 1
             self.is_over.wait(2)
+
+
+def path_of(stored: object) -> bytes:
+    """A path that the catalogue keeps: text, or bytes that aren't UTF-8."""
+    return stored if isinstance(stored, bytes) else str(stored).encode("utf-8")
 
 
 def contents(trial: Trial, catalogue: str) -> Dict[str, Set[Tuple[object, ...]]]:
@@ -588,7 +603,7 @@ def disturbed(trial: Trial, archives: str, words: List[str], hosts: List[Host], 
     trial.judge(done.returncode == 1 and b"no-room\t" in done.stdout, "the run that goes on", done.stderr)
 
 
-def rough_night(trial: Trial, archives: str, jobs: str) -> None:
+def rough_night(trial: Trial, archives: str) -> None:
     """All of it at once. After one more run, with room, the catalogue is that of a run that nothing disturbed."""
     trial.begin("warc-collection, a rough night")
     names = hostile_files(os.path.join(archives, "hostile"))
@@ -609,13 +624,14 @@ def rough_night(trial: Trial, archives: str, jobs: str) -> None:
     reader.is_over.set()
     reader.join()
     trial.judge(done.returncode == 1 and b"no-room" not in done.stdout, "the run with room", done.stderr)
-    done = trial.run("still", "run", "--jobs", jobs, archives, before=LESS)
+    done = trial.run("still", "run", "--jobs", JOBS, archives, before=LESS)
     trial.judge(done.returncode == 1 and to_read(done) == count, "the undisturbed run", done.stderr)
     rough, still = contents(trial, "rough"), contents(trial, "still")
     for table in still:
         trial.judge(rough[table] == still[table], "the rows of " + table, list(rough[table] ^ still[table])[:6])
-    hostile = [os.path.basename(os.fsencode(str(row[0]))) for row in still["files"] if "/hostile/" in str(row[0])]
-    trial.judge(len(hostile) + 1 >= len(names) - 8, "the hostile files", hostile)
+    rows = [(path_of(row[0]), row[1]) for row in still["files"]]
+    seen = {os.path.basename(path): state for path, state in rows if b"/hostile/" in path}
+    trial.judge(seen == names, "the hostile files", set(seen.items()) ^ set(names.items()))
     trial.judge(reader.times > 3, "the reader", reader.times)
     trial.end(", %d files, %d of them without room at first, %d readers" % (count, without, reader.times))
 
@@ -626,26 +642,33 @@ def expected_below_others(archives: str) -> List[str]:
     return [os.path.join(at, name) for at, name in walked if "hostile" not in at and ".warc" in name]
 
 
-def main(program: str, count: int) -> int:
+# The parts, and whether each has all archives or those that are made by hand.
+PARTS: Dict[str, Tuple[Callable[[Trial, str], None], bool]] = {
+    "this_machine": (on_this_machine, True),
+    "across_files": (across_files, True),
+    "growing_file": (growing_file, False),
+    "killed_run": (killed_run, False),
+    "odd_requests": (odd_requests, False),
+    "array": (as_an_array, False),
+    "two_hosts": (on_two_hosts, False),
+    "lost_host": (lost_host, False),
+    "rough_night": (rough_night, True),
+}
+
+
+def main(program: str, count: int, names: List[str]) -> int:
+    """Makes the archives, and tries the parts."""
     root = os.path.join(TOP, "out", "stress")
     os.makedirs(root, exist_ok=True)
     folder = tempfile.mkdtemp(prefix="collection-", dir=root)
     trial = Trial(program, folder)
     archives = os.path.join(folder, "archives")
-    jobs = str(os.environ.get("STRESS_JOBS", os.cpu_count()))
     try:
-        site = crawls(os.path.join(archives, "crawls"), count // 2)
+        crawls(os.path.join(archives, "crawls"), count // 2)
         made_by_hand(os.path.join(archives, "made"), count - count // 2)
-        small = os.path.join(archives, "made")
-        on_this_machine(trial, archives, jobs)
-        across_files(trial, archives, site)
-        growing_file(trial)
-        killed_run(trial, small)
-        odd_requests(trial)
-        as_an_array(trial, small)
-        on_two_hosts(trial, small)
-        lost_host(trial, small)
-        rough_night(trial, archives, jobs)
+        for name in names or PARTS:
+            part, has_all = PARTS[name]
+            part(trial, archives if has_all else os.path.join(archives, "made"))
     finally:
         if "STRESS_KEEP" not in os.environ:
             shutil.rmtree(folder)
@@ -653,4 +676,4 @@ def main(program: str, count: int) -> int:
 
 
 if __name__ == "__main__":
-    sys.exit(main(sys.argv[1], int(sys.argv[2])))
+    sys.exit(main(sys.argv[1], int(sys.argv[2]), sys.argv[3:]))
