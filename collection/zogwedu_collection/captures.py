@@ -87,8 +87,8 @@ def chosen_captures(catalogue: Catalogue, request: Request, warc: Optional[str])
 def may_have(catalogue: Catalogue, target: Stored) -> List[Known]:
     """The files that may have a target, and whose captures of it aren't known or aren't those of its bytes now."""
     has_it = "EXISTS (SELECT 1 FROM captures WHERE captures.file = files.file AND target = ?)"
-    # The bytes that were read last are still those of the file, as far as is known, and the target isn't among them.
-    is_same = "(readings.size, readings.modified) IS (files.size, files.modified) AND state IN ('failed', 'unread')"
+    # The file has the size and the time of its last good reading, and the target isn't among what was read.
+    is_same = "(readings.size, readings.modified) IS (files.size, files.modified) AND state IN ('failed', 'no-room')"
     condition = "state NOT IN (%s) AND (%s OR (state <> 'gone' AND NOT (%s))) ORDER BY path" % (
         as_list(READ),
         has_it,

@@ -118,8 +118,8 @@ class Job:
         """Does the job. Returns what came of it."""
         began, outcome = time.monotonic(), self.outcome
         try:
+            outcome.stamp = stamp_of(os.stat(outcome.path))
             with open_regular(outcome.path) as file:
-                outcome.stamp = open_stamp(file)
                 outcome.state, outcome.detail = self.verdict_on(file)
                 if not outcome.stamp == open_stamp(file) == stamp_of(os.stat(outcome.path)):
                     outcome.state, outcome.detail = "changing", "it changed while it was read"

@@ -195,10 +195,10 @@ def load_job(catalogue: Catalogue, run: int, folder: str) -> int:
 
 
 def note_state(catalogue: Catalogue, run: int, before: Before, outcome: Outcome) -> None:
-    """Notes the state of a file. The size, the time and the digest are those of the bytes that were judged last."""
+    """Notes the state of a file, and its size and time. The digest is that of bytes with this size and time."""
     put, file, stamp = catalogue.base.execute, before.file, outcome.stamp
     put("UPDATE files SET state = ?, detail = ?, run = ? WHERE file = ?", (outcome.state, outcome.detail, run, file))
-    if stamp is None or (outcome.state not in ABOUT_BYTES and before.size is not None):
+    if stamp is None:
         return
     sha256 = outcome.sha256 if outcome.state in ABOUT_BYTES else None
     if outcome.state == "rotten" or (sha256 is None and before.has_same_time(stamp)):
