@@ -128,8 +128,10 @@ class Catalogue:
         self.base.execute("PRAGMA cache_size = -%d" % CACHE_KIB)
         self.base.execute("PRAGMA synchronous = FULL")
         version = self.one("PRAGMA user_version")[0]
-        if version > VERSION or (version < VERSION and not is_made):
-            raise Trouble("the catalogue in %s is of another version: run warc-collection run" % shown(self.folder))
+        if version > VERSION:
+            raise Trouble("the catalogue in %s is of a later version of warc-collection" % shown(self.folder))
+        if version < VERSION and not is_made:
+            raise Trouble("the catalogue in %s is of an earlier version: run warc-collection run" % shown(self.folder))
 
     def make_tables(self) -> None:
         """Makes what isn't there, and brings an older catalogue to this version."""

@@ -9,7 +9,7 @@ import os
 import re
 import stat
 import tempfile
-from typing import IO, Iterator
+from typing import IO, Iterator, Optional
 
 LOCAL_DISKS = ("bcachefs", "btrfs", "ext2", "ext3", "ext4", "f2fs", "jfs", "tmpfs", "xfs", "zfs")
 
@@ -126,6 +126,11 @@ def written(path: str) -> Iterator[IO[bytes]]:
         return
     with replaced(target) as out:
         yield out
+
+
+def temporary_folder(asked: Optional[str]) -> str:
+    """Where files are unpacked and joined: no other place is looked for where this one is full."""
+    return asked or os.environ.get("TMPDIR") or "/tmp"
 
 
 def disk_of(path: str, mounts: str = "/proc/self/mountinfo") -> str:

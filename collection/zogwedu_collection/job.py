@@ -12,7 +12,7 @@ import subprocess
 import time
 from typing import Dict, IO, Iterator, List, Optional, Set, Tuple
 
-from .disk import Stamp, open_regular, open_stamp, reason_of, stamp_of
+from .disk import Stamp, open_regular, open_stamp, reason_of, stamp_of, temporary_folder
 from .program import Settings, said
 from .texts import counted, last_line
 from .unpack import PIECE, Damaged, Members, is_compressed, unpacked
@@ -60,7 +60,9 @@ class Source:
 
     def __init__(self, file: IO[bytes], path: str, temporary: Optional[str]) -> None:
         self.file = file
-        self.seekable: Optional[IO[bytes]] = unpacked(file, temporary) if is_compressed(path) else file
+        self.seekable: Optional[IO[bytes]] = (
+            unpacked(file, temporary_folder(temporary)) if is_compressed(path) else file
+        )
 
     def run(self, words: List[str], out: IO[bytes]) -> Tuple[int, str]:
         """Runs the program over it. Returns its exit status and its message."""
@@ -169,7 +171,7 @@ class Job:
         ignored = {b"%d N4" % position for position in empty}
         findings = sum(line not in ignored for line in lines_of(self.folder, "check"))
         # Revisits with such a digest are counted apart: they are no damage.
-        where = self.settings.temporary or os.environ.get("TMPDIR") or "/tmp"
+        where = temporary_folder(self.settings.temporary)
         words = {
             "bad": bad and counted(bad, "block doesn't have its digest", "blocks don't have their digests"),
             "unchecked": unchecked and counted(unchecked, "block") + " can't be checked",

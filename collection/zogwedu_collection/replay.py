@@ -14,7 +14,7 @@ from typing import Deque, Dict, IO, Iterable, Iterator, List, Optional, Sequence
 
 from .captures import Capture, captures_where
 from .catalogue import Catalogue, Known
-from .disk import open_regular, open_stamp, reason_of
+from .disk import open_regular, open_stamp, reason_of, temporary_folder
 from .program import instant_of, said
 from .texts import Trouble, escaped, say, real_path
 from .unpack import PIECE, Damaged, Members, is_compressed, write_all
@@ -71,7 +71,7 @@ class Files:
 
     def __init__(self, catalogue: Catalogue, temporary: Optional[str]) -> None:
         self.catalogue = catalogue
-        self.temporary = temporary
+        self.temporary = temporary_folder(temporary)
 
     def known(self, file: int) -> Known:
         return self.catalogue.files_where("files.file = ?", (file,))[0]
@@ -131,7 +131,7 @@ class Replayer:
         self.catalogue = catalogue
         self.warc = warc
         self.files = Files(catalogue, temporary)
-        self.temporary = temporary
+        self.temporary = temporary_folder(temporary)
         self.asked: Dict[Tuple[int, Optional[int]], List[Capture]] = {}
 
     def program(self, command: str, source: IO[bytes], position: int) -> Tuple[IO[bytes], int, str]:

@@ -2,10 +2,13 @@
 from __future__ import annotations
 
 import contextlib
+import ctypes
 import dataclasses
+import functools
 import os
 import shlex
 import shutil
+import signal
 import subprocess
 import sys
 from typing import Iterator, List, Optional, Sequence
@@ -18,6 +21,7 @@ from .take_in import end_run, take_in, take_in_all
 from .texts import Trouble, now, say, shown
 
 SSH = "ssh -o BatchMode=yes -o ConnectTimeout=10 -o ServerAliveInterval=10 -o ServerAliveCountMax=3"
+PR_SET_PDEATHSIG = 1
 BRACE = "'\"$(printf '\\173')\"'"
 
 
@@ -109,10 +113,9 @@ def braceless(word: str) -> str:
 
 
 def parallel_words(machines: Machines, folder: str, count: int) -> List[str]:
-    """The words that have GNU parallel do the jobs of a list. It ends with the run, where the system can see to that."""
+    """The words that have GNU parallel do the jobs of a list."""
     is_far = bool(machines.logins or machines.login_files)
-    words = ["setpriv", "--pdeathsig", "TERM"] if shutil.which("setpriv") else []
-    words += ["parallel", "--will-cite", "--joblog", os.path.join(folder, "joblog"), "--retries", "3"]
+    words = ["parallel", "--will-cite", "--joblog", os.path.join(folder, "joblog"), "--retries", "3"]
     words += ["-n", str(machines.batch or (4 if is_far else 1))]
     words += ["--jobs", machines.jobs] if machines.jobs else []
     words += ["--bar"] if sys.stderr.isatty() and not machines.is_quiet and count else []
@@ -120,6 +123,14 @@ def parallel_words(machines: Machines, folder: str, count: int) -> List[str]:
     words += [word for path in machines.login_files for word in ("--sshloginfile", path)]
     words += ["--ssh", SSH] if is_far else []
     return [*words, for_parallel([*own_words(), "job", folder]) + " {}"]
+
+
+def end_with(parent: int) -> None:
+    """Has Linux send SIGTERM to this process when its parent is killed, so that no more jobs are begun."""
+    if sys.platform == "linux":
+        ctypes.CDLL(None).prctl(PR_SET_PDEATHSIG, signal.SIGTERM)
+        if os.getppid() != parent:
+            os.kill(os.getpid(), signal.SIGTERM)
 
 
 def stop(child: subprocess.Popen[bytes]) -> None:
@@ -143,7 +154,7 @@ def in_parallel(machines: Machines, plan: Plan) -> Iterator[subprocess.Popen[byt
         numbers.writelines("%d\n" % number for number in range(1, plan.count + 1))
         numbers.seek(0)
         words = parallel_words(machines, plan.folder, plan.count)
-        child = subprocess.Popen(words, stdin=numbers)
+        child = subprocess.Popen(words, stdin=numbers, preexec_fn=functools.partial(end_with, os.getpid()))
     try:
         yield child
     finally:

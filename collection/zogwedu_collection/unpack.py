@@ -73,7 +73,7 @@ def write_all(out: IO[bytes], piece: bytes) -> None:
         view = view[out.write(view) :]
 
 
-def unpacked(file: IO[bytes], folder: Optional[str]) -> Optional[IO[bytes]]:
+def unpacked(file: IO[bytes], folder: str) -> Optional[IO[bytes]]:
     """What a compressed file holds, in a file without a name, which is gone with its last reader. Where there is no room
     for it there is none; the compressed file is judged all the same."""
     out: Optional[IO[bytes]] = None

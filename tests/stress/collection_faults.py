@@ -62,7 +62,9 @@ def no_room(trial: Trial) -> None:
     put(folder + "/big.warc.gz", gzip.compress(page(1, b"x" * 300_000)))
     with small_disk(trial.path("disk"), "64k") as disk:
         done = trial.run("c", "run", "--temporary", disk, folder)
+        other = trial.run("d", "run", folder, env={"TMPDIR": disk})
     trial.judge(done.returncode == 1 and b"no-room\t1" in done.stdout, "the state", done.stdout)
+    trial.judge(other.returncode == 1 and b"no-room\t1" in other.stdout, "no room in TMPDIR", other.stdout)
     for command in ("find", "replay"):
         done = trial.run("c", command, URI.decode(), "9999")
         trial.judge(done.returncode == 1 and b"big.warc.gz" in done.stderr, command + " names it", done.stderr)
