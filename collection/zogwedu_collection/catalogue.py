@@ -161,7 +161,7 @@ class Catalogue:
                 self.base.execute("CREATE INDEX IF NOT EXISTS " + index)
 
     def expect(self, count: int) -> None:
-        """Drops the indexes where it is faster to make them again after so many files are loaded."""
+        """Drops the indexes where it is faster to make them again after this number of files is loaded."""
         if count < MANY_FILES or 4 * count < self.one("SELECT count(*) FROM files")[0]:
             return
         with self.transaction():

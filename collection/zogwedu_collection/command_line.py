@@ -40,7 +40,7 @@ def add_run_options(parser: argparse.ArgumentParser) -> None:
     add("--files", action="append", default=[], metavar="LIST", help=names)
     add("--all", action="store_true", help="reads all files, and not only new and changed ones")
     add("--timeout", type=float, metavar="SECONDS", help="the longest time that all that is done over a file may take")
-    digest = "keeps the SHA-256 of each whole file, and compares it with that of the run before"
+    digest = "keeps the SHA-256 of each whole file, and compares it with the one that an earlier run kept"
     add("--digest", action="store_true", help=digest)
     add_program_options(parser)
 

@@ -452,7 +452,7 @@ def files_read(trial: Trial, catalogue: str) -> int:
 
 
 def wait_for(trial: Trial, child: subprocess.Popen[bytes], catalogue: str, wanted: int) -> None:
-    """Waits until so many files were read, or the run is at its end."""
+    """Waits until this number of files was read, or the run is at its end."""
     while child.poll() is None and files_read(trial, catalogue) < wanted:
         time.sleep(0.2)
 

@@ -59,7 +59,7 @@ def small_disk(folder: str, size: str) -> Iterator[str]:
 def no_room(trial: Trial) -> None:
     """A compressed file without room to unpack is no good file, is named, and is read again."""
     folder = trial.path("archives")
-    put(folder + "/big.warc.gz", gzip.compress(page(1, b"x" * 300_000)))
+    put(folder + "/big.warc.gz", gzip.compress(page(1, b"x" * 100_000)))
     with small_disk(trial.path("disk"), "64k") as disk:
         done = trial.run("c", "run", "--temporary", disk, folder)
         other = trial.run("d", "run", folder, env={"TMPDIR": disk})
@@ -71,20 +71,20 @@ def no_room(trial: Trial) -> None:
     done = trial.run("c", "run")
     trial.judge(done.returncode == 0 and to_read(done) == 1, "with room", done.stdout + done.stderr)
     done = trial.run("c", "replay", URI.decode(), "9999")
-    trial.judge(done.stdout == b"x" * 300_000, "its page", done.stderr)
+    trial.judge(done.stdout == b"x" * 100_000, "its page", done.stderr)
     with small_disk(trial.path("disk"), "64k") as disk:
         done = trial.run("c", "run", "--all", "--temporary", disk)
     done = trial.run("c", "find", URI.decode())
     trial.judge(b"read on 2" in done.stdout and b"big.warc.gz" in done.stderr, "rows of before", done.stdout)
     done = trial.run("c", "replay", URI.decode(), "9999")
-    is_right = done.stdout == b"x" * 300_000 and b"\nread on 2" in done.stderr
+    is_right = done.stdout == b"x" * 100_000 and b"\nread on 2" in done.stderr
     trial.judge(is_right, "a replay of the rows of before", done.stderr)
 
 
 def failing_machine(trial: Trial) -> None:
     """A limit, or a tool that is killed, isn't damage of the archive."""
     folder = trial.path("archives")
-    put(folder + "/big.warc.gz", gzip.compress(page(1, b"x" * 600_000)))
+    put(folder + "/big.warc.gz", gzip.compress(page(1, b"x" * 400_000)))
     done = trial.run("c", "run", folder, before=["bash", "-c", 'ulimit -f 300; exec "$0" "$@"'])
     trial.judge(trial.states("c")["big.warc.gz"] in ("no-room", "failed"), "a limit on files", done.stdout)
     done = trial.run("c", "run")
@@ -103,7 +103,7 @@ def damaged_members(trial: Trial) -> None:
     bytes_of = {
         "padded": (two + bytes(5000), "good"),
         "garbage": (two + b"garbage", "damaged after %d bytes" % len(two)),
-        "behind-padding": (two + bytes(10) + b"x", "damaged after %d bytes" % len(two)),
+        "after-padding": (two + bytes(10) + b"x", "damaged after %d bytes" % len(two)),
         "cut": (two[:-9], "damaged after %d bytes" % len(one)),
         "empty": (b"", "damaged after 0 bytes"),
         "plain": (page(1), "damaged after 0 bytes"),
@@ -178,7 +178,7 @@ def unchecked_blocks(trial: Trial) -> None:
     trial.judge("1 block can't be checked" in trial.detail("c"), "the words", trial.detail("c"))
 
 
-def changed_behind(trial: Trial) -> None:
+def changed_file(trial: Trial) -> None:
     """A file that is changed while it is replayed gives nothing; one with the same size and time is read again."""
     path = put(trial.path("archives", "a.warc"), page())
     trial.run("c", "run", trial.path("archives"))
@@ -732,7 +732,7 @@ PARTS: List[Callable[[Trial], None]] = [
         kept_rows,
         unknown_names,
         unchecked_blocks,
-        changed_behind,
+        changed_file,
     ),
     *(small_mistakes, many_revisits, chained_revisits, no_regular_files, limited_time, torn_jobs, synced_jobs),
     *(failing_load, long_readers, stopped_export, hostile_tables, failing_output, reports_elsewhere, odd_names),
