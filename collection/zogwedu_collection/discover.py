@@ -68,7 +68,7 @@ def found_files(paths: Sequence[str], lists: Sequence[str]) -> Found:
     found = Found()
     folders = [path for path in paths if os.path.isdir(path)]
     below = (name for folder in folders for name in files_below(folder, found))
-    named = [path for path in paths if path not in folders]
+    named = dict.fromkeys(path for path in paths if not os.path.isdir(path))
     listed = (name for path in lists for name in listed_files(path, found))
     for name in itertools.chain(below, named, listed):
         found.add(name, name in named)

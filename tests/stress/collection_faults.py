@@ -360,6 +360,27 @@ def failing_load(trial: Trial) -> None:
             os.kill(process, signal.SIGKILL)
 
 
+def killed_parent(trial: Trial) -> None:
+    """Where a run is killed, GNU parallel begins no more jobs."""
+    for number in range(30):
+        put(trial.path("archives", "%d.warc" % number), page(number))
+    slow = put_script(trial.path("slow"), '[ "$1" = --version ] || sleep 1\nexec %s "$@"\n' % trial.warc)
+    words = trial.words("c", "run", "--jobs", "1", "--warc", slow, trial.path("archives"))
+    child = subprocess.Popen(words, stdout=subprocess.DEVNULL, stderr=subprocess.DEVNULL)
+    while child.poll() is None and not running_with(trial.path("c", "jobs") + "/1-1\0"):
+        time.sleep(0.1)
+    child.kill()
+    child.wait()
+    begun = time.monotonic()
+    while running_with(trial.path("c", "jobs")) and time.monotonic() - begun < 90:
+        time.sleep(1)
+    left = running_with(trial.path("c", "jobs"))
+    trial.judge(not left, "what runs on after 90 s", left)
+    for process in left:
+        with contextlib.suppress(ProcessLookupError):
+            os.kill(process, signal.SIGKILL)
+
+
 def long_readers(trial: Trial) -> None:
     """A reader that holds the database doesn't end a run, whether or not its disk is one of this machine."""
     put(trial.path("archives", "a.warc"), page())
@@ -735,7 +756,16 @@ PARTS: List[Callable[[Trial], None]] = [
         changed_file,
     ),
     *(small_mistakes, many_revisits, chained_revisits, no_regular_files, limited_time, torn_jobs, synced_jobs),
-    *(failing_load, long_readers, stopped_export, hostile_tables, failing_output, reports_elsewhere, odd_names),
+    *(
+        failing_load,
+        killed_parent,
+        long_readers,
+        stopped_export,
+        hostile_tables,
+        failing_output,
+        reports_elsewhere,
+        odd_names,
+    ),
     *(odd_settings, many_users, old_runs, revisits_of_wget, moves, named_files, rot, older_catalogue),
 ]
 
