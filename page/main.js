@@ -6,7 +6,7 @@ const LINE = 26; // pixels
 const MOST_PIXELS = 30e6; // no browser scrolls further
 const CAPTURES = new Set(['response', 'resource', 'revisit']);
 const TONES = { response: 0, request: 8, resource: 2, revisit: 4, warcinfo: 7, metadata: 3, conversion: 6, continuation: 1 };
-const MOST_TEXT = 2 * 1048576; // characters of a text that are shown
+const MOST_TEXT = 2 * MEGABYTE; // characters of a text that are shown
 const BUCKETS = 60;
 const HOUR = 3600e3, DAY = 24 * HOUR;
 

@@ -12,7 +12,7 @@ function download(blob, name) {
   setTimeout(() => URL.revokeObjectURL(url), 60e3);
 }
 
-const bytesAt = async (from, length) => new Uint8Array(await room.file.slice(from, from + length).arrayBuffer());
+const bytesAt = (from, length) => bytesOfFile(room.file, from, from + length);
 
 // The captures of a target, in the order of time. Only for the points: the library decides which one answers.
 function capturesOf(target) {
@@ -39,20 +39,26 @@ async function typeOf(row) {
   return { fields, http, type: http ? http.get('content-type') : isHttp ? '' : fieldOf(fields, 'Content-Type') };
 }
 
-// Asks the library, and adds to each answer its content type. A coded body is decoded by the browser, and marked so.
-async function answersWithTypes(questions) {
+// Asks the library, and adds to each answer its content type. A coded body is decoded by the browser, and marked so: one
+// after another, since a few bytes may give many. Together they may have as many bytes as are left.
+async function answersWithTypes(questions, left) {
   const answers = await room.library.ask(questions);
-  await Promise.all(answers.map(async (answer) => {
-    if (answer.given === null || answer.given === undefined) return;
+  await Promise.all(answers.map(addType));
+  for (const answer of answers) {
+    if (numberOf(answer.reason ?? '') !== 'P10' || answer.given === null) continue;
     const row = room.rows.row(answer.given);
-    Object.assign(answer, { type: (await typeOf(row)).type });
-    if (numberOf(answer.reason ?? '') !== 'P10') return;
     try {
-      const { body: bytes, steps } = await decoded(await bytesAt(row.blockStart, row.blockLength));
-      Object.assign(answer, { body: bytes, steps, isDecoded: true });
+      const {body, steps} = await decoded(await bytesAt(row.blockStart, row.blockLength), left);
+      left -= body.length;
+      Object.assign(answer, {body, steps, isDecoded: true});
     } catch { /* it stays without a body */ }
-  }));
+  }
   return answers;
+}
+
+async function addType(answer) {
+  if (answer.given === null || answer.given === undefined) return;
+  answer.type = (await typeOf(room.rows.row(answer.given))).type;
 }
 
 function closeRecord() {
@@ -247,9 +253,7 @@ async function pageTab(it) {
 }
 
 function picture(bytes, media) {
-  const url = URL.createObjectURL(new Blob([bytes], { type: media }));
-  room.urls.push(url);
-  return make('img', { className: 'picture', src: url, alt: 'The captured picture' });
+  return make('img', { className: 'picture', src: addressOf(bytes, media, room.urls), alt: 'The captured picture' });
 }
 
 function textView(words) {
@@ -285,41 +289,70 @@ function moments(it) {
   return all;
 }
 
-async function htmlView(it, bytes, saved) {
-  const frame = make('iframe', { className: 'view', title: 'The page as a view, without scripts and without network' });
-  frame.setAttribute('sandbox', 'allow-same-origin'); // no scripts; so that this page can hear a click on a link
-  frame.referrerPolicy = 'no-referrer';
-  const summary = make('div', { 'aria-live': 'polite', className: 'small' }), below = make('div');
-  const choice = make('select', { 'aria-label': 'As of which moment pictures and styles are looked for', on: { change: () => draw(choice.value) } },
-    ...moments(it).map(([name, moment], number) => make('option', { value: moment, selected: number === 1 }, `${name}: ${moment}`)));
-  async function draw(moment) {
-    summary.textContent = 'Looking for pictures and styles…';
-    const resources = new Resources(answersWithTypes, moment), uri = shown(it.row.target);
-    const { source, targets } = await viewOf(textOf(bytes, it.type), uri, resources), links = [...new Set(targets.map((target) => target.uri))];
-    frame.onload = () => {
-      frame.contentDocument?.addEventListener('click', (event) => follow(event, targets, uri, moment, summary));
-      frame.contentDocument?.addEventListener('keydown', (event) => { if (event.key === 'Escape') leaveRecord(); });
-    };
-    frame.srcdoc = source;
-    const decodedCount = resources.there.filter(([, found]) => found.isDecoded).length;
-    summary.textContent = `${many(resources.there.length, 'picture or style', 'pictures and styles')} from the archive as of ${moment}${decodedCount ? `, ${decodedCount} of them decoded by this browser` : ''}; ${resources.missing.length} missing.`;
-    below.replaceChildren(...listed(resources, links, moment));
+// A page as a view, with what is said of it.
+class PageView {
+  constructor(it, bytes) {
+    this.it = it;
+    this.html = textOf(bytes, it.type);
+    this.uri = shown(it.row.target);
+    this.visit = room.visit;
+    this.drawn = 0; // how often it was drawn
+    this.place = make('div');
+    this.summary = make('div', { 'aria-live': 'polite', className: 'small' });
+    this.below = make('div');
+    this.choice = make('select', { 'aria-label': 'As of which moment pictures and styles are looked for', on: { change: () => this.draw() } },
+      ...moments(it).map(([name, moment], number) => make('option', { value: moment, selected: number === 1 }, `${name}: ${moment}`)));
   }
-  await draw(moments(it)[1][1]);
-  return [make('div', { className: 'note plainly' }, make('p', {}, make('b', {}, 'This is a view. '), 'Scripts and network are off, links lead to what is in the archive, and what isn’t there is missing. The bytes on disk and in the download are never changed.'),
-    make('div', { className: 'actions' }, make('span', { className: 'small' }, 'Pictures and styles as of'), choice), summary), saved, frame, below];
+
+  nodes(saved) {
+    const words = 'Scripts and network are off, links lead to what is in the archive, and what isn’t there is missing. The bytes on disk and in the download are never changed.';
+    const choice = make('div', { className: 'actions' }, make('span', { className: 'small' }, 'Pictures and styles as of'), this.choice);
+    return [make('div', { className: 'note plainly' }, make('p', {}, make('b', {}, 'This is a view. '), words), choice, this.summary), saved, this.place, this.below];
+  }
+
+  // Draws the page with the pictures and styles of the moment that is chosen.
+  async draw() {
+    const moment = this.choice.value, turn = this.drawn += 1, isWanted = () => turn === this.drawn && this.visit === room.visit;
+    this.summary.textContent = 'Looking for pictures and styles…';
+    const resources = new Resources(answersWithTypes, moment, isWanted);
+    const { root, targets } = await viewOf(this.html, this.uri, resources);
+    if (!isWanted()) { resources.forget(); return; }
+    forgetUrls();
+    room.urls = resources.urls;
+    this.place.replaceChildren(emptyFrame((page) => {
+      hearOf(page, 'click', (event) => this.follow(event, targets, moment));
+      hearOf(page, 'keydown', (event) => { if (event.key === 'Escape') leaveRecord(); });
+      moveInto(page, root);
+    }));
+    this.sumUp(resources, moment);
+    this.below.replaceChildren(...listed(resources, [...new Set(targets.map((target) => target.uri))], moment));
+  }
+
+  sumUp(resources, moment) {
+    const count = resources.there.length, byBrowser = resources.there.filter(([, found]) => found.isDecoded).length;
+    const words = `${many(count, 'picture or style', 'pictures and styles')} from the archive as of ${moment}${byBrowser ? `, ${byBrowser} of them decoded by this browser` : ''}; ${resources.missing.length} missing.`;
+    const left = resources.budget.words;
+    this.summary.replaceChildren(words, left.length ? make('p', { className: 'left-out' }, `Left out of this view: ${left.join('; ')}.`) : '');
+  }
+
+  // Follows a link: to a place on the same page, or to what the archive gives as of the view’s moment.
+  follow(event, targets, moment) {
+    const link = Element.prototype.closest.call(event.target, 'a[href], area[href]');
+    if (!link) return;
+    event.preventDefault();
+    const target = targets[Number(/^about:srcdoc#(\d+)$/.exec(attributeOf(link, 'href'))?.[1])];
+    if (!target) return;
+    if (target.place && target.uri === resolved(this.uri, this.uri)) {
+      Document.prototype.getElementById.call(ownerOf(link), nameOf(target.place))?.scrollIntoView();
+    } else if (capturesOf(typed(target.uri)).length) openAsOf(typed(target.uri), moment, true);
+    else this.summary.textContent = `The archive has no capture of ${target.uri}`;
+  }
 }
 
-// Follows a link in a view: to a place on the same page, or to what the archive gives as of the view’s moment.
-async function follow(event, targets, uri, moment, summary) {
-  const link = event.target.closest?.('a[href], area[href]');
-  if (!link) return;
-  event.preventDefault();
-  const target = targets[Number(/^about:srcdoc#(\d+)$/.exec(link.getAttribute('href'))?.[1])];
-  if (!target) return;
-  if (target.place && target.uri === resolved(uri, uri)) { event.view.document.getElementById(nameOf(target.place))?.scrollIntoView(); return; }
-  if (capturesOf(typed(target.uri)).length) openAsOf(typed(target.uri), moment, true);
-  else summary.textContent = `The archive has no capture of ${target.uri}`;
+async function htmlView(it, bytes, saved) {
+  const view = new PageView(it, bytes);
+  await view.draw();
+  return view.nodes(saved);
 }
 
 // The name of a place, as it is in the page.

@@ -7,18 +7,26 @@
 
 const WASM_PAGE = 65536;
 const UNIT = 16;
-const MEGABYTE = 1048576;
-const ROW = 48, FRONT = 40, OUTCOME = 16, HANDLE = 16, ANSWER = 32, SPAN = 16, TEXT = 128;
-const FIRST_PIECE = MEGABYTE, PIECE = 16 * MEGABYTE, MOST_PIECE = 4096 * MEGABYTE;
+const FRONT = 40;
+const OUTCOME = 16;
+const HANDLE = 16;
+const ANSWER = 32;
+const SPAN = 16;
+const TEXT = 128;
+const FIRST_PIECE = MEGABYTE;
+const PIECE = 16 * MEGABYTE;
+const MOST_PIECE = 4096 * MEGABYTE;
 const SEGMENT = PIECE - MEGABYTE; // what a helper lists at once, with the rest of its last record
 const LEAST_RECORD = 81; // bytes: no record is shorter
-const DONE = 0, MEMORY = 2;
+const DONE = 0;
+const MEMORY = 2;
 const NOWHERE = 2n ** 64n - 1n; // a position that isn't known
 const SPENT = 1024 * MEGABYTE; // what the calls of a module are given before it is started anew
 const MOST_HEAP = 8192 * MEGABYTE;
 const HELPERS = typeof Worker === 'function' ? Math.min(4, navigator.hardwareConcurrency || 1) : 1;
 const LEAST_SHARED = 32 * MEGABYTE; // bytes: a shorter file is listed by this worker alone
-const MOST_TWICE = navigator.deviceMemory >= 8 ? Infinity : 1024 * MEGABYTE; // bytes: of a longer file there is no second copy in memory, for its findings
+const IS_LARGE = /** @type {any} */ (navigator).deviceMemory >= 8;
+const MOST_TWICE = IS_LARGE ? Infinity : 1024 * MEGABYTE; // bytes: of a longer file there is no second copy in memory
 const BEGINNING = '\r\n\r\nWARC/1.'; // what a record's beginning looks like, after the end of the record before it
 const SMALL = 4096; // bytes of memory that a question, or a verdict, is given
 const MOST_OF_HEAD = 16 * MEGABYTE; // bytes of memory that reading a head needs at most
@@ -27,30 +35,25 @@ const NO_VERDICT = 3;
 const LEAST_PAGES = 16; // by which a memory grows at least
 const SPARE = 64 * MEGABYTE; // what questions may use of an open archive's memory, until it is opened anew
 const SPANS = 64; // for how many parts of a body there is room at first
-
-let compiled = null;
-let script = ''; // this one, for helpers
-let limit = 0; // bytes: a longer archive is listed, and not kept in memory
-let file = null;
-let kept = null; // the instance that holds the archive
-let count = 0, textBytes = 0, end = 0;
-let run = 0; // number of the file that was opened last
-let openings = 0; // how often an archive was opened in a module's memory
-let looking = null; // the helpers that look for findings and judge blocks
-let listed = []; // records that were listed together: the first one's position, from which offset to which, and their rows
-let judging = null; // the instance in which blocks are judged
+const PATIENCE = 60000; // milliseconds after which a helper counts as lost
+const SLOWEST = 10000; // bytes that a helper looks through in a millisecond at least
 
 const round = (number, to) => Math.ceil(number / to) * to;
+const text = (bytes) => new TextDecoder('latin1').decode(bytes.slice());
 
 // A module with its own memory, and where in it is free.
 class Instance {
-  constructor() {
-    this.exports = new WebAssembly.Instance(compiled, {}).exports;
+  /** @param {WebAssembly.Module} module */
+  constructor(module) {
+    this.module = module;
+    /** @type {any} */
+    this.exports = new WebAssembly.Instance(module, {}).exports;
+    /** @type {WebAssembly.Memory} */
     this.memory = this.exports.memory;
     this.end = this.memory.buffer.byteLength;
-    this.start = this.end;
     this.spent = 0; // bytes that were given for good
     this.most = SPENT; // the module is started anew once this much is spent
+    /** @type {Map<string, {at: number, room: number}>} */
     this.lent = new Map();
   }
 
@@ -69,17 +72,21 @@ class Instance {
     if (found && found.room >= bytes) return found.at;
     this.spent += found?.room ?? 0;
     const at = this.take(bytes);
-    this.lent.set(name, { at, room: bytes });
+    this.lent.set(name, {at, room: bytes});
     return at;
   }
 
-  bytes(at, length) { return new Uint8Array(this.memory.buffer, at, length); }
+  bytes(at, length) {
+    return new Uint8Array(this.memory.buffer, at, length);
+  }
 
-  number(at) { return Number(new DataView(this.memory.buffer).getBigUint64(at, true)); }
+  number(at) {
+    return Number(new DataView(this.memory.buffer).getBigUint64(at, true));
+  }
 
   // Puts bytes into memory that is lent, and gives their place and length.
-  put(name, bytes) {
-    const at = this.lend(name, bytes.length);
+  put(name, bytes, least = 0) {
+    const at = this.lend(name, Math.max(bytes.length, least));
     this.bytes(at, bytes.length).set(bytes);
     return [at, bytes.length];
   }
@@ -92,6 +99,15 @@ class Instance {
     return this.number(outcome);
   }
 
+  // Calls an export with fresh memory, and with more where that didn't suffice.
+  call(name, heap, parts, outcome) {
+    for (let room = round(heap, UNIT);; room *= 4) {
+      const state = this.once(name, room, parts, outcome);
+      if (state !== MEMORY) return state;
+      if (room >= MOST_HEAP) throw new Error('out of memory');
+    }
+  }
+
   // The verdict on a block by its head, with fresh memory, and with more where that didn't suffice.
   verdict(...parts) {
     for (let room = SMALL; room <= MOST_OF_HEAD; room *= 4) {
@@ -100,93 +116,225 @@ class Instance {
       const verdict = Number(this.exports.page_verdict(...[at, room / UNIT, ...parts].map(BigInt)));
       if (verdict !== NO_VERDICT) return verdict;
     }
-    throw new Error('a head isn’t what it was');
+    throw new Error(CHANGED);
   }
 
-  // Calls an export with fresh memory, and with more where that didn't suffice.
-  call(name, heap, parts, outcome) {
-    for (let room = round(heap, UNIT); ; room *= 4) {
-      const state = this.once(name, room, parts, outcome);
-      if (state !== MEMORY) return state;
-      if (room >= MOST_HEAP) throw new Error('out of memory');
-    }
+  // Lists the records at the front of bytes in the module's memory, which begin with a record.
+  front(at, length) {
+    const room = Math.max(length, PIECE), rowsRoom = Math.floor(length / LEAST_RECORD) + 1;
+    const texts = this.lend('texts', room), fault = this.lend('fault', TEXT), outcome = this.lend('front', FRONT);
+    const rows = this.lend('rows', (Math.floor(room / LEAST_RECORD) + 1) * ROW_BYTES);
+    const parts = [at, length, rows, rowsRoom, texts, length, fault, TEXT, outcome];
+    const state = this.call('page_front', Math.max(4 * MEGABYTE, length / 4), parts, outcome + 24);
+    const [records, textBytes, end, , faultBytes] = [0, 8, 16, 24, 32].map((place) => this.number(outcome + place));
+    return {
+      records,
+      texts: textBytes,
+      end,
+      fault: state === DONE ? '' : text(this.bytes(fault, faultBytes)),
+      rows: this.bytes(rows, records * ROW_BYTES).slice().buffer,
+      words: this.bytes(texts, textBytes).slice().buffer,
+    };
   }
 }
 
 // Newer engines take a BigInt, older ones a number.
 function grow(memory, pages) {
-  try { memory.grow(BigInt(pages)); } catch (error) {
+  try {
+    memory.grow(BigInt(pages));
+  } catch (error) {
     if (!(error instanceof TypeError)) throw error;
     memory.grow(pages);
   }
 }
 
-// Lists the records at the front of bytes in the module's memory, which begin with a record.
-function front(instance, at, length) {
-  const room = Math.max(length, PIECE), rowsRoom = Math.floor(length / LEAST_RECORD) + 1;
-  const area = { texts: instance.lend('texts', room), fault: instance.lend('fault', TEXT),
-    rows: instance.lend('rows', (Math.floor(room / LEAST_RECORD) + 1) * ROW), outcome: instance.lend('front', FRONT) };
-  const state = instance.call('page_front', Math.max(4 * MEGABYTE, length / 4), [at, length, area.rows, rowsRoom,
-    area.texts, length, area.fault, TEXT, area.outcome], area.outcome + 24);
-  const number = (place) => instance.number(area.outcome + place);
-  const records = number(0), texts = number(8);
-  return {
-    records, texts, end: number(16),
-    fault: state === DONE ? '' : text(instance.bytes(area.fault, number(32))),
-    rows: instance.bytes(area.rows, records * ROW).slice().buffer,
-    words: instance.bytes(area.texts, texts).slice().buffer,
-  };
+// The module that has an archive in its memory, at `file`, and answers questions on it once it is open.
+class Keeper extends Instance {
+  /**
+   * @param {WebAssembly.Module} module
+   * @param {number} length
+   */
+  constructor(module, length) {
+    super(module);
+    this.file = this.take(length);
+    this.outcome = this.lend('outcome', OUTCOME);
+    this.reason = this.lend('text', TEXT);
+    this.handle = 0; // 0: none was taken
+    this.isOpen = false;
+  }
+
+  get reasonText() {
+    return text(this.bytes(this.reason, this.number(this.outcome + 8)));
+  }
+
+  // Opens the archive, in the place of one that is open.
+  open(length, heap) {
+    if (!this.handle) this.handle = this.take(HANDLE); // all zeros: none is open
+    const parts = [this.file, length, this.handle, this.reason, TEXT, this.outcome];
+    if (this.call('page_open', heap + SPARE, parts, this.outcome) !== DONE) throw new Error(this.reasonText);
+    if (!this.isOpen) this.most = this.spent + SPENT / 2; // whatever opening took, questions have room
+    this.isOpen = true;
+  }
+
+  // The lines that the library writes of its findings.
+  findings(length, heap, records) {
+    for (let room = MEGABYTE + 32 * records;; room *= 8) {
+      const out = this.lend('out', room);
+      this.call('page_findings', heap, [this.file, length, out, room, this.outcome], this.outcome);
+      const bytes = this.number(this.outcome + 8);
+      if (bytes <= room) return this.bytes(out, bytes).slice();
+    }
+  }
+
+  // How a question is asked: the name of the export, and the parameters of its own.
+  asking({uri, date, position}) {
+    if (!uri) return {name: 'page_body', own: [position]};
+    return {name: 'page_replay', own: [...this.put('uri', uri), ...this.put('date', new TextEncoder().encode(date))]};
+  }
+
+  // The answer to a question. Where the open archive has used up its memory, it is opened anew.
+  answer(question, reopen) {
+    const {name, own} = this.asking(question), numbers = this.lend('numbers', ANSWER);
+    for (let count = SPANS, isFresh = false;;) {
+      const spans = this.lend('spans', count * SPAN);
+      this.bytes(numbers, ANSWER).fill(255); // no position is known
+      const parts = [this.handle, ...own, numbers, spans, count, this.reason, TEXT, this.outcome];
+      const state = this.once(name, SMALL, parts, this.outcome), length = this.number(this.outcome + 8);
+      if (state === MEMORY) {
+        if (isFresh) throw new Error('out of memory');
+        reopen();
+        isFresh = true;
+      } else if (state !== DONE) return {...this.positions(numbers), reason: this.reasonText};
+      else if (length > count) count = length;
+      else return {...this.positions(numbers), ...this.facts(numbers), body: this.body(spans, length)};
+    }
+  }
+
+  // The positions of an answer: of the chosen capture and of the origin that gives the body.
+  positions(numbers) {
+    const view = new DataView(this.memory.buffer, numbers, ANSWER);
+    const [chosen, given] = [view.getBigUint64(0, true), view.getBigUint64(8, true)];
+    return {chosen: chosen === NOWHERE ? null : Number(chosen), given: given === NOWHERE ? null : Number(given)};
+  }
+
+  facts(numbers) {
+    const view = new DataView(this.memory.buffer, numbers, ANSWER), status = view.getUint32(24, true) || null;
+    return {length: Number(view.getBigUint64(16, true)), status, truncated: view.getUint32(28, true) === 1};
+  }
+
+  // A body: the parts of the archive that the library names, one after another.
+  body(spans, count) {
+    const places = Array.from({length: count}, (_, number) => spans + number * SPAN);
+    const parts = places.map((at) => this.bytes(this.file + this.number(at), this.number(at + 8)));
+    const body = new Uint8Array(parts.reduce((sum, part) => sum + part.length, 0));
+    parts.reduce((at, part) => {
+      body.set(part, at);
+      return at + part.length;
+    }, 0);
+    return body;
+  }
 }
 
-const text = (bytes) => new TextDecoder('latin1').decode(bytes.slice());
-const read = async (from, to) => new Uint8Array(await file.slice(from, to).arrayBuffer());
+// Judges the blocks of records that were listed together, which are read again.
+class Judge {
+  /** @param {WebAssembly.Module} module */
+  constructor(module) {
+    this.module = module;
+    this.instance = new Instance(module);
+  }
 
-// The fault of a piece, with its offset counted from the beginning of the file.
-function placed(fault, start) {
-  return fault.replace(/ at (\d+)$/, (_, offset) => ` at ${Number(offset) + start}`);
+  async judge({file, start, stop, rows}) {
+    const bytes = await bytesOfFile(file, start, stop), view = new DataView(rows);
+    if (this.instance.spent > MOST_JUDGING) this.instance = new Instance(this.module);
+    const [at] = this.instance.put('bytes', bytes, PIECE);
+    return Uint8Array.from({length: rows.byteLength / ROW_BYTES}, (_, number) => {
+      const places = [0, 8, 16].map((place) => Number(view.getBigUint64(number * ROW_BYTES + place, true)));
+      return this.instance.verdict(at + places[0], places[1] - places[0], at + places[1], places[2]);
+    });
+  }
 }
 
-// Reports the records that were found from an offset on. Returns whether there may be more after the bytes so far.
-function report({ records, texts, rows, words, end: length, fault }, start, stop) {
-  if (records) listed.push({ first: count, start, stop: start + length, rows: rows.slice(0) });
-  count += records;
-  textBytes += texts;
-  postMessage({ report: 'rows', base: start, count: records, rows, words, read: start + length, size: file.size }, [rows, words]);
-  return !fault || (fault.startsWith('F11 ') && stop < file.size);
+// One helper, and what it is asked. It is lost where it reports an error, or doesn't answer in time.
+class Helper {
+  constructor(script, module) {
+    this.worker = startWorker(script);
+    this.worker.onmessage = ({data}) => this.turn?.done(data);
+    this.worker.onerror = (event) => this.lose(event.message || 'a helper stopped');
+    this.worker.postMessage({helps: module});
+    this.isLost = false;
+  }
+
+  ask(message, moved, patience) {
+    if (this.isLost) return Promise.reject(new Error('a helper stopped'));
+    return new Promise((done, failed) => {
+      this.turn = {done, failed};
+      this.clock = setTimeout(() => this.lose('a helper doesn’t answer'), patience);
+      this.worker.postMessage(message, moved);
+    }).finally(() => clearTimeout(this.clock));
+  }
+
+  lose(why) {
+    this.isLost = true;
+    this.worker.terminate();
+    this.turn?.failed(new Error(why));
+  }
 }
 
-// Helpers that list bytes side by side. They are started when they are needed.
+// Helpers that work side by side. Each is started when it is needed, also in the place of one that is lost.
 class Helpers {
-  constructor() { this.all = []; this.free = []; this.waiting = []; this.turns = new Map(); }
+  constructor(script, module) {
+    this.start = () => new Helper(script, module);
+    this.isStopped = false;
+    /** @type {Set<Helper>} */
+    this.all = new Set();
+    /** @type {Helper[]} */
+    this.free = [];
+    /** @type {(() => void)[]} */
+    this.waiting = [];
+  }
 
-  start() {
-    const helper = new Worker(URL.createObjectURL(new Blob([script], { type: 'text/javascript' })));
-    helper.onmessage = ({ data }) => this.turns.get(helper).done(data);
-    helper.onerror = (event) => this.turns.get(helper)?.failed(new Error(event.message || 'a helper stopped'));
-    helper.postMessage({ module: compiled });
-    this.all.push(helper);
-    return helper;
+  // A helper that has nothing to do.
+  async one() {
+    while (!this.isStopped && !this.free.length && this.all.size >= HELPERS) await new Promise((done) => this.waiting.push(done));
+    if (this.isStopped) throw new Error('the helpers are stopped');
+    const next = this.free.pop() ?? this.start();
+    this.all.add(next);
+    return next;
   }
 
   // What a helper answers to a message, once one is free.
-  async ask(message, moved = []) {
-    const helper = this.free.pop() ?? (this.all.length < HELPERS ? this.start() : await new Promise((done) => this.waiting.push(done)));
-    const answer = await new Promise((done, failed) => { this.turns.set(helper, { done, failed }); helper.postMessage(message, moved); });
-    const next = this.waiting.shift();
-    if (next) next(helper); else this.free.push(helper);
-    if (answer.why) throw new Error(answer.why);
-    return answer;
+  async ask(message, moved = [], patience = PATIENCE) {
+    const helper = await this.one();
+    try {
+      const answer = await helper.ask(message, moved, patience);
+      if (answer.why) throw new Error(answer.why);
+      return answer;
+    } finally {
+      if (helper.isLost) this.all.delete(helper);
+      else this.free.push(helper);
+      this.waiting.shift()?.();
+    }
   }
 
-  stop() { this.all.forEach((helper) => helper.terminate()); }
+  stop() {
+    this.isStopped = true;
+    this.all.forEach((helper) => helper.lose('the helpers are stopped'));
+    this.waiting.splice(0).forEach((done) => done());
+  }
 }
 
 // The file as it comes into the memory of a module.
 class Filling {
-  constructor(instance, mine) { this.instance = instance; this.mine = mine; this.stop = 0; this.next = this.read(); }
+  constructor(archive, keeper) {
+    this.archive = archive;
+    this.keeper = keeper;
+    this.stop = 0;
+    this.next = this.read();
+  }
 
   read() {
-    const next = read(this.stop, Math.min(file.size, this.stop + (this.stop ? PIECE : FIRST_PIECE)));
+    const size = this.stop ? PIECE : FIRST_PIECE;
+    const next = this.archive.read(this.stop, Math.min(this.archive.file.size, this.stop + size));
     next.catch(() => {}); // it is reported when it is waited for
     return next;
   }
@@ -194,315 +342,358 @@ class Filling {
   // Takes the next piece, while the one after it is read. Returns whether the file is still wanted.
   async take() {
     const bytes = await this.next;
-    if (this.mine !== run) return false;
-    this.instance.bytes(this.instance.file + this.stop, bytes.length).set(bytes);
+    if (this.archive.isOver) return false;
+    this.keeper.bytes(this.keeper.file + this.stop, bytes.length).set(bytes);
     this.stop += bytes.length;
     this.next = this.read();
     return true;
   }
-}
 
-// A new module with room for the file.
-function keeping(length) {
-  const instance = new Instance();
-  instance.file = instance.take(length);
-  instance.outcome = instance.lend('outcome', OUTCOME);
-  instance.text = instance.lend('text', TEXT);
-  return instance;
-}
-
-// Lists the file piece by piece, as it comes into the memory of a module, from a record's beginning on.
-async function listOn(filling, from) {
-  const { instance } = filling;
-  for (let start = from, size = FIRST_PIECE; start < file.size;) {
-    const stop = Math.min(file.size, start + size);
-    while (filling.stop < stop) if (!await filling.take()) return null;
-    const found = front(instance, instance.file + start, stop - start), goesOn = report(found, start, stop);
-    end = start + found.end;
-    if (!goesOn) return placed(found.fault, start);
-    size = found.end > 0 ? PIECE : 4 * size; // a record that doesn't end in the bytes so far
-    start = end;
+  // Where a record may begin, from an offset on; -1 if nowhere so far. It is only a guess where a segment may end: the
+  // library then says whether it does.
+  beginning(from) {
+    for (let at = from; at < this.stop; at += MEGABYTE) {
+      const length = Math.min(this.stop - at, MEGABYTE + BEGINNING.length);
+      const found = text(this.keeper.bytes(this.keeper.file + at, length)).indexOf(BEGINNING);
+      if (found >= 0) return at + found + 4;
+    }
+    return -1;
   }
-  return '';
-}
-
-// Where a record may begin in the memory of a module, from an offset on; -1 if nowhere so far. It is only a guess where a
-// segment may end: the library then says whether it does.
-function beginning(instance, from, stop) {
-  for (let at = from; at < stop; at += MEGABYTE) {
-    const found = text(instance.bytes(instance.file + at, Math.min(stop - at, MEGABYTE + BEGINNING.length))).indexOf(BEGINNING);
-    if (found >= 0) return at + found + 4;
-  }
-  return -1;
 }
 
 // The segments of a file, which helpers list side by side. One counts where it begins where the one before it ended.
 class Segments {
   constructor(filling, helpers) {
-    Object.assign(this, { filling, helpers, start: 0, sought: FIRST_PIECE / 2, turns: [], isBroken: false });
+    this.filling = filling;
+    this.helpers = helpers;
+    this.start = 0;
+    this.sought = FIRST_PIECE / 2;
+    this.turns = [];
+    this.isBroken = false; // one didn't end where the next was thought to begin, or its helper was lost
     this.whole = Promise.resolve(true); // whether all segments so far end where they were thought to
   }
 
   hand(stop) {
-    const { start, filling: { instance } } = this, bytes = instance.bytes(instance.file + start, stop - start).slice();
-    const listed = this.helpers.ask({ list: bytes }, [bytes.buffer]);
-    listed.catch(() => {}); // it is reported when it is waited for
+    const {start, filling: {keeper}} = this, bytes = keeper.bytes(keeper.file + start, stop - start).slice();
+    const listed = this.helpers.ask({list: bytes}, [bytes.buffer]).catch(() => null);
     this.whole = this.whole.then(async (isWhole) => isWhole && this.take(await listed, start, stop));
-    this.whole.catch(() => {});
     this.turns.push(this.whole);
     this.start = stop;
   }
 
   take(found, start, stop) {
-    if (this.filling.mine !== run) return false;
-    report(found, start, stop);
-    end = start + found.end;
-    this.isBroken = end < stop;
+    const {archive} = this.filling;
+    if (archive.isOver) return false;
+    if (found) archive.report(found, start, stop);
+    this.isBroken = !found || archive.end < stop;
     return !this.isBroken;
   }
 
   // Hands out what came since the last time, and waits where the helpers have enough.
   async handOut() {
-    const { instance, stop } = this.filling;
-    while (this.sought < stop) {
-      const at = beginning(instance, this.sought, stop);
+    while (this.sought < this.filling.stop) {
+      const at = this.filling.beginning(this.sought);
       if (at >= 0) this.hand(at);
-      this.sought = at >= 0 ? at + SEGMENT : Math.max(this.sought, stop - BEGINNING.length);
+      this.sought = at >= 0 ? at + SEGMENT : Math.max(this.sought, this.filling.stop - BEGINNING.length);
       if (at < 0) break;
     }
     if (this.turns.length > 2 * HELPERS) await this.turns.shift();
   }
 }
 
-// Lists a long file by helpers. If a segment doesn't end where the next was thought to begin, this worker lists the rest.
-async function listByHelpers(filling) {
-  const helpers = new Helpers(), segments = new Segments(filling, helpers);
-  try {
-    while (filling.stop < file.size && !segments.isBroken) {
+// The fault of a piece, with its offset counted from the beginning of the file.
+function placed(fault, start) {
+  return fault.replace(/ at (\d+)$/, (_, offset) => ` at ${Number(offset) + start}`);
+}
+
+// One file, from its opening until another is opened.
+//
+// Its state is 'listing' while its records are found, 'listed' while its blocks are judged and it isn't open for
+// questions, 'open' then, and 'over' once another file is opened.
+class Archive {
+  /**
+   * @param {Desk} desk
+   * @param {File} file
+   */
+  constructor(desk, file) {
+    this.desk = desk;
+    this.file = file;
+    this.state = 'listing';
+    this.keeper = null; // the module that has the good part of the file, if it is short enough
+    this.judge = null; // where this worker judges blocks itself
+    this.helpers = this.newHelpers();
+    this.records = 0;
+    this.textBytes = 0;
+    this.end = 0; // of the good part
+    /** @type {{first: number, start: number, stop: number, rows: ArrayBuffer}[]} */
+    this.pieces = []; // of records that were listed together
+  }
+
+  get isOver() {
+    return this.state === 'over';
+  }
+
+  get holds() {
+    return this.end <= this.desk.limit;
+  }
+
+  // Whether this worker looks for the findings itself, as there is no helper, or no room for a second copy.
+  get isAlone() {
+    return HELPERS < 2 || this.end > MOST_TWICE;
+  }
+
+  get heap() {
+    return 32 * MEGABYTE + 4 * this.textBytes + 600 * this.records;
+  }
+
+  newHelpers() {
+    return new Helpers(this.desk.script, this.desk.module);
+  }
+
+  close() {
+    this.state = 'over';
+    this.helpers.stop();
+  }
+
+  read(from, to) {
+    return bytesOfFile(this.file, from, to);
+  }
+
+  // Reports the records that were found from an offset on. Returns whether there may be more after the bytes so far.
+  report({records, texts, rows, words, end: length, fault}, start, stop) {
+    const {size} = this.file, end = start + length;
+    if (records) this.pieces.push({first: this.records, start, stop: end, rows: rows.slice(0)});
+    this.records += records;
+    this.textBytes += texts;
+    this.end = end;
+    postMessage({report: 'rows', base: start, count: records, rows, words, read: end, size}, [rows, words]);
+    return !fault || (fault.startsWith('F11 ') && stop < size);
+  }
+
+  // Lists the file piece by piece, as it comes into the memory of a module, from a record's beginning on.
+  async listOn(filling, from) {
+    const {keeper} = filling, {size} = this.file;
+    for (let start = from, length = FIRST_PIECE; start < size;) {
+      const stop = Math.min(size, start + length);
+      while (filling.stop < stop) if (!await filling.take()) return null;
+      const found = keeper.front(keeper.file + start, stop - start);
+      if (!this.report(found, start, stop)) return placed(found.fault, start);
+      length = found.end > 0 ? PIECE : 4 * length; // a record that doesn't end in the bytes so far
+      start = this.end;
+    }
+    return '';
+  }
+
+  // Lists a long file by helpers. If a segment doesn't end where the next was thought to begin, this worker lists the rest.
+  async listByHelpers(filling) {
+    const segments = new Segments(filling, this.helpers);
+    while (filling.stop < this.file.size && !segments.isBroken) {
       if (!await filling.take()) return null;
       await segments.handOut();
     }
-    if (!segments.isBroken) segments.hand(file.size);
-    if (await segments.whole) return '';
-    return filling.mine === run ? await listOn(filling, end) : null;
-  } finally { helpers.stop(); }
-}
-
-// Lists a file that fits into the module's memory. It is read once.
-async function listKept(mine) {
-  const instance = keeping(file.size), filling = new Filling(instance, mine);
-  const fault = await (file.size < LEAST_SHARED || HELPERS < 2 ? listOn(filling, 0) : listByHelpers(filling));
-  if (fault !== null) kept = instance;
-  return fault;
-}
-
-// Lists a longer file piece by piece.
-async function listPieces(mine) {
-  let start = 0, size = FIRST_PIECE, instance = new Instance();
-  while (start < file.size) {
-    const stop = Math.min(file.size, start + size);
-    if (instance.spent > SPENT / 2) instance = new Instance();
-    const bytes = await read(start, stop), at = instance.lend('bytes', Math.max(bytes.length, PIECE));
-    if (mine !== run) return null;
-    instance.bytes(at, bytes.length).set(bytes);
-    const found = front(instance, at, bytes.length), goesOn = report(found, start, stop);
-    end = start + found.end;
-    if (!goesOn) return placed(found.fault, start);
-    size = found.end > 0 ? PIECE : size * 4;
-    if (found.end === 0 && size > MOST_PIECE) throw new Error('a record is longer than this page can read');
-    start = end;
+    if (!segments.isBroken) segments.hand(this.file.size);
+    const isWhole = await segments.whole;
+    this.helpers.stop(); // their memory is given back
+    this.helpers = this.newHelpers();
+    if (isWhole) return '';
+    return this.isOver ? null : this.listOn(filling, this.end);
   }
-  return '';
-}
 
-// A new module that has the good part of the file.
-async function filled() {
-  const instance = keeping(end);
-  for (let at = 0; at < end; at += PIECE) {
-    const bytes = await read(at, Math.min(end, at + PIECE));
-    instance.bytes(instance.file + at, bytes.length).set(bytes);
+  // Lists a file that fits into the module's memory. It is read once.
+  async listKept() {
+    const keeper = new Keeper(this.desk.module, this.file.size), filling = new Filling(this, keeper);
+    const isShared = this.file.size >= LEAST_SHARED && HELPERS >= 2;
+    const fault = await (isShared ? this.listByHelpers(filling) : this.listOn(filling, 0));
+    this.keeper = keeper;
+    return fault;
   }
-  return instance;
-}
 
-// The module that has the good part of the file, or a new one if that has spent too much memory.
-async function full() {
-  if (!kept || kept.spent >= kept.most) {
-    kept = null;
-    kept = await filled();
-  }
-  return kept;
-}
-
-// The same, with the archive open.
-async function ready() {
-  const instance = await full();
-  if (!instance.handle) openIn(instance);
-  return instance;
-}
-
-// Opens the archive in a module, in the place of one that is open there.
-function openIn(instance) {
-  const handle = instance.handle ?? instance.take(HANDLE); // all zeros: none is open
-  const parts = [instance.file, end, handle, instance.text, TEXT, instance.outcome];
-  if (instance.call('page_open', heapFor() + SPARE, parts, instance.outcome) !== DONE) throw new Error(textOfOutcome(instance));
-  if (!instance.handle) instance.most = instance.spent + SPENT / 2; // whatever opening took, questions have room
-  instance.handle = handle;
-  openings += 1;
-}
-
-const textOfOutcome = (instance) => text(instance.bytes(instance.text, instance.number(instance.outcome + 8)));
-
-const heapFor = () => 32 * MEGABYTE + 4 * textBytes + 600 * count;
-
-// The lines that the library writes of its findings.
-function findings(instance) {
-  for (let room = MEGABYTE + 32 * count; ; room *= 8) {
-    const out = instance.lend('out', room);
-    instance.call('page_findings', heapFor(), [instance.file, end, out, room, instance.outcome], instance.outcome);
-    const length = instance.number(instance.outcome + 8);
-    if (length <= room) return instance.bytes(out, length).slice();
-  }
-}
-
-// The findings by a helper, so that questions don't wait for them; of a long archive by this worker.
-async function findBy(helpers, mine) {
-  const alone = async () => ({ lines: findings(await full()) });
-  const { lines } = await (isAlone() ? alone() : helpers.ask({ find: { file, end, count, textBytes } }).catch(alone));
-  if (mine === run) postMessage({ report: 'findings', lines: text(lines) });
-}
-
-// The verdicts on the blocks of records that were listed together, which are read again.
-async function judge({ file: from, start, stop, rows }) {
-  const bytes = new Uint8Array(await from.slice(start, stop).arrayBuffer());
-  if (!judging || judging.spent > MOST_JUDGING) judging = new Instance();
-  const at = judging.lend('bytes', Math.max(bytes.length, PIECE)), view = new DataView(rows);
-  judging.bytes(at, bytes.length).set(bytes);
-  const verdicts = Uint8Array.from({ length: rows.byteLength / ROW }, (_, number) => {
-    const [head, block, length] = [0, 8, 16].map((place) => Number(view.getBigUint64(number * ROW + place, true)));
-    return judging.verdict(at + head, block - head, at + block, length);
-  });
-  return { verdicts };
-}
-
-// The verdicts on all blocks by helpers side by side, or by this worker between questions.
-async function judgeBy(helpers, mine) {
-  const waiting = listed.splice(0), here = file;
-  const goOn = async () => {
-    for (let next; mine === run && (next = waiting.shift());) {
-      const task = { file: here, ...next }, alone = () => judge(task);
-      const { verdicts } = await (HELPERS < 2 ? alone() : helpers.ask({ judge: task }).catch(alone));
-      if (mine === run) postMessage({ report: 'verdicts', first: next.first, verdicts }, [verdicts.buffer]);
+  // Lists a longer file piece by piece.
+  async listPieces() {
+    const {size} = this.file;
+    let start = 0, length = FIRST_PIECE, instance = new Instance(this.desk.module);
+    while (start < size) {
+      const stop = Math.min(size, start + length);
+      if (instance.spent > SPENT / 2) instance = new Instance(this.desk.module);
+      const bytes = await this.read(start, stop);
+      if (this.isOver) return null;
+      const [at] = instance.put('bytes', bytes, PIECE), found = instance.front(at, bytes.length);
+      if (!this.report(found, start, stop)) return placed(found.fault, start);
+      length = found.end > 0 ? PIECE : length * 4;
+      if (found.end === 0 && length > MOST_PIECE) throw new Error('a record is longer than this page can read');
+      start = this.end;
     }
-  };
-  await Promise.all(Array.from({ length: HELPERS }, goOn));
-}
+    return '';
+  }
 
-const isAlone = () => HELPERS < 2 || end > MOST_TWICE;
+  // The module that has the good part of the file, or a new one if that has spent too much memory.
+  async full() {
+    if (!this.keeper || this.keeper.spent >= this.keeper.most) {
+      this.keeper = null; // its memory is given back first
+      this.keeper = await filled(this.desk.module, this);
+    }
+    return this.keeper;
+  }
 
-// How a question is asked: the name of the export, and the parameters of its own.
-function asking(instance, { uri, date, position }) {
-  if (!uri) return ['page_body', [position]];
-  return ['page_replay', [...instance.put('uri', uri), ...instance.put('date', new TextEncoder().encode(date))]];
-}
+  // The same, with the archive open.
+  async ready() {
+    const keeper = await this.full();
+    if (!keeper.isOpen) this.openIn(keeper);
+    return keeper;
+  }
 
-// The answer to a question. Where the open archive has used up its memory, it is opened anew.
-function answerTo(instance, question) {
-  const [name, own] = asking(instance, question), numbers = instance.lend('numbers', ANSWER);
-  for (let count = SPANS, isFresh = false; ;) {
-    const spans = instance.lend('spans', count * SPAN);
-    instance.bytes(numbers, ANSWER).fill(255); // no position is known
-    const parts = [instance.handle, ...own, numbers, spans, count, instance.text, TEXT, instance.outcome];
-    const state = instance.once(name, SMALL, parts, instance.outcome), length = instance.number(instance.outcome + 8);
-    if (state === MEMORY) {
-      if (isFresh) throw new Error('out of memory');
-      openIn(instance);
-      isFresh = true;
-    } else if (state !== DONE) return { ...positions(instance, numbers), reason: textOfOutcome(instance) };
-    else if (length > count) count = length;
-    else return { ...positions(instance, numbers), ...factsOf(instance, numbers), body: bodyOf(instance, spans, length) };
+  openIn(keeper) {
+    keeper.open(this.end, this.heap);
+    this.desk.openings += 1;
+  }
+
+  // The answers to questions, one after another.
+  async ask(questions) {
+    const answers = [];
+    for (const question of questions) {
+      const keeper = await this.ready();
+      answers.push(keeper.answer(question, () => this.openIn(keeper)));
+    }
+    return answers;
+  }
+
+  // The findings by a helper, so that questions don't wait for them; of a long archive by this worker.
+  async find() {
+    const {file, end, records, heap} = this;
+    const alone = async () => ({lines: (await this.full()).findings(end, heap, records)});
+    const byHelper = () => this.helpers.ask({find: {file, end, records, heap}}, [], PATIENCE + end / SLOWEST).catch(alone);
+    const {lines} = await (this.isAlone ? alone() : byHelper());
+    if (!this.isOver) postMessage({report: 'findings', lines: text(lines)});
+  }
+
+  // The verdicts on all blocks by helpers side by side, or by this worker between questions.
+  async judgeAll() {
+    const waiting = this.pieces.splice(0);
+    const goOn = async () => {
+      for (let next; !this.isOver && (next = waiting.shift());) {
+        const verdicts = await this.verdicts({file: this.file, ...next});
+        if (!this.isOver) postMessage({report: 'verdicts', first: next.first, verdicts}, [verdicts.buffer]);
+      }
+    };
+    await Promise.all(Array.from({length: HELPERS}, goOn));
+  }
+
+  // The verdicts on some blocks by a helper, or by this worker if there is none, or the helper fails.
+  async verdicts(task) {
+    const alone = () => {
+      this.judge ??= new Judge(this.desk.module);
+      return this.judge.judge(task);
+    };
+    if (HELPERS < 2) return alone();
+    try {
+      return (await this.helpers.ask({judge: task})).verdicts;
+    } catch {
+      return this.isOver ? new Uint8Array() : alone();
+    }
+  }
+
+  // What takes hashes, beside the questions.
+  async work() {
+    const report = (error) => this.isOver || fail(0, error);
+    const found = this.holds ? this.find().catch(report) : null, judged = this.judgeAll().catch(report);
+    Promise.all([found, judged]).then(() => this.helpers.stop());
+    if (this.isAlone) await found;
+  }
+
+  async open() {
+    if (this.isOver) return;
+    const fault = await (this.file.size <= this.desk.limit ? this.listKept() : this.listPieces());
+    if (this.isOver || fault === null) return;
+    this.state = 'listed';
+    postMessage({report: 'listed', fault, end: this.end, holds: this.holds});
+    if (this.end === 0 && fault) return;
+    await this.work();
+    if (!this.holds || this.isOver) return;
+    await this.ready();
+    this.state = 'open';
+    postMessage({report: 'opened'});
   }
 }
 
-// The positions of an answer: of the chosen capture and of the origin that gives the body.
-function positions(instance, numbers) {
-  const view = new DataView(instance.memory.buffer, numbers, ANSWER);
-  const position = (place) => (view.getBigUint64(place, true) === NOWHERE ? null : Number(view.getBigUint64(place, true)));
-  return { chosen: position(0), given: position(8) };
+// A new module that has the good part of a file.
+async function filled(module, {file, end}) {
+  const keeper = new Keeper(module, end);
+  for (let at = 0; at < end; at += PIECE) {
+    const bytes = await bytesOfFile(file, at, Math.min(end, at + PIECE));
+    keeper.bytes(keeper.file + at, bytes.length).set(bytes);
+  }
+  return keeper;
 }
 
-function factsOf(instance, numbers) {
-  const view = new DataView(instance.memory.buffer, numbers, ANSWER);
-  return { length: Number(view.getBigUint64(16, true)), status: view.getUint32(24, true) || null, truncated: view.getUint32(28, true) === 1 };
-}
+const fail = (id, error) => postMessage({id, report: 'failed', why: whyOf(error)});
 
-// A body: the parts of the archive that the library names, one after another.
-function bodyOf(instance, spans, count) {
-  const parts = [];
-  for (let at = spans; at < spans + count * SPAN; at += SPAN) parts.push(instance.bytes(instance.file + instance.number(at), instance.number(at + 8)));
-  const body = new Uint8Array(parts.reduce((sum, part) => sum + part.length, 0));
-  parts.reduce((at, part) => { body.set(part, at); return at + part.length; }, 0);
-  return body;
-}
+// Where the page's messages arrive: it opens one file after another, and asks questions on the last.
+class Desk {
+  constructor({wasm, limit, script}) {
+    this.module = new WebAssembly.Module(wasm);
+    this.limit = limit; // bytes: a longer archive is listed, and not kept in memory
+    this.script = script; // this one, for helpers
+    this.openings = 0; // how often an archive was opened in a module's memory
+    /** @type {Archive|null} */
+    this.archive = null;
+    this.queue = Promise.resolve();
+  }
 
-// The answers to questions, one after another.
-async function ask(questions) {
-  const answers = [];
-  for (const question of questions) answers.push(answerTo(await ready(), question));
-  return answers;
-}
+  hear(message) {
+    if (message.open) {
+      this.archive?.close();
+      this.archive = new Archive(this, message.open);
+    }
+    const {archive} = this;
+    this.queue = this.queue.then(() => this.respond(archive, message)).catch((error) => fail(message.id, error));
+  }
 
-async function open(given) {
-  const mine = ++run;
-  looking?.stop();
-  file = given;
-  kept = null;
-  count = 0; textBytes = 0; end = 0; listed = [];
-  const fault = await (file.size <= limit ? listKept(mine) : listPieces(mine));
-  if (fault === null) return;
-  const holds = end <= limit;
-  postMessage({ report: 'listed', fault, end, holds });
-  if (end === 0 && fault) return;
-  const helpers = looking = new Helpers(), works = holds ? [findBy, judgeBy] : [judgeBy];
-  const [first, ...others] = works.map((work) => work(helpers, mine).catch((error) => { if (mine === run) fail(0, error); }));
-  Promise.all([first, ...others]).then(() => helpers.stop());
-  if (!holds) return;
-  if (isAlone()) await first;
-  if (mine !== run) return;
-  await ready();
-  postMessage({ report: 'opened' });
+  async respond(archive, {id, questions}) {
+    if (!archive) throw new Error('no archive is open');
+    if (!questions) {
+      await archive.open().catch((error) => {
+        if (!archive.isOver) throw error;
+      });
+      return;
+    }
+    const answers = await archive.ask(questions);
+    postMessage({id, answers, openings: this.openings}, answers.filter((it) => it.body).map((it) => it.body.buffer));
+  }
 }
 
 // What a helper does: it lists bytes, judges blocks of a file, or looks for its findings.
-async function help({ list, find, judge: task }) {
-  if (list) {
-    if (!kept || kept.spent > SPENT / 2) kept = new Instance();
-    const at = kept.lend('bytes', Math.max(list.length, PIECE));
-    kept.bytes(at, list.length).set(list);
-    const found = front(kept, at, list.length);
-    postMessage(found, [found.rows, found.words]);
-    return;
+class HelperDesk {
+  /** @param {WebAssembly.Module} module */
+  constructor(module) {
+    this.module = module;
+    this.judge = new Judge(module);
+    this.lister = new Instance(module);
   }
-  if (task) { postMessage(await judge(task)); return; }
-  ({ file, end, count, textBytes } = find);
-  const lines = findings(await filled());
-  postMessage({ lines }, [lines.buffer]);
+
+  hear(message) {
+    this.respond(message).catch((error) => postMessage({why: whyOf(error)}));
+  }
+
+  async respond({list, find, judge}) {
+    if (list) {
+      if (this.lister.spent > SPENT / 2) this.lister = new Instance(this.module);
+      const [at] = this.lister.put('bytes', list, PIECE), found = this.lister.front(at, list.length);
+      postMessage(found, [found.rows, found.words]);
+    } else if (judge) {
+      const verdicts = await this.judge.judge(judge);
+      postMessage({verdicts}, [verdicts.buffer]);
+    } else {
+      const lines = (await filled(this.module, find)).findings(find.end, find.heap, find.records);
+      postMessage({lines}, [lines.buffer]);
+    }
+  }
 }
 
-const whyOf = (error) => String(error.message || error);
-const fail = (id, error) => postMessage({ id, report: 'failed', why: whyOf(error) });
+/** @type {Desk|HelperDesk|null} */
+let desk = null;
 
-let queue = Promise.resolve();
-function respond({ id, open: given, questions }) {
-  const work = given ? open(given) : ask(questions).then((answers) => postMessage({ id, answers, openings },
-    answers.filter((it) => it.body).map((it) => it.body.buffer)));
-  return work.catch((error) => fail(id, error));
-}
-
-onmessage = ({ data }) => {
-  if (data.wasm) { compiled = new WebAssembly.Module(data.wasm); ({ limit, script } = data); return; }
-  if (data.module) { compiled = data.module; return; }
-  if (data.list || data.find || data.judge) { help(data).catch((error) => postMessage({ why: whyOf(error) })); return; }
-  if (data.open) run += 1;
-  queue = queue.then(() => respond(data));
+onmessage = ({data}) => {
+  if (data.wasm) desk = new Desk(data);
+  else if (data.helps) desk = new HelperDesk(data.helps);
+  else desk.hear(data);
 };

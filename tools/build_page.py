@@ -3,32 +3,56 @@
 
 Usage: build_page.py [--module FILE] [FOLDER]
 
-The crates are copied to FOLDER, which is outside of the repository (zogwedu-page in the folder for temporary files, if
-left out), since the gate refuses crates for wasm64. There warc_page is one: its line of crates.txt, and nothing else, is
-changed. What was proved there is kept, and a later run proves only what changed. With --module, FILE is the module, and
-nothing is built.
+The crates are copied to FOLDER (out/page-module, if left out), since the gate refuses crates for wasm64. There warc_page
+is one: its line of crates.txt, and nothing else, is changed. What was proved there is kept, and a later run proves only
+what changed. A folder that another user may write to isn't used. With --module, FILE is the module, and nothing is built.
+
+The page holds DOMPurify, of Debian's package node-dompurify, with its licence.
 """
+from __future__ import annotations
+
 import base64
 import hashlib
 import json
 import os
 import re
+import stat
 import subprocess
 import sys
-import tempfile
 
 from build import copy_crate
 from shared import TOP, below, crates, read, version
 
 MODULE = "warc_page"
-SCRIPTS = ("words.js", "library.js", "stored.js", "main.js", "record.js", "begin.js")
+SCRIPTS = (
+    "shared.js", "words.js", "library.js", "stored.js", "nodes.js", "allowed.js", "style.js", "view.js", "main.js", "record.js", "begin.js",
+)
 POLICY = (
     "default-src 'none'; script-src '{hash}' 'wasm-unsafe-eval'; worker-src blob:; style-src 'unsafe-inline'; "
-    "img-src blob: data:; font-src data:; form-action 'none'; base-uri 'none'"
+    "img-src blob: data:; font-src blob: data:; form-action 'none'; base-uri 'none'; "
+    "require-trusted-types-for 'script'; trusted-types zogwedu-parser zogwedu-worker"
 )
+PURIFIER = "/usr/share/nodejs/dompurify/dist/purify.js"
+NO_PURIFIER = f"{PURIFIER} isn't there: install Debian's package node-dompurify (apt-get install node-dompurify)"
+# The script finds no window, so it makes no policy and touches no page: it gives a function that takes a window. Debian's
+# 2.4.1-2+deb12u1 also reads a variable that it doesn't have, and fails at each call; here it finds an empty one.
+AROUND_PURIFIER = """const createPurifier = ((exports, module, window, shadowNode) => {{
+{}
+return module.exports;
+}})({{}}, {{exports: {{}}}}, undefined, {{}});
+"""
 
 
-def build_module(tree):
+def own_folder(path: str) -> str:
+    """A folder that nobody but this user may write to; it is made if it isn't there."""
+    os.makedirs(path, mode=0o700, exist_ok=True)
+    found = os.lstat(path)
+    if not stat.S_ISDIR(found.st_mode) or found.st_uid != os.getuid() or found.st_mode & (stat.S_IWGRP | stat.S_IWOTH):
+        sys.exit(f"{path} isn't a folder that this user alone may write to")
+    return path
+
+
+def build_module(tree: str) -> str:
     """Builds the module in a copy of the tree, and gives its path."""
     uses = crates()
     names = below(MODULE, uses)
@@ -42,48 +66,65 @@ def build_module(tree):
         out.write(read("HANDLES"))
     folder = f"{tree}/crates/{MODULE}"
     with open(f"{tree}/log", "w", encoding="utf-8") as log:
-        run = subprocess.run(["rt", "lib"], cwd=folder, stdout=log, stderr=subprocess.STDOUT)
+        run = subprocess.run(["rt", "lib"], cwd=folder, stdout=log, stderr=subprocess.STDOUT, check=False)
     if run.returncode != 0:
         sys.exit(f"the module isn't built: see {tree}/log")
     return f"{folder}/out/{MODULE}.wasm"
 
 
-def numbers():
+def purifier() -> str:
+    """DOMPurify, as a function that makes one for a window. Its own first line says whose it is, and its licence."""
+    try:
+        with open(PURIFIER, encoding="utf-8") as script:
+            text = script.read()
+    except OSError:
+        sys.exit(NO_PURIFIER)
+    if "@license DOMPurify" not in text or re.search("</?script", text, re.IGNORECASE):
+        sys.exit(f"{PURIFIER} isn't as it is expected")
+    return AROUND_PURIFIER.format(re.sub(r"\n//# sourceMappingURL.*", "", text))
+
+
+def numbers() -> dict[str, list[str]]:
     """Name, meaning and advice of each number, from the tables of docs/NUMBERS.md."""
     rows = re.findall(r"^\| ([A-Z]\d+) \| (\w+) \| (.*) \| (.*) \|$", read("docs/NUMBERS.md"), re.M)
     return {number: [part.replace("\\|", "|") for part in parts] for number, *parts in rows}
 
 
-def quoted(text):
+def quoted(value: object) -> str:
     """A value as JavaScript that no tag of HTML ends."""
-    return json.dumps(text).replace("</", "<\\/").replace("<!--", "<\\!--")
+    return json.dumps(value).replace("</", "<\\/").replace("<!--", "<\\!--")
 
 
-def page(module):
+def page(module: bytes) -> str:
     """The whole page."""
-    names = {"MODULE": quoted(base64.b64encode(module).decode()), "WORKER": quoted(read("page/worker.js")),
-             "VERSION": quoted(version()), "NUMBERS": quoted(numbers())}
-    script = "".join(f"const {name} = {value};\n" for name, value in names.items())
+    names = {
+        "MODULE": quoted(base64.b64encode(module).decode()),
+        "WORKER": quoted(read("page/shared.js") + read("page/worker.js")),
+        "VERSION": quoted(version()),
+        "NUMBERS": quoted(numbers()),
+    }
+    script = "".join(f"const {name} = {value};\n" for name, value in names.items()) + purifier()
     script += "\n".join(read(f"page/{name}").replace("'use strict';\n", "") for name in SCRIPTS)
     script = f"\n'use strict';\n{script}"
     digest = base64.b64encode(hashlib.sha256(script.encode()).digest()).decode()
     text = read("page/page.html").replace("/*POLICY*/", POLICY.format(hash=f"sha256-{digest}"))
-    text = text.replace("/*STYLE*/", read("page/page.css"))
+    text = text.replace("/*STYLE*/", read("page/page.css")).replace("/*LICENCE*/", read("LICENSE-APACHE"))
     return text.replace("/*SCRIPT*/", script)
 
 
-def main():
+def main() -> None:
+    """Writes zogwedu.html."""
     words = sys.argv[1:]
     given = None
     if words[:1] == ["--module"]:
         given, words = words[1], words[2:]
-    tree = (words or [f"{tempfile.gettempdir()}/zogwedu-page"])[0]
-    os.makedirs(tree, exist_ok=True)
-    with open(given or build_module(tree), "rb") as module:
+    path = given or build_module(own_folder((words or [f"{TOP}/out/page-module"])[0]))
+    with open(path, "rb") as module:
         text = page(module.read())
     with open(f"{TOP}/zogwedu.html", "w", encoding="utf-8", newline="\n") as out:
         out.write(text)
     print(f"zogwedu.html is written: {len(text.encode()):,} bytes")
 
 
-main()
+if __name__ == "__main__":
+    main()

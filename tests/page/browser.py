@@ -20,7 +20,7 @@ PATIENCE = 300  # seconds
 class Browser:
     """One browser with one page. Events of the page are kept as they come."""
 
-    def __init__(self, program="chromium", size=(1440, 1000), dark=False):
+    def __init__(self, program="chromium", size=(1440, 1000), dark=False, flags=()):
         self.folder = tempfile.mkdtemp(prefix="zogwedu-browser-")
         to_read, self.to_write = os.pipe()
         self.to_hear, to_tell = os.pipe()
@@ -33,7 +33,7 @@ class Browser:
         os.set_inheritable(to_tell, True)
         high = [os.dup(to_read), os.dup(to_tell)]
         self.process = subprocess.Popen(
-            [program, *FLAGS, f"--user-data-dir={self.folder}", f"--window-size={size[0]},{size[1]}", "about:blank"],
+            [program, *FLAGS, *flags, f"--user-data-dir={self.folder}", f"--window-size={size[0]},{size[1]}", "about:blank"],
             preexec_fn=connect, close_fds=False, stdout=subprocess.DEVNULL, stderr=subprocess.DEVNULL)
         for end in (to_read, to_tell, *high):
             os.close(end)

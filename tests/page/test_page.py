@@ -18,6 +18,7 @@ import time
 from concurrent.futures import ThreadPoolExecutor
 
 sys.path.insert(0, os.path.dirname(os.path.abspath(__file__)))
+import connections
 import hostile
 from browser import Browser
 import stations
@@ -187,7 +188,7 @@ def hostile_archive(tests, folder):
         tests.holds(wide, "hostile: a target of 60 KB doesn't widen the page")
         # The frame and its policy alone hold the same, even if nothing is taken out of the page.
         source = json.dumps(hostile.PAGE)
-        browser.run(f"document.querySelector('iframe.view').srcdoc = '<meta http-equiv=Content-Security-Policy content=\"' + VIEW_POLICY + '\">' + {source}; 0")
+        browser.run(f"document.querySelector('iframe.view').srcdoc = asHtml(EMPTY_VIEW + {source}); 0")
         time.sleep(2)
         hacked = browser.run("window.hacked")
         tests.holds(hacked is None, "hostile, not rewritten: nothing runs", hacked)
@@ -353,9 +354,11 @@ def views(tests, archive, site):
         tests.picture(browser, "overview")
         words = show("response", "/page/12")
         tests.holds("4 pictures and styles from the archive" in words and "1 missing" in words, "view: pictures and styles", words[:400])
-        source = browser.run("document.querySelector('iframe.view').srcdoc")
-        tests.holds("data:image/png" in source and "line-height" in source, "view: a style that a style names, and a picture")
-        tests.holds(source.count("http://") == 0 or "src=\"http" not in source, "view: no reference leads out")
+        source = browser.run("document.querySelector('iframe.view').contentDocument.documentElement.outerHTML")
+        tests.holds("src=\"blob:" in source and "line-height" in source, "view: a style that a style names, and a picture")
+        tests.holds(not re.search(r"(src|href)=\"http|url\(.?http", source), "view: no reference leads out", source[:600])
+        drawn = browser.run("[...document.querySelector('iframe.view').contentDocument.images].map((it) => it.naturalWidth)")
+        tests.holds(drawn == [200, 120], "view: a picture is drawn, and a mark for one that is missing", drawn)
         tests.holds(browser.run("document.querySelector('iframe.view').getAttribute('sandbox')") == "allow-same-origin", "view: a sandbox without scripts")
         browser.run("scrollTo(0, 0)")
         tests.picture(browser, "page")
@@ -500,11 +503,11 @@ def main():
     tests = Tests(sys.argv[1], sys.argv[2], (sys.argv[3:] or [None])[0])
     with tempfile.TemporaryDirectory(prefix="zogwedu-page-test-") as folder:
         crawled, small = f"{folder}/stations.warc", f"{TOP}/examples/crawl.warc"
-        names = os.environ.get("PAGE_TESTS", "compare,damaged,hostile,views,keyboard,saved,without,long,many,segments").split(",")
+        names = os.environ.get("PAGE_TESTS", "compare,damaged,hostile,connections,views,keyboard,saved,without,long,many,segments").split(",")
         where = stations.crawl(crawled) if {"compare", "views"} & set(names) else None
         parts = {
             "compare": lambda: compare_all(tests, folder, crawled), "damaged": lambda: damaged(tests, folder),
-            "hostile": lambda: hostile_archive(tests, folder), "views": lambda: views(tests, crawled, where),
+            "hostile": lambda: hostile_archive(tests, folder), "connections": lambda: connections.no_connections(tests, folder), "views": lambda: views(tests, crawled, where),
             "keyboard": lambda: by_keyboard(tests, small), "saved": lambda: saved_bytes(tests, folder, small),
             "without": lambda: without_wide_memory(tests), "long": lambda: too_long(tests, folder, small), "many": lambda: many_rows(tests, folder),
             "segments": lambda: in_segments(tests, folder),

@@ -1,0 +1,228 @@
+// Styles, read token by token as CSS Syntax says, and written anew. What names a resource is replaced, and nothing is
+// copied that wasn't read: escapes are undone, comments are left out, brackets are closed.
+'use strict';
+
+/** @typedef {{kind: string, value: string}} Token */
+
+/**
+ * What a style names is given to a host, which says what to write in its place.
+ * @typedef {{url: (reference: string) => string, sheet: (reference: string, media: string) => string}} StyleHost
+ */
+
+const ESCAPE = String.raw`\\(?:[0-9a-fA-F]{1,6}[ \t\n]?|[^\n0-9a-fA-F])`;
+const NAME_PART = String.raw`(?:[\w-]|[^\x00-\x7f]|${ESCAPE})`;
+const NAME = new RegExp(String.raw`(?:--|-?(?:[a-zA-Z_]|[^\x00-\x7f]|${ESCAPE}))${NAME_PART}*`, 'y');
+const HASH_NAME = new RegExp(`${NAME_PART}+`, 'y');
+const SPACE = /[ \t\n]+/y;
+const NUMBER = /[\d.]+/y;
+const PLAIN_IN = {'"': /[^"\\\n]+/y, '\'': /[^'\\\n]+/y, ')': /[^)\\"'( \x00-\x1f\x7f]+/y};
+
+// Functions whose texts name resources.
+const ADDRESSES = new Set(['url', 'src']);
+const CHOICES = new Set(['image-set', '-webkit-image-set', 'image', 'cross-fade', '-webkit-cross-fade']);
+const FILLED_LATER = new Set(['var', 'attr', 'env']);
+const CLOSERS = {'(': ')', '[': ']', '{': '}'};
+
+/** @param {string} text A name, a string or an address, with escapes. */
+function unescaped(text) {
+  return text.replace(/\\(?:([0-9a-fA-F]{1,6})[ \t\n]?|\n|([\s\S]))/g, (_, digits, letter) => {
+    if (!digits) return letter ?? '';
+    const code = parseInt(digits, 16);
+    return code === 0 || code > 0x10ffff || (code >= 0xd800 && code < 0xe000) ? '\ufffd' : String.fromCodePoint(code);
+  });
+}
+
+const escaped = (letter) => `\\${letter.codePointAt(0).toString(16)} `;
+
+/** @param {string} name */
+const writtenName = (name) => {
+  const front = /^-?\d|^-$/.exec(name)?.[0] ?? '', last = front.slice(-1);
+  const start = front.slice(0, -1) + (last ? escaped(last) : '');
+  return start + name.slice(front.length).replace(/[^\w\-\u0080-\uffff]/g, escaped);
+};
+
+/** @param {string} text */
+const writtenText = (text) => `"${text.replace(/["\\\x00-\x1f\x7f]/g, escaped)}"`;
+
+// The tokens of a style, one after another.
+class StyleReader {
+  /** @param {string} css */
+  constructor(css) {
+    this.css = css.replace(/\r\n?|\f/g, '\n').replace(/\0/g, '\ufffd');
+    this.at = 0;
+  }
+
+  /**
+   * What a sticky pattern matches here; nothing is taken where it doesn't.
+   * @param {RegExp} pattern
+   */
+  match(pattern) {
+    pattern.lastIndex = this.at;
+    const found = pattern.exec(this.css)?.[0] ?? '';
+    this.at += found.length;
+    return found;
+  }
+
+  /** @returns {Token|null} */
+  next() {
+    const {css, at} = this, letter = css[at];
+    if (letter === undefined) return null;
+    if (css.startsWith('/*', at)) return this.comment();
+    if (this.match(SPACE)) return {kind: 'space', value: ' '};
+    if (letter === '"' || letter === '\'') return this.text(letter);
+    const name = this.match(NAME);
+    if (name) return this.named(unescaped(name));
+    const digits = this.match(NUMBER);
+    if (digits) return {kind: 'other', value: digits};
+    this.at += 1;
+    if (letter !== '@' && letter !== '#') return {kind: 'other', value: letter === '\\' ? ' ' : letter};
+    const word = unescaped(this.match(letter === '@' ? NAME : HASH_NAME));
+    return {kind: word ? letter : 'other', value: word || letter};
+  }
+
+  comment() {
+    const end = this.css.indexOf('*/', this.at + 2);
+    this.at = end < 0 ? this.css.length : end + 2;
+    return {kind: 'comment', value: ''};
+  }
+
+  /**
+   * A text up to its quote. A line end before it makes it a bad one.
+   * @param {'"'|"'"} quote
+   */
+  text(quote) {
+    this.at += 1;
+    let value = '';
+    for (;;) {
+      value += this.match(PLAIN_IN[quote]);
+      const letter = this.css[this.at];
+      if (letter !== '\\') {
+        if (letter === quote) this.at += 1;
+        return {kind: letter === '\n' ? 'bad' : 'text', value: unescaped(value)};
+      }
+      value += this.css.slice(this.at, this.at + 2);
+      this.at += 2;
+    }
+  }
+
+  /**
+   * A name, a function, or an address without quotes.
+   * @param {string} name
+   */
+  named(name) {
+    if (this.css[this.at] !== '(') return {kind: 'name', value: name};
+    this.at += 1;
+    if (name.toLowerCase() !== 'url') return {kind: 'function', value: name};
+    this.match(SPACE);
+    return /["']/.test(this.css[this.at] ?? '') ? {kind: 'function', value: name} : this.address();
+  }
+
+  // What is between the brackets of an address without quotes.
+  address() {
+    let value = '';
+    for (;;) {
+      value += this.match(PLAIN_IN[')']);
+      if (this.css[this.at] !== '\\') break;
+      value += this.css.slice(this.at, this.at + 2);
+      this.at += 2;
+    }
+    this.match(SPACE);
+    const isWhole = this.at >= this.css.length || this.css[this.at] === ')';
+    this.at += 1;
+    if (isWhole) return {kind: 'address', value: unescaped(value)};
+    while (this.at < this.css.length && this.css[this.at] !== ')') this.at += this.css[this.at] === '\\' ? 2 : 1;
+    this.at += 1;
+    return {kind: 'address', value: ''};
+  }
+}
+
+// Writes a style anew.
+class StyleWriter {
+  /**
+   * @param {string} css
+   * @param {StyleHost} host
+   */
+  constructor(css, host) {
+    this.reader = new StyleReader(css);
+    this.host = host;
+    /** @type {string[]} */
+    this.out = [];
+    /** @type {{closer: string, name: string}[]} */
+    this.open = []; // what is open, the innermost last
+    this.hasRules = false; // an import counts before the first rule alone
+  }
+
+  whole() {
+    for (let token = this.reader.next(); token; token = this.reader.next()) this.out.push(this.written(token));
+    return this.out.join('') + this.open.reverse().map((it) => it.closer).join('');
+  }
+
+  /** @param {Token} token */
+  written({kind, value}) {
+    switch (kind) {
+      case 'space': return ' ';
+      case 'comment': return '/**/';
+      case 'text': return this.text(value);
+      case 'bad': return '"\n';
+      case 'address': return `url(${writtenText(this.host.url(value))})`;
+      case 'name': return writtenName(value);
+      case '#': return `#${value.replace(/[^\w\-\u0080-\uffff]/g, escaped)}`;
+      case '@': return value.toLowerCase() === 'import' ? this.imported() : `@${writtenName(value)}`;
+      case 'function': return this.called(value);
+      default: return this.other(value);
+    }
+  }
+
+  /** The innermost function that is open. */
+  within() {
+    return this.open.length ? this.open[this.open.length - 1].name : '';
+  }
+
+  /** @param {string} value */
+  text(value) {
+    if (ADDRESSES.has(this.within())) return writtenText(this.host.url(value));
+    return CHOICES.has(this.within()) ? `url(${writtenText(this.host.url(value))})` : writtenText(value);
+  }
+
+  /** @param {string} value */
+  called(value) {
+    const name = value.toLowerCase(), isLater = CHOICES.has(this.within()) && FILLED_LATER.has(name);
+    this.open.push({closer: ')', name});
+    if (isLater) return 'none('; // what it gives isn't known here
+    return ADDRESSES.has(name) ? 'url(' : `${writtenName(value)}(`;
+  }
+
+  /** @param {string} value */
+  other(value) {
+    const closer = CLOSERS[/** @type {keyof CLOSERS} */ (value)];
+    if (closer) this.open.push({closer, name: value === '(' ? this.within() : ''});
+    if (value === '{') this.hasRules = true;
+    if (!/^[)\]}]$/.test(value)) return value;
+    if (this.open[this.open.length - 1]?.closer !== value) return '';
+    this.open.pop();
+    return value;
+  }
+
+  // An import up to its end. Its layer and what it supports are left out.
+  imported() {
+    const rest = new StyleWriter('', {url: (reference) => reference, sheet: () => ''});
+    let reference = null, media = '', depth = 0;
+    for (let token = this.reader.next(); token; token = this.reader.next()) {
+      if (token.value === ';' && depth <= 0) break;
+      if (token.kind === 'function' || token.value === '(') depth += 1;
+      if (token.value === ')') depth -= 1;
+      if (reference === null && /text|address/.test(token.kind)) reference = token.value;
+      else if (reference !== null && !/^[{}]$/.test(token.value)) media += rest.written(token);
+    }
+    if (reference === null || this.hasRules || this.open.length) return '';
+    media += rest.open.reverse().map((it) => it.closer).join('');
+    return this.host.sheet(reference, media.replace(/\/\*\*\/|layer(?:\([^)]*\))?|supports\([^)]*\)/gi, '').trim());
+  }
+}
+
+/**
+ * A style in which each reference is what its host gives for it.
+ * @param {string} css
+ * @param {StyleHost} host
+ */
+const rewritten = (css, host) => new StyleWriter(css, host).whole();
