@@ -46,14 +46,24 @@ async function answersWithTypes(questions, left) {
   await Promise.all(answers.map(addType));
   for (const answer of answers) {
     if (numberOf(answer.reason ?? '') !== 'P10' || answer.given === null) continue;
-    const row = room.rows.row(answer.given);
-    try {
-      const {body, steps} = await decoded(await bytesAt(row.blockStart, row.blockLength), left);
-      left -= body.length;
-      Object.assign(answer, {body, steps, isDecoded: true});
-    } catch { /* it stays without a body */ }
+    left = await addDecoded(answer, left);
   }
   return answers;
+}
+
+// Adds a body that the browser decodes. Returns how many bytes are left for others: none, if this one has more.
+async function addDecoded(answer, left) {
+  const row = room.rows.row(answer.given);
+  try {
+    if (!left) throw new RangeError('nothing is left');
+    const {body, steps} = await decoded(await bytesAt(row.blockStart, row.blockLength), left);
+    Object.assign(answer, {body, steps, isDecoded: true});
+    return left - body.length;
+  } catch (error) {
+    if (!(error instanceof RangeError) || left >= MOST_DECODED) return left; // it stays without a body
+    Object.assign(answer, {reason: 'left out of this view', isLeftOut: true});
+    return 0;
+  }
 }
 
 async function addType(answer) {
@@ -62,6 +72,7 @@ async function addType(answer) {
 }
 
 function closeRecord() {
+  forgetUrls();
   room.visit += 1;
   byId('record').hidden = true;
   byId('record').replaceChildren();

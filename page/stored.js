@@ -56,7 +56,7 @@ async function inflate(bytes, format, most) {
     length += value.length;
     if (length > most) {
       reader.cancel();
-      throw new Error(`it is longer than ${size(most)} when decoded`);
+      throw new RangeError(`it is longer than ${size(most)} when decoded`);
     }
   }
 }

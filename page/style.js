@@ -15,6 +15,8 @@ const NAME = new RegExp(String.raw`(?:--|-?(?:[a-zA-Z_]|[^\x00-\x7f]|${ESCAPE}))
 const HASH_NAME = new RegExp(`${NAME_PART}+`, 'y');
 const SPACE = /[ \t\n]+/y;
 const NUMBER = /[\d.]+/y;
+const PLAIN = /[\w \t\n#:,.\-%!*>+~=|^$&?<\u0080-\uffff]+/y; // what means nothing but itself, unless it names a function
+const IN_NAME = /[\w\-\u0080-\uffff]/;
 const PLAIN_IN = {'"': /[^"\\\n]+/y, '\'': /[^'\\\n]+/y, ')': /[^)\\"'( \x00-\x1f\x7f]+/y};
 
 // Functions whose texts name resources.
@@ -67,6 +69,8 @@ class StyleReader {
   next() {
     const {css, at} = this, letter = css[at];
     if (letter === undefined) return null;
+    const plain = this.plain();
+    if (plain) return {kind: 'plain', value: plain};
     if (css.startsWith('/*', at)) return this.comment();
     if (this.match(SPACE)) return {kind: 'space', value: ' '};
     if (letter === '"' || letter === '\'') return this.text(letter);
@@ -78,6 +82,17 @@ class StyleReader {
     if (letter !== '@' && letter !== '#') return {kind: 'other', value: letter === '\\' ? ' ' : letter};
     const word = unescaped(this.match(letter === '@' ? NAME : HASH_NAME));
     return {kind: word ? letter : 'other', value: word || letter};
+  }
+
+  // What means nothing but itself: names, numbers and signs, up to a name that opens a function or has an escape.
+  plain() {
+    const from = this.at;
+    this.match(PLAIN);
+    if (this.css[this.at] === '(' || this.css[this.at] === '\\') {
+      while (this.at > from && IN_NAME.test(this.css[this.at - 1])) this.at -= 1;
+      if (this.css[this.at - 1] === '#' && this.at > from) this.at -= 1;
+    }
+    return this.css.slice(from, this.at);
   }
 
   comment() {
@@ -160,13 +175,14 @@ class StyleWriter {
   /** @param {Token} token */
   written({kind, value}) {
     switch (kind) {
+      case 'plain': return value;
       case 'space': return ' ';
       case 'comment': return '/**/';
       case 'text': return this.text(value);
       case 'bad': return '"\n';
       case 'address': return `url(${writtenText(this.host.url(value))})`;
       case 'name': return writtenName(value);
-      case '#': return `#${value.replace(/[^\w\-\u0080-\uffff]/g, escaped)}`;
+      case '#': return `#${writtenName(value)}`;
       case '@': return value.toLowerCase() === 'import' ? this.imported() : `@${writtenName(value)}`;
       case 'function': return this.called(value);
       default: return this.other(value);

@@ -141,6 +141,7 @@ class Resources {
     const answers = this.budget.spent.has('decoded') ? [] : await this.ask(questions, this.budget.left.decoded);
     uris.forEach((uri, number) => {
       const found = answers[number] ?? {reason: 'left out of this view'};
+      if (found.isLeftOut) this.budget.spent.add('decoded');
       const isKept = !found.body || this.budget.take('decoded', found.body.length);
       this.known.set(uri, isKept ? found : {...found, body: null, reason: 'left out of this view'});
     });
@@ -221,18 +222,29 @@ class Sheets {
   }
 
   /**
-   * A style in which each URI is an address of the bytes that it means, or of nothing.
+   * A style in which each URI is an address of the bytes that it means, or of nothing. It is empty where it would be longer
+   * than what is left for styles.
    * @param {string} css
    * @param {string} base
    */
   filled(css, base) {
-    const text = rewritten(css, {
+    const {budget} = this.resources, text = rewritten(css, {
       url: (reference) => this.place(reference, base),
       sheet: (reference, media) => {
         const inner = this.whole(resolved(reference, base));
         return media && inner ? `@media ${media}{${inner}}` : inner;
       },
     });
+    if (text.length <= budget.left.styles) return text;
+    budget.spent.add('styles');
+    return '';
+  }
+
+  /**
+   * A style that goes into the view.
+   * @param {string} text
+   */
+  taken(text) {
     return this.resources.budget.take('styles', text.length) ? text : '';
   }
 
@@ -253,7 +265,7 @@ class Sheets {
   whole(uri) {
     if (!uri || this.open.has(uri)) return '';
     const before = this.written.get(uri);
-    if (before !== undefined) return this.resources.budget.take('styles', before.length) ? before : '';
+    if (before !== undefined) return before;
     this.open.add(uri);
     const text = this.filled(this.text(uri), uri);
     this.open.delete(uri);
@@ -401,9 +413,9 @@ class Named {
    */
   fill(root) {
     const isKept = ({node}) => holds(root, node);
-    for (const {node, uri} of this.linked.filter(isKept)) node.textContent = this.sheets.whole(uri);
+    for (const {node, uri} of this.linked.filter(isKept)) node.textContent = this.sheets.taken(this.sheets.whole(uri));
     for (const {node, name, css} of this.styles.filter(isKept)) {
-      const style = this.sheets.filled(css, this.base);
+      const style = this.sheets.taken(this.sheets.filled(css, this.base));
       if (name) setAttribute(node, name, style);
       else node.textContent = style;
     }
