@@ -1,55 +1,133 @@
 // Begins: the module, the worker, and what a reader does.
 'use strict';
 
-function refuse(words) {
-  byId('start').replaceChildren(make('div', { className: 'drop', role: 'alert' }, make('p', { className: 'lead' }, 'This browser can’t run the library.'), make('p', {}, words)));
+const SEARCH_AFTER = 120;  // milliseconds without a key
+const NO_WIDE_MEMORY =
+    'It needs WebAssembly with a 64-bit memory, which Chromium and Chrome have from version 133 on, ' +
+    'and Firefox from 134 on.';
+
+/** @param {string} text */
+function refuse(text) {
+  const title = make('p', {className: 'lead'}, 'This browser can’t run the library.');
+  byId('start').replaceChildren(make('div', {className: 'drop', role: 'alert'}, title, make('p', {}, text)));
 }
 
-function listen() {
+// Files are chosen, or dropped anywhere.
+function hearFiles() {
   for (const input of [byId('file'), byId('file-again')]) {
-    input.addEventListener('change', () => { if (input.files[0]) openFile(input.files[0]); input.value = ''; });
+    input.addEventListener('change', () => {
+      if (input.files[0]) openFile(input.files[0]);
+      input.value = '';
+    });
   }
-  addEventListener('dragover', (event) => { event.preventDefault(); byId('drop').classList.add('over'); });
+  addEventListener('dragover', (event) => {
+    event.preventDefault();
+    byId('drop').classList.add('over');
+  });
   addEventListener('dragleave', () => byId('drop').classList.remove('over'));
   addEventListener('drop', (event) => {
     event.preventDefault();
     byId('drop').classList.remove('over');
     if (event.dataTransfer.files[0]) openFile(event.dataTransfer.files[0]);
   });
+}
+
+// The search, and the question for a URI as of a date.
+function hearForms() {
   let waits = 0;
-  byId('words').addEventListener('input', () => { clearTimeout(waits); waits = setTimeout(() => { room.words = byId('words').value; body().scrollTop = 0; filter(); }, 120); });
-  byId('search').addEventListener('submit', (event) => { event.preventDefault(); byId('list').focus(); });
-  byId('as-of').addEventListener('submit', (event) => { event.preventDefault(); openAsOf(typed(byId('uri').value.trim()), byId('moment').value.trim(), true); });
-  byId('uri').addEventListener('input', () => { byId('uri').dataset.typed = byId('uri').value; });
+  byId('words').addEventListener('input', () => {
+    clearTimeout(waits);
+    waits = setTimeout(() => {
+      room.words = byId('words').value;
+      body().scrollTop = 0;
+      filter();
+    }, SEARCH_AFTER);
+  });
+  byId('search').addEventListener('submit', (/** @type {Event} */ event) => {
+    event.preventDefault();
+    byId('list').focus();
+  });
+  byId('as-of').addEventListener('submit', (/** @type {Event} */ event) => {
+    event.preventDefault();
+    openAsOf(typed(byId('uri').value.trim()), byId('moment').value.trim(), true);
+  });
+  byId('uri').addEventListener('input', () => {
+    byId('uri').dataset.typed = byId('uri').value;
+  });
+}
+
+// The position of the last record that begins at an offset or before it.
+function positionAt(/** @type {number} */ offset) {
+  let low = 0, high = room.rows.count - 1;
+  while (low < high) {
+    const middle = (low + high + 1) >> 1;
+    if (room.rows.row(middle).offset <= offset)
+      low = middle;
+    else
+      high = middle - 1;
+  }
+  return low;
+}
+
+// The list and the plots.
+function hearList() {
   byId('only').addEventListener('click', () => toggle('only', 'captures', 'captures'));
   byId('list').addEventListener('keydown', listKey);
-  body().addEventListener('scroll', () => requestAnimationFrame(drawRows), { passive: true });
-  body().addEventListener('click', () => byId('list').focus({ preventScroll: true }));
+  body().addEventListener('scroll', () => requestAnimationFrame(drawRows), {passive: true});
+  body().addEventListener('click', () => byId('list').focus({preventScroll: true}));
   byId('fold').addEventListener('click', () => foldPlots(!byId('plots').hidden));
-  byId('strip').addEventListener('click', (event) => {
-    const part = event.offsetX / byId('strip').clientWidth, offset = part * room.file.size;
-    let low = 0, high = room.rows.count - 1;
-    while (low < high) { const middle = (low + high + 1) >> 1; if (room.rows.row(middle).offset <= offset) low = middle; else high = middle - 1; }
-    if (room.rows.count) openRecord(low);
+  byId('strip').addEventListener('click', (/** @type {MouseEvent} */ event) => {
+    const part = event.offsetX / byId('strip').clientWidth;
+    if (room.rows.count) openRecord(positionAt(part * room.file.size));
   });
-  addEventListener('keydown', (event) => {
-    if (event.key === '/' && !/^(input|select|textarea)$/i.test(document.activeElement.tagName) && !byId('room').hidden) { event.preventDefault(); byId('words').focus(); }
-    if (event.key === 'Escape' && byId('record').contains(document.activeElement)) leaveRecord();
-    if (event.key === 'Escape' && document.activeElement === byId('words')) { byId('words').value = ''; room.words = ''; filter(); byId('list').focus(); }
-  });
+}
+
+/**
+ * Keys that count anywhere.
+ * @param {KeyboardEvent} event
+ */
+function anyKey(event) {
+  const {activeElement} = document, isTyping = /^(input|select|textarea)$/i.test(activeElement.tagName);
+  if (event.key === '/' && !isTyping && !byId('room').hidden) {
+    event.preventDefault();
+    byId('words').focus();
+  }
+  if (event.key !== 'Escape') return;
+  if (byId('record').contains(activeElement)) leaveRecord();
+  if (activeElement !== byId('words')) return;
+  byId('words').value = '';
+  room.words = '';
+  filter();
+  byId('list').focus();
+}
+
+// Keys, Back, and another size or other colours of the window.
+function hearWindow() {
+  const drawAgain = () => {
+    if (!room.file) return;
+    drawStrip();
+    drawRows();
+  };
+  addEventListener('keydown', anyKey);
   addEventListener('popstate', goBack);
-  addEventListener('resize', () => { if (room.file) { drawStrip(); drawRows(); } });
-  matchMedia('(prefers-color-scheme: dark)').addEventListener('change', () => { if (room.file) drawStrip(); });
+  addEventListener('resize', drawAgain);
+  matchMedia('(prefers-color-scheme: dark)').addEventListener('change', drawAgain);
 }
 
 function begin() {
   byId('limit').textContent = size(LIMIT);
-  if (!hasWideMemory()) { refuse('It needs WebAssembly with a 64-bit memory, which Chromium and Chrome have from version 133 on, and Firefox from 134 on.'); return; }
-  const module = Uint8Array.from(atob(MODULE), (letter) => letter.charCodeAt(0));
+  if (!hasWideMemory()) {
+    refuse(NO_WIDE_MEMORY);
+    return;
+  }
   try {
+    const module = Uint8Array.from(atob(MODULE), (letter) => letter.charCodeAt(0));
     room.library = new Library(module, LIMIT, WORKER, hear);
-  } catch (error) { refuse(String(error.message || error)); return; }
-  listen();
+  } catch (error) {
+    refuse(whyOf(error));
+    return;
+  }
+  [hearFiles, hearForms, hearList, hearWindow].forEach((listen) => listen());
 }
 
 begin();

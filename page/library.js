@@ -22,6 +22,7 @@ function shown(bytes) {
  */
 const typed = (text) => new TextEncoder().encode(text);
 
+const BAD = 1;
 const UNJUDGED = 3;
 const VERDICTS = ['good', 'bad', 'unchecked', '…'];
 
@@ -62,8 +63,10 @@ class Rows {
     let low = 0, high = this.pieces.length - 1;
     while (low < high) {
       const middle = (low + high + 1) >> 1;
-      if (this.pieces[middle].first <= position) low = middle;
-      else high = middle - 1;
+      if (this.pieces[middle].first <= position)
+        low = middle;
+      else
+        high = middle - 1;
     }
     return this.pieces[low];
   }
@@ -120,7 +123,7 @@ function listLine(row) {
   return `${numbers}${latin.decode(row.id)}\t${row.target.length ? latin.decode(row.target) : '-'}\n`;
 }
 
-const MOST_REMEMBERED = 128 * MEGABYTE; // bytes of bodies
+const MOST_REMEMBERED = 128 * MEGABYTE;  // bytes of bodies
 
 // The library in its worker. Answers are remembered.
 class Library {
@@ -136,9 +139,9 @@ class Library {
     this.script = script;
     this.report = report;
     /** @type {Map<number, {done: (answers: Answer[]) => void, failed: (error: Error) => void}>} */
-    this.waiting = new Map(); // what waits for an answer, by the number of its message
+    this.waiting = new Map();  // what waits for an answer, by the number of its message
     this.asked = 0;
-    this.openings = 0; // how often the worker opened an archive for questions
+    this.openings = 0;  // how often the worker opened an archive for questions
     this.forget();
     this.start();
   }

@@ -1,5 +1,5 @@
-// Calls on the nodes of a captured page. A form, and a document, answer with an element of the page where one has the name
-// of a property (`<input name=attributes>`), so each call goes through the prototype that has it.
+// Calls on the nodes of a captured page. A form, and a document, answer with an element of the page where one has the
+// name of a property (`<input name=attributes>`), so each call goes through the prototype that has it.
 'use strict';
 
 /**
@@ -22,8 +22,9 @@ const spaceOf = reader(Element.prototype, 'namespaceURI');
 const tagOf = reader(Element.prototype, 'localName');
 
 /** @type {(node: Document|Element, selector: string) => Element[]} */
-const every = (node, selector) =>
-    [...(node instanceof Document ? Document : Element).prototype.querySelectorAll.call(node, selector)];
+const every =
+    (node,
+     selector) => [...(node instanceof Document ? Document : Element).prototype.querySelectorAll.call(node, selector)];
 
 /** @type {(node: Element, name: string) => string|null} */
 const attributeOf = (node, name) => Element.prototype.getAttribute.call(node, name);

@@ -27,7 +27,8 @@ async function bytesOfFile(file, from, to) {
   return new Uint8Array(bytes);
 }
 
-const workerPolicy = globalThis.trustedTypes?.createPolicy('zogwedu-worker', {createScriptURL: (url) => url});
+const workerPolicy =
+    globalThis.trustedTypes?.createPolicy('zogwedu-worker', {createScriptURL: (/** @type {string} */ url) => url});
 
 /**
  * A worker that runs a script.

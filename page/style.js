@@ -15,15 +15,24 @@ const NAME = new RegExp(String.raw`(?:--|-?(?:[a-zA-Z_]|[^\x00-\x7f]|${ESCAPE}))
 const HASH_NAME = new RegExp(`${NAME_PART}+`, 'y');
 const SPACE = /[ \t\n]+/y;
 const NUMBER = /[\d.]+/y;
-const PLAIN = /[\w \t\n#:,.\-%!*>+~=|^$&?<\u0080-\uffff]+/y; // what means nothing but itself, unless it names a function
+const PLAIN =
+    /[\w \t\n#:,.\-%!*>+~=|^$&?<\u0080-\uffff]+/y;  // what means nothing but itself, unless it names a function
 const IN_NAME = /[\w\-\u0080-\uffff]/;
-const PLAIN_IN = {'"': /[^"\\\n]+/y, '\'': /[^'\\\n]+/y, ')': /[^)\\"'( \x00-\x1f\x7f]+/y};
+const PLAIN_IN = {
+  '"': /[^"\\\n]+/y,
+  '\'': /[^'\\\n]+/y,
+  ')': /[^)\\"'( \x00-\x1f\x7f]+/y
+};
 
 // Functions whose texts name resources.
 const ADDRESSES = new Set(['url', 'src']);
 const CHOICES = new Set(['image-set', '-webkit-image-set', 'image', 'cross-fade', '-webkit-cross-fade']);
 const FILLED_LATER = new Set(['var', 'attr', 'env']);
-const CLOSERS = {'(': ')', '[': ']', '{': '}'};
+const CLOSERS = {
+  '(': ')',
+  '[': ']',
+  '{': '}'
+};
 
 /** @param {string} text A name, a string or an address, with escapes. */
 function unescaped(text) {
@@ -34,6 +43,7 @@ function unescaped(text) {
   });
 }
 
+/** @param {string} letter */
 const escaped = (letter) => `\\${letter.codePointAt(0).toString(16)} `;
 
 /** @param {string} name */
@@ -163,8 +173,8 @@ class StyleWriter {
     /** @type {string[]} */
     this.out = [];
     /** @type {{closer: string, name: string}[]} */
-    this.open = []; // what is open, the innermost last
-    this.hasRules = false; // an import counts before the first rule alone
+    this.open = [];         // what is open, the innermost last
+    this.hasRules = false;  // an import counts before the first rule alone
   }
 
   whole() {
@@ -204,7 +214,7 @@ class StyleWriter {
   called(value) {
     const name = value.toLowerCase(), isLater = CHOICES.has(this.within()) && FILLED_LATER.has(name);
     this.open.push({closer: ')', name});
-    if (isLater) return 'none('; // what it gives isn't known here
+    if (isLater) return 'none(';  // what it gives isn't known here
     return ADDRESSES.has(name) ? 'url(' : `${writtenName(value)}(`;
   }
 
@@ -227,8 +237,10 @@ class StyleWriter {
       if (token.value === ';' && depth <= 0) break;
       if (token.kind === 'function' || token.value === '(') depth += 1;
       if (token.value === ')') depth -= 1;
-      if (reference === null && /text|address/.test(token.kind)) reference = token.value;
-      else if (reference !== null && !/^[{}]$/.test(token.value)) media += rest.written(token);
+      if (reference === null && /text|address/.test(token.kind))
+        reference = token.value;
+      else if (reference !== null && !/^[{}]$/.test(token.value))
+        media += rest.written(token);
     }
     if (reference === null || this.hasRules || this.open.length) return '';
     media += rest.open.reverse().map((it) => it.closer).join('');

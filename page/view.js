@@ -3,12 +3,16 @@
 
 const VIEW_POLICY = 'default-src \'none\'; img-src blob: data:; style-src \'unsafe-inline\'; font-src blob: data:; ' +
     'form-action \'none\'; base-uri \'none\'';
-const EMPTY_VIEW = `<!doctype html><meta charset="utf-8"><meta http-equiv="Content-Security-Policy" content="${VIEW_POLICY}">`;
-const MOST_ROUNDS = 6; // styles that name styles that name styles
-const AT_ONCE = 16; // URIs that the library is asked for together
+const EMPTY_VIEW =
+    `<!doctype html><meta charset="utf-8"><meta http-equiv="Content-Security-Policy" content="${VIEW_POLICY}">`;
+const MOST_ROUNDS = 6;  // styles that name styles that name styles
+const AT_ONCE = 16;     // URIs that the library is asked for together
 const NOTHING = 'data:,';
 
-// What one view may take, and how a reader is told that there was more.
+/**
+ * What one view may take, and how a reader is told that there was more.
+ * @type {Record<string, [number, string]>}
+ */
 const MOST_OF_VIEW = {
   addresses: [32 * MEGABYTE, 'drawings (SVG) of over 32 MB in all'],
   decoded: [512 * MEGABYTE, 'pictures and styles of over 512 MB in all'],
@@ -19,7 +23,8 @@ const MOST_OF_VIEW = {
 };
 
 // A browser that has no trusted types takes the text itself.
-const parserPolicy = globalThis.trustedTypes?.createPolicy('zogwedu-parser', {createHTML: (text) => text});
+const parserPolicy =
+    globalThis.trustedTypes?.createPolicy('zogwedu-parser', {createHTML: (/** @type {string} */ text) => text});
 
 /** @type {(text: string) => any} */
 const asHtml = (text) => (parserPolicy ? parserPolicy.createHTML(text) : text);
@@ -34,7 +39,7 @@ class Budget {
 
   /**
    * Takes an amount, if as much is left.
-   * @param {keyof MOST_OF_VIEW} name
+   * @param {string} name
    * @param {number} amount
    */
   take(name, amount) {
@@ -48,7 +53,7 @@ class Budget {
 
   /** What was left out, in words. */
   get words() {
-    return [...this.spent].map((name) => MOST_OF_VIEW[/** @type {keyof MOST_OF_VIEW} */ (name)][1]);
+    return [...this.spent].map((name) => MOST_OF_VIEW[name][1]);
   }
 }
 
@@ -132,7 +137,8 @@ class Resources {
   /** @param {string[]} uris */
   async find(uris) {
     const wanted = [...new Set(uris)].filter((uri) => uri && !this.known.has(uri));
-    for (let at = 0; at < wanted.length && this.isWanted(); at += AT_ONCE) await this.findPart(wanted.slice(at, at + AT_ONCE));
+    for (let at = 0; at < wanted.length && this.isWanted(); at += AT_ONCE)
+      await this.findPart(wanted.slice(at, at + AT_ONCE));
   }
 
   /** @param {string[]} uris */
@@ -173,7 +179,8 @@ class Resources {
   }
 
   get missing() {
-    return [...this.known].filter(([, found]) => !isThere(found))
+    return [...this.known]
+        .filter(([, found]) => !isThere(found))
         .map(([uri, found]) => [uri, found.reason ?? `captured with status ${found.status}`]);
   }
 
@@ -212,7 +219,7 @@ class Sheets {
   named(css, base) {
     /** @type {{sheets: string[], others: string[]}} */
     const found = {sheets: [], others: []};
-    const add = (list, reference) => {
+    const add = (/** @type {string[]} */ list, /** @type {string} */ reference) => {
       const uri = resolved(reference, base);
       if (uri && !/^(?:data:|#)/i.test(reference) && this.resources.budget.take('references', 1)) list.push(uri);
       return '';
@@ -222,19 +229,19 @@ class Sheets {
   }
 
   /**
-   * A style in which each URI is an address of the bytes that it means, or of nothing. It is empty where it would be longer
-   * than what is left for styles.
+   * A style in which each URI is an address of the bytes that it means, or of nothing. It is empty where it would be
+   * longer than what is left for styles.
    * @param {string} css
    * @param {string} base
    */
   filled(css, base) {
     const {budget} = this.resources, text = rewritten(css, {
-      url: (reference) => this.place(reference, base),
-      sheet: (reference, media) => {
-        const inner = this.whole(resolved(reference, base));
-        return media && inner ? `@media ${media}{${inner}}` : inner;
-      },
-    });
+                                       url: (reference) => this.place(reference, base),
+                                       sheet: (reference, media) => {
+                                         const inner = this.whole(resolved(reference, base));
+                                         return media && inner ? `@media ${media}{${inner}}` : inner;
+                                       },
+                                     });
     if (text.length <= budget.left.styles) return text;
     budget.spent.add('styles');
     return '';
@@ -274,10 +281,11 @@ class Sheets {
   }
 }
 
-const MISSING = `data:image/svg+xml,${encodeURIComponent(
-    '<svg xmlns="http://www.w3.org/2000/svg" width="120" height="60"><rect x="1" y="1" width="118" height="58" ' +
-    'fill="#f4f1ea" stroke="#b9b2a3" stroke-dasharray="4 3"/><text x="60" y="34" font-family="sans-serif" font-size="10" ' +
-    'fill="#7c756a" text-anchor="middle">not in the archive</text></svg>')}`;
+const MISSING_DRAWING =
+    '<svg xmlns="http://www.w3.org/2000/svg" width="120" height="60"><rect x="1" y="1" width="118" ' +
+    'height="58" fill="#f4f1ea" stroke="#b9b2a3" stroke-dasharray="4 3"/><text x="60" y="34" font-size="10" ' +
+    'font-family="sans-serif" fill="#7c756a" text-anchor="middle">not in the archive</text></svg>';
+const MISSING = `data:image/svg+xml,${encodeURIComponent(MISSING_DRAWING)}`;
 const FRAME_LOOK = 'display:block;border:1px dashed #b9b2a3;padding:0.6em 1em;margin:0.4em 0;font:14px sans-serif;' +
     'color:#275d7c;background:#fff';
 
@@ -325,7 +333,7 @@ class Named {
     /** @type {{node: HTMLElement, uri: string|null}[]} */
     this.linked = [];
     /** @type {{node: Element, name: string, css: string}[]} */
-    this.styles = []; // the text of a style element has no name of an attribute
+    this.styles = [];  // the text of a style element has no name of an attribute
     /** @type {{node: Element, target: Target}[]} */
     this.links = [];
   }
@@ -412,18 +420,20 @@ class Named {
    * @param {Element} root
    */
   fill(root) {
-    const isKept = ({node}) => holds(root, node);
+    const isKept = (/** @type {{node: Node}} */ {node}) => holds(root, node);
     for (const {node, uri} of this.linked.filter(isKept)) node.textContent = this.sheets.taken(this.sheets.whole(uri));
     for (const {node, name, css} of this.styles.filter(isKept)) {
       const style = this.sheets.taken(this.sheets.filled(css, this.base));
-      if (name) setAttribute(node, name, style);
-      else node.textContent = style;
+      if (name)
+        setAttribute(node, name, style);
+      else
+        node.textContent = style;
     }
     for (const {node, uri} of this.pictures.filter(isKept)) {
       setAttribute(node, tagOf(node) === 'image' ? 'href' : 'src', this.sheets.resources.address(uri) ?? MISSING);
     }
     this.links.forEach(({node, target}, number) => {
-      setAttribute(node, 'href', `about:srcdoc#${number}`); // it looks like a link; the page handles the click
+      setAttribute(node, 'href', `about:srcdoc#${number}`);  // it looks like a link; the page handles the click
       setAttribute(node, 'title', target.uri);
     });
   }
@@ -467,7 +477,7 @@ async function viewOf(html, uri, resources) {
  */
 function emptyFrame(fill) {
   const frame = make('iframe', {className: 'view', title: 'The page as a view, without scripts and without network'});
-  frame.setAttribute('sandbox', 'allow-same-origin'); // no scripts; so that this page can hear a click on a link
+  frame.setAttribute('sandbox', 'allow-same-origin');  // no scripts; so that this page can hear a click on a link
   frame.referrerPolicy = 'no-referrer';
   frame.addEventListener('load', () => {
     const page = frame.contentDocument;
@@ -489,8 +499,11 @@ function moveInto(page, root) {
   attributesOf(root).forEach((name) => html.setAttribute(name, attributeOf(root, name)));
   for (let part = firstOf(root); part; part = firstOf(root)) {
     const mine = page.adoptNode(part), tag = mine instanceof Element || mine.nodeType === 1 ? tagOf(mine) : '';
-    if (tag === 'body') body.replaceWith(mine);
-    else if (tag === 'head') for (let node = firstOf(mine); node; node = firstOf(mine)) head.append(node);
-    else html.append(mine);
+    if (tag === 'body')
+      body.replaceWith(mine);
+    else if (tag === 'head')
+      for (let node = firstOf(mine); node; node = firstOf(mine)) head.append(node);
+    else
+      html.append(mine);
   }
 }

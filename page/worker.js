@@ -16,29 +16,31 @@ const TEXT = 128;
 const FIRST_PIECE = MEGABYTE;
 const PIECE = 16 * MEGABYTE;
 const MOST_PIECE = 4096 * MEGABYTE;
-const SEGMENT = PIECE - MEGABYTE; // what a helper lists at once, with the rest of its last record
-const LEAST_RECORD = 81; // bytes: no record is shorter
+const SEGMENT = PIECE - MEGABYTE;  // what a helper lists at once, with the rest of its last record
+const LEAST_RECORD = 81;           // bytes: no record is shorter
 const DONE = 0;
 const MEMORY = 2;
-const NOWHERE = 2n ** 64n - 1n; // a position that isn't known
-const SPENT = 1024 * MEGABYTE; // what the calls of a module are given before it is started anew
+const NOWHERE = 2n ** 64n - 1n;  // a position that isn't known
+const SPENT = 1024 * MEGABYTE;   // what the calls of a module are given before it is started anew
 const MOST_HEAP = 8192 * MEGABYTE;
 const HELPERS = typeof Worker === 'function' ? Math.min(4, navigator.hardwareConcurrency || 1) : 1;
-const LEAST_SHARED = 32 * MEGABYTE; // bytes: a shorter file is listed by this worker alone
+const LEAST_SHARED = 32 * MEGABYTE;  // bytes: a shorter file is listed by this worker alone
 const IS_LARGE = /** @type {any} */ (navigator).deviceMemory >= 8;
-const MOST_TWICE = IS_LARGE ? Infinity : 1024 * MEGABYTE; // bytes: of a longer file there is no second copy in memory
-const BEGINNING = '\r\n\r\nWARC/1.'; // what a record's beginning looks like, after the end of the record before it
-const SMALL = 4096; // bytes of memory that a question, or a verdict, is given
-const MOST_OF_HEAD = 16 * MEGABYTE; // bytes of memory that reading a head needs at most
-const MOST_JUDGING = 64 * MEGABYTE; // what verdicts are given until their module is started anew
+const MOST_TWICE = IS_LARGE ? Infinity : 1024 * MEGABYTE;  // bytes: of a longer file there is no second copy in memory
+const BEGINNING = '\r\n\r\nWARC/1.';  // what a record's beginning looks like, after the end of the record before it
+const SMALL = 4096;                   // bytes of memory that a question, or a verdict, is given
+const MOST_OF_HEAD = 16 * MEGABYTE;   // bytes of memory that reading a head needs at most
+const MOST_JUDGING = 64 * MEGABYTE;   // what verdicts are given until their module is started anew
 const NO_VERDICT = 3;
-const LEAST_PAGES = 16; // by which a memory grows at least
-const SPARE = 64 * MEGABYTE; // what questions may use of an open archive's memory, until it is opened anew
-const SPANS = 64; // for how many parts of a body there is room at first
-const PATIENCE = 60000; // milliseconds after which a helper counts as lost
-const SLOWEST = 10000; // bytes that a helper looks through in a millisecond at least
+const LEAST_PAGES = 16;       // by which a memory grows at least
+const SPARE = 64 * MEGABYTE;  // what questions may use of an open archive's memory, until it is opened anew
+const SPANS = 64;             // for how many parts of a body there is room at first
+const PATIENCE = 60000;       // milliseconds after which a helper counts as lost
+const SLOWEST = 10000;        // bytes that a helper looks through in a millisecond at least
 
+/** @type {(number: number, to: number) => number} */
 const round = (number, to) => Math.ceil(number / to) * to;
+/** @type {(bytes: Uint8Array) => string} */
 const text = (bytes) => new TextDecoder('latin1').decode(bytes.slice());
 
 // A module with its own memory, and where in it is free.
@@ -51,13 +53,14 @@ class Instance {
     /** @type {WebAssembly.Memory} */
     this.memory = this.exports.memory;
     this.end = this.memory.buffer.byteLength;
-    this.spent = 0; // bytes that were given for good
-    this.most = SPENT; // the module is started anew once this much is spent
+    this.spent = 0;     // bytes that were given for good
+    this.most = SPENT;  // the module is started anew once this much is spent
     /** @type {Map<string, {at: number, room: number}>} */
     this.lent = new Map();
   }
 
   // Takes part of the memory that nobody has used.
+  /** @type {(bytes: number) => number} */
   take(bytes) {
     const at = this.end;
     this.end = round(this.end + bytes + 1, UNIT);
@@ -67,6 +70,7 @@ class Instance {
   }
 
   // Part of the memory that is lent to calls, and used again by the next one.
+  /** @type {(name: string, bytes: number) => number} */
   lend(name, bytes) {
     const found = this.lent.get(name);
     if (found && found.room >= bytes) return found.at;
@@ -76,15 +80,18 @@ class Instance {
     return at;
   }
 
+  /** @type {(at: number, length: number) => Uint8Array} */
   bytes(at, length) {
     return new Uint8Array(this.memory.buffer, at, length);
   }
 
+  /** @type {(at: number) => number} */
   number(at) {
     return Number(new DataView(this.memory.buffer).getBigUint64(at, true));
   }
 
   // Puts bytes into memory that is lent, and gives their place and length.
+  /** @type {(name: string, bytes: Uint8Array, least?: number) => [number, number]} */
   put(name, bytes, least = 0) {
     const at = this.lend(name, Math.max(bytes.length, least));
     this.bytes(at, bytes.length).set(bytes);
@@ -92,6 +99,7 @@ class Instance {
   }
 
   // Calls an export with fresh memory, and gives the state that it puts first into its outcome.
+  /** @type {(name: string, room: number, parts: number[], outcome: number) => number} */
   once(name, room, parts, outcome) {
     const at = this.take(room);
     this.spent += room;
@@ -100,6 +108,7 @@ class Instance {
   }
 
   // Calls an export with fresh memory, and with more where that didn't suffice.
+  /** @type {(name: string, heap: number, parts: number[], outcome: number) => number} */
   call(name, heap, parts, outcome) {
     for (let room = round(heap, UNIT);; room *= 4) {
       const state = this.once(name, room, parts, outcome);
@@ -109,6 +118,7 @@ class Instance {
   }
 
   // The verdict on a block by its head, with fresh memory, and with more where that didn't suffice.
+  /** @type {(...parts: number[]) => number} */
   verdict(...parts) {
     for (let room = SMALL; room <= MOST_OF_HEAD; room *= 4) {
       const at = this.take(room);
@@ -120,6 +130,7 @@ class Instance {
   }
 
   // Lists the records at the front of bytes in the module's memory, which begin with a record.
+  /** @type {(at: number, length: number) => Front} */
   front(at, length) {
     const room = Math.max(length, PIECE), rowsRoom = Math.floor(length / LEAST_RECORD) + 1;
     const texts = this.lend('texts', room), fault = this.lend('fault', TEXT), outcome = this.lend('front', FRONT);
@@ -139,9 +150,10 @@ class Instance {
 }
 
 // Newer engines take a BigInt, older ones a number.
+/** @type {(memory: WebAssembly.Memory, pages: number) => void} */
 function grow(memory, pages) {
   try {
-    memory.grow(BigInt(pages));
+    memory.grow(/** @type {any} */ (BigInt(pages)));
   } catch (error) {
     if (!(error instanceof TypeError)) throw error;
     memory.grow(pages);
@@ -159,7 +171,7 @@ class Keeper extends Instance {
     this.file = this.take(length);
     this.outcome = this.lend('outcome', OUTCOME);
     this.reason = this.lend('text', TEXT);
-    this.handle = 0; // 0: none was taken
+    this.handle = 0;  // 0: none was taken
     this.isOpen = false;
   }
 
@@ -168,15 +180,17 @@ class Keeper extends Instance {
   }
 
   // Opens the archive, in the place of one that is open.
+  /** @type {(length: number, heap: number) => void} */
   open(length, heap) {
-    if (!this.handle) this.handle = this.take(HANDLE); // all zeros: none is open
+    if (!this.handle) this.handle = this.take(HANDLE);  // all zeros: none is open
     const parts = [this.file, length, this.handle, this.reason, TEXT, this.outcome];
     if (this.call('page_open', heap + SPARE, parts, this.outcome) !== DONE) throw new Error(this.reasonText);
-    if (!this.isOpen) this.most = this.spent + SPENT / 2; // whatever opening took, questions have room
+    if (!this.isOpen) this.most = this.spent + SPENT / 2;  // whatever opening took, questions have room
     this.isOpen = true;
   }
 
   // The lines that the library writes of its findings.
+  /** @type {(length: number, heap: number, records: number) => Uint8Array} */
   findings(length, heap, records) {
     for (let room = MEGABYTE + 32 * records;; room *= 8) {
       const out = this.lend('out', room);
@@ -187,42 +201,50 @@ class Keeper extends Instance {
   }
 
   // How a question is asked: the name of the export, and the parameters of its own.
+  /** @type {(question: Question) => {name: string, own: number[]}} */
   asking({uri, date, position}) {
     if (!uri) return {name: 'page_body', own: [position]};
     return {name: 'page_replay', own: [...this.put('uri', uri), ...this.put('date', new TextEncoder().encode(date))]};
   }
 
   // The answer to a question. Where the open archive has used up its memory, it is opened anew.
+  /** @type {(question: Question, reopen: () => void) => Answer} */
   answer(question, reopen) {
     const {name, own} = this.asking(question), numbers = this.lend('numbers', ANSWER);
     for (let count = SPANS, isFresh = false;;) {
       const spans = this.lend('spans', count * SPAN);
-      this.bytes(numbers, ANSWER).fill(255); // no position is known
+      this.bytes(numbers, ANSWER).fill(255);  // no position is known
       const parts = [this.handle, ...own, numbers, spans, count, this.reason, TEXT, this.outcome];
       const state = this.once(name, SMALL, parts, this.outcome), length = this.number(this.outcome + 8);
       if (state === MEMORY) {
         if (isFresh) throw new Error('out of memory');
         reopen();
         isFresh = true;
-      } else if (state !== DONE) return {...this.positions(numbers), reason: this.reasonText};
-      else if (length > count) count = length;
-      else return {...this.positions(numbers), ...this.facts(numbers), body: this.body(spans, length)};
+      } else if (state !== DONE)
+        return {...this.positions(numbers), reason: this.reasonText};
+      else if (length > count)
+        count = length;
+      else
+        return {...this.positions(numbers), ...this.facts(numbers), body: this.body(spans, length)};
     }
   }
 
   // The positions of an answer: of the chosen capture and of the origin that gives the body.
+  /** @type {(numbers: number) => {chosen: number|null, given: number|null}} */
   positions(numbers) {
     const view = new DataView(this.memory.buffer, numbers, ANSWER);
     const [chosen, given] = [view.getBigUint64(0, true), view.getBigUint64(8, true)];
     return {chosen: chosen === NOWHERE ? null : Number(chosen), given: given === NOWHERE ? null : Number(given)};
   }
 
+  /** @type {(numbers: number) => {length: number, status: number|null, truncated: boolean}} */
   facts(numbers) {
     const view = new DataView(this.memory.buffer, numbers, ANSWER), status = view.getUint32(24, true) || null;
     return {length: Number(view.getBigUint64(16, true)), status, truncated: view.getUint32(28, true) === 1};
   }
 
   // A body: the parts of the archive that the library names, one after another.
+  /** @type {(spans: number, count: number) => Uint8Array} */
   body(spans, count) {
     const places = Array.from({length: count}, (_, number) => spans + number * SPAN);
     const parts = places.map((at) => this.bytes(this.file + this.number(at), this.number(at + 8)));
@@ -243,6 +265,7 @@ class Judge {
     this.instance = new Instance(module);
   }
 
+  /** @type {(task: JudgeTask) => Promise<Uint8Array>} */
   async judge({file, start, stop, rows}) {
     const bytes = await bytesOfFile(file, start, stop), view = new DataView(rows);
     if (this.instance.spent > MOST_JUDGING) this.instance = new Instance(this.module);
@@ -256,7 +279,13 @@ class Judge {
 
 // One helper, and what it is asked. It is lost where it reports an error, or doesn't answer in time.
 class Helper {
+  /**
+   * @param {string} script
+   * @param {WebAssembly.Module} module
+   */
   constructor(script, module) {
+    /** @type {{done: (answer: any) => void, failed: (error: Error) => void}|null} */
+    this.turn = null;
     this.worker = startWorker(script);
     this.worker.onmessage = ({data}) => this.turn?.done(data);
     this.worker.onerror = (event) => this.lose(event.message || 'a helper stopped');
@@ -264,15 +293,18 @@ class Helper {
     this.isLost = false;
   }
 
-  ask(message, moved, patience) {
-    if (this.isLost) return Promise.reject(new Error('a helper stopped'));
-    return new Promise((done, failed) => {
+  /** @type {(message: object, moved: Transferable[], patience: number) => Promise<any>} */
+  async ask(message, moved, patience) {
+    if (this.isLost) throw new Error('a helper stopped');
+    const answer = new Promise((done, failed) => {
       this.turn = {done, failed};
-      this.clock = setTimeout(() => this.lose('a helper doesn’t answer'), patience);
-      this.worker.postMessage(message, moved);
-    }).finally(() => clearTimeout(this.clock));
+    });
+    const clock = setTimeout(() => this.lose('a helper doesn’t answer'), patience);
+    this.worker.postMessage(message, moved);
+    return answer.finally(() => clearTimeout(clock));
   }
 
+  /** @type {(why: string) => void} */
   lose(why) {
     this.isLost = true;
     this.worker.terminate();
@@ -282,6 +314,10 @@ class Helper {
 
 // Helpers that work side by side. Each is started when it is needed, also in the place of one that is lost.
 class Helpers {
+  /**
+   * @param {string} script
+   * @param {WebAssembly.Module} module
+   */
   constructor(script, module) {
     this.start = () => new Helper(script, module);
     this.isStopped = false;
@@ -289,13 +325,14 @@ class Helpers {
     this.all = new Set();
     /** @type {Helper[]} */
     this.free = [];
-    /** @type {(() => void)[]} */
+    /** @type {((value?: any) => void)[]} */
     this.waiting = [];
   }
 
   // A helper that has nothing to do.
   async one() {
-    while (!this.isStopped && !this.free.length && this.all.size >= HELPERS) await new Promise((done) => this.waiting.push(done));
+    while (!this.isStopped && !this.free.length && this.all.size >= HELPERS)
+      await new Promise((done) => this.waiting.push(done));
     if (this.isStopped) throw new Error('the helpers are stopped');
     const next = this.free.pop() ?? this.start();
     this.all.add(next);
@@ -303,6 +340,7 @@ class Helpers {
   }
 
   // What a helper answers to a message, once one is free.
+  /** @type {(message: object, moved?: Transferable[], patience?: number) => Promise<any>} */
   async ask(message, moved = [], patience = PATIENCE) {
     const helper = await this.one();
     try {
@@ -310,8 +348,10 @@ class Helpers {
       if (answer.why) throw new Error(answer.why);
       return answer;
     } finally {
-      if (helper.isLost) this.all.delete(helper);
-      else this.free.push(helper);
+      if (helper.isLost)
+        this.all.delete(helper);
+      else
+        this.free.push(helper);
       this.waiting.shift()?.();
     }
   }
@@ -325,6 +365,10 @@ class Helpers {
 
 // The file as it comes into the memory of a module.
 class Filling {
+  /**
+   * @param {Archive} archive
+   * @param {Keeper} keeper
+   */
   constructor(archive, keeper) {
     this.archive = archive;
     this.keeper = keeper;
@@ -335,7 +379,7 @@ class Filling {
   read() {
     const size = this.stop ? PIECE : FIRST_PIECE;
     const next = this.archive.read(this.stop, Math.min(this.archive.file.size, this.stop + size));
-    next.catch(() => {}); // it is reported when it is waited for
+    next.catch(() => {});  // it is reported when it is waited for
     return next;
   }
 
@@ -351,6 +395,7 @@ class Filling {
 
   // Where a record may begin, from an offset on; -1 if nowhere so far. It is only a guess where a segment may end: the
   // library then says whether it does.
+  /** @type {(from: number) => number} */
   beginning(from) {
     for (let at = from; at < this.stop; at += MEGABYTE) {
       const length = Math.min(this.stop - at, MEGABYTE + BEGINNING.length);
@@ -363,16 +408,22 @@ class Filling {
 
 // The segments of a file, which helpers list side by side. One counts where it begins where the one before it ended.
 class Segments {
+  /**
+   * @param {Filling} filling
+   * @param {Helpers} helpers
+   */
   constructor(filling, helpers) {
     this.filling = filling;
     this.helpers = helpers;
     this.start = 0;
     this.sought = FIRST_PIECE / 2;
+    /** @type {Promise<boolean>[]} */
     this.turns = [];
-    this.isBroken = false; // one didn't end where the next was thought to begin, or its helper was lost
-    this.whole = Promise.resolve(true); // whether all segments so far end where they were thought to
+    this.isBroken = false;               // one didn't end where the next was thought to begin, or its helper was lost
+    this.whole = Promise.resolve(true);  // whether all segments so far end where they were thought to
   }
 
+  /** @type {(stop: number) => void} */
   hand(stop) {
     const {start, filling: {keeper}} = this, bytes = keeper.bytes(keeper.file + start, stop - start).slice();
     const listed = this.helpers.ask({list: bytes}, [bytes.buffer]).catch(() => null);
@@ -381,6 +432,7 @@ class Segments {
     this.start = stop;
   }
 
+  /** @type {(found: Front|null, start: number, stop: number) => boolean} */
   take(found, start, stop) {
     const {archive} = this.filling;
     if (archive.isOver) return false;
@@ -402,8 +454,9 @@ class Segments {
 }
 
 // The fault of a piece, with its offset counted from the beginning of the file.
+/** @type {(fault: string, start: number) => string} */
 function placed(fault, start) {
-  return fault.replace(/ at (\d+)$/, (_, offset) => ` at ${Number(offset) + start}`);
+  return fault.replace(/ at (\d+)$/, (_, /** @type {string} */ offset) => ` at ${Number(offset) + start}`);
 }
 
 // One file, from its opening until another is opened.
@@ -419,14 +472,15 @@ class Archive {
     this.desk = desk;
     this.file = file;
     this.state = 'listing';
-    this.keeper = null; // the module that has the good part of the file, if it is short enough
-    this.judge = null; // where this worker judges blocks itself
+    /** @type {Keeper|null} */
+    this.keeper = null;  // the module that has the good part of the file, if it is short enough
+    this.judge = null;   // where this worker judges blocks itself
     this.helpers = this.newHelpers();
     this.records = 0;
     this.textBytes = 0;
-    this.end = 0; // of the good part
+    this.end = 0;  // of the good part
     /** @type {{first: number, start: number, stop: number, rows: ArrayBuffer}[]} */
-    this.pieces = []; // of records that were listed together
+    this.pieces = [];  // of records that were listed together
   }
 
   get isOver() {
@@ -455,11 +509,13 @@ class Archive {
     this.helpers.stop();
   }
 
+  /** @type {(from: number, to: number) => Promise<Uint8Array>} */
   read(from, to) {
     return bytesOfFile(this.file, from, to);
   }
 
   // Reports the records that were found from an offset on. Returns whether there may be more after the bytes so far.
+  /** @type {(found: Front, start: number, stop: number) => boolean} */
   report({records, texts, rows, words, end: length, fault}, start, stop) {
     const {size} = this.file, end = start + length;
     if (records) this.pieces.push({first: this.records, start, stop: end, rows: rows.slice(0)});
@@ -471,20 +527,24 @@ class Archive {
   }
 
   // Lists the file piece by piece, as it comes into the memory of a module, from a record's beginning on.
+  /** @type {(filling: Filling, from: number) => Promise<string|null>} */
   async listOn(filling, from) {
     const {keeper} = filling, {size} = this.file;
     for (let start = from, length = FIRST_PIECE; start < size;) {
       const stop = Math.min(size, start + length);
-      while (filling.stop < stop) if (!await filling.take()) return null;
+      while (filling.stop < stop)
+        if (!await filling.take()) return null;
       const found = keeper.front(keeper.file + start, stop - start);
       if (!this.report(found, start, stop)) return placed(found.fault, start);
-      length = found.end > 0 ? PIECE : 4 * length; // a record that doesn't end in the bytes so far
+      length = found.end > 0 ? PIECE : 4 * length;  // a record that doesn't end in the bytes so far
       start = this.end;
     }
     return '';
   }
 
-  // Lists a long file by helpers. If a segment doesn't end where the next was thought to begin, this worker lists the rest.
+  // Lists a long file by helpers. If a segment doesn't end where the next was thought to begin, this worker lists the
+  // rest.
+  /** @type {(filling: Filling) => Promise<string|null>} */
   async listByHelpers(filling) {
     const segments = new Segments(filling, this.helpers);
     while (filling.stop < this.file.size && !segments.isBroken) {
@@ -493,7 +553,7 @@ class Archive {
     }
     if (!segments.isBroken) segments.hand(this.file.size);
     const isWhole = await segments.whole;
-    this.helpers.stop(); // their memory is given back
+    this.helpers.stop();  // their memory is given back
     this.helpers = this.newHelpers();
     if (isWhole) return '';
     return this.isOver ? null : this.listOn(filling, this.end);
@@ -529,7 +589,7 @@ class Archive {
   // The module that has the good part of the file, or a new one if that has spent too much memory.
   async full() {
     if (!this.keeper || this.keeper.spent >= this.keeper.most) {
-      this.keeper = null; // its memory is given back first
+      this.keeper = null;  // its memory is given back first
       this.keeper = await filled(this.desk.module, this);
     }
     return this.keeper;
@@ -542,12 +602,14 @@ class Archive {
     return keeper;
   }
 
+  /** @type {(keeper: Keeper) => void} */
   openIn(keeper) {
     keeper.open(this.end, this.heap);
     this.desk.openings += 1;
   }
 
   // The answers to questions, one after another.
+  /** @type {(questions: Question[]) => Promise<Answer[]>} */
   async ask(questions) {
     const answers = [];
     for (const question of questions) {
@@ -561,7 +623,8 @@ class Archive {
   async find() {
     const {file, end, records, heap} = this;
     const alone = async () => ({lines: (await this.full()).findings(end, heap, records)});
-    const byHelper = () => this.helpers.ask({find: {file, end, records, heap}}, [], PATIENCE + end / SLOWEST).catch(alone);
+    const byHelper = () =>
+        this.helpers.ask({find: {file, end, records, heap}}, [], PATIENCE + end / SLOWEST).catch(alone);
     const {lines} = await (this.isAlone ? alone() : byHelper());
     if (!this.isOver) postMessage({report: 'findings', lines: text(lines)});
   }
@@ -579,6 +642,7 @@ class Archive {
   }
 
   // The verdicts on some blocks by a helper, or by this worker if there is none, or the helper fails.
+  /** @type {(task: JudgeTask) => Promise<Uint8Array>} */
   async verdicts(task) {
     const alone = () => {
       this.judge ??= new Judge(this.desk.module);
@@ -594,7 +658,7 @@ class Archive {
 
   // What takes hashes, beside the questions.
   async work() {
-    const report = (error) => this.isOver || fail(0, error);
+    const report = (/** @type {any} */ error) => this.isOver || fail(0, error);
     const found = this.holds ? this.find().catch(report) : null, judged = this.judgeAll().catch(report);
     Promise.all([found, judged]).then(() => this.helpers.stop());
     if (this.isAlone) await found;
@@ -616,6 +680,7 @@ class Archive {
 }
 
 // A new module that has the good part of a file.
+/** @type {(module: WebAssembly.Module, part: {file: Blob, end: number}) => Promise<Keeper>} */
 async function filled(module, {file, end}) {
   const keeper = new Keeper(module, end);
   for (let at = 0; at < end; at += PIECE) {
@@ -625,20 +690,23 @@ async function filled(module, {file, end}) {
   return keeper;
 }
 
+/** @type {(id: number, error: any) => void} */
 const fail = (id, error) => postMessage({id, report: 'failed', why: whyOf(error)});
 
 // Where the page's messages arrive: it opens one file after another, and asks questions on the last.
 class Desk {
+  /** @param {{wasm: Uint8Array, limit: number, script: string}} given */
   constructor({wasm, limit, script}) {
     this.module = new WebAssembly.Module(wasm);
-    this.limit = limit; // bytes: a longer archive is listed, and not kept in memory
-    this.script = script; // this one, for helpers
-    this.openings = 0; // how often an archive was opened in a module's memory
+    this.limit = limit;    // bytes: a longer archive is listed, and not kept in memory
+    this.script = script;  // this one, for helpers
+    this.openings = 0;     // how often an archive was opened in a module's memory
     /** @type {Archive|null} */
     this.archive = null;
     this.queue = Promise.resolve();
   }
 
+  /** @type {(message: any) => void} */
   hear(message) {
     if (message.open) {
       this.archive?.close();
@@ -648,6 +716,7 @@ class Desk {
     this.queue = this.queue.then(() => this.respond(archive, message)).catch((error) => fail(message.id, error));
   }
 
+  /** @type {(archive: Archive|null, message: {id: number, questions?: Question[]}) => Promise<void>} */
   async respond(archive, {id, questions}) {
     if (!archive) throw new Error('no archive is open');
     if (!questions) {
@@ -670,10 +739,12 @@ class HelperDesk {
     this.lister = new Instance(module);
   }
 
+  /** @type {(message: any) => void} */
   hear(message) {
     this.respond(message).catch((error) => postMessage({why: whyOf(error)}));
   }
 
+  /** @type {(message: any) => Promise<void>} */
   async respond({list, find, judge}) {
     if (list) {
       if (this.lister.spent > SPENT / 2) this.lister = new Instance(this.module);
@@ -693,7 +764,10 @@ class HelperDesk {
 let desk = null;
 
 onmessage = ({data}) => {
-  if (data.wasm) desk = new Desk(data);
-  else if (data.helps) desk = new HelperDesk(data.helps);
-  else desk.hear(data);
+  if (data.wasm)
+    desk = new Desk(data);
+  else if (data.helps)
+    desk = new HelperDesk(data.helps);
+  else
+    desk.hear(data);
 };

@@ -25,7 +25,18 @@ from shared import TOP, below, crates, read, version
 
 MODULE = "warc_page"
 SCRIPTS = (
-    "shared.js", "words.js", "library.js", "stored.js", "nodes.js", "allowed.js", "style.js", "view.js", "main.js", "record.js", "begin.js",
+    *(
+        "shared.js",
+        "words.js",
+        "library.js",
+        "stored.js",
+        "nodes.js",
+        "allowed.js",
+        "style.js",
+        "view.js",
+        "overview.js",
+    ),
+    *("list.js", "room.js", "body.js", "record.js", "begin.js"),
 )
 POLICY = (
     "default-src 'none'; script-src '{hash}' 'wasm-unsafe-eval'; worker-src blob:; style-src 'unsafe-inline'; "
@@ -103,11 +114,11 @@ def page(module: bytes) -> str:
         "VERSION": quoted(version()),
         "NUMBERS": quoted(numbers()),
     }
-    script = "".join(f"const {name} = {value};\n" for name, value in names.items()) + purifier()
+    script: str = "".join(f"const {name} = {value};\n" for name, value in names.items()) + purifier()
     script += "\n".join(read(f"page/{name}").replace("'use strict';\n", "") for name in SCRIPTS)
     script = f"\n'use strict';\n{script}"
     digest = base64.b64encode(hashlib.sha256(script.encode()).digest()).decode()
-    text = read("page/page.html").replace("/*POLICY*/", POLICY.format(hash=f"sha256-{digest}"))
+    text: str = read("page/page.html").replace("/*POLICY*/", POLICY.format(hash=f"sha256-{digest}"))
     text = text.replace("/*STYLE*/", read("page/page.css")).replace("/*LICENCE*/", read("LICENSE-APACHE"))
     return text.replace("/*SCRIPT*/", script)
 

@@ -7,6 +7,7 @@ a line says so. A check that runs and fails ends this script with 1, after all o
 from __future__ import annotations
 
 import dataclasses
+import glob
 import importlib.util
 import shutil
 import subprocess
@@ -65,6 +66,12 @@ C_PROGRAMS = (
     "tests/callers/mutated.c",
     "tests/callers/threads.c",
 )
+PAGE_SCRIPTS = tuple(sorted(path[len(TOP) + 1 :] for path in glob.glob(f"{TOP}/page/*.js")))
+PAGE_PYTHON = (
+    *("tools/build_page.py", "tools/lint_page.py"),
+    *("tests/page/burdens.py", "tests/page/connections.py", "tests/page/leaks.py", "tests/page/listener.py"),
+)
+UNTYPED_CALLS = ("--allow-untyped-calls",)  # they use scripts that have no types yet
 
 TYPES = ("mypy", "--strict", "--python-version=3.8")
 LAYOUT = ("black", "--quiet", "--check", "--line-length=120")
@@ -99,6 +106,12 @@ CHECKS = [
     Check("types of tools/make_collection.py", (*TYPES, "--follow-imports=silent", "tools/make_collection.py")),
     Check("layout of collection/", (*LAYOUT, "collection", "tools/make_collection.py")),
     Check("layout of tests/stress/collection*.py", (*LAYOUT, *TRIALS[:3], ROWS)),
+    Check("types of the page", ("tsc", "-p", "page")),
+    Check("types of the page's workers", ("tsc", "-p", "page/tsconfig.worker.json")),
+    Check("layout of the page", ("clang-format", "--dry-run", "--Werror", *PAGE_SCRIPTS)),
+    Check("widths and functions of the page", ("python3", "tools/lint_page.py")),
+    Check("types of the page's Python", ("mypy", "--strict", "--follow-imports=silent", *UNTYPED_CALLS, *PAGE_PYTHON)),
+    Check("layout of the page's Python", ("black", "--quiet", "--check", "--line-length=120", *PAGE_PYTHON)),
 ]
 
 

@@ -58,12 +58,18 @@ def made() -> Site:
     for count in (8, 20):
         styled(site, f"loop-{count}", f"@import 'loop-{count}.css';" * count + "p { color: rgb(1, 2, 3) }")
     for number in range(9):
-        site.add(f"double-{number}.css", f"@import 'double-{number + 1}.css';" * 30 + "p { color: rgb(1, 2, 3) }", "text/css")
+        site.add(
+            f"double-{number}.css", f"@import 'double-{number + 1}.css';" * 30 + "p { color: rgb(1, 2, 3) }", "text/css"
+        )
     site.add("doubles", "<link rel=stylesheet href=/double-0.css>" + last)
     styled(site, "styles", "p { color: rgb(1, 2, 3) }" + "q { color: red; margin: 1px } " * 300_000)
     site.add("drawing.svg", "<svg xmlns='http://www.w3.org/2000/svg' width='9' height='9'/>", "image/svg+xml")
     site.add("drawings", "<img src=/drawing.svg><style>p { background: url(/drawing.svg) }</style>" + last)
-    site.add("big.svg", f"<svg xmlns='http://www.w3.org/2000/svg' width='9' height='9'><!--{'x' * 3_000_000}--></svg>", "image/svg+xml")
+    site.add(
+        "big.svg",
+        f"<svg xmlns='http://www.w3.org/2000/svg' width='9' height='9'><!--{'x' * 3_000_000}--></svg>",
+        "image/svg+xml",
+    )
     site.add("big-drawings", last + "<img src=/big.svg width=9>" * 100)
     bomb = gzip.compress(bytes(60_000_000), 1)
     for number in range(20):
@@ -119,7 +125,11 @@ def burdens(tests: Any, folder: str) -> None:
                 continue
             words = words_of(browser)
             tests.holds(took < QUICK or left_out, f"burdens: {name} is shown in time", f"{took:.1f} s")
-            tests.holds(left_out in words and ("Left out" in words) == bool(left_out), f"burdens: {name} says what is left out", words)
+            tests.holds(
+                left_out in words and ("Left out" in words) == bool(left_out),
+                f"burdens: {name} says what is left out",
+                words,
+            )
             print(f"burdens: {name} in {took:.2f} s", flush=True)
             if name.startswith(("loop", "double")):
                 tests.holds(colour(browser) == "rgb(1, 2, 3)", f"burdens: {name} is styled", colour(browser))
@@ -136,8 +146,14 @@ def addresses(tests: Any, browser: Any, site: Site) -> None:
     tests.holds(len(urls) == 1 and urls[0].startswith("blob:"), "addresses: one for all references", urls[:3])
     tests.holds(browser.run(f"{page}.images[299].naturalWidth") == 900, "addresses: the picture is drawn")
     show(browser, site.positions["drawings"])
-    drawn = browser.run(f"[{page}.images[0].src, getComputedStyle({page}.querySelector('p')).backgroundImage, {page}.images[0].naturalWidth]")
-    tests.holds(drawn[0].startswith("data:image/svg+xml") and 'url("data:image/svg+xml' in drawn[1] and drawn[2] == 9, "addresses: a drawing", drawn)
+    drawn = browser.run(
+        f"[{page}.images[0].src, getComputedStyle({page}.querySelector('p')).backgroundImage, {page}.images[0].naturalWidth]"
+    )
+    tests.holds(
+        drawn[0].startswith("data:image/svg+xml") and 'url("data:image/svg+xml' in drawn[1] and drawn[2] == 9,
+        "addresses: a drawing",
+        drawn,
+    )
     gone = browser.run(
         f"new Promise((done) => {{ const it = new Image(); it.onload = () => done('there'); it.onerror = () => done('gone'); it.src = '{urls[0]}'; }})"
     )

@@ -71,7 +71,9 @@ def control(tests: Any, browser: Any, listener: Listener, folder: str) -> None:
         if f"{case.name}.{leaks.ZONE}" in hosts_after(browser, listener, SECONDS):
             connected.append(case.name)
         os.remove(path)
-    print(f"connections: without the protection {len(connected)} of {len(leaks.CASES)} cases connect by their page alone: {connected}")
+    print(
+        f"connections: without the protection {len(connected)} of {len(leaks.CASES)} cases connect by their page alone: {connected}"
+    )
     tests.holds("link-preconnect" in connected, "connections: the control is counted", connected)
 
 

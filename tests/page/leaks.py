@@ -87,29 +87,57 @@ def elements() -> list[Case]:
         *(Case(f"link-{rel}", f"<link rel={rel} as=script href={out(f'link-{rel}')}><p>{rel}") for rel in RELS),
         Case("link-preload", preloads),
         Case("link-body", f"<p>x<link rel='x PRECONNECT' crossorigin href={out('link-body')}>"),
-        Case("link-svg", f"<svg><link xmlns='http://www.w3.org/1999/xhtml' rel=preconnect href={out('link-svg')} /></svg>"),
+        Case(
+            "link-svg",
+            f"<svg><link xmlns='http://www.w3.org/1999/xhtml' rel=preconnect href={out('link-svg')} /></svg>",
+        ),
         Case("link-head", "<p>x", head=f"Link: <{out('link-head')}>; rel=preload; as=image\r\n"),
-        Case("meta", f"<meta http-equiv=refresh content='0;url={out('meta')}'><meta http-equiv=x-dns-prefetch-control"
-             f" content=on><meta http-equiv=Link content='<{out('meta')}>; rel=preconnect'><a href={out('meta')}>x</a>"),
+        Case(
+            "meta",
+            f"<meta http-equiv=refresh content='0;url={out('meta')}'><meta http-equiv=x-dns-prefetch-control"
+            f" content=on><meta http-equiv=Link content='<{out('meta')}>; rel=preconnect'><a href={out('meta')}>x</a>",
+        ),
         Case("base", f"<base href={out('base', '')}><img src=a><a href=b>b</a><link rel=stylesheet href=c>"),
         Case("manifest", f"<html manifest={out('manifest')}><body background={out('manifest')}><p>x"),
-        Case("srcdoc", f"<iframe srcdoc='{hint('srcdoc')}'></iframe><iframe src='data:text/html,{hint('srcdoc')}'></iframe>"),
+        Case(
+            "srcdoc",
+            f"<iframe srcdoc='{hint('srcdoc')}'></iframe><iframe src='data:text/html,{hint('srcdoc')}'></iframe>",
+        ),
         Case("frames", f"<frameset><frame src={out('frames')}><frame src='javascript:0'></frameset>"),
-        Case("pdf", f"<embed src={pdf} type=application/pdf><object data={pdf} type=application/pdf></object>"
-             f"<iframe src={pdf}></iframe><portal src={pdf}></portal><fencedframe src={pdf}></fencedframe>"),
+        Case(
+            "pdf",
+            f"<embed src={pdf} type=application/pdf><object data={pdf} type=application/pdf></object>"
+            f"<iframe src={pdf}></iframe><portal src={pdf}></portal><fencedframe src={pdf}></fencedframe>",
+        ),
         Case("ping", f"<a id=click href={SITE}/ping ping={out('ping')}>x</a>"),
         Case("away", f"<a id=click href={out('away')} target=_blank>x</a><a id=click href={out('away')}>x</a>"),
-        Case("form", f"<form action={out('form')}><button id=click formaction={out('form')}>x</button>"
-             f"<input type=image src={out('form')}></form>"),
-        Case("media", f"<video src={out('media')} poster={out('media')} autoplay></video><audio src={out('media')} autoplay>"
-             f"</audio><video autoplay><source src={out('media')}><track default src={out('media')}></video>"),
-        Case("image", f"<img src={out('image')} srcset='{out('image')} 2x' attributionsrc={out('image')}><picture><source"
-             f" srcset={out('image')}><img lowsrc={out('image')}></picture><table background={out('image')}><td>x"),
-        Case("script", f"<script type=speculationrules>{{\"prefetch\":[{{\"urls\":[\"{out('script')}\"]}}]}}</script>"
-             f"<script src={out('script')}></script><script>fetch('{out('script')}')</script><img src=x onerror="
-             f"\"fetch('{out('script')}')\">"),
-        Case("xhtml", f"<?xml-stylesheet href='{out('xhtml')}'?><html xmlns='http://www.w3.org/1999/xhtml'><head><link"
-             f" rel='preconnect' href='{out('xhtml')}'/></head><body/></html>", media="application/xhtml+xml"),
+        Case(
+            "form",
+            f"<form action={out('form')}><button id=click formaction={out('form')}>x</button>"
+            f"<input type=image src={out('form')}></form>",
+        ),
+        Case(
+            "media",
+            f"<video src={out('media')} poster={out('media')} autoplay></video><audio src={out('media')} autoplay>"
+            f"</audio><video autoplay><source src={out('media')}><track default src={out('media')}></video>",
+        ),
+        Case(
+            "image",
+            f"<img src={out('image')} srcset='{out('image')} 2x' attributionsrc={out('image')}><picture><source"
+            f" srcset={out('image')}><img lowsrc={out('image')}></picture><table background={out('image')}><td>x",
+        ),
+        Case(
+            "script",
+            f"<script type=speculationrules>{{\"prefetch\":[{{\"urls\":[\"{out('script')}\"]}}]}}</script>"
+            f"<script src={out('script')}></script><script>fetch('{out('script')}')</script><img src=x onerror="
+            f"\"fetch('{out('script')}')\">",
+        ),
+        Case(
+            "xhtml",
+            f"<?xml-stylesheet href='{out('xhtml')}'?><html xmlns='http://www.w3.org/1999/xhtml'><head><link"
+            f" rel='preconnect' href='{out('xhtml')}'/></head><body/></html>",
+            media="application/xhtml+xml",
+        ),
     ]
 
 
@@ -117,46 +145,91 @@ def styles() -> list[Case]:
     """Styles that load, and that end their element."""
     end = "</style>" + hint("style-end")
     picture = (("p.png", f"image/</style>{hint('style-media')}", "x"),)
-    shapes = "".join(f"<rect {name}='url({out('style-shapes')}#a)' width=9 height=9 />"
-                     for name in ("fill", "stroke", "filter", "mask", "clip-path", "marker-start", "cursor"))
+    shapes = "".join(
+        f"<rect {name}='url({out('style-shapes')}#a)' width=9 height=9 />"
+        for name in ("fill", "stroke", "filter", "mask", "clip-path", "marker-start", "cursor")
+    )
     return [
         sheet("style-end", f"p {{ color: red }} {end}"),
         sheet("style-comment", f"/* </style>{hint('style-comment')} */ p {{ color: red }}"),
         sheet("style-string", f"p::after {{ content: '</style>{hint('style-string')}' }}"),
-        Case("style-import-end", "<style>@import '/i.css';</style>",
-             (("i.css", "text/css", f"</style>{hint('style-import-end')}"),)),
+        Case(
+            "style-import-end",
+            "<style>@import '/i.css';</style>",
+            (("i.css", "text/css", f"</style>{hint('style-import-end')}"),),
+        ),
         Case("style-media", "<style>p { background: url(/p.png) }</style><p>x", picture),
-        Case("picture-media", "<img src=/q.png>", (("q.png", f'image/png"><link rel=preconnect href={out("picture-media")}>', "x"),)),
-        Case("style-attribute", f"<p style=\"background:url(/a&quot;&gt;{hint('style-attribute')})\">x</p>"
-             f"<p style=\"background:url('{out('style-attribute')}')\">x</p>"),
+        Case(
+            "picture-media",
+            "<img src=/q.png>",
+            (("q.png", f'image/png"><link rel=preconnect href={out("picture-media")}>', "x"),),
+        ),
+        Case(
+            "style-attribute",
+            f"<p style=\"background:url(/a&quot;&gt;{hint('style-attribute')})\">x</p>"
+            f"<p style=\"background:url('{out('style-attribute')}')\">x</p>",
+        ),
         sheet("style-import", f"@import '{out('style-import')}'; @import url({out('style-import')}) screen;"),
-        sheet("style-import-escaped", f"@\\69mport '{out('style-import-escaped')}'; @import/**/'{out('style-import-escaped')}'"),
-        sheet("style-url", f"p {{ background: url({out('style-url')}), url('{out('style-url')}') ; cursor: url({out('style-url')}), auto }}"),
-        sheet("style-escaped", f"p {{ background: \\75rl({out('style-escaped')}) ; background: u\\72 l(\"{out('style-escaped')}\") }}"),
+        sheet(
+            "style-import-escaped",
+            f"@\\69mport '{out('style-import-escaped')}'; @import/**/'{out('style-import-escaped')}'",
+        ),
+        sheet(
+            "style-url",
+            f"p {{ background: url({out('style-url')}), url('{out('style-url')}') ; cursor: url({out('style-url')}), auto }}",
+        ),
+        sheet(
+            "style-escaped",
+            f"p {{ background: \\75rl({out('style-escaped')}) ; background: u\\72 l(\"{out('style-escaped')}\") }}",
+        ),
         sheet("style-unclosed", f"p {{ background: url({out('style-unclosed')}"),
         sheet("style-string-open", f"p {{ content: \"\n; background: url({out('style-string-open')}) }}"),
-        sheet("style-set", f"p {{ background: image-set('{out('style-set')}' 1x); background: -webkit-image-set(url({out('style-set')}) 1x) }}"),
-        sheet("style-font", f"@font-face {{ font-family: f; src: url({out('style-font')}), url('{out('style-font')}') format('woff') }} p {{ font-family: f }}"),
-        sheet("style-variable", f":root {{ --a: url({out('style-variable')}); --b: '{out('style-variable')}' }} p {{ background: var(--a); background: image-set(var(--b) 1x) }}"),
-        sheet("style-src", f"p {{ background: src('{out('style-src')}'); background: image('{out('style-src')}'); mask: url({out('style-src')}#m) }}"),
-        Case("style-inline", f"<svg><style>@import '{out('style-inline')}'; rect {{ fill: url({out('style-inline')}#a) }}</style><rect width=9 height=9 /></svg>"),
+        sheet(
+            "style-set",
+            f"p {{ background: image-set('{out('style-set')}' 1x); background: -webkit-image-set(url({out('style-set')}) 1x) }}",
+        ),
+        sheet(
+            "style-font",
+            f"@font-face {{ font-family: f; src: url({out('style-font')}), url('{out('style-font')}') format('woff') }} p {{ font-family: f }}",
+        ),
+        sheet(
+            "style-variable",
+            f":root {{ --a: url({out('style-variable')}); --b: '{out('style-variable')}' }} p {{ background: var(--a); background: image-set(var(--b) 1x) }}",
+        ),
+        sheet(
+            "style-src",
+            f"p {{ background: src('{out('style-src')}'); background: image('{out('style-src')}'); mask: url({out('style-src')}#m) }}",
+        ),
+        Case(
+            "style-inline",
+            f"<svg><style>@import '{out('style-inline')}'; rect {{ fill: url({out('style-inline')}#a) }}</style><rect width=9 height=9 /></svg>",
+        ),
         Case("style-shapes", f"<svg>{shapes}</svg>"),
-        Case("style-shape-escaped", f"<svg><rect fill='u\\72l({out('style-shape-escaped')}#a)' mask='u\\72l({out('style-shape-escaped')}#a)' width=9 height=9 /></svg>"),
+        Case(
+            "style-shape-escaped",
+            f"<svg><rect fill='u\\72l({out('style-shape-escaped')}#a)' mask='u\\72l({out('style-shape-escaped')}#a)' width=9 height=9 /></svg>",
+        ),
     ]
 
 
 def drawings() -> list[Case]:
     """SVG, in the page and as a picture."""
     host = out("drawing")
-    inner = (f"<svg xmlns='http://www.w3.org/2000/svg' xmlns:xlink='http://www.w3.org/1999/xlink' width='90' height='40'><style>"
-             f"@import '{host}'; rect {{ fill: url({host}#a) }}</style><image href='{host}' xlink:href='{host}' width='9' height='9'/>"
-             f"<use href='{host}#a' xlink:href='{host}#a'/><filter id='f'><feImage href='{host}' xlink:href='{host}'/></filter><rect filter='url(#f)' width='9'"
-             f" height='9'/><foreignObject width='9' height='9'><body xmlns='http://www.w3.org/1999/xhtml'><img src='{host}'/>"
-             f"<link rel='preconnect' href='{host}'/></body></foreignObject><script href='{host}'/><a href='{host}'><text y='9'>x"
-             f"<animate attributeName='href' to='{host}'/></text></a><image><set attributeName='href' to='{host}'/></image></svg>")
+    inner = (
+        f"<svg xmlns='http://www.w3.org/2000/svg' xmlns:xlink='http://www.w3.org/1999/xlink' width='90' height='40'><style>"
+        f"@import '{host}'; rect {{ fill: url({host}#a) }}</style><image href='{host}' xlink:href='{host}' width='9' height='9'/>"
+        f"<use href='{host}#a' xlink:href='{host}#a'/><filter id='f'><feImage href='{host}' xlink:href='{host}'/></filter><rect filter='url(#f)' width='9'"
+        f" height='9'/><foreignObject width='9' height='9'><body xmlns='http://www.w3.org/1999/xhtml'><img src='{host}'/>"
+        f"<link rel='preconnect' href='{host}'/></body></foreignObject><script href='{host}'/><a href='{host}'><text y='9'>x"
+        f"<animate attributeName='href' to='{host}'/></text></a><image><set attributeName='href' to='{host}'/></image></svg>"
+    )
     return [
         Case("drawing", f"<p>x</p>{inner}<p>x</p>"),
-        Case("drawing-picture", "<img src=/d.svg><style>p { background: url(/d.svg) }</style><p>x", (("d.svg", "image/svg+xml", inner),)),
+        Case(
+            "drawing-picture",
+            "<img src=/d.svg><style>p { background: url(/d.svg) }</style><p>x",
+            (("d.svg", "image/svg+xml", inner),),
+        ),
         Case("drawing-alone", inner, media="image/svg+xml"),
     ]
 
@@ -165,13 +238,23 @@ def clobbering() -> list[Case]:
     """Names that hide what a script calls."""
     calls = "addEventListener adoptNode attributes body childNodes contentType createElement documentElement firstChild getElementById"
     images = "".join(f"<img name={it} id={it}>" for it in (calls + " head implementation querySelectorAll").split())
-    inputs = "".join(f"<input name={it}>" for it in
-                     (calls + " getAttribute getAttributeNames localName matches parentNode remove removeAttribute tagName").split())
+    inputs = "".join(
+        f"<input name={it}>"
+        for it in (
+            calls + " getAttribute getAttributeNames localName matches parentNode remove removeAttribute tagName"
+        ).split()
+    )
     return [
         Case("clobber-document", f"{images}<a id=click href={SITE}/known>x</a>{hint('clobber-document')}"),
         Case("clobber-form", f"<form action={out('clobber-form')} onsubmit=x>{inputs}{hint('clobber-form')}</form>"),
-        Case("clobber-attributes", f"<form action={out('clobber-attributes')} onclick=x><select name=attributes></select></form>"),
-        Case("clobber-parent", f"<form><input name=parentNode><input name=nodeName><form>{hint('clobber-parent')}</form></form>"),
+        Case(
+            "clobber-attributes",
+            f"<form action={out('clobber-attributes')} onclick=x><select name=attributes></select></form>",
+        ),
+        Case(
+            "clobber-parent",
+            f"<form><input name=parentNode><input name=nodeName><form>{hint('clobber-parent')}</form></form>",
+        ),
     ]
 
 

@@ -1,0 +1,123 @@
+// What tsc doesn't know: what the build puts before the scripts, newer parts of browsers, and the shapes of values.
+
+declare const MODULE: string;
+declare const WORKER: string;
+declare const VERSION: string;
+declare const NUMBERS: Record<string, [string, string, string]>;
+declare function createPurifier(window: object): { sanitize(node: Node, lists: object): Node; removed: object[] };
+
+interface TrustedPolicy {
+  createHTML(text: string): any;
+  createScriptURL(url: string): any;
+}
+declare var trustedTypes: { createPolicy(name: string, rules: object): TrustedPolicy } | undefined;
+
+declare class DecompressionStream {
+  constructor(format: string);
+  readonly readable: ReadableStream<Uint8Array>;
+  readonly writable: WritableStream<Uint8Array>;
+}
+
+type Piece = { first: number; base: number; count: number; view: DataView; words: Uint8Array; starts: Uint32Array };
+type Finding = { position: number | null; number: string; field: string };
+type Capture = { position: number; time: number; date: string; kind: string };
+type Target = { uri: string; place: string };
+
+interface Row {
+  position: number;
+  offset: number;
+  blockStart: number;
+  blockLength: number;
+  truncated: boolean;
+  kind: string;
+  date: string;
+  id: Uint8Array;
+  target: Uint8Array;
+  readonly verdict: string;
+}
+
+interface Question {
+  uri?: Uint8Array;
+  date?: string;
+  position?: number;
+}
+
+interface Answer {
+  chosen?: number | null;
+  given?: number | null;
+  status?: number | null;
+  length?: number;
+  truncated?: boolean;
+  reason?: string;
+  body?: Uint8Array | null;
+  type?: string; // the content type of what is given
+  steps?: string[]; // how the browser decoded the body
+  isDecoded?: boolean;
+  isLeftOut?: boolean;
+}
+
+interface HttpHead {
+  text: string;
+  status: string;
+  fields: [string, string][];
+  start: number;
+  get(name: string): string;
+}
+
+type StoredType = { fields: [string, string][]; http: HttpHead | null; type: string };
+type Found = { bytes: Uint8Array | null; stored?: Uint8Array; isDecoded?: boolean; words: Node[] };
+
+// What the tabs show: a record, and the one whose block it gives.
+interface Subject {
+  position: number;
+  row: Row;
+  own: StoredType;
+  given: Row;
+  type: string;
+  http: HttpHead | null;
+  note: string | null;
+  answered: Promise<void>;
+  answer?: Answer | null;
+}
+
+type Tab = (it: Subject) => Promise<any[]>;
+
+interface RoomOfFile {
+  file: File | null;
+  number: number;
+  rows: Rows;
+  counts: Counts;
+  fault: string;
+  end: number;
+  holds: boolean;
+  listed: boolean;
+  isOpen: boolean;
+  isStopped: boolean;
+  findings: Finding[] | null;
+  findingLines: string;
+  words: string;
+  order: number[] | null;
+  waits: { position: number; done: () => void }[];
+  current: number;
+  captures: Map<string, Capture[]> | null;
+  capturesOver: number;
+  targets: string[] | null;
+  ofWget: number | null;
+  drawn: number;
+  began: number;
+  listedIn: number;
+  foundIn: number;
+}
+
+interface Room extends RoomOfFile {
+  library: Library;
+  filters: Map<string, { value: any; label: string; end?: number }>;
+  sort: { by: string; up: boolean };
+  visit: number;
+  urls: string[];
+  tab: string;
+}
+
+// What a module lists at the front of bytes.
+type Front = { records: number; texts: number; end: number; fault: string; rows: ArrayBuffer; words: ArrayBuffer };
+type JudgeTask = { file: Blob; first: number; start: number; stop: number; rows: ArrayBuffer };
