@@ -288,7 +288,10 @@ class Helper {
     this.turn = null;
     this.worker = startWorker(script);
     this.worker.onmessage = ({data}) => this.turn?.done(data);
-    this.worker.onerror = (event) => this.lose(event.message || 'a helper stopped');
+    this.worker.onerror = (event) => {
+      event.preventDefault();  // or it counts as an error of this worker too
+      this.lose(event.message || 'a helper stopped');
+    };
     this.worker.postMessage({helps: module});
     this.isLost = false;
   }

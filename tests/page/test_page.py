@@ -7,7 +7,6 @@ PAGE is zogwedu.html, and PROGRAM is the program `warc`, with which lists, findi
 Pictures of the main views go to FOLDER, if it is given. Needs chromium and wget. The last line is `N passed, M failed`.
 """
 import base64
-import hashlib
 import json
 import os
 import re
@@ -18,10 +17,13 @@ import time
 from concurrent.futures import ThreadPoolExecutor
 
 sys.path.insert(0, os.path.dirname(os.path.abspath(__file__)))
+import burdens
 import connections
 import hostile
-from browser import Browser
+import robust
 import stations
+from browser import Browser
+from variant import variant
 
 HERE = os.path.dirname(os.path.abspath(__file__))
 TOP = os.path.dirname(os.path.dirname(HERE))
@@ -59,10 +61,10 @@ class Tests:
             os.makedirs(self.pictures, exist_ok=True)
             browser.picture(f"{self.pictures}/{name}.png")
 
-    def opened(self, archive, **how):
+    def opened(self, archive, page=None, **how):
         """A browser in which an archive is opened, and its findings are there."""
         browser = Browser(**how)
-        browser.go(self.page)
+        browser.go(page or self.page)
         browser.give_file("#file", archive)
         browser.until("room.listed && (!room.holds || room.findings !== null || (room.fault && room.end === 0))", 600)
         browser.until("room.counts.judged === room.rows.count", 600)
@@ -431,27 +433,10 @@ def without_wide_memory(tests):
         browser.close()
 
 
-def with_limit(page, limit, folder):
-    """The same page with another limit, and with the digest of its script that its policy then wants."""
-    with open(page, encoding="utf-8", newline="") as text:
-        whole = text.read()
-    before, script = whole[:whole.rindex("<script>") + 8], whole[whole.rindex("<script>") + 8:whole.rindex("</script>")]
-    changed = script.replace("const LIMIT = 2 * 1024 ** 3;", f"const LIMIT = {limit};")
-    digest = base64.b64encode(hashlib.sha256(changed.encode()).digest()).decode()
-    path = f"{folder}/limited.html"
-    with open(path, "w", encoding="utf-8", newline="") as out:
-        out.write(re.sub(r"sha256-[\w+/=]+", f"sha256-{digest}", before, count=1) + changed + "</script></body></html>")
-    return path
-
-
 def too_long(tests, folder, archive):
     """An archive over the limit is listed, its records are shown, and the page says that it isn't replayed."""
-    whole = tests.page
-    tests.page = with_limit(whole, 5000, folder)
-    try:
-        browser = tests.opened(archive)
-    finally:
-        tests.page = whole
+    page = variant(tests.page, f"{folder}/limited.html", {"const LIMIT = 2 * 1024 ** 3;": "const LIMIT = 5000;"})
+    browser = tests.opened(archive, page=page)
     try:
         tests.holds(lines_of(browser) == tests.warc("list", archive)[0], "too long: list")
         tests.holds("too long to be replayed" in browser.run("document.getElementById('status').textContent"), "too long: says so")
@@ -503,11 +488,11 @@ def main():
     tests = Tests(sys.argv[1], sys.argv[2], (sys.argv[3:] or [None])[0])
     with tempfile.TemporaryDirectory(prefix="zogwedu-page-test-") as folder:
         crawled, small = f"{folder}/stations.warc", f"{TOP}/examples/crawl.warc"
-        names = os.environ.get("PAGE_TESTS", "compare,damaged,hostile,connections,views,keyboard,saved,without,long,many,segments").split(",")
+        names = os.environ.get("PAGE_TESTS", "compare,damaged,hostile,connections,burdens,robust,views,keyboard,saved,without,long,many,segments").split(",")
         where = stations.crawl(crawled) if {"compare", "views"} & set(names) else None
         parts = {
             "compare": lambda: compare_all(tests, folder, crawled), "damaged": lambda: damaged(tests, folder),
-            "hostile": lambda: hostile_archive(tests, folder), "connections": lambda: connections.no_connections(tests, folder), "views": lambda: views(tests, crawled, where),
+            "hostile": lambda: hostile_archive(tests, folder), "connections": lambda: connections.no_connections(tests, folder), "burdens": lambda: burdens.burdens(tests, folder), "robust": lambda: robust.robust(tests, folder), "views": lambda: views(tests, crawled, where),
             "keyboard": lambda: by_keyboard(tests, small), "saved": lambda: saved_bytes(tests, folder, small),
             "without": lambda: without_wide_memory(tests), "long": lambda: too_long(tests, folder, small), "many": lambda: many_rows(tests, folder),
             "segments": lambda: in_segments(tests, folder),
