@@ -1,12 +1,13 @@
 """Opens each page that tries to connect, and counts what the browser did on the network: it must be nothing.
 
 The browser resolves every name below the cases' zone to a listener on this computer. A page without the protection is
-opened last, so that the listener is seen to count. The browser's own log of the network says whether it looked a name up.
+opened last, and then each case as it is, so that the listener is seen to count. The browser's own log of the network must
+name no host of a case either: it has connections, requests and look-ups.
 """
 
 from __future__ import annotations
 
-import os
+import re
 import time
 from typing import Any
 
@@ -48,6 +49,21 @@ def hosts_after(browser: Any, listener: Listener, seconds: float) -> list[str]:
     return found
 
 
+def visit(browser: Any, folder: str, case: leaks.Case) -> None:
+    """Opens the page of a case as it is, without the reading room."""
+    kinds = {"application/xhtml+xml": "xhtml", "image/svg+xml": "svg"}
+    path = f"{folder}/control-{case.name}.{kinds.get(case.media, 'html')}"
+    with open(path, "w", encoding="utf-8") as page:
+        page.write(case.page)
+    browser.ask("Page.navigate", {"url": f"file://{path}"})
+
+
+def names_in_log(path: str) -> set[str]:
+    """The cases whose hosts a browser's log of the network names: for a connection, a request or a look-up."""
+    with open(path, encoding="utf-8", errors="replace") as log:
+        return set(re.findall(rf"([\w-]+)\.{re.escape(leaks.ZONE)}", log.read()))
+
+
 def try_cases(tests: Any, browser: Any, listener: Listener, positions: list[int]) -> None:
     """No case connects: neither when it is shown nor when its links are clicked."""
     for case, position in zip(leaks.CASES, positions):
@@ -58,34 +74,50 @@ def try_cases(tests: Any, browser: Any, listener: Listener, positions: list[int]
         browser.run(CLICK)
         hosts = hosts_after(browser, listener, SECONDS)
         tests.holds(not hosts, f"connections: {case.name}", hosts)
+    tests.holds(not hosts_after(browser, listener, 2), "connections: none comes late")
 
 
-def control(tests: Any, browser: Any, listener: Listener, folder: str) -> None:
-    """The same pages without the protection do connect."""
-    connected = []
-    for case in leaks.CASES:
-        path = f"{folder}/control-{case.name}.{'xhtml' if 'xhtml' in case.media else 'svg' if 'svg' in case.media else 'html'}"
-        with open(path, "w", encoding="utf-8") as page:
-            page.write(case.page)
-        browser.ask("Page.navigate", {"url": f"file://{path}"})
-        if f"{case.name}.{leaks.ZONE}" in hosts_after(browser, listener, SECONDS):
-            connected.append(case.name)
-        os.remove(path)
-    print(
-        f"connections: without the protection {len(connected)} of {len(leaks.CASES)} cases connect by their page alone: {connected}"
-    )
+def protected(tests: Any, folder: str, listener: Listener) -> None:
+    """No case connects in the reading room, and the browser's log names none of their hosts."""
+    archive, log = f"{folder}/leaks.warc", f"{folder}/protected.json"
+    positions = leaks.make(archive)
+    browser = tests.opened(archive, flags=flags_for(listener, log))
+    try:
+        try_cases(tests, browser, listener, positions)
+        visit(browser, folder, leaks.Case("alive", leaks.hint("alive")))
+        alive = hosts_after(browser, listener, 2)
+        tests.holds(
+            alive == [f"alive.{leaks.ZONE}"], "connections: the same browser connects without protection", alive
+        )
+    finally:
+        browser.close()
+    named = names_in_log(log)
+    tests.holds(named == {"alive"}, "connections: the browser's log names no host of a case", named)
+
+
+def control(tests: Any, folder: str, listener: Listener) -> None:
+    """The same pages without the reading room do connect."""
+    log, connected = f"{folder}/control.json", []
+    browser = Browser(flags=flags_for(listener, log))
+    try:
+        for case in leaks.CASES:
+            visit(browser, folder, case)
+            if f"{case.name}.{leaks.ZONE}" in hosts_after(browser, listener, SECONDS):
+                connected.append(case.name)
+    finally:
+        browser.close()
     tests.holds("link-preconnect" in connected, "connections: the control is counted", connected)
+    tests.holds(set(connected) <= names_in_log(log), "connections: the control is in the browser's log")
+    print(
+        f"connections: {len(connected)} of {len(leaks.CASES)} cases connect by their page alone, none in the reading room"
+    )
 
 
 def no_connections(tests: Any, folder: str) -> None:
     """No page of the hostile archive connects, and the same pages connect without the protection."""
-    archive, log = f"{folder}/leaks.warc", f"{folder}/net-log.json"
-    positions = leaks.make(archive)
     listener = Listener()
-    browser = tests.opened(archive, flags=flags_for(listener, log))
     try:
-        try_cases(tests, browser, listener, positions)
-        control(tests, browser, listener, folder)
+        protected(tests, folder, listener)
+        control(tests, folder, listener)
     finally:
-        browser.close()
         listener.close()

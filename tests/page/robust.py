@@ -151,9 +151,8 @@ def changed_file(tests: Any, folder: str) -> None:
 
 def revisit(number: int) -> bytes:
     """A revisit as wget 1.21 writes it, with the digest of no bytes over a head."""
-    return record(number, f"{SITE}/again", "revisit", b"HTTP/1.1 200 OK\r\n\r\n", "2026-01-03T00:00:00Z").replace(
-        b"WARC-Block-Digest: sha1:", b"WARC-Block-Digest: sha1:3I42H3S6NNFQ2MSVX7XZKYAYSCX5QBYJ\r\nX-Digest: "
-    )
+    written: bytes = record(number, f"{SITE}/again", "revisit", b"HTTP/1.1 200 OK\r\n\r\n", "2026-01-03T00:00:00Z")
+    return written.replace(b"Digest: sha1:", b"Digest: sha1:3I42H3S6NNFQ2MSVX7XZKYAYSCX5QBYJ\r\nX-Digest: ")
 
 
 def seen_by_use(tests: Any, folder: str) -> None:
