@@ -11,6 +11,7 @@ import zlib
 
 PAGES = 60
 STYLE = """@import url("more.css");
+/* The river stations. This sheet was once between <style> and </style>. */
 body { font-family: Georgia, serif; max-width: 44em; margin: 2em auto; color: #28303a; background: #fdfcf8 url(paper.png); }
 h1 { color: #2b5d7e; border-bottom: 2px solid #c9d8e2; padding-bottom: 0.2em; }
 nav { background: #e8eff4; padding: 0.4em 1em; border-radius: 4px; }

@@ -19,6 +19,7 @@ from concurrent.futures import ThreadPoolExecutor
 sys.path.insert(0, os.path.dirname(os.path.abspath(__file__)))
 import burdens
 import connections
+import firefox
 import hostile
 import robust
 import stations
@@ -359,6 +360,8 @@ def views(tests, archive, site):
         source = browser.run("document.querySelector('iframe.view').contentDocument.documentElement.outerHTML")
         tests.holds("src=\"blob:" in source and "line-height" in source, "view: a style that a style names, and a picture")
         tests.holds(not re.search(r"(src|href)=\"http|url\(.?http", source), "view: no reference leads out", source[:600])
+        colour = browser.run("getComputedStyle(document.querySelector('iframe.view').contentDocument.querySelector('h1')).color")
+        tests.holds(colour == "rgb(43, 93, 126)", "view: a sheet with the end of a style element in a comment", colour)
         drawn = browser.run("[...document.querySelector('iframe.view').contentDocument.images].map((it) => it.naturalWidth)")
         tests.holds(drawn == [200, 120], "view: a picture is drawn, and a mark for one that is missing", drawn)
         tests.holds(browser.run("document.querySelector('iframe.view').getAttribute('sandbox')") == "allow-same-origin", "view: a sandbox without scripts")
@@ -488,11 +491,11 @@ def main():
     tests = Tests(sys.argv[1], sys.argv[2], (sys.argv[3:] or [None])[0])
     with tempfile.TemporaryDirectory(prefix="zogwedu-page-test-") as folder:
         crawled, small = f"{folder}/stations.warc", f"{TOP}/examples/crawl.warc"
-        names = os.environ.get("PAGE_TESTS", "compare,damaged,hostile,connections,burdens,robust,views,keyboard,saved,without,long,many,segments").split(",")
+        names = os.environ.get("PAGE_TESTS", "compare,damaged,hostile,connections,firefox,burdens,robust,views,keyboard,saved,without,long,many,segments").split(",")
         where = stations.crawl(crawled) if {"compare", "views"} & set(names) else None
         parts = {
             "compare": lambda: compare_all(tests, folder, crawled), "damaged": lambda: damaged(tests, folder),
-            "hostile": lambda: hostile_archive(tests, folder), "connections": lambda: connections.no_connections(tests, folder), "burdens": lambda: burdens.burdens(tests, folder), "robust": lambda: robust.robust(tests, folder), "views": lambda: views(tests, crawled, where),
+            "hostile": lambda: hostile_archive(tests, folder), "connections": lambda: connections.no_connections(tests, folder), "firefox": lambda: firefox.no_connections(tests, folder), "burdens": lambda: burdens.burdens(tests, folder), "robust": lambda: robust.robust(tests, folder), "views": lambda: views(tests, crawled, where),
             "keyboard": lambda: by_keyboard(tests, small), "saved": lambda: saved_bytes(tests, folder, small),
             "without": lambda: without_wide_memory(tests), "long": lambda: too_long(tests, folder, small), "many": lambda: many_rows(tests, folder),
             "segments": lambda: in_segments(tests, folder),
