@@ -28,9 +28,8 @@ async function lookForWget() {
     if (rows.verdict(position) === BAD && rows.row(position).kind.toLowerCase() === 'revisit')
       revisits.push(rows.row(position));
   }
-  let found = 0;
-  for (const row of revisits)
-    found += Number(isOfWget(row, warcFields(await headOf(row).catch(() => new Uint8Array()))));
+  const heads = await Promise.all(revisits.map((row) => headOf(row).catch(() => new Uint8Array())));
+  const found = revisits.filter((row, number) => isOfWget(row, warcFields(heads[number]))).length;
   if (file !== room.file || !found) return;
   room.ofWget = found;
   drawPlots();

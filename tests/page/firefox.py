@@ -37,7 +37,9 @@ SHOWN = """const title = document.querySelector('#record h2');
 return Boolean(title && title.textContent === arguments[0] && document.querySelector('#panel[data-ready=yes]') &&
   document.querySelector('iframe.view[data-shown], img.picture'));"""
 CLICK = """const page = document.querySelector('iframe.view')?.contentDocument;
-if (page) for (const it of Document.prototype.querySelectorAll.call(page, '[id=click], a')) it.click();"""
+for (const it of page ? Document.prototype.querySelectorAll.call(page, '[id=click], a') : []) {
+  it.dispatchEvent(new MouseEvent('click', { bubbles: true, cancelable: true }));
+}"""
 
 
 class Firefox:
