@@ -17,6 +17,7 @@ import time
 from concurrent.futures import ThreadPoolExecutor
 
 sys.path.insert(0, os.path.dirname(os.path.abspath(__file__)))
+import building
 import burdens
 import connections
 import firefox
@@ -491,10 +492,10 @@ def main():
     tests = Tests(sys.argv[1], sys.argv[2], (sys.argv[3:] or [None])[0])
     with tempfile.TemporaryDirectory(prefix="zogwedu-page-test-") as folder:
         crawled, small = f"{folder}/stations.warc", f"{TOP}/examples/crawl.warc"
-        names = os.environ.get("PAGE_TESTS", "compare,damaged,hostile,connections,firefox,burdens,robust,views,keyboard,saved,without,long,many,segments").split(",")
+        names = os.environ.get("PAGE_TESTS", "building,compare,damaged,hostile,connections,firefox,burdens,robust,views,keyboard,saved,without,long,many,segments").split(",")
         where = stations.crawl(crawled) if {"compare", "views"} & set(names) else None
         parts = {
-            "compare": lambda: compare_all(tests, folder, crawled), "damaged": lambda: damaged(tests, folder),
+            "building": lambda: building.building(tests, folder), "compare": lambda: compare_all(tests, folder, crawled), "damaged": lambda: damaged(tests, folder),
             "hostile": lambda: hostile_archive(tests, folder), "connections": lambda: connections.no_connections(tests, folder), "firefox": lambda: firefox.no_connections(tests, folder), "burdens": lambda: burdens.burdens(tests, folder), "robust": lambda: robust.robust(tests, folder), "views": lambda: views(tests, crawled, where),
             "keyboard": lambda: by_keyboard(tests, small), "saved": lambda: saved_bytes(tests, folder, small),
             "without": lambda: without_wide_memory(tests), "long": lambda: too_long(tests, folder, small), "many": lambda: many_rows(tests, folder),
