@@ -148,22 +148,23 @@ class Library {
 
   start() {
     const {module: wasm, limit, script} = this;
+    /** @type {Worker|null} */
     this.worker = startWorker(script);
     this.worker.onmessage = ({data}) => (data.id ? this.hear(data) : this.report(data));
-    this.worker.onerror = (event) => this.replace(event.message || 'the worker stopped');
+    this.worker.onerror = (event) => this.end(event.message || 'the worker stopped');
     this.worker.postMessage({wasm, limit, script});
   }
 
   /**
-   * Starts a new worker in the place of one that is lost. What waited for its answers hears why there are none.
+   * Ends a worker that is lost; the next file gets a new one. What waited for its answers hears why there are none.
    * @param {string} why
    */
-  replace(why) {
+  end(why) {
     const waiting = [...this.waiting.values()];
     this.worker.terminate();
+    this.worker = null;
     this.waiting.clear();
     this.forget();
-    this.start();
     waiting.forEach(({failed}) => failed(new Error(why)));
     this.report({report: 'failed', why});
   }
@@ -171,6 +172,7 @@ class Library {
   /** @param {File} file */
   open(file) {
     this.forget();
+    if (!this.worker) this.start();
     this.worker.postMessage({open: file});
   }
 
@@ -194,6 +196,7 @@ class Library {
    * @returns {Promise<Answer[]>}
    */
   send(questions) {
+    if (!this.worker) return Promise.reject(new Error('the library stopped'));
     return new Promise((done, failed) => {
       this.asked += 1;
       this.waiting.set(this.asked, {done, failed});

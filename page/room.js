@@ -245,7 +245,7 @@ const REPORTS = {
 
 /** @param {any} message */
 function hear(message) {
-  if (room.file) REPORTS[message.report](message);
+  REPORTS[message.report](message);
 }
 
 /** @param {(wait: {position: number}) => boolean} isOver */
