@@ -69,14 +69,7 @@ C_PROGRAMS = (
 PAGE_SCRIPTS = tuple(sorted(path[len(TOP) + 1 :] for path in glob.glob(f"{TOP}/page/*.js")))
 PAGE_PYTHON = (
     *("tools/build_page.py", "tools/lint_page.py"),
-    *(
-        "tests/page/building.py",
-        "tests/page/burdens.py",
-        "tests/page/connections.py",
-        "tests/page/leaks.py",
-        "tests/page/listener.py",
-    ),
-    *("tests/page/firefox.py", "tests/page/robust.py", "tests/page/variant.py"),
+    *sorted(path[len(TOP) + 1 :] for path in glob.glob(f"{TOP}/tests/page/*.py")),
 )
 UNTYPED_CALLS = ("--allow-untyped-calls",)  # they use scripts that have no types yet
 

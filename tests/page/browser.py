@@ -1,4 +1,7 @@
 """A headless Chromium that a script drives by the DevTools protocol, over a pipe, with Python's standard library alone."""
+
+from __future__ import annotations
+
 import base64
 import json
 import os
@@ -7,11 +10,21 @@ import shutil
 import subprocess
 import tempfile
 import time
+from typing import Any
 
 FLAGS = [
-    "--headless=new", "--no-sandbox", "--no-first-run", "--disable-gpu", "--disable-extensions", "--hide-scrollbars",
-    "--disable-background-networking", "--disable-component-update", "--disable-sync", "--remote-debugging-pipe",
-    "--disable-dev-shm-usage", "--force-color-profile=srgb",
+    "--headless=new",
+    "--no-sandbox",
+    "--no-first-run",
+    "--disable-gpu",
+    "--disable-extensions",
+    "--hide-scrollbars",
+    "--disable-background-networking",
+    "--disable-component-update",
+    "--disable-sync",
+    "--remote-debugging-pipe",
+    "--disable-dev-shm-usage",
+    "--force-color-profile=srgb",
 ]
 
 PATIENCE = 300  # seconds
@@ -20,12 +33,14 @@ PATIENCE = 300  # seconds
 class Browser:
     """One browser with one page. Events of the page are kept as they come."""
 
-    def __init__(self, program="chromium", size=(1440, 1000), dark=False, flags=()):
+    def __init__(
+        self, program: str = "chromium", size: Any = (1440, 1000), dark: bool = False, flags: Any = ()
+    ) -> None:
         self.folder = tempfile.mkdtemp(prefix="zogwedu-browser-")
         to_read, self.to_write = os.pipe()
         self.to_hear, to_tell = os.pipe()
 
-        def connect():
+        def connect() -> None:
             os.dup2(to_read, 3)
             os.dup2(to_tell, 4)
 
@@ -33,23 +48,41 @@ class Browser:
         os.set_inheritable(to_tell, True)
         high = [os.dup(to_read), os.dup(to_tell)]
         self.process = subprocess.Popen(
-            [program, *FLAGS, *flags, f"--user-data-dir={self.folder}", f"--window-size={size[0]},{size[1]}", "about:blank"],
-            preexec_fn=connect, close_fds=False, stdout=subprocess.DEVNULL, stderr=subprocess.DEVNULL)
+            [
+                program,
+                *FLAGS,
+                *flags,
+                f"--user-data-dir={self.folder}",
+                f"--window-size={size[0]},{size[1]}",
+                "about:blank",
+            ],
+            preexec_fn=connect,
+            close_fds=False,
+            stdout=subprocess.DEVNULL,
+            stderr=subprocess.DEVNULL,
+        )
         for end in (to_read, to_tell, *high):
             os.close(end)
-        self.rest, self.number, self.events = b"", 0, []
+        self.rest, self.number = b"", 0
+        self.events: list[Any] = []
         targets = self.ask("Target.getTargets", session=None)["targetInfos"]
         target = next(it for it in targets if it["type"] == "page")
-        self.session = self.ask("Target.attachToTarget", {"targetId": target["targetId"], "flatten": True}, None)["sessionId"]
+        self.session = self.ask("Target.attachToTarget", {"targetId": target["targetId"], "flatten": True}, None)[
+            "sessionId"
+        ]
         for domain in ("Page", "Runtime", "Network", "Log", "DOM", "Audits"):
             self.ask(f"{domain}.enable")
         self.ask("Target.setAutoAttach", {"autoAttach": True, "waitForDebuggerOnStart": False, "flatten": True})
-        self.ask("Emulation.setEmulatedMedia", {"features": [
-            {"name": "prefers-color-scheme", "value": "dark" if dark else "light"}]})
-        self.ask("Emulation.setDeviceMetricsOverride", {
-            "width": size[0], "height": size[1], "deviceScaleFactor": 1, "mobile": False})
+        self.ask(
+            "Emulation.setEmulatedMedia",
+            {"features": [{"name": "prefers-color-scheme", "value": "dark" if dark else "light"}]},
+        )
+        self.ask(
+            "Emulation.setDeviceMetricsOverride",
+            {"width": size[0], "height": size[1], "deviceScaleFactor": 1, "mobile": False},
+        )
 
-    def hear(self):
+    def hear(self) -> Any:
         """The next message of the browser."""
         while b"\0" not in self.rest:
             if not select.select([self.to_hear], [], [], PATIENCE)[0]:
@@ -61,7 +94,7 @@ class Browser:
         message, _, self.rest = self.rest.partition(b"\0")
         return json.loads(message)
 
-    def ask(self, method, params=None, session="page"):
+    def ask(self, method: str, params: Any = None, session: str | None = "page") -> Any:
         """What the browser answers to a command."""
         self.number += 1
         message = {"id": self.number, "method": method, "params": params or {}}
@@ -69,7 +102,7 @@ class Browser:
             message["sessionId"] = self.session if session == "page" else session
         data = json.dumps(message).encode() + b"\0"
         while data:
-            data = data[os.write(self.to_write, data):]
+            data = data[os.write(self.to_write, data) :]
         wanted = self.number
         while True:
             heard = self.hear()
@@ -82,52 +115,71 @@ class Browser:
                 if heard["method"] == "Target.attachedToTarget":
                     self.watch(heard["params"]["sessionId"], heard["params"]["targetInfo"])
 
-    def watch(self, session, target):
+    def watch(self, session: str | None, target: str) -> None:
         """Also hears what a frame or a worker loads."""
         for domain in ("Network", "Audits", "Log"):
             self.number += 1
             message = {"id": self.number, "method": f"{domain}.enable", "params": {}, "sessionId": session}
             os.write(self.to_write, json.dumps(message).encode() + b"\0")
 
-    def run(self, code, wait=True):
+    def run(self, code: str, wait: bool = True) -> Any:
         """The value of an expression in the page."""
-        result = self.ask("Runtime.evaluate", {
-            "expression": code, "awaitPromise": wait, "returnByValue": True, "allowUnsafeEvalBlockedByCSP": True})
+        result = self.ask(
+            "Runtime.evaluate",
+            {"expression": code, "awaitPromise": wait, "returnByValue": True, "allowUnsafeEvalBlockedByCSP": True},
+        )
         if "exceptionDetails" in result:
             details = result["exceptionDetails"]
             raise RuntimeError(details.get("exception", {}).get("description") or details["text"])
         return result["result"].get("value")
 
-    def until(self, code, seconds=60):
+    def until(self, code: str, seconds: int = 60) -> float:
         """Waits until an expression is true, and gives how long that took."""
         begun = time.monotonic()
         while not self.run(code):
             if time.monotonic() - begun > seconds:
-                raise RuntimeError(f"never true: {code}; the page says: {self.run('document.body.innerText.slice(-300)')}")
+                raise RuntimeError(
+                    f"never true: {code}; the page says: {self.run('document.body.innerText.slice(-300)')}"
+                )
             time.sleep(0.02)
         return time.monotonic() - begun
 
-    def go(self, path):
+    def go(self, path: str) -> None:
         self.ask("Page.navigate", {"url": f"file://{path}"})
         self.until("document.readyState === 'complete' && typeof room === 'object'")
 
-    def give_file(self, selector, path):
+    def give_file(self, selector: str, path: str) -> None:
         """Chooses a file, as a reader does."""
         root = self.ask("DOM.getDocument")["root"]["nodeId"]
         node = self.ask("DOM.querySelector", {"nodeId": root, "selector": selector})["nodeId"]
         self.ask("DOM.setFileInputFiles", {"nodeId": node, "files": [os.path.abspath(path)]})
 
-    def press(self, key, text=""):
+    def press(self, key: str, text: str = "") -> None:
         for kind in ("keyDown", "keyUp"):
-            self.ask("Input.dispatchKeyEvent", {"type": kind, "key": key, "code": key, **({"text": text} if text and kind == "keyDown" else {}),
-                "windowsVirtualKeyCode": {"Enter": 13, "ArrowDown": 40, "ArrowUp": 38, "Home": 36, "End": 35, "Escape": 27}.get(key, 0)})
+            self.ask(
+                "Input.dispatchKeyEvent",
+                {
+                    "type": kind,
+                    "key": key,
+                    "code": key,
+                    **({"text": text} if text and kind == "keyDown" else {}),
+                    "windowsVirtualKeyCode": {
+                        "Enter": 13,
+                        "ArrowDown": 40,
+                        "ArrowUp": 38,
+                        "Home": 36,
+                        "End": 35,
+                        "Escape": 27,
+                    }.get(key, 0),
+                },
+            )
 
-    def picture(self, path, whole=False):
+    def picture(self, path: str, whole: bool = False) -> None:
         data = self.ask("Page.captureScreenshot", {"format": "png", "captureBeyondViewport": whole})["data"]
         with open(path, "wb") as out:
             out.write(base64.b64decode(data))
 
-    def close(self):
+    def close(self) -> None:
         """Ends this browser, and no other."""
         try:
             self.ask("Browser.close", session=None)

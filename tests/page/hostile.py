@@ -1,4 +1,7 @@
 """An archive that tries to run code, to load from the network and to break the page out of its bounds."""
+
+from __future__ import annotations
+
 import base64
 import hashlib
 
@@ -30,37 +33,66 @@ NAMES = [
     ("http://a.example/" + BIDI + "/" + "\u0430" * 50, "text/plain", BIDI * 20),
     ("http://a.example/picture.svg", "image/svg+xml", PICTURE),
     ("http://a.example/script.js", "text/javascript", "top.hacked=40"),
-    ("http://a.example/x.xhtml", "application/xhtml+xml", f'<html xmlns="http://www.w3.org/1999/xhtml"><body onload="top.hacked=41"><script>top.hacked=42</script></body></html>'),
-    ("http://a.example/frames", "text/html", f'<frameset onload="top.hacked=43"><frame src="{HOST}/frame1"><frame src="javascript:top.hacked=44"></frameset>'),
+    (
+        "http://a.example/x.xhtml",
+        "application/xhtml+xml",
+        f'<html xmlns="http://www.w3.org/1999/xhtml"><body onload="top.hacked=41"><script>top.hacked=42</script></body></html>',
+    ),
+    (
+        "http://a.example/frames",
+        "text/html",
+        f'<frameset onload="top.hacked=43"><frame src="{HOST}/frame1"><frame src="javascript:top.hacked=44"></frameset>',
+    ),
     ("http://a.example/none", "", SCRIPT),
     ("http://a.example/odd", "text/html\u2028" + MARK, SCRIPT),
     ("http://[", "text/html", '<link rel=stylesheet href="http://["><img src="//["><a href="http://[">x</a>'),
 ]
 
 
-def digest(block):
+def digest(block: bytes) -> str:
     return base64.b32encode(hashlib.sha1(block).digest()).decode()
 
 
-def record(number, target, kind, block, date):
-    fields = [("WARC-Type", kind), ("WARC-Record-ID", f"<urn:x:{number}:<script>top.hacked=50</script>>".replace("<s", "(s").replace("t>", "t)").replace("</", "(/")),
-              ("WARC-Date", date), ("WARC-Target-URI", target), ("Content-Type", "application/http;msgtype=response"), ("X-Mark", MARK),
-              ("WARC-Block-Digest", f"sha1:{digest(block)}"), ("Content-Length", str(len(block)))]
+def record(number: int, target: str, kind: str, block: bytes, date: str) -> bytes:
+    fields = [
+        ("WARC-Type", kind),
+        (
+            "WARC-Record-ID",
+            f"<urn:x:{number}:<script>top.hacked=50</script>>".replace("<s", "(s")
+            .replace("t>", "t)")
+            .replace("</", "(/"),
+        ),
+        ("WARC-Date", date),
+        ("WARC-Target-URI", target),
+        ("Content-Type", "application/http;msgtype=response"),
+        ("X-Mark", MARK),
+        ("WARC-Block-Digest", f"sha1:{digest(block)}"),
+        ("Content-Length", str(len(block))),
+    ]
     head = "WARC/1.1\r\n" + "".join(f"{name}: {value}\r\n" for name, value in fields) + "\r\n"
     return head.encode() + block + b"\r\n\r\n"
 
 
-def make(path):
+def make(path: str) -> None:
     """Writes the archive."""
     with open(path, "wb") as out:
         for number, (target, kind, body) in enumerate(NAMES):
             field = f"Content-Type: {kind}\r\n" if kind else ""
             block = f"HTTP/1.1 200 {MARK}\r\n{field}Refresh: 0;url={HOST}/header\r\nLink: <{HOST}/header.css>; rel=stylesheet\r\nX: {MARK}\r\n\r\n{body}".encode()
             out.write(record(number, target, "response", block, f"2026-01-01T00:00:{number:02}Z"))
-        out.write(record(98, "http://a.example/moved", "response", f"HTTP/1.1 302 Found\r\nLocation: javascript:top.hacked=60\r\n\r\n".encode(), "2026-01-02"))
+        out.write(
+            record(
+                98,
+                "http://a.example/moved",
+                "response",
+                f"HTTP/1.1 302 Found\r\nLocation: javascript:top.hacked=60\r\n\r\n".encode(),
+                "2026-01-02",
+            )
+        )
         out.write(record(99, "http://a.example/meta", "metadata", MARK.encode(), "2026-01-02"))
 
 
 if __name__ == "__main__":
     import sys
+
     make(sys.argv[1])

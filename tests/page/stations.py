@@ -1,4 +1,7 @@
 """A small site, crawled by wget over loopback: pages with styles, pictures and links, coded pages, an old charset."""
+
+from __future__ import annotations
+
 import functools
 import gzip
 import http.server
@@ -8,6 +11,7 @@ import subprocess
 import tempfile
 import threading
 import zlib
+from typing import Any
 
 PAGES = 60
 STYLE = """@import url("more.css");
@@ -19,16 +23,18 @@ nav a { margin-right: 1em; color: #2b5d7e; }
 figure { margin: 1em 0; } figcaption { color: #777; font-size: 0.9em; }
 """
 MORE = "p { line-height: 1.55; } blockquote { border-left: 4px solid #d9b36c; margin-left: 0; padding-left: 1em; color: #555; }\n"
-WORDS = ("The gauge at the bridge was read each morning at seven. In the wet years the river stood above the second mark "
-         "for weeks, and the ferry was drawn up on the grass. ")
+WORDS = (
+    "The gauge at the bridge was read each morning at seven. In the wet years the river stood above the second mark "
+    "for weeks, and the ferry was drawn up on the grass. "
+)
 
 
-def chunk(kind, data):
+def chunk(kind: bytes, data: bytes) -> bytes:
     return struct.pack(">I", len(data)) + kind + data + struct.pack(">I", zlib.crc32(kind + data))
 
 
 @functools.lru_cache(maxsize=None)
-def picture(number, wide=200, high=100):
+def picture(number: int, wide: int = 200, high: int = 100) -> bytes:
     """A PNG of hills under a sky, other ones for another number."""
     rows = []
     for y in range(high):
@@ -38,17 +44,25 @@ def picture(number, wide=200, high=100):
             shade = (150 + y // 2, 185 + y // 3, 215) if y < hill else (70 + (number * 13) % 60, 110 + y // 4, 80)
             row += bytes(min(255, int(it)) for it in shade)
         rows.append(bytes(row))
-    return b"\x89PNG\r\n\x1a\n" + chunk(b"IHDR", struct.pack(">IIBBBBB", wide, high, 8, 2, 0, 0, 0)) + chunk(
-        b"IDAT", zlib.compress(b"".join(rows), 6)) + chunk(b"IEND", b"")
+    return (
+        b"\x89PNG\r\n\x1a\n"
+        + chunk(b"IHDR", struct.pack(">IIBBBBB", wide, high, 8, 2, 0, 0, 0))
+        + chunk(b"IDAT", zlib.compress(b"".join(rows), 6))
+        + chunk(b"IEND", b"")
+    )
 
 
-def paper():
+def paper() -> bytes:
     """A PNG of one light point."""
-    return b"\x89PNG\r\n\x1a\n" + chunk(b"IHDR", struct.pack(">IIBBBBB", 1, 1, 8, 2, 0, 0, 0)) + chunk(
-        b"IDAT", zlib.compress(bytes([0, 253, 252, 246]))) + chunk(b"IEND", b"")
+    return (
+        b"\x89PNG\r\n\x1a\n"
+        + chunk(b"IHDR", struct.pack(">IIBBBBB", 1, 1, 8, 2, 0, 0, 0))
+        + chunk(b"IDAT", zlib.compress(bytes([0, 253, 252, 246])))
+        + chunk(b"IEND", b"")
+    )
 
 
-def page(number, title="Station"):
+def page(number: int, title: str = "Station") -> str:
     links = "".join(f'<a href="/page/{it}">{it}</a>' for it in range(max(1, number - 2), min(PAGES, number + 3)))
     return f"""<!doctype html><html lang="en"><head><meta charset="utf-8"><title>{title} {number}</title>
 <link rel="stylesheet" href="/style.css"></head><body><nav><a href="/">All stations</a>{links}</nav>
@@ -60,19 +74,22 @@ def page(number, title="Station"):
 class Server(http.server.BaseHTTPRequestHandler):
     protocol_version = "HTTP/1.1"
 
-    def answer(self, kind, body, *fields, status=200):
+    def answer(self, kind: str, body: bytes, *fields: Any, status: int = 200) -> None:
         self.send_response(status)
         for name, value in (("Content-Type", kind), ("Content-Length", str(len(body))), *fields):
             self.send_header(name, value)
         self.end_headers()
         self.wfile.write(body)
 
-    def do_GET(self):
+    def do_GET(self) -> None:
         name, _, rest = self.path.lstrip("/").partition("/")
         if name == "":
             items = "".join(f'<li><a href="/page/{it}">Station {it}</a></li>' for it in range(1, PAGES + 1))
             extra = '<li><a href="/chunked">chunked</a></li><li><a href="/packed">packed</a></li><li><a href="/old">old</a></li><li><a href="/moved">moved</a></li><li><a href="/empty">empty</a></li><li><a href="/notes.txt">notes</a></li>'
-            self.answer("text/html; charset=utf-8", f'<!doctype html><title>River stations</title><link rel="stylesheet" href="/style.css"><h1>River stations</h1><ul>{items}{extra}</ul>'.encode())
+            self.answer(
+                "text/html; charset=utf-8",
+                f'<!doctype html><title>River stations</title><link rel="stylesheet" href="/style.css"><h1>River stations</h1><ul>{items}{extra}</ul>'.encode(),
+            )
         elif name == "page" and rest.isdigit():
             self.answer("text/html", page(int(rest)).encode())
         elif name == "picture":
@@ -86,7 +103,10 @@ class Server(http.server.BaseHTTPRequestHandler):
         elif name == "packed":
             self.answer("text/html", gzip.compress(page(7, "Packed").encode()), ("Content-Encoding", "gzip"))
         elif name == "old":
-            self.answer("text/html; charset=iso-8859-1", "<title>Ältere Seite</title><p>Größe: 3 × 4 m, naïve façade".encode("latin-1"))
+            self.answer(
+                "text/html; charset=iso-8859-1",
+                "<title>Ältere Seite</title><p>Größe: 3 × 4 m, naïve façade".encode("latin-1"),
+            )
         elif name == "notes.txt":
             self.answer("text/plain; charset=utf-8", (WORDS * 5).encode())
         elif name == "moved":
@@ -99,25 +119,38 @@ class Server(http.server.BaseHTTPRequestHandler):
             self.send_header("Transfer-Encoding", "chunked")
             self.end_headers()
             text = page(3, "Chunked").encode()
-            for piece in [text[at:at + 700] for at in range(0, len(text), 700)] + [b""]:
+            for piece in [text[at : at + 700] for at in range(0, len(text), 700)] + [b""]:
                 self.wfile.write(f"{len(piece):x}\r\n".encode() + piece + b"\r\n")
         else:
             self.answer("text/plain", b"not here", status=404)
 
-    def log_message(self, *words):
+    def log_message(self, *words: Any) -> None:
         """Says nothing of each request."""
 
 
-def crawl(path):
+def crawl(path: str) -> str:
     """Crawls the site twice, the second time with revisits of what didn't change, into one archive."""
     server = http.server.ThreadingHTTPServer(("127.0.0.1", 0), Server)
     threading.Thread(target=server.serve_forever, daemon=True).start()
     site = f"http://127.0.0.1:{server.server_address[1]}/"
-    words = ["wget", "-q", "-r", "-p", "-l", "3", "-e", "robots=off", "--header=Accept-Encoding: gzip", "--no-warc-compression",
-             "--warc-cdx", "--no-warc-keep-log"]
+    words = [
+        "wget",
+        "-q",
+        "-r",
+        "-p",
+        "-l",
+        "3",
+        "-e",
+        "robots=off",
+        "--header=Accept-Encoding: gzip",
+        "--no-warc-compression",
+        "--warc-cdx",
+        "--no-warc-keep-log",
+    ]
     with tempfile.TemporaryDirectory() as folder:
         with open(path, "wb") as archive:
-            for name, more in (("first", []), ("second", ["--warc-dedup=first.cdx"])):
+            runs: list[tuple[str, list[str]]] = [("first", []), ("second", ["--warc-dedup=first.cdx"])]
+            for name, more in runs:
                 subprocess.run([*words, f"--warc-file={name}", *more, site], cwd=folder, check=False)
                 with open(os.path.join(folder, f"{name}.warc"), "rb") as part:
                     archive.write(part.read())
@@ -127,4 +160,5 @@ def crawl(path):
 
 if __name__ == "__main__":
     import sys
+
     print(crawl(sys.argv[1]))
