@@ -24,6 +24,7 @@ sys.path.insert(0, os.path.dirname(os.path.abspath(__file__)))
 import building
 import burdens
 import connections
+import faithful
 import firefox
 import hostile
 import robust
@@ -640,7 +641,7 @@ def main() -> None:
         crawled, small = f"{folder}/stations.warc", f"{TOP}/examples/crawl.warc"
         names = os.environ.get(
             "PAGE_TESTS",
-            "building,compare,damaged,hostile,connections,firefox,burdens,robust,views,keyboard,saved,without,long,many,segments",
+            "building,compare,damaged,hostile,connections,firefox,burdens,robust,faithful,views,keyboard,saved,without,long,many,segments",
         ).split(",")
         where = stations.crawl(crawled) if {"compare", "views"} & set(names) else ""
         parts = {
@@ -652,6 +653,7 @@ def main() -> None:
             "firefox": lambda: firefox.no_connections(tests, folder),
             "burdens": lambda: burdens.burdens(tests, folder),
             "robust": lambda: robust.robust(tests, folder),
+            "faithful": lambda: faithful.faithful(tests, folder),
             "views": lambda: views(tests, crawled, where),
             "keyboard": lambda: by_keyboard(tests, small),
             "saved": lambda: saved_bytes(tests, folder, small),
