@@ -141,6 +141,7 @@ class Library {
     /** @type {Map<number, {done: (answers: Answer[]) => void, failed: (error: Error) => void}>} */
     this.waiting = new Map();  // what waits for an answer, by the number of its message
     this.asked = 0;
+    this.opened = 0;    // how many files were opened
     this.openings = 0;  // how often the worker opened an archive for questions
     this.forget();
     this.start();
@@ -150,7 +151,12 @@ class Library {
     const {module: wasm, limit, script} = this;
     /** @type {Worker|null} */
     this.worker = startWorker(script);
-    this.worker.onmessage = ({data}) => (data.id ? this.hear(data) : this.report(data));
+    this.worker.onmessage = ({data}) => {
+      if (data.id)
+        this.hear(data);
+      else if (data.of === this.opened)
+        this.report(data);  // what is still on its way of the file before isn't wanted
+    };
     this.worker.onerror = (event) => this.end(event.message || 'the worker stopped');
     this.worker.postMessage({wasm, limit, script});
   }
@@ -173,7 +179,8 @@ class Library {
   open(file) {
     this.forget();
     if (!this.worker) this.start();
-    this.worker.postMessage({open: file});
+    this.opened += 1;
+    this.worker.postMessage({open: file, number: this.opened});
   }
 
   /**

@@ -470,10 +470,12 @@ class Archive {
   /**
    * @param {Desk} desk
    * @param {File} file
+   * @param {number} number by which the page knows it
    */
-  constructor(desk, file) {
+  constructor(desk, file, number) {
     this.desk = desk;
     this.file = file;
+    this.number = number;
     this.state = 'listing';
     /** @type {Keeper|null} */
     this.keeper = null;  // the module that has the good part of the file, if it is short enough
@@ -512,6 +514,17 @@ class Archive {
     this.helpers.stop();
   }
 
+  // Reports something of this file to the page.
+  /** @type {(message: object, moved?: Transferable[]) => void} */
+  tell(message, moved = []) {
+    if (!this.isOver) postMessage({...message, of: this.number}, moved);
+  }
+
+  /** @type {(error: any) => void} */
+  fail(error) {
+    this.tell({report: 'failed', why: whyOf(error)});
+  }
+
   /** @type {(from: number, to: number) => Promise<Uint8Array>} */
   read(from, to) {
     return bytesOfFile(this.file, from, to);
@@ -525,7 +538,7 @@ class Archive {
     this.records += records;
     this.textBytes += texts;
     this.end = end;
-    postMessage({report: 'rows', base: start, count: records, rows, words, read: end, size}, [rows, words]);
+    this.tell({report: 'rows', base: start, count: records, rows, words, read: end, size}, [rows, words]);
     return !fault || (fault.startsWith('F11 ') && stop < size);
   }
 
@@ -625,11 +638,12 @@ class Archive {
   // The findings by a helper, so that questions don't wait for them; of a long archive by this worker.
   async find() {
     const {file, end, records, heap} = this;
-    const alone = async () => ({lines: (await this.full()).findings(end, heap, records)});
+    const none = {lines: new Uint8Array()};
+    const alone = async () => (this.isOver ? none : {lines: (await this.full()).findings(end, heap, records)});
     const byHelper = () =>
         this.helpers.ask({find: {file, end, records, heap}}, [], PATIENCE + end / SLOWEST).catch(alone);
     const {lines} = await (this.isAlone ? alone() : byHelper());
-    if (!this.isOver) postMessage({report: 'findings', lines: text(lines)});
+    this.tell({report: 'findings', lines: text(lines)});
   }
 
   // The verdicts on all blocks by helpers side by side, or by this worker between questions.
@@ -638,7 +652,7 @@ class Archive {
     const goOn = async () => {
       for (let next; !this.isOver && (next = waiting.shift());) {
         const verdicts = await this.verdicts({file: this.file, ...next});
-        if (!this.isOver) postMessage({report: 'verdicts', first: next.first, verdicts}, [verdicts.buffer]);
+        this.tell({report: 'verdicts', first: next.first, verdicts}, [verdicts.buffer]);
       }
     };
     await Promise.all(Array.from({length: HELPERS}, goOn));
@@ -661,7 +675,7 @@ class Archive {
 
   // What takes hashes, beside the questions.
   async work() {
-    const report = (/** @type {any} */ error) => this.isOver || fail(0, error);
+    const report = (/** @type {any} */ error) => this.fail(error);
     const found = this.holds ? this.find().catch(report) : null, judged = this.judgeAll().catch(report);
     Promise.all([found, judged]).then(() => this.helpers.stop());
     if (this.isAlone) await found;
@@ -672,13 +686,13 @@ class Archive {
     const fault = await (this.file.size <= this.desk.limit ? this.listKept() : this.listPieces());
     if (this.isOver || fault === null) return;
     this.state = 'listed';
-    postMessage({report: 'listed', fault, end: this.end, holds: this.holds});
+    this.tell({report: 'listed', fault, end: this.end, holds: this.holds});
     if (this.end === 0 && fault) return;
     await this.work();
     if (!this.holds || this.isOver) return;
     await this.ready();
     this.state = 'open';
-    postMessage({report: 'opened'});
+    this.tell({report: 'opened'});
   }
 }
 
@@ -692,9 +706,6 @@ async function filled(module, {file, end}) {
   }
   return keeper;
 }
-
-/** @type {(id: number, error: any) => void} */
-const fail = (id, error) => postMessage({id, report: 'failed', why: whyOf(error)});
 
 // Where the page's messages arrive: it opens one file after another, and asks questions on the last.
 class Desk {
@@ -713,19 +724,18 @@ class Desk {
   hear(message) {
     if (message.open) {
       this.archive?.close();
-      this.archive = new Archive(this, message.open);
+      this.archive = new Archive(this, message.open, message.number);
     }
     const {archive} = this;
-    this.queue = this.queue.then(() => this.respond(archive, message)).catch((error) => fail(message.id, error));
+    const failed = (/** @type {any} */ error) => postMessage({id: message.id, why: whyOf(error)});
+    this.queue = this.queue.then(() => this.respond(archive, message)).catch(failed);
   }
 
   /** @type {(archive: Archive|null, message: {id: number, questions?: Question[]}) => Promise<void>} */
   async respond(archive, {id, questions}) {
     if (!archive) throw new Error('no archive is open');
     if (!questions) {
-      await archive.open().catch((error) => {
-        if (!archive.isOver) throw error;
-      });
+      await archive.open().catch((error) => archive.fail(error));
       return;
     }
     const answers = await archive.ask(questions);

@@ -101,6 +101,28 @@ def dying_helpers(tests: Any, folder: str) -> None:
         browser.close()
 
 
+def another_file(tests: Any, folder: str) -> None:
+    """Another file is opened while the first is listed and judged: it is there at once, and nothing comes of the first."""
+    page = variant(tests.page, f"{folder}/smaller.html", SMALLER)
+    first, site = long_archive(f"{folder}/first.warc"), Site()
+    site.add("a", "<p id=last>x")
+    second = site.save(f"{folder}/second.warc")
+    browser = tests.opened(second, page=page)
+    try:
+        for wait in ("room.file.size > 1e6", "room.rows.count > 100", "room.listed", "room.counts.judged > 0"):
+            browser.give_file("#file-again", first)
+            browser.until(wait, 20)
+            browser.give_file("#file-again", second)
+            browser.until("room.file.size < 1e6 && room.isOpen && room.findings !== null", 20)
+            time.sleep(0.5)
+            rows = browser.run("[room.rows.count, room.counts.judged, room.isStopped]")
+            tests.holds(rows == [1, 1, False], f"another file, once {wait}", rows)
+    except RuntimeError as error:
+        tests.holds(False, "another file", error)
+    finally:
+        browser.close()
+
+
 def dying_worker(tests: Any, folder: str) -> None:
     """The worker dies at a question: the page says so, and a file can be opened again in a new one."""
     asked = "const answers = await archive.ask(questions);"
@@ -200,5 +222,5 @@ def seen_by_use(tests: Any, folder: str) -> None:
 
 def robust(tests: Any, folder: str) -> None:
     """All of them."""
-    for part in (clobbered, many_kinds, dying_helpers, dying_worker, changed_file, seen_by_use):
+    for part in (clobbered, many_kinds, dying_helpers, another_file, dying_worker, changed_file, seen_by_use):
         part(tests, folder)
