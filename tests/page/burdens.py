@@ -3,6 +3,7 @@
 from __future__ import annotations
 
 import gzip
+import os
 import time
 from typing import Any
 
@@ -10,8 +11,9 @@ from hostile import record
 from stations import picture
 
 SITE = "http://a.example"
-QUICK = 3.0  # seconds in which a page must be shown
-MOST = 60.0  # seconds that a test waits for one
+SLOWNESS = float(os.environ.get("PAGE_SLOWNESS", "1"))  # how many times longer everything takes on a busy computer
+QUICK = 3.0 * SLOWNESS  # seconds in which a page must be shown
+MOST = 60.0 * SLOWNESS  # seconds that a test waits for one
 PICTURE = picture(1, 900, 760) + bytes(2_000_000)  # a PNG with 2 MB after its end
 SHOWN = """(() => {
   const page = document.querySelector('iframe.view')?.contentDocument;
