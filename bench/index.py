@@ -4,9 +4,9 @@
 Usage: index.py REPOSITORY FOLDER
 
 It proves and builds bench/crates/bench_index, and runs it at 1,000,000 and 10,000,000 records, and at 1,000,000
-whose ids and targets all have one hash: at each the run with the least time of three. Printed by the program: nanoseconds
-a record. Printed here: the bytes that a record takes beside its texts, which are the most memory of a run that fills an
-index alone, without the texts.
+whose ids and targets all have one hash: at each the run with the least time of three. Printed by the program:
+nanoseconds a record. Printed here: the bytes that a record takes beside its texts, which are the most memory of a run
+that fills an index alone, without the texts.
 """
 import os
 import subprocess

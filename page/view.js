@@ -10,7 +10,7 @@ const AT_ONCE = 16;     // URIs that the library is asked for together
 const NOTHING = 'data:,';
 
 /**
- * What one view may take, and how a reader is told that there was more.
+ * What one view may take, and what tells a reader that there was more.
  * @type {Record<string, [number, string]>}
  */
 const MOST_OF_VIEW = {

@@ -4,10 +4,10 @@
 Usage: install.py install|uninstall|install-python|uninstall-python
 
 The environment says where: PREFIX (/usr/local), LIBDIR for the library (PREFIX/lib), PYTHONDIR for the Python package
-(where Debian's Python looks for local packages), and DESTDIR, a folder that is put before each of them, as for a package.
-The program, its pages and its completions must be there. The library, the reading room and the Rust crate are left out
-where they aren't built, and a line says so. What is installed is listed in PREFIX/share/doc/zogwedu/FILES, and the Python
-package's files in its RECORD. These are removed, also by the next `install` if they aren't installed again.
+(where Debian's Python looks for local packages), and DESTDIR, a folder that is put before each of them, as for a
+package. The program, its pages and its completions must be there. The library, the reading room and the Rust crate are
+left out where they aren't built, and a line says so. What is installed is listed in PREFIX/share/doc/zogwedu/FILES, and
+the Python package's files in its RECORD. These are removed, also by the next `install` if they aren't installed again.
 """
 from __future__ import annotations
 

@@ -3,8 +3,8 @@
 
 Usage: FILE=my.warc RUN="check my.warc" try_program.py
 
-Without both it lists examples/abc.warc. With FILE it lists that file, and with RUN it runs that command line. A file that
-gzip or zstd compressed is decompressed first.
+Without both it lists examples/abc.warc. With FILE it lists that file, and with RUN it runs that command line. A file
+that gzip or zstd compressed is decompressed first.
 """
 from __future__ import annotations
 
@@ -18,8 +18,8 @@ from shared import TOP
 
 SECONDS = 60
 PACKERS = {b"\x1f\x8b": "gzip", b"\x28\xb5\x2f\xfd": "zstd"}
-NOTE = f"""Compiled with checks, and not proved: nothing that the pages promise of the program is promised of this run. It
-is some five times slower, and is stopped after {SECONDS} seconds. `make` builds the proved program."""
+NOTE = f"""Compiled with checks, and not proved: nothing that the pages promise of the program is promised of this run.
+It is some five times slower, and is stopped after {SECONDS} seconds. `make` builds the proved program."""
 
 
 def unpacked(path: str, folder: str) -> str:

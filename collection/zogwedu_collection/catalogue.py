@@ -63,7 +63,8 @@ TO_VERSION_2 = (
     *("ALTER TABLE %s ADD COLUMN sha256 TEXT" % table for table in ("files", "checks")),
     "ALTER TABLE changes ADD COLUMN path_before TEXT",
     "CREATE TABLE readings (%s)" % TABLES["readings"],
-    "INSERT INTO readings (file, run, read_on, size, modified, records) SELECT file, run, began, size, modified, records"
+    "INSERT INTO readings (file, run, read_on, size, modified, records)"
+    " SELECT file, run, began, size, modified, records"
     " FROM files JOIN runs USING (run) WHERE state IN (%s)" % as_list(READ),
 )
 

@@ -331,7 +331,7 @@ impl<'a> Archive<'a> {
         positions.into_iter().map(usize_of).collect()
     }
 
-    /// The body that was captured of a URI as of a date: that of the latest capture that isn't later.
+    /// The body of the latest capture of a URI that isn't later than a date.
     ///
     /// # Errors
     /// [`ErrorKind::NotCaptured`] to [`ErrorKind::Coded`] with the reason P1 to P10; [`ErrorKind::BadDate`];

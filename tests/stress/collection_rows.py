@@ -5,8 +5,8 @@
 
 Names are shown without a character that a terminal obeys, and no two names alike; rows come back from the text for
 PostgreSQL; columns come back from the lines of the program; compressed members are taken apart as Python's gzip does;
-words reach a command through the shell as they were. The exit status is 1 if a property doesn't hold. Without hypothesis
-(Debian's python3-hypothesis) this is left out.
+words reach a command through the shell as they were. The exit status is 1 if a property doesn't hold. Without
+hypothesis (Debian's python3-hypothesis) this is left out.
 """
 from __future__ import annotations
 
