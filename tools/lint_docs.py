@@ -4,7 +4,8 @@
 - A block of code in README.md or docs/LIBRARY.md is part of a file of crates/example_*, of c/ or of python/ or
   rust/examples, word for word.
 - The table of crates in docs/ARCHITECTURE.md names the libraries that crates.txt names.
-- A call that docs/PROMISES.md lists, and a law that it cites, is in the crate of its heading.
+- A call or a law that docs/PROMISES.md names after a crate is in this crate.
+- docs/TRUST.md is as tools/lint_trust.py says.
 - docs/PROGRAM.md has a section, and README.md a row, for each command of the program and for no other.
 - A link or a path that a page names is there.
 - README.md has at most 9 KB.
@@ -13,16 +14,20 @@
 - docs/NUMBERS.md is what tools/make_numbers.py makes, and docs/FORMAT.md has the same numbers and names.
 - crates/warc/CALLING.md is what tools/make_calling.py makes.
 """
+from __future__ import annotations
+
 import glob
 import os
 import re
 import sys
+from collections.abc import Iterator
 
+import lint_trust
 import make_calling
 import make_numbers
 from shared import TOP, crates, read, version
 
-PAGES = ["README.md", "CONTRIBUTING.md", "CHANGELOG.md", "docs/*.md", "examples/README.md"]
+PAGES = ["README.md", "CONTRIBUTING.md", "CHANGELOG.md", "docs/*.md", "*/README.md"]
 EXAMPLES = ["crates/example_*/src/*.rt", "c/*.c", "python/*.py", "rust/examples/*.rs"]
 VERSIONS = [
     ("python/pyproject.toml", "version"),
@@ -30,54 +35,55 @@ VERSIONS = [
     ("rust/Cargo.toml", "version"),
 ]
 MOST = 9 * 1024
+# A crate, a colon, and the names of its calls and laws: "`warc`: `open` and `grow` of `Archive`, law `faults_are_stable`".
+CALLS = re.compile(
+    r"`(warc\w*|suites_\w+)`: ((?:laws? )?`[\w:]+`(?:(?:, | and | of |, and | or )(?:laws? )?`[\w:]+`(?!:))*)"
+)
 
 
-def code_elsewhere(page):
+def code_elsewhere(page: str) -> Iterator[str]:
     """Blocks of code that no example holds."""
     paths = [path for pattern in EXAMPLES for path in glob.glob(f"{TOP}/{pattern}")]
-    sources = [open(path, encoding="utf-8").read() for path in paths]
+    sources = [read(os.path.relpath(path, TOP)) for path in paths]
     for block in re.findall(r"^```(?:rust|c|python)\n(.*?)^```$", read(page), re.MULTILINE | re.DOTALL):
         if not any(block in text for text in sources):
             yield f"{page}: no example has this code: {block.splitlines()[0]} .."
 
 
-def crates_elsewhere():
+def crates_elsewhere() -> Iterator[str]:
     """Rows of the table of crates that crates.txt doesn't have."""
     rows = re.findall(r"^\| `(\w+)` \| (.*?) \| .* \|$", read("docs/ARCHITECTURE.md"), re.MULTILINE)
     uses = crates()
-    told = {name: re.findall(r"`(\w+)`", words) for name, words in reversed(rows) if name in uses}
+    named = {name: re.findall(r"`(\w+)`", words) for name, words in reversed(rows) if name in uses}
     for name in uses:
-        if told.get(name) != uses[name]:
+        if named.get(name) != uses[name]:
             yield f"docs/ARCHITECTURE.md: {name} uses {' '.join(uses[name])}"
 
 
-def calls_elsewhere():
-    """Calls and laws that docs/PROMISES.md lists and that aren't in the crate of the heading."""
-    sections = read("docs/PROMISES.md").split("# Call by call\n")[1].split("\n## ")
-    for heading, *rows in (section.splitlines() for section in sections):
-        for crate, names in calls_of(re.findall(r"`(warc_\w+|warc)`", heading), rows):
-            source = "".join(open(path, encoding="utf-8").read() for path in glob.glob(f"{TOP}/crates/{crate}/src/*.rt"))
-            items = set(re.findall(r"\b(?:fn|struct|enum|trait|type|const|mod) (\w+)", source))
-            for name in sorted(names - items):
+def items_of(crate: str) -> set[str]:
+    """The names of the functions, types and modules of a crate."""
+    source = "".join(read(os.path.relpath(path, TOP)) for path in glob.glob(f"{TOP}/crates/{crate}/src/*.rt"))
+    return set(re.findall(r"\b(?:fn|struct|enum|trait|type|const|mod) (\w+)", source))
+
+
+def calls_elsewhere() -> Iterator[str]:
+    """Calls and laws that docs/PROMISES.md names after a crate and that aren't in it."""
+    page, count = read("docs/PROMISES.md"), 0
+    for crate, names in CALLS.findall(page):
+        items = items_of(crate)
+        for name in re.findall(r"\w+", " ".join(re.findall(r"`([^`]*)`", names))):
+            count += 1
+            if name not in items:
                 yield f"docs/PROMISES.md: {crate} has no {name}"
+    if not count:
+        yield "docs/PROMISES.md: names no calls"
 
 
-def calls_of(crates_named, rows):
-    """Each crate of a section, with the names that the rows list of it."""
-    for row in rows:
-        cells = row.split(" | ")
-        if not cells[0].startswith("| `") or not crates_named:
-            continue
-        first = re.findall(r"`(\w+)`: ", cells[0]) or crates_named
-        names = re.findall(r"`([\w:]+)`(?!:)", cells[0])
-        yield first[0], {part for name in names for part in name.split("::")}
-        if cells[0] == "| `laws`":
-            yield first[0], set(re.findall(r"`(\w+)`", " ".join(re.findall(r"\((`[^)]*`)\)", row))))
-
-
-def commands_elsewhere():
+def commands_elsewhere() -> Iterator[str]:
     """Commands that the program has and a page hasn't, or the other way round."""
-    own = set(re.findall(r'^        name: "(\w+)",\n        about:', read("crates/warc_arguments/src/words.rt"), re.MULTILINE))
+    own = set(
+        re.findall(r'^        name: "(\w+)",\n        about:', read("crates/warc_arguments/src/words.rt"), re.MULTILINE)
+    )
     sections = set(re.findall(r"^## warc (\w+)$", read("docs/PROGRAM.md"), re.MULTILINE))
     rows = set(re.findall(r"^\| `warc (\w+)", read("README.md"), re.MULTILINE))
     for page, named in (("docs/PROGRAM.md", sections), ("README.md", rows)):
@@ -85,7 +91,7 @@ def commands_elsewhere():
             yield f"{page}: {'lacks' if name in own else 'has'} the command {name}"
 
 
-def missing_paths(page):
+def missing_paths(page: str) -> Iterator[str]:
     """Links and paths of the repository that aren't there."""
     text = read(page)
     folder = os.path.dirname(page)
@@ -97,21 +103,21 @@ def missing_paths(page):
             yield f"{page}: no file {path}"
 
 
-def cases_elsewhere():
+def cases_elsewhere() -> Iterator[str]:
     """Numbers of cases in docs/PROMISES.md that the reports of the suites, which the gate compares, don't count."""
     count = 0
     for path in glob.glob(f"{TOP}/crates/suites_*/stdout"):
         report = read(os.path.relpath(path, TOP))
         count += sum(map(int, re.findall(r"^(\d+) cases, \d+ steps, 0 failed$", report, re.MULTILINE)))
-    told = re.findall(r"\b(\d[\d,]*) cases\b", read("docs/PROMISES.md"))
-    for number in told:
+    numbers = re.findall(r"\b(\d[\d,]*) cases\b", read("docs/PROMISES.md"))
+    for number in numbers:
         if number != f"{count:,}":
-            yield f"docs/PROMISES.md: {number} cases, where the suites have {count:,}"
-    if not told:
+            yield f"docs/PROMISES.md: {number} cases, and the suites have {count:,}"
+    if not numbers:
         yield "docs/PROMISES.md: no number of cases"
 
 
-def versions_elsewhere():
+def versions_elsewhere() -> Iterator[str]:
     """Files of the packages whose version isn't the program's."""
     for path, words in VERSIONS:
         if f'\n{words} = "{version()}"\n' not in read(path):
@@ -120,9 +126,15 @@ def versions_elsewhere():
         yield f"CHANGELOG.md: no section for {version()}"
 
 
-def main():
+def main() -> None:
     found = [*code_elsewhere("README.md"), *code_elsewhere("docs/LIBRARY.md")]
-    found += [*crates_elsewhere(), *calls_elsewhere(), *commands_elsewhere(), *make_numbers.wrong()]
+    found += [
+        *crates_elsewhere(),
+        *calls_elsewhere(),
+        *commands_elsewhere(),
+        *make_numbers.wrong(),
+        *lint_trust.wrong(),
+    ]
     found += [*cases_elsewhere(), *versions_elsewhere()]
     for pattern in PAGES:
         for path in sorted(glob.glob(f"{TOP}/{pattern}")):
@@ -135,4 +147,5 @@ def main():
     sys.exit(bool(found))
 
 
-main()
+if __name__ == "__main__":
+    main()

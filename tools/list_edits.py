@@ -1,5 +1,5 @@
 #!/usr/bin/env python3
-"""Prints a line for each wrong body that the prover must refuse: its crate, the function, and what the body does.
+"""Prints a line for each planted bug that the prover must refuse: its crate, the function, and what the bug does.
 
 What it does is the line `why:` of its file, and else the name of the file.
 """

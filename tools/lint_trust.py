@@ -1,0 +1,68 @@
+"""What docs/TRUST.md must be: eight claims of at most 30 words, each with what it rests on, as links that lead there.
+
+Below each claim are a premise, a contract, a case of a suite and a planted bug. A link to a file of src/ names a function
+of that file, one to a script of a suite names a case of it, and one to an edit names a file of must-fail/.
+"""
+from __future__ import annotations
+
+import os
+import re
+from collections.abc import Iterator
+
+from shared import TOP, read
+
+PAGE = "docs/TRUST.md"
+CLAIMS = 8
+WORDS = 30
+LINK = re.compile(r"\[([^\]]+)\]\(\.\./([^)]+)\)")
+# What each claim rests on, with the files that its links lead to.
+CARRIERS = {
+    "Contract": r"crates/\w+/src/\w+\.rt",
+    "Case": r"crates/suites_\w+/stdin",
+    "Planted bug": r"crates/\w+/must-fail/\w+\.edit",
+}
+
+
+def missing_in(text: str, path: str) -> str | None:
+    """What a linked file lacks that the text of the link names."""
+    if not os.path.isfile(f"{TOP}/{path}"):
+        return f"no file {path}"
+    name = text.strip("`")
+    if path.endswith(".rt") and not re.search(rf"\bfn {re.escape(name.split('::')[-1])}\b", read(path)):
+        return f"{path} has no function {name}"
+    if path.endswith("/stdin") and not re.search(rf"^== (?:[\w ]+: )?{re.escape(name)}$", read(path), re.MULTILINE):
+        return f"{path} has no case {name}"
+    return None
+
+
+def faults_of(number: int, claim: str, lines: dict[str, str]) -> Iterator[str]:
+    """What is wrong with one claim and the lines below it."""
+    if len(claim.split()) > WORDS:
+        yield f"claim {number} has {len(claim.split())} words, and {WORDS} are allowed"
+    if not lines.get("Premise"):
+        yield f"claim {number} has no premise"
+    for name, files in CARRIERS.items():
+        links = LINK.findall(lines.get(name, ""))
+        if not links:
+            yield f"claim {number} has no link to a {name.lower()}"
+        for text, path in links:
+            wrong = missing_in(text, path) if re.fullmatch(files, path) else f"{path} can't hold a {name.lower()}"
+            if wrong:
+                yield f"claim {number}: {wrong}"
+
+
+def faults_in(page: str) -> Iterator[str]:
+    """What is wrong with a page of claims."""
+    parts = re.split(r"^### \d+\. .*$", page.split("\n## What is assumed\n")[0], flags=re.MULTILINE)[1:]
+    if len(parts) != CLAIMS:
+        yield f"{len(parts)} claims, and {CLAIMS} are wanted"
+    for number, part in enumerate(parts, 1):
+        claim = " ".join(re.findall(r"^> (.*)$", part, re.MULTILINE))
+        items = re.findall(r"^- ([^:\n]+): (.*(?:\n  .*)*)$", part, re.MULTILINE)
+        yield from faults_of(number, claim, dict(items))
+
+
+def wrong() -> Iterator[str]:
+    """The same of docs/TRUST.md, as lines of the lint."""
+    for fault in faults_in(read(PAGE)):
+        yield f"{PAGE}: {fault}"
