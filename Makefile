@@ -8,6 +8,7 @@
 # make test-callers compares what the program, C, Python and Rust give of many archives; 10,000 damaged ones by valgrind
 # make check        the quick check while editing: the whole tree, over what earlier checks kept
 # make test-docs    runs the command lines of README.md and docs/PROGRAM.md, and compares what they write
+# make test-compatibility   opens files that wget and bsdtar write, and those of docs/COMPATIBILITY.md
 # make lint         checks the text of the tree: words, headers, widths, edits, numbers, and the pages
 # make lint-code    checks the code that isn't proved: types, layout, warnings; leaves out what isn't installed
 # make lint-docs    compares README's code with the example crates, and looks for what the pages may not hold
@@ -37,7 +38,7 @@ export PREFIX LIBDIR DESTDIR PYTHONDIR FILE RUN
 JOBS ?= $(shell nproc)
 
 .PHONY: all try test check lint lint-code test-docs lint-docs man install uninstall install-python uninstall-python dist verify-dist
-.PHONY: test-package stress bench clean lib python rust test-callers page test-page numbers collection
+.PHONY: test-compatibility test-package stress bench clean lib python rust test-callers page test-page numbers collection
 
 define PAGES
 @python3 tools/make_collection.py out/warc-collection
@@ -80,6 +81,10 @@ bin/warc:
 
 test-docs: bin/warc
 	@python3 tools/test_docs.py bin/warc README.md docs/PROGRAM.md
+
+test-compatibility: bin/warc
+	@bash tools/need.sh wget:wget bsdtar:libarchive-tools gzip:gzip
+	@python3 tests/compatibility/compare.py bin/warc
 
 lint: lint-docs lint-code
 	@python3 tools/lint.py

@@ -72,6 +72,7 @@ PAGE_PYTHON = (
     *sorted(path[len(TOP) + 1 :] for path in glob.glob(f"{TOP}/tests/page/*.py")),
 )
 PAGES_PYTHON = ("tools/lint_docs.py", "tools/lint_trust.py")
+COMPATIBILITY = ("tests/compatibility/compare.py", "tests/compatibility/shapes.py")
 UNTYPED_CALLS = ("--allow-untyped-calls",)  # they use scripts that have no types yet
 
 TYPES = ("mypy", "--strict", "--python-version=3.8")
@@ -111,6 +112,8 @@ CHECKS = [
     Check("types of the page's workers", ("tsc", "-p", "page/tsconfig.worker.json")),
     Check("layout of the page", ("clang-format", "--dry-run", "--Werror", *PAGE_SCRIPTS)),
     Check("widths and functions of the page", ("python3", "tools/lint_page.py")),
+    Check("types of tests/compatibility", (*TYPES, *COMPATIBILITY)),
+    Check("layout of tests/compatibility", (*LAYOUT, *COMPATIBILITY)),
     Check("types of the checks of the pages", (*TYPES, "--follow-imports=silent", *UNTYPED_CALLS, *PAGES_PYTHON)),
     Check("layout of the checks of the pages", (*LAYOUT, *PAGES_PYTHON)),
     Check("types of the page's Python", ("mypy", "--strict", "--follow-imports=silent", *UNTYPED_CALLS, *PAGE_PYTHON)),
