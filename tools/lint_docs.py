@@ -6,7 +6,8 @@
 - The table of crates in docs/ARCHITECTURE.md names the libraries that crates.txt names.
 - A call or a law that docs/PROMISES.md names after a crate is in this crate.
 - docs/TRUST.md is as tools/lint_trust.py says.
-- docs/PROGRAM.md has a section, and README.md a row, for each command of the program and for no other.
+- docs/PROGRAM.md has a section and a row of exit statuses, and README.md a row, for each command of the program and for
+  no other.
 - A link or a path that a page names is there.
 - README.md has at most 9 KB.
 - CHANGELOG.md has a section for the version, and the packages for Python and Rust have that version.
@@ -86,7 +87,10 @@ def commands_elsewhere() -> Iterator[str]:
     )
     sections = set(re.findall(r"^## warc (\w+)$", read("docs/PROGRAM.md"), re.MULTILINE))
     rows = set(re.findall(r"^\| `warc (\w+)", read("README.md"), re.MULTILINE))
-    for page, named in (("docs/PROGRAM.md", sections), ("README.md", rows)):
+    matrix = read("docs/PROGRAM.md").partition("### Exit status\n")[2].partition("\n### ")[0]
+    statuses = set(re.findall(r"`(\w+)`", "".join(re.findall(r"^\|(.*?)\|", matrix, re.MULTILINE))))
+    where = (("docs/PROGRAM.md", sections), ("README.md", rows), ("docs/PROGRAM.md, Exit status:", statuses - {"help"}))
+    for page, named in where:
         for name in sorted(own ^ named):
             yield f"{page}: {'lacks' if name in own else 'has'} the command {name}"
 
