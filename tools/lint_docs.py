@@ -5,7 +5,7 @@
   rust/examples, word for word.
 - The table of crates in docs/ARCHITECTURE.md names the libraries that crates.txt names.
 - A call or a law that docs/PROMISES.md names after a crate is in this crate.
-- docs/TRUST.md is as tools/lint_trust.py says.
+- docs/TRUST.md is as tools/lint_trust.py says, and docs/ARCHITECTURE.md as tools/lint_architecture.py says.
 - docs/PROGRAM.md has a section and a row of exit statuses, and README.md a row, for each command of the program and for
   no other.
 - A link or a path that a page names is there.
@@ -23,6 +23,7 @@ import re
 import sys
 from collections.abc import Iterator
 
+import lint_architecture
 import lint_trust
 import make_calling
 import make_numbers
