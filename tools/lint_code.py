@@ -71,7 +71,7 @@ PAGE_PYTHON = (
     *("tools/build_page.py", "tools/lint_page.py"),
     *sorted(path[len(TOP) + 1 :] for path in glob.glob(f"{TOP}/tests/page/*.py")),
 )
-PAGES_PYTHON = ("tools/lint_docs.py", "tools/lint_trust.py", "tools/lint_architecture.py")
+PAGES_PYTHON = tuple(f"tools/lint_{name}.py" for name in ("docs", "trust", "architecture", "changes"))
 COMPATIBILITY = ("tests/compatibility/compare.py", "tests/compatibility/shapes.py")
 UNTYPED_CALLS = ("--allow-untyped-calls",)  # they use scripts that have no types yet
 

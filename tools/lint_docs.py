@@ -6,6 +6,7 @@
 - The table of crates in docs/ARCHITECTURE.md names the libraries that crates.txt names.
 - A call or a law that docs/PROMISES.md names after a crate is in this crate.
 - docs/TRUST.md is as tools/lint_trust.py says, and docs/ARCHITECTURE.md as tools/lint_architecture.py says.
+- Each file that has the word of a row of CONTRIBUTING.md's table of changes is in that row.
 - docs/PROGRAM.md has a section and a row of exit statuses, and README.md a row, for each command of the program and for
   no other.
 - A link or a path that a page names is there.
@@ -24,6 +25,7 @@ import sys
 from collections.abc import Iterator
 
 import lint_architecture
+import lint_changes
 import lint_trust
 import make_calling
 import make_numbers
