@@ -1,7 +1,7 @@
 # make try          runs the program in about a minute: compiled with checks, not proved. FILE=my.warc lists a file, and
 #                   RUN="check my.warc" runs a command
 # make              proves the program's crates, several at a time, and builds bin/warc
-# make test         everything that must pass, from nothing; the last line is 'N passed, M failed'
+# make test         everything that must pass, from nothing: lint, then the gate; the last line is 'N passed, M failed'
 # make lib          proves the crates that C calls, and puts libwarc.a, libwarc.so and warc.h under out/lib
 # make python       puts the Python package with the library under out/python, and tests it
 # make rust         builds and tests the Rust crate over the library
@@ -53,8 +53,10 @@ all:
 try:
 	@python3 tools/try_program.py
 
-test:
-	@rt ci
+# .ci/run takes the gate's own status from a file: after a recipe that fails, make would write a line after the gate's last.
+test: lint
+	@status=0; env -u MAKEFLAGS -u MFLAGS -u MAKELEVEL rt ci || status=$$?; \
+	    if [ -n "$$GATE_STATUS" ]; then echo "$$status" > "$$GATE_STATUS"; else exit "$$status"; fi
 
 check:
 	@rt all check

@@ -5,7 +5,8 @@
 /** @param {string} report */
 const numberOf = (report) => /^[A-Z]\d+/.exec(report)?.[0] ?? '';
 
-const DATE_FORMS = 'A date is written YYYY, YYYY-MM, YYYY-MM-DD, YYYY-MM-DDThh:mmZ or YYYY-MM-DDThh:mm:ssZ, in UTC.';
+const DATE_FORMS = 'A date is written YYYY, YYYY-MM, YYYY-MM-DD, YYYY-MM-DDThh:mmZ, YYYY-MM-DDThh:mm:ssZ or ' +
+    'YYYY-MM-DDThh:mm:ss.fZ, in UTC.';
 
 /**
  * The name, the meaning and the advice of what the library reports.
