@@ -15,8 +15,8 @@
 # make numbers      makes docs/NUMBERS.md from the table of numbers
 # make man          makes the manual pages and the completions under out/
 # make collection   makes the one file out/warc-collection of the package in collection/
-# make install      copies what is built to PREFIX: the program, pages, completions, docs, examples, and the library, the
-#                   reading room and the Rust crate where they are built; LIBDIR and DESTDIR are heeded; make uninstall
+# make install      copies what is built to PREFIX: the program, pages, completions, docs, examples, and the library,
+#                   the reading room and the Rust crate if they are built; LIBDIR and DESTDIR are heeded; make uninstall
 #                   removes what was installed
 # make install-python   copies the Python package to PYTHONDIR, or where Debian's Python looks; make uninstall-python
 # make dist         makes the tarballs of a release under dist/ (program and library, Python, Rust, source), the reading
@@ -37,8 +37,9 @@ PREFIX ?= /usr/local
 export PREFIX LIBDIR DESTDIR PYTHONDIR FILE RUN
 JOBS ?= $(shell nproc)
 
-.PHONY: all try test check lint lint-code test-docs lint-docs man install uninstall install-python uninstall-python dist verify-dist
-.PHONY: test-compatibility test-package stress bench clean lib python rust test-callers page test-page numbers collection
+.PHONY: all try test check lint lint-code test-docs lint-docs man install uninstall install-python uninstall-python
+.PHONY: dist verify-dist test-compatibility test-package stress bench clean lib python rust test-callers page test-page
+.PHONY: numbers collection
 
 define PAGES
 @python3 tools/make_collection.py out/warc-collection
@@ -53,7 +54,7 @@ all:
 try:
 	@python3 tools/try_program.py
 
-# .ci/run takes the gate's own status from a file: after a recipe that fails, make would write a line after the gate's last.
+# .ci/run takes the gate's own status from a file: make would write a line after the gate's last if a recipe failed.
 test: lint
 	@status=0; env -u MAKEFLAGS -u MFLAGS -u MAKELEVEL rt ci || status=$$?; \
 	    if [ -n "$$GATE_STATUS" ]; then echo "$$status" > "$$GATE_STATUS"; else exit "$$status"; fi

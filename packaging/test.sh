@@ -29,8 +29,10 @@ done
 packages=$(for deb in "$folder"/*.deb; do dpkg-deb --field "$deb" Package; done)
 # shellcheck disable=SC2086 # several words are wanted
 dpkg --remove $packages > /dev/null
-if [ -e /usr/bin/warc ] || [ -e /usr/share/doc/zogwedu ] || [ -e /usr/share/zogwedu ] || [ -e /usr/include/warc.h ]; then
-    echo "the packages left files" >&2
-    exit 1
-fi
+for path in bin/warc share/doc/zogwedu share/zogwedu include/warc.h; do
+    if [ -e "/usr/$path" ]; then
+        echo "the packages left /usr/$path" >&2
+        exit 1
+    fi
+done
 echo "the packages were built, installed, tried and removed"

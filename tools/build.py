@@ -3,11 +3,11 @@
 
 Usage: build.py JOBS [FOLDER]
 
-Each crate is proved in a tree of its own below FOLDER (out/build if left out), which has its sources, and the crates below
-it with their libraries: the toolchain lets one run at a time work in a tree. The processors are shared among the crates
-whose lower crates are done. What was proved is kept there, and a later run proves only what changed: a crate is passed
-over where FOLDER/NAME/mark has the checksum of all that its proof stands on. A line is printed for each crate when it is
-done, with the seconds that it took; its log is FOLDER/NAME/log.
+Each crate is proved in a tree of its own below FOLDER (out/build if left out), which has its sources, and the crates
+below it with their libraries: the toolchain lets one run at a time work in a tree. The processors are shared among
+the crates whose lower crates are done. What was proved is kept there, and a later run proves only what changed: a
+crate is passed over where FOLDER/NAME/mark has the checksum of all that its proof stands on. A line is printed for
+each crate when it is done, with the seconds that it took; its log is FOLDER/NAME/log.
 """
 import hashlib
 import os
@@ -23,8 +23,8 @@ PROGRAM = "warc_tool"
 TREE = f"{TOP}/out/build"
 PARTS = ("src", "specs", "proofs")
 KEPT = "   kept from an earlier check"
-# A crate doesn't keep its processors busy all the time, so a few more jobs run than there are processors. Each job loads
-# the libraries below, so a small crate is done sooner with one.
+# A crate doesn't keep its processors busy all the time, so a few more jobs run than there are processors. Each job
+# loads the libraries below, so a small crate is done sooner with one.
 SPARE = 1.5
 LINES_OF_A_JOB = 500
 MEMORY_OF_A_JOB = 2_500_000_000

@@ -1,11 +1,12 @@
 #!/usr/bin/env python3
-"""Proves the crates of the library that C, Python and Rust call, and puts libwarc.a, libwarc.so and warc.h under out/lib.
+"""Proves the crates of the library that C, Python and Rust call, and puts libwarc.a, libwarc.so and warc.h under
+out/lib.
 
 Usage: build_lib.py JOBS [FOLDER]
 
-The crates are proved below FOLDER (out/build if left out), as build.py proves those of the program, and beside them: what
-both use is proved once. The libraries are the proved functions, c/warc.c, and what the toolchain has of the C library's
-memory (liblibc_c.a).
+The crates are proved below FOLDER (out/build if left out), as build.py proves those of the program, and beside them:
+what both use is proved once. The libraries are the proved functions, c/warc.c, and what the toolchain has of the C
+library's memory (liblibc_c.a).
 """
 import os
 import re

@@ -3,9 +3,10 @@
 
 Usage: build_page.py [--module FILE] [FOLDER]
 
-The crates are copied to FOLDER (out/page-module, if left out), since the gate refuses crates for wasm64. There warc_page
-is one: its line of crates.txt, and nothing else, is changed. What was proved there is kept, and a later run proves only
-what changed. A folder that another user may write to isn't used. With --module, FILE is the module, and nothing is built.
+The crates are copied to FOLDER (out/page-module, if left out), since the gate refuses crates for wasm64. There
+warc_page is one: its line of crates.txt, and nothing else, is changed. What was proved there is kept, and a later run
+proves only what changed. A folder that another user may write to isn't used. With --module, FILE is the module, and
+nothing is built.
 
 The page holds DOMPurify, of Debian's package node-dompurify, with its licence.
 """
@@ -45,8 +46,9 @@ POLICY = (
 )
 PURIFIER = "/usr/share/nodejs/dompurify/dist/purify.js"
 NO_PURIFIER = f"{PURIFIER} isn't there: install Debian's package node-dompurify (apt-get install node-dompurify)"
-# The script finds no window, so it makes no policy and touches no page: it gives a function that takes a window. Debian's
-# 2.4.1-2+deb12u1 also reads a variable that it doesn't have, and fails at each call; here it finds an empty one.
+# The script finds no window, so it makes no policy and touches no page: it gives a function that takes a window.
+# Debian's 2.4.1-2+deb12u1 also reads a variable that it doesn't have, and fails at each call; here it finds an empty
+# one.
 AROUND_PURIFIER = """const createPurifier = ((exports, module, window, shadowNode) => {{
 {}
 return module.exports;

@@ -1,6 +1,6 @@
 #!/usr/bin/env python3
-"""Makes what a release has, the same bytes each time: tarballs of the program with all that is installed, the library for
-C among it, of the Python package, of the Rust crate and of the source, and the reading room.
+"""Makes what a release has, the same bytes each time: tarballs of the program with all that is installed, the library
+for C among it, of the Python package, of the Rust crate and of the source, and the reading room.
 
 Usage: dist.py make           writes them to dist/, with their SHA-256 in dist/SHA256SUMS
        dist.py verify FILE    makes the tarball of the program anew and compares it with FILE

@@ -7,17 +7,30 @@ It reports, a line each, and exits with 1 where there is any:
 
 - a word of specs/ that two specs files define;
 - a specs file that says "no public clause cites them" where the contract of a public function cites one of its words;
-- a line of over 120 characters in src/ or specs/, but for imports (`ghost use`, `use`) and tactics, which rt fmt
-  keeps in one line;
+- a line of over 120 characters: in src/ or specs/, but for imports (`ghost use`, `use`) and tactics, which rt fmt keeps
+  in one line; in a script of tools/, packaging/ and some folders of tests/;
 - a must-fail edit that doesn't apply (a text that isn't in its file exactly once), or that has no line `why:`;
 - a number of a paper or of a request in place of a plain name.
 """
+from __future__ import annotations
+
 import os
 import re
 import subprocess
 import sys
+from collections.abc import Iterator
 
 WIDTH = 120
+# Files of which no line may be wider, with what begins a line that may. CALLING.md is made of texts of crates/.
+NARROW = (
+    (re.compile(r"crates/\w+/(src/.*\.rt|specs/.*\.antt)"), re.compile(r"\s*(ghost use |use |#\[tactic)")),
+    (
+        re.compile(
+            r"(tools/(?!make_calling)|packaging/|shell/|\.ci/|Makefile|tests/(compatibility|reference|tools)/).*"
+        ),
+        None,
+    ),
+)
 WORD = re.compile(r"^(?:abbrev|unfoldable|opaque|record|data) pub ([^\s:({]+)|^pub (?:record|data) ([^\s:({]+)")
 IMPORT = re.compile(r"^use Rattle\.(\w+)\.specs\.(\w+)\.\{([^}]*)\}")
 GHOST_IMPORT = re.compile(r"^\s*ghost use Rattle\.(\w+)\.specs\.(\w+)\.\{([^}]*)\}")
@@ -27,14 +40,15 @@ PAPER = re.compile(r"\b(?:[DLTW][0-9]{1,2}(?:\.[0-9]+)?|R[0-9]{1,2}|[Rr]ow [0-9]
 NO_PAPER = re.compile(r"T[0-9]{2}:|[0-9]T[0-9]|urn:uuid|--stored")
 
 
-def files(top):
+def files(top: str) -> list[str]:
     """The files that git tracks, and the new ones that it doesn't ignore."""
     out = subprocess.run(
-        ["git", "ls-files", "-co", "--exclude-standard"], cwd=top, check=True, capture_output=True, text=True)
+        ["git", "ls-files", "-co", "--exclude-standard"], cwd=top, check=True, capture_output=True, text=True
+    )
     return [path for path in sorted(set(out.stdout.split("\n"))) if path and os.path.isfile(os.path.join(top, path))]
 
 
-def lines_of(top, path):
+def lines_of(top: str, path: str) -> list[str]:
     """The lines of a text file; none where it isn't UTF-8."""
     try:
         with open(os.path.join(top, path), encoding="utf-8") as file:
@@ -43,9 +57,9 @@ def lines_of(top, path):
         return []
 
 
-def defined(top, paths):
+def defined(top: str, paths: list[str]) -> dict[str, list[str]]:
     """Each word of specs/ with the places that define it."""
-    words = {}
+    words: dict[str, list[str]] = {}
     for path in paths:
         if re.fullmatch(r"crates/\w+/specs/\w+\.antt", path):
             for number, line in enumerate(lines_of(top, path), 1):
@@ -55,14 +69,14 @@ def defined(top, paths):
     return words
 
 
-def defined_twice(top, paths):
+def defined_twice(top: str, paths: list[str]) -> Iterator[str]:
     words = defined(top, paths)
     twice = {word for word, places in words.items() if len({place.split(":")[0] for place in places}) > 1}
     for word in sorted(twice):
         yield f"{words[word][0]}: {word} is defined here and at {', '.join(words[word][1:])}"
 
 
-def clauses_of_public_functions(lines):
+def clauses_of_public_functions(lines: list[str]) -> Iterator[str]:
     """The lines between the head and the body of each public function."""
     inside = False
     for line in lines:
@@ -74,7 +88,7 @@ def clauses_of_public_functions(lines):
                 inside = False
 
 
-def cited_publicly(top, paths):
+def cited_publicly(top: str, paths: list[str]) -> set[tuple[str, str, str]]:
     """Of each crate, the words (crate, file, word) that clauses of its public functions cite."""
     cited = set()
     for path in paths:
@@ -94,7 +108,7 @@ def cited_publicly(top, paths):
     return cited
 
 
-def untrue_headers(top, paths):
+def untrue_headers(top: str, paths: list[str]) -> Iterator[str]:
     cited = cited_publicly(top, paths)
     for path in paths:
         found = re.fullmatch(r"crates/(\w+)/specs/(\w+)\.antt", path)
@@ -109,19 +123,21 @@ def untrue_headers(top, paths):
                 yield f"{path}:1: says '{PRIVATE}', and a public contract cites {name}"
 
 
-def wide_lines(top, paths):
+def wide_lines(top: str, paths: list[str]) -> Iterator[str]:
     for path in paths:
-        if not re.fullmatch(r"crates/\w+/(src/.*\.rt|specs/.*\.antt)", path):
-            continue
-        for number, line in enumerate(lines_of(top, path), 1):
-            if len(line) > WIDTH and not re.match(r"\s*(ghost use |use |#\[tactic)", line):
-                yield f"{path}:{number}: {len(line)} characters"
+        for files, wide in NARROW:
+            if not files.fullmatch(path):
+                continue
+            for number, line in enumerate(lines_of(top, path), 1):
+                if len(line) > WIDTH and not (wide and wide.match(line)):
+                    yield f"{path}:{number}: {len(line)} characters"
 
 
-def edit_faults(top, path):
+def edit_faults(top: str, path: str) -> Iterator[str]:
     """What is wrong with a must-fail edit."""
     crate = path.rsplit("/", 2)[0]
-    texts, why, file, old = {}, False, None, None
+    texts: dict[str, str] = {}
+    why, file, old = False, "", None
     for line in lines_of(top, path):
         key, _, text = line.partition(":")
         text = text[1:] if text.startswith(" ") else text
@@ -143,22 +159,23 @@ def edit_faults(top, path):
         yield f"{path}: no line 'why: PROMISE; refused by CLAUSE'"
 
 
-def bad_edits(top, paths):
+def bad_edits(top: str, paths: list[str]) -> Iterator[str]:
     for path in paths:
         if re.fullmatch(r"crates/\w+/must-fail/\w+\.edit", path):
             yield from edit_faults(top, path)
 
 
-def numbers_of_papers(top, paths):
+def numbers_of_papers(top: str, paths: list[str]) -> Iterator[str]:
     for path in paths:
         if path.endswith((".edit", "/stdin", "/stdout", ".warc", ".lock")) or path.startswith("tools/lint"):
             continue
         for number, line in enumerate(lines_of(top, path), 1):
-            if PAPER.search(line) and not NO_PAPER.search(line):
-                yield f"{path}:{number}: {PAPER.search(line).group(0)}"
+            found = PAPER.search(line)
+            if found and not NO_PAPER.search(line):
+                yield f"{path}:{number}: {found[0]}"
 
 
-def main(words):
+def main(words: list[str]) -> int:
     top = words[0] if words else os.path.join(os.path.dirname(os.path.abspath(__file__)), "..")
     paths = files(top)
     found = [

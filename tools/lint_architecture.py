@@ -1,9 +1,9 @@
-"""What docs/ARCHITECTURE.md must list: the files of specs/ that public contracts rest on, the files of the crates and of the
-page that it describes, and in its picture each crate above those that it uses.
+"""What docs/ARCHITECTURE.md must list: the files of specs/ that public contracts rest on, the files of the crates and
+of the page that it describes, and in its picture each crate above those that it uses.
 
-A word of specs/ counts if the contract of a public function cites it, or if the definition of a word that counts uses it.
-Public are functions with `pub`, those of a public trait, and those that implement a trait. What a file imports without
-using it in such a definition doesn't count.
+A word of specs/ counts if the contract of a public function cites it, or if the definition of a word that counts uses
+it. Public are functions with `pub`, those of a public trait, and those that implement a trait. What a file imports
+without using it in such a definition doesn't count.
 """
 
 from __future__ import annotations

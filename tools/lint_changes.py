@@ -1,4 +1,4 @@
-"""The table "To change X, touch Y" of CONTRIBUTING.md: each path is there, and each file that has a row's word is in the row."""
+"""The table "To change X, touch Y" of CONTRIBUTING.md: each path is there, and a file with a row's word is in it."""
 
 from __future__ import annotations
 
@@ -14,7 +14,8 @@ ROW = re.compile(r"^\| ([^|]+) \| ((?:`[^`]+`(?:, )?)+) \| `((?:[^|`]|\\\|)+)` \
 # What the gate shows by itself, and what only explains, measures or makes data for tests.
 LEFT_OUT = re.compile(
     r"crates/\w+/(?:proofs|must-fail)/|crates/(?:suites_|example_|program_|warc_vectors|warc_tool/std)|.*\.warc$"
-    r"|(?:CHANGELOG|CONTRIBUTING|README)|.*/CALLING\.md|bench/|examples/|rust/examples/|tests/(?:compatibility|page|stress)/"
+    r"|(?:CHANGELOG|CONTRIBUTING|README)|.*/CALLING\.md|bench/|examples/|rust/examples/"
+    r"|tests/(?:compatibility|page|stress)/"
     r"|docs/(?:DECISIONS|SPEED|TRUST|PROMISES|ARCHITECTURE|GLOSSARY|COMPATIBILITY|FROM_WARCIO)|tools/lint"
 )
 

@@ -1,8 +1,8 @@
 #!/usr/bin/env python3
 """Checks the code that isn't proved: its types, its layout, and the tools' own warnings.
 
-Each check names the programs and the Python modules that it needs. Where one isn't installed, the check is left out, and
-a line says so. A check that runs and fails ends this script with 1, after all others have run.
+Each check names the programs and the Python modules that it needs. Where one isn't installed, the check is left out,
+and a line says so. A check that runs and fails ends this script with 1, after all others have run.
 """
 from __future__ import annotations
 
@@ -71,7 +71,10 @@ PAGE_PYTHON = (
     *("tools/build_page.py", "tools/lint_page.py"),
     *sorted(path[len(TOP) + 1 :] for path in glob.glob(f"{TOP}/tests/page/*.py")),
 )
-PAGES_PYTHON = tuple(f"tools/lint_{name}.py" for name in ("docs", "trust", "architecture", "changes"))
+PAGES_PYTHON = (
+    *("tools/lint.py", "tools/wrap_pages.py"),
+    *(f"tools/lint_{name}.py" for name in ("docs", "trust", "architecture", "changes")),
+)
 COMPATIBILITY = ("tests/compatibility/compare.py", "tests/compatibility/shapes.py")
 UNTYPED_CALLS = ("--allow-untyped-calls",)  # they use scripts that have no types yet
 

@@ -39,7 +39,7 @@ VERSIONS = [
     ("rust/Cargo.toml", "version"),
 ]
 MOST = 9 * 1024
-# A crate, a colon, and the names of its calls and laws: "`warc`: `open` and `grow` of `Archive`, law `faults_are_stable`".
+# A crate, a colon, and the names of its calls and laws: "`warc`: `open` and `grow` of `Archive`, law `no_faults`".
 CALLS = re.compile(
     r"`(warc\w*|suites_\w+)`: ((?:laws? )?`[\w:]+`(?:(?:, | and | of |, and | or )(?:laws? )?`[\w:]+`(?!:))*)"
 )
@@ -72,7 +72,7 @@ def items_of(crate: str) -> set[str]:
 
 def calls_elsewhere() -> Iterator[str]:
     """Calls and laws that docs/PROMISES.md names after a crate and that aren't in it."""
-    page, count = read("docs/PROMISES.md"), 0
+    page, count = " ".join(read("docs/PROMISES.md").split()), 0
     for crate, names in CALLS.findall(page):
         items = items_of(crate)
         for name in re.findall(r"\w+", " ".join(re.findall(r"`([^`]*)`", names))):
@@ -116,7 +116,7 @@ def cases_elsewhere() -> Iterator[str]:
     for path in glob.glob(f"{TOP}/crates/suites_*/stdout"):
         report = read(os.path.relpath(path, TOP))
         count += sum(map(int, re.findall(r"^(\d+) cases, \d+ steps, 0 failed$", report, re.MULTILINE)))
-    numbers = re.findall(r"\b(\d[\d,]*) cases\b", read("docs/PROMISES.md"))
+    numbers = re.findall(r"\b(\d[\d,]*)\s+cases\b", read("docs/PROMISES.md"))
     for number in numbers:
         if number != f"{count:,}":
             yield f"docs/PROMISES.md: {number} cases, and the suites have {count:,}"

@@ -3,9 +3,9 @@
 
 Usage: lint_page.py
 
-It reports, a line each, and exits with 1 where there is any: a line of over 120 columns, a tab, and a function of 40 lines
-or more. A function begins at a line that ends with a brace, and ends at the brace in the same column, as clang-format lays
-it out.
+It reports, a line each, and exits with 1 where there is any: a line of over 120 columns, a tab, and a function of 40
+lines or more. A function begins at a line that ends with a brace, and ends at the brace in the same column, as
+clang-format lays it out.
 """
 from __future__ import annotations
 

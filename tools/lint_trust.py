@@ -1,7 +1,7 @@
 """What docs/TRUST.md must be: eight claims of at most 30 words, each with what it rests on, as links that lead there.
 
-Below each claim are a premise, a contract, a case of a suite and a planted bug. A link to a file of src/ names a function
-of that file, one to a script of a suite names a case of it, and one to an edit names a file of must-fail/.
+Below each claim are a premise, a contract, a case of a suite and a planted bug. A link to a file of src/ names a
+function of that file, one to a script of a suite names a case of it, and one to an edit names a file of must-fail/.
 """
 from __future__ import annotations
 
@@ -27,7 +27,7 @@ def missing_in(text: str, path: str) -> str | None:
     """What a linked file lacks that the text of the link names."""
     if not os.path.isfile(f"{TOP}/{path}"):
         return f"no file {path}"
-    name = text.strip("`")
+    name = " ".join(text.strip("`").split())
     if path.endswith(".rt") and not re.search(rf"\bfn {re.escape(name.split('::')[-1])}\b", read(path)):
         return f"{path} has no function {name}"
     if path.endswith("/stdin") and not re.search(rf"^== (?:[\w ]+: )?{re.escape(name)}$", read(path), re.MULTILINE):
@@ -39,7 +39,7 @@ def faults_of(number: int, claim: str, lines: dict[str, str]) -> Iterator[str]:
     """What is wrong with one claim and the lines below it."""
     if len(claim.split()) > WORDS:
         yield f"claim {number} has {len(claim.split())} words, and {WORDS} are allowed"
-    if not lines.get("Premise"):
+    if not lines.get("Premise", "").strip():
         yield f"claim {number} has no premise"
     for name, files in CARRIERS.items():
         links = LINK.findall(lines.get(name, ""))
@@ -58,7 +58,7 @@ def faults_in(page: str) -> Iterator[str]:
         yield f"{len(parts)} claims, and {CLAIMS} are wanted"
     for number, part in enumerate(parts, 1):
         claim = " ".join(re.findall(r"^> (.*)$", part, re.MULTILINE))
-        items = re.findall(r"^- ([^:\n]+): (.*(?:\n  .*)*)$", part, re.MULTILINE)
+        items = re.findall(r"^- ([^:\n]+):(.*(?:\n  .*)*)$", part, re.MULTILINE)
         yield from faults_of(number, claim, dict(items))
 
 

@@ -1,12 +1,12 @@
 #!/usr/bin/env python3
-"""Makes completions for bash, zsh and fish from the help that the programs themselves print: for warc, for zwarc, which has
-the commands of warc, and for warc-collection.
+"""Makes completions for bash, zsh and fish from the help that the programs themselves print: for warc, for zwarc,
+which has the commands of warc, and for warc-collection.
 
 Usage: make_completions.py PROGRAM FOLDER
 
-Completed are the commands, their options, and each argument: an archive or a file by the names of files, a record's kind
-by the three kinds, a number that is explained by all numbers, and any other argument by nothing. The arguments of
-warc-collection are completed by the names of files.
+Completed are the commands, their options, and each argument: an archive or a file by the names of files, a record's
+kind by the three kinds, a number that is explained by all numbers, and any other argument by nothing. The arguments
+of warc-collection are completed by the names of files.
 """
 from __future__ import annotations
 

@@ -1,6 +1,6 @@
 #!/usr/bin/env python3
-"""Makes the file copyright of a package and of a release: the project's, and that of each crate of the toolchain that is linked into the program or the
-library, with the licence that the toolchain has for it.
+"""Makes the file copyright of a package and of a release: the project's, and that of each crate of the toolchain that
+is linked into the program or the library, with the licence that the toolchain has for it.
 
 Usage: make_copyright.py FILE
 """

@@ -1,10 +1,11 @@
 #!/usr/bin/env python3
-"""Makes the manual pages from docs/: warc.1, a page for each command and zwarc.1 from PROGRAM.md, warc.5 from FORMAT.md,
-and warc-collection.1 from COLLECTIONS.md.
+"""Makes the manual pages from docs/: warc.1, a page for each command and zwarc.1 from PROGRAM.md, warc.5 from
+FORMAT.md, and warc-collection.1 from COLLECTIONS.md.
 
 Usage: make_man.py FOLDER
 
-Of Markdown it knows what these pages use: headings, paragraphs, lists, tables, blocks of code, `code`, **bold**, *italic*.
+Of Markdown it knows what these pages use: headings, paragraphs, lists, tables, blocks of code, `code`, **bold** and
+*italic*.
 A section `## warc NAME` of PROGRAM.md is the page warc-NAME.1; the first block of code in it is the synopsis.
 """
 import os
@@ -82,11 +83,16 @@ def blocks(text):
                 lines.append(line)
             continue
         new = (
-            "code" if line.startswith("```")
-            else "head" if HEADING.match(line)
-            else "table" if line.startswith("|")
-            else "item" if ITEM.match(line)
-            else "text" if line.strip()
+            "code"
+            if line.startswith("```")
+            else "head"
+            if HEADING.match(line)
+            else "table"
+            if line.startswith("|")
+            else "item"
+            if ITEM.match(line)
+            else "text"
+            if line.strip()
             else None
         )
         goes_on = new == kind and kind in ("table", "text") or kind == "item" and new == "text"
@@ -142,6 +148,11 @@ def deeper(text):
     return re.sub(r"^###", "#", text, flags=re.MULTILINE)
 
 
+def deepest(parts):
+    """Sections of a page, with their own headings one level lower."""
+    return "".join(f"# {title}\n{re.sub('^###', '####', it, flags=re.M)}" for title, it in parts)
+
+
 def synopsis(text):
     """A section with its first block of code as the synopsis, and the rest as the description."""
     usage, rest = re.match(r"\s*```\n(.*?)```\n(.*)", text, re.DOTALL).groups()
@@ -179,11 +190,16 @@ def main():
         write(folder, name, 1, page(name, 1, short, synopsis(text), ["warc(1)", "warc(5)"]))
     shared = [part for part in parts if not part[0].startswith("warc ") and part[0] != "zwarc"]
     zwarc = synopsis(dict(parts)["zwarc"])
-    write(folder, "zwarc", 1, page("zwarc", 1, "runs warc over a compressed archive", zwarc, ["warc(1)", "gzip(1)", "zstd(1)"]))
+    write(
+        folder,
+        "zwarc",
+        1,
+        page("zwarc", 1, "runs warc over a compressed archive", zwarc, ["warc(1)", "gzip(1)", "zstd(1)"]),
+    )
     common = shared[0][1] + "".join(f"### {title}\n{text}" for title, text in shared[1:])
     write(folder, "warc", 1, main_page(front, common, commands))
     first, rules = sections(read("docs/FORMAT.md"))
-    text = "# Description\n" + first + "".join(f"# {title}\n{re.sub('^###', '####', it, flags=re.M)}" for title, it in rules)
+    text = "# Description\n" + first + deepest(rules)
     write(folder, "warc", 5, page("warc", 5, "the WARC format, as Zogwedu reads it", text, ["warc(1)"]))
     write(folder, "warc-collection", 1, collection_page(read("docs/COLLECTIONS.md")))
 
@@ -193,8 +209,10 @@ def collection_page(text):
     first, parts = sections(text)
     summary, usage, rest = re.match(r"\s*(.*?)\n\n```\n(.*?)```\n(.*)", first, re.DOTALL).groups()
     text = f"# Synopsis\n\n```\n{usage}```\n\n# Description\n\n{summary}\n\n{rest}"
-    text += "".join(f"# {title}\n{re.sub('^###', '####', it, flags=re.M)}" for title, it in parts)
-    return page("warc-collection", 1, "checks, catalogues and replays many web archives", text, ["warc(1)", "parallel(1)"])
+    text += deepest(parts)
+    return page(
+        "warc-collection", 1, "checks, catalogues and replays many web archives", text, ["warc(1)", "parallel(1)"]
+    )
 
 
 main()

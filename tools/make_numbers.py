@@ -21,7 +21,10 @@ TITLES = {
     "G": ("Why segments don't join", "For G1, G3 and G4 the number of a segment follows."),
     "P": ("Why there is no body", "`replay`, `body` and `captures` print these reasons."),
     "M": ("Why a record isn't made", "`write` prints these."),
-    "S": ("Why a record isn't split", "The library reports these. `split` writes such a record whole, and prints none."),
+    "S": (
+        "Why a record isn't split",
+        "The library reports these. `split` writes such a record whole, and prints none.",
+    ),
     "E": ("What isn't there", "`extract`, `head`, `block` and `body` print these."),
     "N": ("What `check` finds", "For N1, N2, N3 and N9 the name of a field follows."),
 }
@@ -57,7 +60,7 @@ def page():
     rows = entries()
     for letter, (title, note) in TITLES.items():
         out.append(f"## {title}\n\n{note}\n\n| No. | Name | Meaning | What to do |\n|---|---|---|---|")
-        out += [f"| {number} | {name} | {means} | {remedy} |" for number, name, means, remedy in rows if number[0] == letter]
+        out += [f"| {' | '.join(row)} |" for row in rows if row[0][0] == letter]
         out.append("")
     return "\n".join(out)
 
@@ -72,7 +75,8 @@ def wrong():
         if not (name and means and remedy):
             yield f"{TABLE}: {number} lacks a name, a meaning or what to do"
     named = {}
-    for line in re.findall(r"^\| ([FGPMSEN][0-9, F]*) \| ([A-Z]\w*(?:, [A-Z]\w*)*)", read("docs/FORMAT.md"), re.MULTILINE):
+    row = re.compile(r"^\| ([FGPMSEN][0-9, F]*) \| ([A-Z]\w*(?:, [A-Z]\w*)*)", re.MULTILINE)
+    for line in row.findall(read("docs/FORMAT.md")):
         named.update(zip(line[0].split(", "), line[1].split(", ")))
     named.update({"F12": "TooLong", "F13": "Read", "F14": "Memory"})
     for number, name, *_ in rows:

@@ -24,7 +24,12 @@ def lines(program):
     path = f"{os.path.dirname(os.path.abspath(program))}:{os.environ['PATH']}"
     for words in COMMANDS:
         ran = subprocess.run(
-            words, shell=True, cwd=TOP, env={**os.environ, "PATH": path}, stdout=subprocess.PIPE, stderr=subprocess.STDOUT
+            words,
+            shell=True,
+            cwd=TOP,
+            env={**os.environ, "PATH": path},
+            stdout=subprocess.PIPE,
+            stderr=subprocess.STDOUT,
         )
         yield True, words
         for line in ran.stdout.decode().splitlines():
@@ -36,15 +41,18 @@ def main():
     shown = list(lines(program))
     width, height = WIDTH * SIZE * 0.6 + 2 * EDGE, len(shown) * LINE + 2 * EDGE
     out = [
-        f'<svg xmlns="http://www.w3.org/2000/svg" width="{width:.0f}" height="{height}" viewBox="0 0 {width:.0f} {height}">',
+        f'<svg xmlns="http://www.w3.org/2000/svg" width="{width:.0f}" height="{height}" '
+        f'viewBox="0 0 {width:.0f} {height}">',
         f'<rect width="{width:.0f}" height="{height}" rx="8" fill="#1d2433"/>',
-        f'<g font-family="DejaVu Sans Mono, Menlo, Consolas, monospace" font-size="{SIZE}" fill="#d7dce5" xml:space="preserve">',
+        f'<g font-family="DejaVu Sans Mono, Menlo, Consolas, monospace" font-size="{SIZE}" fill="#d7dce5" '
+        'xml:space="preserve">',
     ]
     for number, (is_command, text) in enumerate(shown):
         y = EDGE + number * LINE + SIZE
         text = html.escape(text)
-        words = f'<tspan fill="#7fc8a9">$ </tspan><tspan fill="#ffffff" font-weight="bold">{text}</tspan>' if is_command else text
-        out.append(f'<text x="{EDGE}" y="{y}">{words}</text>')
+        if is_command:
+            text = f'<tspan fill="#7fc8a9">$ </tspan><tspan fill="#ffffff" font-weight="bold">{text}</tspan>'
+        out.append(f'<text x="{EDGE}" y="{y}">{text}</text>')
     with open(picture, "w", encoding="utf-8") as file:
         file.write("\n".join([*out, "</g>", "</svg>", ""]))
 

@@ -1,4 +1,4 @@
-"""What the scripts of tools/ share: where the project is, its version, and the crates that the program is built from."""
+"""What the scripts of tools/ share: where the project is, its version, and the crates that it is built from."""
 from __future__ import annotations
 
 import os

@@ -1,12 +1,14 @@
 #!/usr/bin/env python3
-"""Runs the command lines that the pages show over a built program, and compares what they write with what the page says.
+"""Runs the command lines that the pages show over a built program, and compares what they write with what the page
+says.
 
 Usage: test_docs.py [--write] PROGRAM PAGE..
 
-A block between ```console and ``` is run by one shell, in a folder with a copy of examples/, with the program first in
-PATH. A line that begins with `$ ` is a command, and goes on in the next line where it ends with a backslash; what
-follows is all that it writes, to standard output and standard error. The blocks of a page share the folder. In a block
-that begins with ```sh each `make TARGET` has to be a target of the Makefile. --write puts what was written into the page.
+A block between ```console and ``` is run by one shell, in a folder with a copy of examples/, with the program first
+in PATH. A line that begins with `$ ` is a command, and goes on in the next line where it ends with a backslash; what
+follows is all that it writes, to standard output and standard error. The blocks of a page share the folder. In a
+block that begins with ```sh each `make TARGET` has to be a target of the Makefile. --write puts what was written into
+the page.
 """
 import os
 import re

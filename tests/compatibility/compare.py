@@ -3,9 +3,9 @@
 
 Usage: compare.py [--write] PROGRAM
 
-wget and bsdtar run here, over a site on loopback; the other files are made by shapes.py. A row names who wrote the files,
-how many there are, how many open, and what `check`, `fixity` and `captures` say of them. --write puts the rows that were
-found into the page. Needs wget and bsdtar (Debian's libarchive-tools).
+wget and bsdtar run here, over a site on loopback; the other files are made by shapes.py. A row names who wrote the
+files, how many there are, how many open, and what `check`, `fixity` and `captures` say of them. --write puts the rows
+that were found into the page. Needs wget and bsdtar (Debian's libarchive-tools).
 """
 from __future__ import annotations
 
@@ -26,7 +26,8 @@ import shapes
 
 TOP = os.path.dirname(os.path.dirname(os.path.dirname(os.path.abspath(__file__))))
 PAGE = f"{TOP}/docs/COMPATIBILITY.md"
-HEAD = "| Written by | Files | Opened | `check` | `fixity` | Captures with a body | What to do |\n|---|---|---|---|---|---|---|\n"
+TITLES = ("Written by", "Files", "Opened", "`check`", "`fixity`", "Captures with a body", "What to do")
+HEAD = f"| {' | '.join(TITLES)} |\n{'|---' * len(TITLES)}|\n"
 SECONDS = 300
 WEEK = (b"<title>The week</title>\n", b"<p>Monday: snow.</p>\n")
 

@@ -733,8 +733,9 @@ def salvage_command(archive):
 
 
 COMMANDS = {"list": list_command, "check": check_command, "fixity": fixity_command, "extract": extract_command,
-            "head": head_command, "block": block_command, "replay": replay_command, "body": body_command, "captures": captures_command,
-            "rewrite": rewrite_command, "convert": convert_command, "summary": summary_command}
+            "head": head_command, "block": block_command, "replay": replay_command, "body": body_command,
+            "captures": captures_command, "rewrite": rewrite_command, "convert": convert_command,
+            "summary": summary_command}
 
 
 def fault_line(fault):
