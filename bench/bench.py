@@ -27,7 +27,7 @@ TIMED = ("list", "check", "rewrite", "split", "replay")
 
 
 def measure(program, path, count, uri):
-    """Prints the least time of each command over an archive of so many records, with what it is beside the yardsticks."""
+    """Prints the least time of each command over an archive of n records, and its ratio to the yardsticks."""
     size = os.path.getsize(path)
     commands = {name: [program, name, path] for name in TIMED}
     commands["split"].append("1000000")

@@ -6,7 +6,7 @@ Usage: replay.py REPOSITORY PROGRAM FOLDER
 It proves and builds bench/crates/bench_archive, and runs it three times over 1,000,000 tiny records: the least of
 each figure counts. Then the program replays a body of 1 GB that has no digest, opening included, and `cat` copies its
 archive, both to where nothing is kept: each five times, by turns, and the least time counts. The most memory of the
-program is what the system tells of it while it runs once more. The archives are made in FOLDER once and kept.
+program is what the system reports of it while it runs once more. The archives are made in FOLDER once and kept.
 """
 import os
 import subprocess

@@ -22,7 +22,7 @@ def lines_of(path):
 
 
 def below(name, uses):
-    """The crate and all those of the repository that it stands on."""
+    """The crate and all crates of the repository that it rests on."""
     found = {name}
     for it in uses[name]:
         if it in uses:
@@ -49,7 +49,7 @@ def put_program(name, tree):
 
 
 def build(repository, name, folder):
-    """Has `rt run` prove and build a program of bench/crates/ in a tree of its own, beside the crates that it stands on with
+    """Has `rt run` prove and build a program of bench/crates/ in a tree of its own, beside the crates it rests on, with
     what their checks kept; gives the path of the program in the folder."""
     own = lines_of(f"{PROGRAMS}/list.txt")
     uses = {**lines_of(f"{repository}/crates.txt"), **own}
@@ -86,7 +86,7 @@ def head(number, length, digest):
 
 
 def make(path, count, length, has_digests=True):
-    """Makes an archive of so many records with blocks of one length, unless it is there."""
+    """Makes an archive of n records with blocks of one length, unless it is there."""
     if os.path.exists(path):
         return
     block = (b"0123456789abcdef" * (length // 16 + 1))[:length]
@@ -123,7 +123,7 @@ def crawl_target(number):
 
 
 def make_crawl(path, count):
-    """Makes an archive as a crawler writes it, unless it is there: so many visits with a request each. A visit is a page of
+    """Makes an archive as a crawler writes it, unless it is there: n visits with a request each. A visit is a page of
     20,000 to 60,000 random bytes, or, each seventh, a revisit of an earlier page."""
     if os.path.exists(path):
         return
@@ -155,7 +155,7 @@ def make_crawl(path, count):
 
 
 def run(words):
-    """Seconds and peak kilobytes of one run; what it writes and tells is thrown away."""
+    """Seconds and peak kilobytes of one run; its output and its messages are thrown away."""
     begin = time.perf_counter()
     child = os.fork()
     if child == 0:

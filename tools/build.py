@@ -6,7 +6,7 @@ Usage: build.py JOBS [FOLDER]
 Each crate is proved in a tree of its own below FOLDER (out/build if left out), which has its sources, and the crates
 below it with their libraries: the toolchain lets one run at a time work in a tree. The processors are shared among
 the crates whose lower crates are done. What was proved is kept there, and a later run proves only what changed: a
-crate is passed over where FOLDER/NAME/mark has the checksum of all that its proof stands on. A line is printed for
+crate is passed over if FOLDER/NAME/mark has the checksum of all that its proof rests on. A line is printed for
 each crate when it is done, with the seconds that it took; its log is FOLDER/NAME/log.
 """
 import hashlib
@@ -77,7 +77,7 @@ def lines_of(name):
 
 
 def mark_of(name, uses, words, kit):
-    """A checksum of all that a crate's proof stands on: the toolchain, its sources and those of the crates below."""
+    """A checksum of all that a crate's proof rests on: the toolchain, its sources, and those of crates below."""
     mark = hashlib.sha256(f"{kit} {words} {read('HANDLES')}".encode())
     for low in below(name, uses):
         mark.update(f"{rows()[low]}\n".encode())
@@ -95,7 +95,7 @@ def ways(names, uses):
 
 
 class Run:
-    """The check of one crate, with so many jobs."""
+    """The check of one crate, with this number of jobs."""
 
     def __init__(self, name, folder, words, jobs):
         self.name, self.jobs, self.begun = name, jobs, time.monotonic()

@@ -24,7 +24,7 @@ END = "@@ end of a command"
 
 
 def commands(block):
-    """The commands of a block, each with the text that the page shows behind it."""
+    """The commands of a block, each with the text that the page shows after it."""
     found, goes_on = [], False
     for line in block.splitlines(keepends=True):
         if goes_on:

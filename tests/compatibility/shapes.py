@@ -89,7 +89,7 @@ def heritrix() -> list[bytes]:
 
 
 def warcprox() -> list[bytes]:
-    """warcprox: WARC/1.0, SHA-1 in hexadecimal digits unless it is told otherwise, bodies as the server sent them."""
+    """warcprox: WARC/1.0, SHA-1 in hexadecimal digits by default, bodies as the server sent them."""
     records, picture = [warcinfo("1.0", "warcprox 2.4", [])], SITE + "sky.png"
     packed = gzip.compress(PAGE, mtime=0)
     bodies = ((SITE, http("text/html", "Content-Encoding: gzip"), packed), (picture, http("image/png"), PICTURE))
