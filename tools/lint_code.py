@@ -66,6 +66,11 @@ C_PROGRAMS = (
     "tests/callers/mutated.c",
     "tests/callers/threads.c",
 )
+CALLERS = tuple(
+    path[len(TOP) + 1 :] for path in sorted(glob.glob(f"{TOP}/tests/callers/*.py")) if "generated" not in path
+)
+GENERATED = "tests/callers/generated.py"
+TERMINAL = "tests/stress/terminal.py"
 PAGE_SCRIPTS = tuple(sorted(path[len(TOP) + 1 :] for path in glob.glob(f"{TOP}/page/*.js")))
 PAGE_PYTHON = (
     *("tools/build_page.py", "tools/lint_page.py"),
@@ -100,6 +105,10 @@ CHECKS = [
     Check(
         "layout of the Python package", ("black", "--quiet", "--check", "--line-length=120", "python", "tests/callers")
     ),
+    Check("types of tests/callers", (*TYPES, "python/src/zogwedu", *CALLERS)),
+    Check("types of tests/callers/generated.py", (*TYPES, "python/src/zogwedu", *CALLERS, GENERATED), ("hypothesis",)),
+    Check("types of tests/stress/terminal.py", (*TYPES, "--follow-imports=silent", *UNTYPED_CALLS, TERMINAL)),
+    Check("layout of tests/stress/terminal.py", (*LAYOUT, TERMINAL)),
     Check("warnings of c/warc.c", ("gcc", *C_FLAGS, "c/warc.c")),
     Check("warnings of C's programs", ("gcc", *C_FLAGS, *C_PROGRAMS)),
     Check("c/warc.h as C++", ("g++", "-x", "c++", "-std=c++11", *C_FLAGS[1:], "c/warc.h")),

@@ -3,24 +3,25 @@
 
 Usage: archives.py FOLDER
 
-Every text that a case of a script gives and that begins as an archive becomes a file, and so do its changed and shortened
-forms. Most are damaged in some way. The first lines of each script say how it is written.
+Every text that a case of a script gives and that begins as an archive becomes a file, and so do its changed and
+shortened forms. Most are damaged in some way. The first lines of each script say how it is written.
 """
 import os
 import re
 import sys
+from typing import Iterator, List, Tuple
 
 TOP = os.path.dirname(os.path.dirname(os.path.dirname(os.path.abspath(__file__))))
 ESCAPE = re.compile(rb"\\(?:x(..)|(.))", re.DOTALL)
 NAMED = {b"n": b"\n", b"r": b"\r", b"t": b"\t"}
 
 
-def unescaped(text):
+def unescaped(text: bytes) -> bytes:
     """A text whose escapes are the bytes that they are written for."""
     return ESCAPE.sub(lambda it: bytes([int(it[1], 16)]) if it[1] else NAMED.get(it[2], it[2]), text)
 
 
-def given_by(mark, text):
+def given_by(mark: bytes, text: bytes) -> bytes:
     """What a line of a case adds to the given text."""
     if mark == b"|":
         return unescaped(text) + b"\r\n"
@@ -30,7 +31,7 @@ def given_by(mark, text):
     return unescaped(text) if mark == b"+" else b""
 
 
-def cases(script):
+def cases(script: bytes) -> Iterator[Tuple[bytes, bytes]]:
     """The words of each case, and the text that is given with them."""
     words, given = b"", b""
     for line in script.split(b"\n"):
@@ -44,7 +45,7 @@ def cases(script):
     yield words, given
 
 
-def texts(script):
+def texts(script: bytes) -> Iterator[bytes]:
     """The archives that a script speaks of."""
     last, old = b"", b""
     for words, given in cases(script):
@@ -60,7 +61,7 @@ def texts(script):
             yield given
 
 
-def archives():
+def archives() -> List[bytes]:
     """All archives of all scripts, each once."""
     found = {b"": None}
     for suite in ("suites_archives", "suites_lookups", "suites_texts"):
@@ -69,10 +70,10 @@ def archives():
     return list(found)
 
 
-def write(folder):
+def write(folder: str) -> List[str]:
     """Writes them, and answers their paths."""
     os.makedirs(folder, exist_ok=True)
-    paths = []
+    paths: List[str] = []
     for number, text in enumerate(archives()):
         paths.append(f"{folder}/{number:04}.warc")
         with open(paths[-1], "wb") as file:

@@ -1,15 +1,17 @@
 #!/usr/bin/env python3
-"""Compares what the program, C, Python and Rust give of archives: list, check, fixity, the verdict on each block, and each
-body by position and by URI and date. Compares what C, Python and Rust give of heads, which the program doesn't print.
+"""Compares what the program, C, Python and Rust give of archives: list, check, fixity, the verdict on each block, and
+each body by position and by URI and date. Compares what C, Python and Rust give of heads, which the program doesn't
+print.
 
 Usage: compare.py WARC C_REPORT RUST_REPORT ARCHIVE..
 
-WARC is the program; C_REPORT and RUST_REPORT are built of report.c and of rust/examples/report.rs, and RUST_REPORT may be
-`-`. The last line says how many archives were compared; the status is 1 where something differs.
+WARC is the program; C_REPORT and RUST_REPORT are built of report.c and of rust/examples/report.rs, and RUST_REPORT may
+be `-`. The last line says how many archives were compared; the status is 1 where something differs.
 """
 import subprocess
 import sys
 import threading
+from typing import Sequence, Tuple, Union
 
 import zogwedu
 from report import body_text, report, to_bytes
@@ -18,18 +20,18 @@ THREADS = 4
 HEADS = b"== fields 0\n"  # what follows is of heads
 
 
-def run(*words):
+def run(*words: Union[str, bytes]) -> Tuple[bytes, bytes, int]:
     """What a program writes, its messages and its exit status."""
     it = subprocess.run(words, stdin=subprocess.DEVNULL, capture_output=True, check=False)
     return it.stdout, it.stderr, it.returncode
 
 
-def unnamed(message):
+def unnamed(message: bytes) -> bytes:
     """A message without the program's name before it."""
     return message[len(b"warc: ") :] if message.startswith(b"warc: ") else message
 
 
-def program_body(warc, command, path, *words):
+def program_body(warc: str, command: str, path: str, *words: Union[str, bytes]) -> bytes:
     """The facts and the bytes of a body, or why there is none, as the program gives them."""
     body, message, status = run(warc, command, "--", path, *words)
     if status:
@@ -37,7 +39,7 @@ def program_body(warc, command, path, *words):
     return message + body + b"\n"
 
 
-def program_replay(warc, path, target, date):
+def program_replay(warc: str, path: str, target: str, date: str) -> bytes:
     """The same for a URI as of a date. The program can't be asked for a URI that isn't UTF-8, so Python is."""
     body = program_body(warc, "replay", path, to_bytes(target), date)
     if body.startswith(b"the arguments aren't text"):
@@ -46,13 +48,14 @@ def program_replay(warc, path, target, date):
     return body
 
 
-def verdicts_text(fixity, count):
+def verdicts_text(fixity: bytes, count: int) -> bytes:
     """The verdict on each record's block, from the lines of `warc fixity`, which name the blocks that aren't good."""
-    named = dict(line.split(b"\t")[:2] for line in fixity.splitlines()[:-1])
+    columns = [line.split(b"\t") for line in fixity.splitlines()[:-1]]
+    named = {column[0]: column[1] for column in columns}
     return b"".join(b"%d %s\n" % (number, named.get(b"%d" % number, b"good")) for number in range(count))
 
 
-def program_report(warc, path):
+def program_report(warc: str, path: str) -> bytes:
     """The report of an archive, made by the program."""
     listed, message, status = run(warc, "list", "--", path)
     if status:
@@ -71,7 +74,7 @@ def program_report(warc, path):
     return b"".join(parts)
 
 
-def show_difference(path, name, wanted, given):
+def show_difference(path: str, name: str, wanted: bytes, given: bytes) -> None:
     """Prints the first lines that differ."""
     for one, other in zip(wanted.split(b"\n"), given.split(b"\n")):
         if one != other:
@@ -80,7 +83,7 @@ def show_difference(path, name, wanted, given):
     print(f"{path}: {name} has another length")
 
 
-def differences(warc, c_report, rust_report, path):
+def differences(warc: str, c_report: str, rust_report: str, path: str) -> int:
     """How many callers give something else than the program, or of heads something else than C."""
     reports = {"C": run(c_report, path)[0], "Python": report(path), "Python without mmap": report(path, mmap=False)}
     if rust_report != "-":
@@ -95,12 +98,12 @@ def differences(warc, c_report, rust_report, path):
     return count
 
 
-def threads_differ(paths):
+def threads_differ(paths: Sequence[str]) -> bool:
     """Whether threads, each over archives of its own, give something else than one thread alone."""
     alone = [report(path) for path in paths]
-    beside = [None] * len(paths)
+    beside = [b""] * len(paths)
 
-    def work(first):
+    def work(first: int) -> None:
         for number in range(first, len(paths), THREADS):
             beside[number] = report(paths[number])
 
@@ -112,7 +115,7 @@ def threads_differ(paths):
     return alone != beside
 
 
-def main(warc, c_report, rust_report, *paths):
+def main(warc: str, c_report: str, rust_report: str, *paths: str) -> int:
     """Compares all archives, and then threads."""
     count = sum(differences(warc, c_report, rust_report, path) for path in paths)
     if threads_differ(paths):

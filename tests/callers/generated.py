@@ -1,5 +1,5 @@
 #!/usr/bin/env python3
-"""Archives that hypothesis makes: C, Python and Rust read equal heads of them, and bodies equal to those of the program.
+"""Archives that hypothesis makes: C, Python and Rust read equal heads of them, and bodies as the program gives them.
 
 Usage: generated.py WARC C_REPORT RUST_REPORT FOLDER
 
@@ -53,7 +53,7 @@ ENDS = some.sampled_from(["\r\n", "\r\n", "\r\n", "\n"])
 
 
 @some.composite
-def blocks(draw):
+def blocks(draw: some.DrawFn) -> bytes:
     """A block: an HTTP message, or any bytes."""
     if draw(some.integers(0, 4)) == 0:
         return draw(BODIES)
@@ -65,7 +65,7 @@ def blocks(draw):
 
 
 @some.composite
-def records(draw, number):
+def records(draw: some.DrawFn, number: int) -> bytes:
     """A record of an archive. It may name an earlier one."""
     block, kind = draw(blocks()), draw(KINDS)
     front = [("WARC-Type", kind), ("WARC-Record-ID", f"<urn:uuid:00000000-0000-4000-8000-{number:012}>")]
@@ -86,7 +86,7 @@ def records(draw, number):
 
 
 @some.composite
-def archives(draw):
+def archives(draw: some.DrawFn) -> bytes:
     """An archive of a few records."""
     return b"".join(draw(records(number)) for number in range(draw(some.integers(1, 3))))
 
@@ -100,7 +100,7 @@ def archives(draw):
     phases=[Phase.generate],
 )
 @given(archives())
-def callers_agree(text):
+def callers_agree(text: bytes) -> None:
     """Nothing differs."""
     global OPENED
     path = f"{FOLDER}/generated.warc"

@@ -19,7 +19,7 @@ HEAD = (
 )
 
 
-def make(path):
+def make(path: str) -> None:
     """Writes an archive of a record with 5 GB, and a small one after it."""
     with open(path, "wb") as file:
         file.write(HEAD.format(1, 1, BLOCK).encode())
@@ -27,7 +27,7 @@ def make(path):
         file.write(b"x\r\n\r\n" + HEAD.format(2, 2, 3).encode() + b"abc\r\n\r\n")
 
 
-def main(folder):
+def main(folder: str) -> None:
     """Makes the file, opens it, and asks it."""
     path = os.path.join(folder, "large.warc")
     make(path)

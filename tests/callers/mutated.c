@@ -1,7 +1,7 @@
 /* mutated COUNT SEED ARCHIVE..: asks COUNT changed archives everything that warc.h has, for valgrind to watch.
  *
- * Each is made of one of the archives by a few random changes, in memory of exactly its length. Archives are opened, grown,
- * opened as far as they are good, written anew and closed. Prints how many opened. */
+ * Each is made of one of the archives by a few random changes, in memory of exactly its length. Archives are opened,
+ * grown, opened as far as they are good, written anew and closed. Prints how many opened. */
 #include <fcntl.h>
 #include <stdio.h>
 #include <stdlib.h>

@@ -1,52 +1,55 @@
 #!/usr/bin/env python3
 """report.py ARCHIVE: what the Python package gives of an archive, in the form that compare.py compares."""
 import sys
+from functools import partial
+from typing import Callable
 
 import zogwedu
 
 
-def body_text(ask):
+def body_text(ask: Callable[[], zogwedu.Body]) -> bytes:
     """The facts and the bytes of a body, or why there is none."""
     try:
         body = ask()
     except zogwedu.WarcError as error:
         return f"{error}\n".encode()
     truncated = "yes" if body.truncated else "no"
-    facts = f"chosen {body.chosen} given {body.given} status {body.status or '-'} truncated {truncated} length {len(body)}\n"
+    places = f"chosen {body.chosen} given {body.given} status {body.status or '-'}"
+    facts = f"{places} truncated {truncated} length {len(body)}\n"
     return facts.encode() + bytes(body) + b"\n"
 
 
-def to_bytes(text):
+def to_bytes(text: str) -> bytes:
     """The bytes of a record's text."""
     return text.encode("utf-8", "surrogateescape")
 
 
-def row_text(record):
+def row_text(record: zogwedu.Record) -> bytes:
     """The line of `warc list`, made of a record."""
     columns = (record.type, record.date, record.id, record.target or "-")
     front = f"{record.position}\t{record.offset}\t{len(record.block)}\t".encode()
     return front + b"\t".join(to_bytes(column) for column in columns) + b"\n"
 
 
-def finding_text(finding):
+def finding_text(finding: zogwedu.Finding) -> bytes:
     """The line of `warc check`, made of a finding."""
     words = ("-" if finding.position is None else str(finding.position), finding.number, finding.field)
     return " ".join(word for word in words if word).encode() + b"\n"
 
 
-def fixity_text(fixity):
+def fixity_text(fixity: zogwedu.Fixity) -> bytes:
     """The lines of `warc fixity`, made of what was found."""
     lines = [f"{it.position}\t{it.verdict}\t{it.id}\t{it.digest or '-'}\n" for it in fixity.blocks]
     counts = f"records {fixity.records} good {fixity.good} bad {fixity.bad} unchecked {fixity.unchecked}\n"
     return to_bytes("".join(lines) + counts)
 
 
-def fields_text(headers):
+def fields_text(headers: zogwedu.Headers) -> bytes:
     """The fields of a head."""
     return to_bytes("".join(f"{name}\t{value}\n" for name, value in headers.fields))
 
 
-def heads_text(record):
+def heads_text(record: zogwedu.Record) -> bytes:
     """The fields of a record's head, and what its HTTP head says."""
     parts = [f"== fields {record.position}\n".encode(), fields_text(record.headers)]
     http = record.http
@@ -56,7 +59,7 @@ def heads_text(record):
     return b"".join(parts)
 
 
-def report(path, **how):
+def report(path: str, **how: bool) -> bytes:
     """The whole report of an archive."""
     try:
         archive = zogwedu.Archive.open(path, **how)
@@ -69,7 +72,7 @@ def report(path, **how):
         for record in archive:
             parts += [f"== body {record.position}\n".encode(), body_text(record.body)]
             if record.target:
-                replay = body_text(lambda: archive.replay(record.target, record.date))
+                replay = body_text(partial(archive.replay, record.target, record.date))
                 parts += [f"== replay {record.position}\n".encode(), replay]
         parts += map(heads_text, archive)
     return b"".join(parts)

@@ -1,9 +1,10 @@
 #!/usr/bin/env bash
-# Compares what the program, C, Python and Rust give of the archives of the suites and of a crawl, has valgrind watch the
-# library over 10,000 damaged archives and the thread sanitizer over threads, runs the examples and the samples of the
-# pages, and opens a mapped file of 5 GB. Needs gcc; valgrind, hypothesis and cargo where they are.
+# Compares what the program, C, Python and Rust give of the archives of the suites and of a crawl, has valgrind watch
+# the library over 10,000 damaged archives and the thread sanitizer over threads, runs the examples and the samples of
+# the pages, and opens a mapped file of 5 GB. Needs gcc; valgrind, hypothesis and cargo where they are.
 #
-# CALLERS_COUNT is the number of damaged archives, CALLERS_SEED their seed, CALLERS_EXAMPLES the number that hypothesis makes.
+# CALLERS_COUNT is the number of damaged archives, CALLERS_SEED their seed, CALLERS_EXAMPLES the number that hypothesis
+# makes.
 set -euo pipefail
 cd "$(dirname "${BASH_SOURCE[0]}")/../.."
 out=out/callers

@@ -1,6 +1,6 @@
 #!/usr/bin/env python3
-"""How long opening an archive takes from Python, and how long `warc list` takes, which opens it and writes a line for each
-record.
+"""How long opening an archive takes from Python, and how long `warc list` takes, which opens it and writes a line for
+each record.
 
 Usage: speed.py WARC FOLDER
 
@@ -10,6 +10,8 @@ import os
 import subprocess
 import sys
 import time
+from functools import partial
+from typing import Callable
 
 import zogwedu
 
@@ -17,13 +19,13 @@ TOP = os.path.dirname(os.path.dirname(os.path.dirname(os.path.abspath(__file__))
 RUNS = 5
 
 
-def repeated(path, times):
+def repeated(path: str, times: int) -> None:
     """Writes the crawl of examples/ so many times."""
     with open(f"{TOP}/examples/crawl.warc", "rb") as crawl, open(path, "wb") as file:
         file.write(crawl.read() * times)
 
 
-def large_blocks(path, count, size):
+def large_blocks(path: str, count: int, size: int) -> None:
     """Writes records with blocks of this size."""
     head = (
         "WARC/1.1\r\nWARC-Type: resource\r\nWARC-Record-ID: <urn:uuid:00000000-0000-4000-8000-{:012}>\r\n"
@@ -34,7 +36,7 @@ def large_blocks(path, count, size):
             file.write(head.format(number, number, size).encode() + bytes(size) + b"\r\n\r\n")
 
 
-def least(work):
+def least(work: Callable[[], object]) -> float:
     """The least time of several runs, in seconds."""
     times = []
     for _ in range(RUNS):
@@ -44,14 +46,14 @@ def least(work):
     return min(times)
 
 
-def main(warc, folder):
+def main(warc: str, folder: str) -> None:
     """Measures both archives."""
+    path = os.path.join(folder, "speed.warc")
     for name, make in (
-        ("many records", lambda path: repeated(path, 5000)),
-        ("large blocks", lambda path: large_blocks(path, 200, 1 << 20)),
+        ("many records", partial(repeated, path, 5000)),
+        ("large blocks", partial(large_blocks, path, 200, 1 << 20)),
     ):
-        path = os.path.join(folder, "speed.warc")
-        make(path)
+        make()
         with zogwedu.Archive.open(path) as archive:
             records = len(archive)
         size = os.path.getsize(path) >> 20
@@ -67,8 +69,8 @@ def main(warc, folder):
         )
         os.remove(path)
         print(
-            f"{name}: {records} records, {size} MiB: Python opens in {by_python:.3f} s, warc list takes {by_program:.3f} s, "
-            f"warc replay {by_replay:.3f} s: {by_python / by_replay:.2f} times the latter"
+            f"{name}: {records} records, {size} MiB: Python opens in {by_python:.3f} s, warc list takes"
+            f" {by_program:.3f} s, warc replay {by_replay:.3f} s: {by_python / by_replay:.2f} times the latter"
         )
 
 

@@ -5,6 +5,7 @@ import subprocess
 import sys
 import tempfile
 import unittest
+from typing import Any, Dict, List, Tuple
 
 TOP = os.path.dirname(os.path.dirname(os.path.dirname(os.path.abspath(__file__))))
 CRAWL = f"{TOP}/examples/crawl.warc"
@@ -13,15 +14,18 @@ COMPILER = os.environ.get("CC", "cc")
 FLAGS = ["-Wall", "-Wextra", "-Wconversion", "-Werror", "-O1", f"-I{TOP}/out/lib"]
 
 
-def run(*words, **how):
+def run(*words: str, **how: Any) -> Tuple[bytes, bytes, int]:
     """What a program writes, its messages and its status."""
     done = subprocess.run(words, capture_output="stdout" not in how, check=False, **how)
     return done.stdout, done.stderr, done.returncode
 
 
 class Examples(unittest.TestCase):
+    folder: "tempfile.TemporaryDirectory[str]"
+    programs: Dict[str, List[str]]
+
     @classmethod
-    def setUpClass(cls):
+    def setUpClass(cls) -> None:
         cls.folder = tempfile.TemporaryDirectory()
         for name in ("example", "headers"):
             path = f"{cls.folder.name}/{name}"
@@ -35,10 +39,10 @@ class Examples(unittest.TestCase):
             cls.programs["Rust"] = [rust]
 
     @classmethod
-    def tearDownClass(cls):
+    def tearDownClass(cls) -> None:
         cls.folder.cleanup()
 
-    def test_a_page_in_many_segments(self):
+    def test_a_page_in_many_segments(self) -> None:
         whole = run(f"{TOP}/bin/warc", "replay", CRAWL, URI, "9999")[0]
         path = f"{self.folder.name}/split.warc"
         with open(path, "wb") as out:
@@ -48,14 +52,14 @@ class Examples(unittest.TestCase):
                 written, message, status = run(*program, path, URI, "9999")
                 self.assertEqual((written.split(b"\n", 1)[1], message, status), (whole, b"", 0))
 
-    def test_a_full_disk(self):
+    def test_a_full_disk(self) -> None:
         for name, program in self.programs.items():
             with self.subTest(name), open("/dev/full", "wb") as full:
                 done = run(*program, CRAWL, URI, "9999", stdout=full, stderr=subprocess.PIPE)
                 self.assertNotEqual((done[1], done[2]), (b"", 0))
                 self.assertNotEqual(done[2], 0)
 
-    def test_no_file_no_bytes_no_page(self):
+    def test_no_file_no_bytes_no_page(self) -> None:
         empty = f"{self.folder.name}/empty"
         with open(empty, "wb"):
             pass
@@ -72,7 +76,7 @@ class Examples(unittest.TestCase):
                     self.assertNotEqual(message, b"")
                     self.assertNotEqual(status, 0)
 
-    def test_headers(self):
+    def test_headers(self) -> None:
         written, _, status = run(f"{self.folder.name}/headers", CRAWL)
         self.assertEqual((written.count(b"record "), written.count(b" HTTP/1."), status), (18, 6, 0))
         with open(f"{self.folder.name}/cut", "wb") as out, open(CRAWL, "rb") as crawl:

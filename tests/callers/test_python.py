@@ -1,8 +1,9 @@
 #!/usr/bin/env python3
-"""What the Python package does beyond what compare.py compares: closing, growing, headers, decoding, writing, unpacking."""
+"""What the Python package does beyond what compare.py compares: closing, growing, headers, decoding, writing, files."""
 import array
 import copy
 import gzip
+import importlib
 import importlib.util
 import io
 import json
@@ -15,6 +16,7 @@ import tempfile
 import threading
 import unittest
 from datetime import datetime, timedelta, timezone
+from typing import Any, Callable, Dict, List, Optional, Tuple, Union
 
 import zogwedu
 
@@ -24,7 +26,7 @@ CRAWL = f"{TOP}/examples/crawl.warc"
 FRONT = "http://127.0.0.1:8765/"
 
 
-def stored(head, body, uri="http://a.example/x", number=1):
+def stored(head: str, body: bytes, uri: str = "http://a.example/x", number: int = 1) -> bytes:
     """A record with an HTTP response."""
     block = head.encode() + b"\r\n\r\n" + body
     warc = (
@@ -34,8 +36,15 @@ def stored(head, body, uri="http://a.example/x", number=1):
     return warc.encode() + block + b"\r\n\r\n"
 
 
+def http_of(record: zogwedu.Record) -> zogwedu.Http:
+    """What the HTTP head of a record says. It has one."""
+    http = record.http
+    assert http is not None
+    return http
+
+
 class Closing(unittest.TestCase):
-    def test_close_with_views_is_an_error_and_leaves_it_open(self):
+    def test_close_with_views_is_an_error_and_leaves_it_open(self) -> None:
         archive = zogwedu.Archive.open(CRAWL)
         view = archive[2].block
         with self.assertRaises(zogwedu.ViewsAlive):
@@ -46,7 +55,7 @@ class Closing(unittest.TestCase):
         archive.close()
         archive.close()
 
-    def test_a_closed_archive_answers_nothing(self):
+    def test_a_closed_archive_answers_nothing(self) -> None:
         archive = zogwedu.Archive.open(CRAWL)
         record, body = archive[2], archive.replay(FRONT, "9999")
         archive.close()
@@ -54,23 +63,23 @@ class Closing(unittest.TestCase):
             with self.assertRaises(zogwedu.Closed):
                 ask()
 
-    def test_views_of_bytes_stay_valid(self):
+    def test_views_of_bytes_stay_valid(self) -> None:
         with zogwedu.Archive.open(CRAWL, mmap=False) as archive:
             view = archive[2].block
         self.assertEqual(bytes(view[:4]), b"HTTP")
 
-    def test_views_are_read_only(self):
+    def test_views_are_read_only(self) -> None:
         with zogwedu.Archive.open(CRAWL) as archive:
             with self.assertRaises(TypeError):
                 archive[2].block[0] = 1
             with self.assertRaises(TypeError):
                 zogwedu.Archive(bytearray(stored("HTTP/1.1 200 OK", b"a")))[0].block[0] = 1
 
-    def test_close_beside_other_threads(self):
+    def test_close_beside_other_threads(self) -> None:
         for _ in range(20):
             archive, closed = zogwedu.Archive.open(CRAWL), []
 
-            def work():
+            def work() -> None:
                 try:
                     while True:
                         archive.replay(FRONT, "9999")
@@ -86,7 +95,7 @@ class Closing(unittest.TestCase):
                 thread.join()
             self.assertEqual(len(closed), 3)
 
-    def test_a_loop_in_with_may_keep_views(self):
+    def test_a_loop_in_with_may_keep_views(self) -> None:
         with zogwedu.Archive.open(CRAWL) as archive:
             for record in archive:
                 data = record.block
@@ -94,14 +103,14 @@ class Closing(unittest.TestCase):
         with self.assertRaises(zogwedu.Closed):
             len(archive)
 
-    def test_with_does_not_hide_an_exception(self):
+    def test_with_does_not_hide_an_exception(self) -> None:
         with self.assertRaises(RuntimeError):
             with zogwedu.Archive.open(CRAWL) as archive:
                 data = archive[2].block
                 raise RuntimeError(len(data))
 
-    def test_a_mapping_goes_with_its_last_view(self):
-        def is_mapped():
+    def test_a_mapping_goes_with_its_last_view(self) -> None:
+        def is_mapped() -> bool:
             with open("/proc/self/maps", encoding="utf-8", errors="replace") as maps:
                 return "crawl.warc" in maps.read()
 
@@ -113,11 +122,12 @@ class Closing(unittest.TestCase):
         del data
         self.assertFalse(is_mapped())
 
-    def test_loops_beside_a_close_end_in_closed(self):
+    def test_loops_beside_a_close_end_in_closed(self) -> None:
         for _ in range(200):
-            archive, seen = zogwedu.Archive.open(CRAWL), []
+            archive = zogwedu.Archive.open(CRAWL)
+            seen: List[Union[int, str]] = []
 
-            def work():
+            def work() -> None:
                 try:
                     while True:
                         seen.append(sum(1 for _ in archive))
@@ -133,33 +143,34 @@ class Closing(unittest.TestCase):
             self.assertEqual(seen.count("closed"), 2)
             self.assertEqual(set(seen) - {"closed", 18}, set())
 
-    def test_a_mapping_that_is_passed_stays_the_callers(self):
+    def test_a_mapping_that_is_passed_stays_the_callers(self) -> None:
         with open(CRAWL, "rb") as file, mmap.mmap(file.fileno(), 0, access=mmap.ACCESS_READ) as mapped:
             with zogwedu.Archive(mapped) as archive:
                 self.assertEqual(len(archive), 18)
             self.assertEqual(mapped[:4], b"WARC")
 
-    def test_an_archive_is_not_copied(self):
+    def test_an_archive_is_not_copied(self) -> None:
         archive = zogwedu.Archive.open(CRAWL)
-        for make in (copy.copy, copy.deepcopy, pickle.dumps):
+        copies: List[Callable[[object], object]] = [copy.copy, copy.deepcopy, pickle.dumps]
+        for make in copies:
             with self.assertRaises(TypeError):
                 make(archive)
         self.assertEqual(len(archive), 18)
 
-    def test_an_archive_that_is_left_open_is_freed(self):
+    def test_an_archive_that_is_left_open_is_freed(self) -> None:
         for _ in range(200):
             zogwedu.Archive.open(CRAWL)
 
 
 class Reading(unittest.TestCase):
-    def test_sequence(self):
+    def test_sequence(self) -> None:
         with zogwedu.Archive.open(CRAWL) as archive:
             self.assertEqual([record.position for record in archive], list(range(len(archive))))
             self.assertEqual(archive[-1].position, len(archive) - 1)
             with self.assertRaises(IndexError):
                 archive[len(archive)]
 
-    def test_sequence_of_records(self):
+    def test_sequence_of_records(self) -> None:
         with zogwedu.Archive.open(CRAWL) as archive, zogwedu.Archive.open(CRAWL) as other:
             self.assertEqual([record.position for record in archive[2:8:3]], [2, 5])
             self.assertEqual([record.position for record in archive[::-1]], list(range(17, -1, -1)))
@@ -172,27 +183,32 @@ class Reading(unittest.TestCase):
             self.assertNotEqual(archive[3], other[3])
             self.assertEqual(len({archive[3], archive[3], archive[4]}), 2)
             with self.assertRaises(TypeError):
-                archive.captures(5)
+                archive.captures(5)  # type: ignore[arg-type]
 
-    def test_items_of_any_size(self):
+    def test_items_of_any_size(self) -> None:
         some = stored("HTTP/1.1 200 OK", b"a" * (8 - len(stored("HTTP/1.1 200 OK", b"")) % 8))
         wanted = zogwedu.Archive(some)[0]
         for kind in "HIQ":
             record = zogwedu.Archive(array.array(kind, some))[0]
             self.assertEqual((bytes(record.head), bytes(record.block)), (bytes(wanted.head), bytes(wanted.block)))
 
-    def test_a_digest_with_a_tab(self):
+    def test_a_digest_with_a_tab(self) -> None:
         text = stored("HTTP/1.1 200 OK", b"a").replace(b"WARC-Date", b"WARC-Block-Digest: sha256:ab\tcd\r\nWARC-Date")
         block = zogwedu.Archive(text).fixity().blocks[0]
         self.assertEqual(block.digest, "sha256:ab\tcd")
         self.assertEqual(block.id, "urn:uuid:00000000-0000-4000-8000-000000000001")
 
-    def test_a_pipe_and_a_file_object(self):
+    def test_a_pipe_and_a_file_object(self) -> None:
         read, write = os.pipe()
         with open(CRAWL, "rb") as file:
             data = file.read()
         with os.fdopen(write, "wb") as into:
-            feeder = threading.Thread(target=lambda: (into.write(data), into.close()))
+
+            def feed() -> None:
+                into.write(data)
+                into.close()
+
+            feeder = threading.Thread(target=feed)
             feeder.start()
             with os.fdopen(read, "rb") as pipe, zogwedu.Archive.open(pipe) as archive:
                 self.assertEqual(len(archive), 18)
@@ -201,13 +217,13 @@ class Reading(unittest.TestCase):
         with self.assertRaises(TypeError):
             zogwedu.Archive.open(io.StringIO(""))
 
-    def test_a_fifo_by_its_path(self):
+    def test_a_fifo_by_its_path(self) -> None:
         with tempfile.TemporaryDirectory() as folder:
             os.mkfifo(f"{folder}/fifo")
             with open(CRAWL, "rb") as file:
                 data = file.read()
 
-            def feed():
+            def feed() -> None:
                 with open(f"{folder}/fifo", "wb") as into:
                     into.write(data)
 
@@ -216,7 +232,7 @@ class Reading(unittest.TestCase):
             self.assertEqual(len(zogwedu.Archive.open(f"{folder}/fifo")), 18)
             feeder.join()
 
-    def test_front(self):
+    def test_front(self) -> None:
         with open(CRAWL, "rb") as file:
             data = file.read()
         whole = zogwedu.Archive(data, front=True)
@@ -228,9 +244,11 @@ class Reading(unittest.TestCase):
             self.assertEqual(front.list_text(), zogwedu.Archive(data[:at]).list_text())
         cut = zogwedu.Archive(data[:-1], front=True)
         self.assertEqual((len(cut), str(cut.fault)), (17, f"F11 Truncated at {len(data) - 1}"))
-        self.assertEqual(zogwedu.Archive.open(f"{TOP}/examples/damaged.warc", front=True).fault.offset, 274)
+        fault = zogwedu.Archive.open(f"{TOP}/examples/damaged.warc", front=True).fault
+        assert fault is not None
+        self.assertEqual(fault.offset, 274)
 
-    def test_verdicts(self):
+    def test_verdicts(self) -> None:
         with zogwedu.Archive.open(CRAWL) as archive:
             verdicts = [record.verdict for record in archive]
             fixity = archive.fixity()
@@ -242,7 +260,7 @@ class Reading(unittest.TestCase):
             [(number, name) for number, name in enumerate(verdicts) if name != "good"],
         )
 
-    def test_a_verdict_is_kept(self):
+    def test_a_verdict_is_kept(self) -> None:
         archive = zogwedu.Archive.open(CRAWL)
         asked, unasked = archive[13], archive[13]
         self.assertEqual(asked.verdict, "bad")
@@ -251,20 +269,17 @@ class Reading(unittest.TestCase):
         with self.assertRaises(zogwedu.Closed):
             unasked.verdict
 
-    def test_dates(self):
+    def test_dates(self) -> None:
         with zogwedu.Archive.open(CRAWL) as archive:
             east = timezone(timedelta(hours=2))
-            for date in (
-                "2026-11-26T04:49Z",
-                b"2026-11-26T04:49:00Z",
-                datetime(2026, 11, 26, 4, 49),
-                datetime(2026, 11, 26, 6, 49, tzinfo=east),
-            ):
+            dates: List[Union[str, bytes, datetime]] = ["2026-11-26T04:49Z", b"2026-11-26T04:49:00Z"]
+            dates += [datetime(2026, 11, 26, 4, 49), datetime(2026, 11, 26, 6, 49, tzinfo=east)]
+            for date in dates:
                 self.assertEqual(archive.replay(FRONT, date).chosen, 2)
             with self.assertRaises(zogwedu.WarcError):
                 archive.replay(FRONT, "yesterday")
 
-    def test_reasons(self):
+    def test_reasons(self) -> None:
         with zogwedu.Archive.open(CRAWL) as archive:
             with self.assertRaises(zogwedu.NoBody) as raised:
                 archive.replay("http://nowhere.example/", "2021")
@@ -273,31 +288,33 @@ class Reading(unittest.TestCase):
                 archive[15].body()
             self.assertEqual((raised.exception.name, raised.exception.given), ("P10 Coded", 6))
 
-    def test_captures(self):
+    def test_captures(self) -> None:
         with zogwedu.Archive.open(CRAWL) as archive:
             self.assertEqual([record.position for record in archive.captures(FRONT + "sky.png")], [4, 13])
             self.assertEqual(archive.captures("http://nowhere.example/"), [])
 
-    def test_empty(self):
+    def test_empty(self) -> None:
         with tempfile.NamedTemporaryFile() as file, zogwedu.Archive.open(file.name) as archive:
             self.assertEqual((len(archive), archive.check()[0].number), (0, "N12"))
 
-    def test_text_that_is_no_utf8(self):
+    def test_text_that_is_no_utf8(self) -> None:
         archive = zogwedu.Archive(stored("HTTP/1.1 200 OK", b"a").replace(b"/x", b"/\xff"))
-        self.assertEqual(archive[0].target.encode("utf-8", "surrogateescape"), b"http://a.example/\xff")
-        self.assertEqual(bytes(archive.replay(archive[0].target, "2021")), b"a")
+        target = archive[0].target
+        assert target is not None
+        self.assertEqual(target.encode("utf-8", "surrogateescape"), b"http://a.example/\xff")
+        self.assertEqual(bytes(archive.replay(target, "2021")), b"a")
 
 
 class Growing(unittest.TestCase):
-    def test_grows_or_stays(self):
+    def test_grows_or_stays(self) -> None:
         with open(CRAWL, "rb") as file:
             whole = file.read()
         first = zogwedu.Archive(whole)[9].offset
-        for how in ({}, {"mmap": False}):
+        for is_mapped in (True, False):
             with tempfile.NamedTemporaryFile() as file:
                 file.write(whole[:first])
                 file.flush()
-                archive = zogwedu.Archive.open(file.name, **how)
+                archive = zogwedu.Archive.open(file.name, mmap=is_mapped)
                 old, records = archive[2].block, list(archive)
                 file.write(whole[first : first + 100])
                 file.flush()
@@ -312,7 +329,7 @@ class Growing(unittest.TestCase):
                 old.release()
                 archive.close()
 
-    def test_from_nothing(self):
+    def test_from_nothing(self) -> None:
         with tempfile.NamedTemporaryFile() as file:
             archive = zogwedu.Archive.open(file.name)
             file.write(stored("HTTP/1.1 200 OK", b"a"))
@@ -320,7 +337,7 @@ class Growing(unittest.TestCase):
             self.assertEqual(archive.grow(), 1)
             archive.close()
 
-    def grown(self, old, new, **how):
+    def grown(self, old: bytes, new: bytes, **how: bool) -> Tuple[zogwedu.Archive, Union[int, zogwedu.WarcError]]:
         with tempfile.NamedTemporaryFile() as file:
             file.write(old)
             file.flush()
@@ -334,7 +351,7 @@ class Growing(unittest.TestCase):
             except zogwedu.WarcError as error:
                 return archive, error
 
-    def test_fewer_or_other_bytes_are_refused(self):
+    def test_fewer_or_other_bytes_are_refused(self) -> None:
         with open(CRAWL, "rb") as file:
             whole = file.read()
         last = zogwedu.Archive(whole)[17]
@@ -352,7 +369,7 @@ class Growing(unittest.TestCase):
         self.assertEqual(self.grown(whole, whole + whole, mmap=False)[1], 18)
         self.assertEqual(self.grown(b"", whole, mmap=False)[1], 18)
 
-    def test_a_mapped_file_that_became_shorter_is_refused(self):
+    def test_a_mapped_file_that_became_shorter_is_refused(self) -> None:
         with open(CRAWL, "rb") as file:
             whole = file.read()
         with tempfile.NamedTemporaryFile() as file:
@@ -364,7 +381,7 @@ class Growing(unittest.TestCase):
                 archive.grow()
             self.assertEqual(len(archive), 18)
 
-    def test_what_was_read_is_not_mapped_later(self):
+    def test_what_was_read_is_not_mapped_later(self) -> None:
         with tempfile.NamedTemporaryFile() as file:
             archive = zogwedu.Archive.open(file.name, mmap=False)
             file.write(stored("HTTP/1.1 200 OK", b"a"))
@@ -373,7 +390,7 @@ class Growing(unittest.TestCase):
             with open("/proc/self/maps", encoding="utf-8", errors="replace") as maps:
                 self.assertNotIn(os.path.basename(file.name), maps.read())
 
-    def test_threads_grow_and_leave_one_mapping(self):
+    def test_threads_grow_and_leave_one_mapping(self) -> None:
         with open(CRAWL, "rb") as file:
             whole = file.read()
         for _ in range(30):
@@ -393,13 +410,13 @@ class Growing(unittest.TestCase):
                     self.assertEqual(maps.read().count(os.path.basename(file.name)), 1)
                 archive.close()
 
-    def test_bytes_do_not_grow(self):
+    def test_bytes_do_not_grow(self) -> None:
         with self.assertRaises(ValueError):
             zogwedu.Archive(b"").grow()
 
 
 class Heads(unittest.TestCase):
-    def test_headers(self):
+    def test_headers(self) -> None:
         extra = b"X-A: one\r\nx-a:  two\r\nX-Fold: a\r\n  b\r\nX-Empty:\r\nWARC-Date"
         record = zogwedu.Archive(stored("HTTP/1.1 200 OK", b"a").replace(b"WARC-Date", extra, 1))[0]
         headers = record.headers
@@ -423,13 +440,13 @@ class Heads(unittest.TestCase):
         self.assertIn("warc-type", headers)
         for absent in ("X-B", "\u212a", 5):
             self.assertNotIn(absent, headers)
-            self.assertIsNone(headers.get(absent))
+            self.assertIsNone(headers.get(absent))  # type: ignore[call-overload]
         with self.assertRaises(KeyError):
             headers["X-B"]
         self.assertEqual(headers, record.headers)
         self.assertEqual(dict(headers)["X-A"], "one")
 
-    def test_headers_of_all_records(self):
+    def test_headers_of_all_records(self) -> None:
         with zogwedu.Archive.open(CRAWL) as archive:
             for record in list(archive) + list(reversed(archive)):
                 headers = record.headers
@@ -438,52 +455,53 @@ class Heads(unittest.TestCase):
                     (headers["warc-record-id"], headers["content-length"]), (record.id, str(record.length))
                 )
 
-    def test_many_fields(self):
+    def test_many_fields(self) -> None:
         extra = b"".join(b"X-%d: %d\r\n" % (i, i) for i in range(3000)) + b"WARC-Date"
         headers = zogwedu.Archive(stored("HTTP/1.1 200 OK", b"a").replace(b"WARC-Date", extra, 1))[0].headers
         self.assertEqual((len(headers), headers["x-2999"]), (3005, "2999"))
 
-    def test_http(self):
+    def test_http(self) -> None:
         head = "HTTP/1.0 404 Not  Here\r\nA:  b \r\nSet-Cookie: x\r\nset-cookie: y\r\nE:"
         record = zogwedu.Archive(stored(head, b"abc"))[0]
-        http = record.http
+        http = http_of(record)
         self.assertEqual((http.status, http.version, http.reason), (404, "HTTP/1.0", "Not  Here"))
         self.assertEqual(http.headers.fields, (("A", "b"), ("Set-Cookie", "x"), ("set-cookie", "y"), ("E", "")))
         self.assertEqual(http.headers.get_all("SET-COOKIE"), ["x", "y"])
         self.assertEqual((bytes(http.stored), http.length), (b"abc", 3))
         self.assertEqual(http.offset, record.offset + len(record.head) + len(record.block) - 3)
 
-    def test_no_http(self):
+    def test_no_http(self) -> None:
         for head in ("GET / HTTP/1.1", "HTTP/1.1 200 OK\r\nno field", "HTTP/2 200 OK", "HTTP/1.1 20 OK"):
             self.assertIsNone(zogwedu.Archive(stored(head, b""))[0].http)
         many = "HTTP/1.1 200 OK" + "".join(f"\r\nA: {number}" for number in range(256))
-        self.assertEqual(len(zogwedu.Archive(stored(many, b""))[0].http.headers.fields), 256)
+        self.assertEqual(len(http_of(zogwedu.Archive(stored(many, b""))[0]).headers.fields), 256)
         self.assertIsNone(zogwedu.Archive(stored(many + "\r\nA: 256", b""))[0].http)
         with zogwedu.Archive.open(CRAWL) as archive:
             self.assertIsNone(archive[0].http)
-            self.assertEqual(archive[2].http.headers["content-type"], "text/html")
+            self.assertEqual(http_of(archive[2]).headers["content-type"], "text/html")
 
-    def test_closed(self):
+    def test_closed(self) -> None:
         archive = zogwedu.Archive.open(CRAWL)
-        record, http = archive[2], archive[2].http
+        record, http = archive[2], http_of(archive[2])
         archive.close()
-        for ask in (lambda: record.headers, lambda: record.http, lambda: http.stored):
+        asked: List[Callable[[], object]] = [lambda: record.headers, lambda: record.http, lambda: http.stored]
+        for ask in asked:
             with self.assertRaises(zogwedu.Closed):
                 ask()
 
 
 class Decoding(unittest.TestCase):
-    def archive(self, case):
+    def archive(self, case: Dict[str, Any]) -> zogwedu.Archive:
         fields = "".join(f"\r\n{name}: {value}" for name, value in case["fields"])
         return zogwedu.Archive(stored(f"HTTP/1.1 {case['status']} It{fields}", bytes.fromhex(case["body"])))
 
-    def lacks(self, case):
+    def lacks(self, case: Dict[str, Any]) -> bool:
         """Whether a module that the case needs isn't here."""
         needed = {"br": "brotli", "zstd": "zstandard"}
         names = case.get("undone", []) + [case.get("fails")]
         return any(importlib.util.find_spec(needed[name]) is None for name in names if name in needed)
 
-    def test_cases(self):
+    def test_cases(self) -> None:
         with open(f"{HERE}/codings.json", encoding="utf-8") as file:
             cases = json.load(file)
         for case in cases:
@@ -500,7 +518,7 @@ class Decoding(unittest.TestCase):
                     self.assertEqual((bytes(body).hex(), list(body.undone)), (case["gives"], case["undone"]))
                     self.assertEqual((body.status, len(body)), (case["status"], len(bytes(body))))
 
-    def test_a_limit_holds_for_each_step(self):
+    def test_a_limit_holds_for_each_step(self) -> None:
         inner = gzip.compress(bytes(10_000_000))
         for coding, body in (("gzip", inner), ("gzip, gzip", gzip.compress(inner)), ("br", None), ("zstd", None)):
             if body is None:
@@ -513,16 +531,15 @@ class Decoding(unittest.TestCase):
                 record.body(decoded=True, decoded_limit=9_999_999)
             self.assertEqual(len(record.body(decoded=True, decoded_limit=10_000_000)), 10_000_000)
 
-    def packed(self, coding):
+    def packed(self, coding: str) -> Optional[bytes]:
         """Ten million zeros, if the module for the coding is here."""
         try:
-            if coding == "br":
-                return __import__("brotli").compress(bytes(10_000_000))
-            return __import__("zstandard").compress(bytes(10_000_000))
+            module = importlib.import_module({"br": "brotli", "zstd": "zstandard"}[coding])
+            return bytes(module.compress(bytes(10_000_000)))
         except ImportError:
             return None
 
-    def test_a_small_body_never_takes_much_memory(self):
+    def test_a_small_body_never_takes_much_memory(self) -> None:
         code = (
             "import resource, sys, zogwedu\n"
             "record = zogwedu.Archive(sys.stdin.buffer.read())[0]\n"
@@ -536,19 +553,19 @@ class Decoding(unittest.TestCase):
         run = subprocess.run([sys.executable, "-c", code], input=archive, capture_output=True, check=True)
         self.assertLess(int(run.stdout), 64 << 10)
 
-    def test_many_small_members(self):
+    def test_many_small_members(self) -> None:
         record = self.archive(
             {"status": 200, "fields": [("Content-Encoding", "gzip")], "body": (gzip.compress(b"") * 100_000).hex()}
         )[0]
         self.assertEqual(len(record.body(decoded=True)), 0)
 
-    def test_a_uri_that_names_a_segment(self):
+    def test_a_uri_that_names_a_segment(self) -> None:
         head = "HTTP/1.1 200 OK\r\nContent-Encoding: gzip"
         uri = "http://a.example/warc-segment-number"
         archive = zogwedu.Archive(stored(head, gzip.compress(b"abc"), uri=uri))
         self.assertEqual(bytes(archive[0].body(decoded=True)), b"abc")
 
-    def test_plain_bodies_are_not_touched(self):
+    def test_plain_bodies_are_not_touched(self) -> None:
         body = zogwedu.Archive(stored("HTTP/1.1 200 OK", b"abc"))[0].body(decoded=True)
         self.assertEqual((bytes(body), body.undone), (b"abc", ()))
 
@@ -556,14 +573,14 @@ class Decoding(unittest.TestCase):
 class Full(io.RawIOBase):
     """Takes some bytes, few at a time, and then fails."""
 
-    def __init__(self, room):
+    def __init__(self, room: int) -> None:
         self.room = room
         self.taken = b""
 
-    def writable(self):
+    def writable(self) -> bool:
         return True
 
-    def write(self, piece):
+    def write(self, piece: Any) -> int:
         piece = bytes(piece[: min(7, self.room - len(self.taken))])
         if not piece:
             raise OSError(28, "No space left on device")
@@ -574,7 +591,7 @@ class Full(io.RawIOBase):
 class Writing(unittest.TestCase):
     DRAFT = ("resource", "http://a.example/x", "2020-01-01T00:00:00Z", "text/plain", b"abc")
 
-    def test_make(self):
+    def test_make(self) -> None:
         with tempfile.TemporaryDirectory() as folder:
             with open(f"{folder}/a.warc", "wb") as out:
                 for number in range(3):
@@ -588,7 +605,7 @@ class Writing(unittest.TestCase):
                 self.assertEqual(archive[0].headers["content-type"], "text/plain")
                 self.assertEqual(len({record.id for record in archive}), 3)
 
-    def test_objects_of_any_kind(self):
+    def test_objects_of_any_kind(self) -> None:
         with open(CRAWL, "rb") as file:
             archive = zogwedu.Archive(file.read())
         wanted = io.BytesIO()
@@ -611,7 +628,7 @@ class Writing(unittest.TestCase):
             with open(f"{folder}/c", "w", encoding="utf-8") as out, self.assertRaises(TypeError):
                 archive.rewrite(out)
 
-    def test_convert_and_split(self):
+    def test_convert_and_split(self) -> None:
         with zogwedu.Archive.open(CRAWL) as archive:
             converted, split = io.BytesIO(), io.BytesIO()
             archive.convert(converted)
@@ -623,14 +640,15 @@ class Writing(unittest.TestCase):
             self.assertGreater(len(whole), 18)
         self.assertEqual({bytes(record.head[:8]) for record in zogwedu.Archive(converted.getvalue())}, {b"WARC/1.1"})
 
-    def test_what_cannot_be_made(self):
+    def test_what_cannot_be_made(self) -> None:
         for place, word, name in (
             (0, "response", "M5 Kind"),
             (2, "soon", "M1 Date"),
             (1, "<a>", "M2 Text"),
             (3, "", "M2 Text"),
         ):
-            draft, out = list(self.DRAFT), io.BytesIO()
+            draft: List[Any] = list(self.DRAFT)
+            out = io.BytesIO()
             draft[place] = word
             with self.assertRaises(zogwedu.NotMade) as raised:
                 zogwedu.make(out, *draft)
@@ -638,15 +656,15 @@ class Writing(unittest.TestCase):
         with self.assertRaises(zogwedu.NotMade):
             zogwedu.make(io.BytesIO(), *self.DRAFT, uuid="1")
 
-    def test_a_failed_write_says_how_much_went_out(self):
+    def test_a_failed_write_says_how_much_went_out(self) -> None:
         with zogwedu.Archive.open(CRAWL) as archive:
             with open("/dev/full", "wb", buffering=0) as out, self.assertRaises(zogwedu.WriteFailed) as raised:
                 archive.rewrite(out)
             self.assertEqual(raised.exception.sent, 0)
-            out = Full(1000)
+            small = Full(1000)
             with self.assertRaises(zogwedu.WriteFailed) as raised:
-                archive.rewrite(out)
-            self.assertEqual((raised.exception.sent, len(out.taken)), (1000, 1000))
+                archive.rewrite(small)
+            self.assertEqual((raised.exception.sent, len(small.taken)), (1000, 1000))
             read, write = os.pipe()
             os.close(read)
             with self.assertRaises(zogwedu.WriteFailed):
@@ -655,7 +673,7 @@ class Writing(unittest.TestCase):
             with self.assertRaises(zogwedu.WriteFailed):
                 archive.rewrite(write)
 
-    def test_a_limit_on_the_size_of_a_file(self):
+    def test_a_limit_on_the_size_of_a_file(self) -> None:
         code = (
             "import resource, signal, sys, zogwedu\n"
             "signal.signal(signal.SIGXFSZ, signal.SIG_IGN)\n"
@@ -673,7 +691,7 @@ class Writing(unittest.TestCase):
 
 
 class Package(unittest.TestCase):
-    def test_a_missing_library_is_an_import_error(self):
+    def test_a_missing_library_is_an_import_error(self) -> None:
         for path in ("/nowhere/libwarc.so", "/usr/lib/x86_64-linux-gnu/libc.so.6"):
             done = subprocess.run(
                 [sys.executable, "-c", "import zogwedu"],
@@ -684,7 +702,7 @@ class Package(unittest.TestCase):
             self.assertIn(b"ImportError", done.stderr)
             self.assertIn(b"libwarc.so", done.stderr)
 
-    def test_each_exception_is_a_warc_error(self):
+    def test_each_exception_is_a_warc_error(self) -> None:
         for name in zogwedu.__all__:
             it = getattr(zogwedu, name)
             if isinstance(it, type) and issubclass(it, Exception):
@@ -693,21 +711,21 @@ class Package(unittest.TestCase):
 
 
 class Unpacking(unittest.TestCase):
-    def index(self, folder):
+    def index(self, folder: str) -> Dict[str, Dict[str, str]]:
         """The lines of the index, by position."""
         with open(f"{folder}/index.tsv", encoding="utf-8") as file:
             names, *lines = [line.rstrip("\n").split("\t") for line in file]
         return {line[0]: dict(zip(names, line)) for line in lines}
 
-    def test_stored(self):
+    def test_stored(self) -> None:
         with tempfile.TemporaryDirectory() as folder:
             words = [sys.executable, "-m", "zogwedu", "unpack", "--stored", CRAWL, f"{folder}/site"]
             self.assertEqual(subprocess.run(words, capture_output=True, check=True).stdout, b"8 bodies\n")
             self.assertEqual(self.index(f"{folder}/site")["6"]["coding"], "stored")
             with open(f"{folder}/site/6.body", "rb") as file, zogwedu.Archive.open(CRAWL) as archive:
-                self.assertEqual(file.read(), bytes(archive[6].http.stored))
+                self.assertEqual(file.read(), bytes(http_of(archive[6]).stored))
 
-    def test_what_cannot_be_decoded_has_its_reason(self):
+    def test_what_cannot_be_decoded_has_its_reason(self) -> None:
         with tempfile.TemporaryDirectory() as folder:
             with open(f"{folder}/a.warc", "wb") as file:
                 file.write(stored("HTTP/1.1 200 OK\r\nContent-Encoding: gzip", b"abc"))
@@ -715,7 +733,7 @@ class Unpacking(unittest.TestCase):
             self.assertEqual(subprocess.run(words, capture_output=True, check=True).stdout, b"0 bodies\n")
             self.assertIn("the body isn't gzip", self.index(f"{folder}/out")["0"]["reason"])
 
-    def test_unpack(self):
+    def test_unpack(self) -> None:
         with tempfile.TemporaryDirectory() as folder:
             words = [sys.executable, "-m", "zogwedu", "unpack", CRAWL, f"{folder}/site"]
             self.assertEqual(subprocess.run(words, capture_output=True, check=True).stdout, b"8 bodies\n")
@@ -728,7 +746,7 @@ class Unpacking(unittest.TestCase):
             again = subprocess.run(words, capture_output=True, check=False)
             self.assertEqual(again.returncode, 3)
 
-    def test_names_never_come_from_uris(self):
+    def test_names_never_come_from_uris(self) -> None:
         with tempfile.TemporaryDirectory() as folder:
             with open(f"{folder}/a.warc", "wb") as file:
                 file.write(stored("HTTP/1.1 200 OK", b"a", uri="http://../../../etc/passwd\t"))
@@ -739,7 +757,7 @@ class Unpacking(unittest.TestCase):
             )
             self.assertEqual(sorted(os.listdir(f"{folder}/out")), ["0.body", "index.tsv"])
 
-    def test_refused(self):
+    def test_refused(self) -> None:
         words = [sys.executable, "-m", "zogwedu", "unpack", f"{TOP}/examples/damaged.warc", "/nowhere/x"]
         done = subprocess.run(words, capture_output=True, check=False)
         self.assertEqual((done.returncode, done.stderr), (2, b"zogwedu: F10 End at 274\n"))

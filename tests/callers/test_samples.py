@@ -12,6 +12,7 @@ import shutil
 import subprocess
 import sys
 import tempfile
+from typing import Any, Iterator, Optional, Sequence
 
 TOP = os.path.dirname(os.path.dirname(os.path.dirname(os.path.abspath(__file__))))
 PAGES = ["docs/PYTHON.md", "docs/C.md", "docs/RUST.md", "docs/FROM_WARCIO.md"]
@@ -29,18 +30,20 @@ zogwedu = {{ path = "{TOP}/rust" }}
 """
 
 
-def run(words, **how):
+def run(words: Sequence[str], **how: Any) -> str:
     """What a program writes, and its messages if it fails."""
-    done = subprocess.run(words, cwd=TOP, capture_output=True, text=True, check=False, **how)
+    done: "subprocess.CompletedProcess[str]" = subprocess.run(
+        words, cwd=TOP, capture_output=True, text=True, check=False, **how
+    )
     return done.stdout + (done.stderr if done.returncode else "")
 
 
-def run_python(code, folder):
+def run_python(code: str, folder: str) -> str:
     """Runs a script."""
     return run([sys.executable, "-"], input=code, env={**os.environ, "PYTHONPATH": f"{TOP}/out/python"})
 
 
-def run_c(code, folder):
+def run_c(code: str, folder: str) -> str:
     """Compiles a program and runs it."""
     with open(f"{folder}/sample.c", "w", encoding="utf-8") as file:
         file.write(code)
@@ -49,7 +52,7 @@ def run_c(code, folder):
     return messages or run([program])
 
 
-def run_rust(code, folder):
+def run_rust(code: str, folder: str) -> str:
     """Builds a program over the crate and runs it."""
     os.makedirs(f"{folder}/src", exist_ok=True)
     for name, text in (("Cargo.toml", CARGO), ("src/main.rs", code)):
@@ -63,7 +66,7 @@ def run_rust(code, folder):
 RUNNERS = {"python": run_python, "c": run_c, "rust": run_rust}
 
 
-def differences(page):
+def differences(page: str) -> Iterator[Optional[str]]:
     """Runs the samples of a page, and gives a text for each that writes something else. Counts them, too."""
     with open(f"{TOP}/{page}", encoding="utf-8") as file:
         text = file.read()
@@ -72,10 +75,11 @@ def differences(page):
             continue
         with tempfile.TemporaryDirectory() as folder:
             written = RUNNERS[language](code, folder)
-        yield None if written == wanted else f"{page}: {code.splitlines()[0]} ..\n wanted {wanted!r}\n writes {written!r}"
+        said = f"{page}: {code.splitlines()[0]} ..\n wanted {wanted!r}\n writes {written!r}"
+        yield None if written == wanted else said
 
 
-def main(pages):
+def main(pages: Sequence[str]) -> int:
     """Runs all samples, and answers the exit status."""
     answers = [answer for page in pages for answer in differences(page)]
     wrong = [answer for answer in answers if answer]

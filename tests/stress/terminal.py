@@ -21,6 +21,7 @@ import sys
 import tempfile
 import threading
 import time
+from typing import IO, Iterator, List, Optional, Sequence, Tuple, Union
 
 import generate
 import system
@@ -35,7 +36,7 @@ WITHOUT_TOTAL = re.compile(rb"\d+ MB, \d+ MB/s")
 ERASE = b"\r\x1b[K"
 
 
-def screen(data):
+def screen(data: bytes) -> List[bytes]:
     """The lines that a terminal shows after these bytes. It knows a carriage return, a line feed and `erase`."""
     lines, place, at = [b""], 0, 0
     while at < len(data):
@@ -43,7 +44,7 @@ def screen(data):
             lines[-1] = lines[-1][:place]
             at += 3
             continue
-        byte = data[at:at + 1]
+        byte = data[at : at + 1]
         at += 1
         if byte == b"\r":
             place = 0
@@ -51,7 +52,7 @@ def screen(data):
             lines.append(b"")
             place = 0
         else:
-            lines[-1] = lines[-1][:place] + byte + lines[-1][place + 1:]
+            lines[-1] = lines[-1][:place] + byte + lines[-1][place + 1 :]
             place += 1
     return lines
 
@@ -59,14 +60,14 @@ def screen(data):
 class Terminal:
     """A terminal, and the bytes that it got."""
 
-    def __init__(self):
+    def __init__(self) -> None:
         self.ours, self.theirs = pty.openpty()
         self.data = b""
         self.is_done = False
         self.reader = threading.Thread(target=self.read)
         self.reader.start()
 
-    def read(self):
+    def read(self) -> None:
         while True:
             ready = select.select([self.ours], [], [], 0.1)[0]
             if ready:
@@ -74,7 +75,7 @@ class Terminal:
             elif self.is_done:
                 return
 
-    def close(self):
+    def close(self) -> bytes:
         """Waits for what is on its way. Returns all bytes."""
         self.is_done = True
         self.reader.join()
@@ -83,24 +84,54 @@ class Terminal:
         return self.data
 
 
-def run(stress, words, before=(), stdin=subprocess.DEVNULL, is_out_shown=False, folder=None):
+def run(
+    stress: Stress,
+    words: Sequence[str],
+    before: Sequence[str] = (),
+    stdin: Union[int, IO[bytes]] = subprocess.DEVNULL,
+    is_out_shown: bool = False,
+    folder: Optional[str] = None,
+) -> Tuple[Result, float]:
     """Runs the program in a folder with standard error on a terminal. Returns the result and the seconds."""
     terminal = Terminal()
     begun = time.monotonic()
     with open(stress.path("out"), "wb") as out:
-        done = subprocess.run([*before, stress.program, *words], stdin=stdin, check=False, cwd=folder,
-                              stdout=terminal.theirs if is_out_shown else out, stderr=terminal.theirs)
+        done = subprocess.run(
+            [*before, stress.program, *words],
+            stdin=stdin,
+            check=False,
+            cwd=folder,
+            stdout=terminal.theirs if is_out_shown else out,
+            stderr=terminal.theirs,
+        )
     seconds = time.monotonic() - begun
     return Result(contents(stress.path("out")), terminal.close(), done.returncode), seconds
 
 
-def slow(stress, path):
+def slow(stress: Stress, path: str) -> List[str]:
     """The words that make the first reads of a file slow."""
-    return ["strace", "-f", "-o", stress.path("log"), "-P", path, "-e", "trace=read,pread64",
-            "-e", "inject=read,pread64:delay_enter=%d:when=1..%d" % (DELAY, SLOW_READS)]
+    return [
+        "strace",
+        "-f",
+        "-o",
+        stress.path("log"),
+        "-P",
+        path,
+        "-e",
+        "trace=read,pread64",
+        "-e",
+        "inject=read,pread64:delay_enter=%d:when=1..%d" % (DELAY, SLOW_READS),
+    ]
 
 
-def judge_progress(stress, words, seen, seconds, wanted, form=WITH_TOTAL):
+def judge_progress(
+    stress: Stress,
+    words: Sequence[str],
+    seen: Result,
+    seconds: float,
+    wanted: Result,
+    form: "re.Pattern[bytes]" = WITH_TOTAL,
+) -> None:
     """There was progress, not too often, and nothing of it is left."""
     frames = [frame for frame in seen.message.split(ERASE) if form.fullmatch(frame)]
     others = [frame for frame in seen.message.split(ERASE)[1:-1] if frame and not form.fullmatch(frame)]
@@ -110,7 +141,7 @@ def judge_progress(stress, words, seen, seconds, wanted, form=WITH_TOTAL):
     stress.judge(is_right, (*words, "%.1f s, %d frames" % (seconds, len(frames))), seen)
 
 
-def progress(stress):
+def progress(stress: Stress) -> None:
     stress.begin("progress on a terminal")
     damaged = stress.file("damaged.warc", stress.data + b"WARC/1.1\r\n")
     fault = b"warc: F11 Truncated at %d\n" % (len(stress.data) + 10)
@@ -125,16 +156,16 @@ def progress(stress):
     stress.end()
 
 
-def piped_progress(stress):
+def piped_progress(stress: Stress) -> None:
     """A pipe has no length."""
     stress.begin("progress over a pipe")
     for command in (("list",), ("check",), ("fixity",), ("replay", system.TARGET, "9999")):
         ours, theirs = os.pipe()
 
-        def feed(end=theirs):
+        def feed(end: int = theirs) -> None:
             with open(end, "wb", buffering=0) as pipe:
                 for start in range(0, len(stress.data), 50_000):
-                    pipe.write(stress.data[start:start + 50_000])
+                    pipe.write(stress.data[start : start + 50_000])
                     time.sleep(0.4)
 
         writer = threading.Thread(target=feed)
@@ -152,7 +183,7 @@ def piped_progress(stress):
     stress.end()
 
 
-def no_progress(stress):
+def no_progress(stress: Stress) -> None:
     """None with --quiet, none where standard output is a terminal too, none in a short run."""
     stress.begin("no progress")
     for command in (("check",), ("replay", system.TARGET, "9999")):
@@ -170,7 +201,7 @@ def no_progress(stress):
     stress.end()
 
 
-def lines_for_people(stress):
+def lines_for_people(stress: Stress) -> None:
     """After the fixed line: the path and the reason of the system, or how a compressed archive is read."""
     stress.begin("lines for people")
     packed = stress.file("packed.warc.gz", gzip.compress(stress.data))
@@ -182,61 +213,102 @@ def lines_for_people(stress):
             cases += [(stress.folder, at, 3, "%s: Is a directory (os error 21)" % stress.folder)]
             line = "this looks like gzip: zwarc %s" % shlex.join(words_for(command, packed))
             cases += [(packed, b"warc: F1 Version at 0", 2, line)]
-        for path, line, status, hint in cases:
+        for path, fixed, status, hint in cases:
             words = words_for(command, path)
             seen, _ = run(stress, words)
             lines = screen(seen.message)
-            if command[0] == "salvage" and line.startswith(b"warc: F"):
+            if command[0] == "salvage" and fixed.startswith(b"warc: F"):
                 lines = lines[:1] + lines[2:]
-            is_right = (seen.out, seen.status, lines) == (b"", status, [line, hint.encode(), b""])
+            is_right = (seen.out, seen.status, lines) == (b"", status, [fixed, hint.encode(), b""])
             stress.judge(is_right, words, seen)
             plain = stress.run(words)
             stress.judge(hint.encode() not in plain.message, (*words, "no terminal"), plain)
     stress.end()
 
 
-HOSTILE_TEXTS = ("http://a.example/\u009b31mred", "http://a.example/\u202egpj.exe", "http://a.example/\u2066\u2069",
-                 "http://a.example/\u061c\u200e\u200f\u2028\u2029", "http://a.example/\\u{9b}", "http://a.example/\x80\xff")
-HOSTILE_BYTES = (b"http://a.example/\x9b31m", b"http://a.example/\xe2\x82", b"http://a.example/\xe2\x82\xe2\x82\xac",
-                 b"http://a.example/\xf0\x9f\x98", b"http://a.example/\xc0\x80\xed\xa0\x80\xf5")
-HOSTILE_BLOCK = (b"HTTP/1.1 200 OK\r\nContent-Encoding: x\xc2\x9b31m\xe2\x80\xae\x9b\r\n\r\n"
-                 b"\x1b]0;owned\x07\x00\x7f\r\r\n\rover\n\x9b\xe2\x82\r")
+HOSTILE_TEXTS = (
+    "http://a.example/\u009b31mred",
+    "http://a.example/\u202egpj.exe",
+    "http://a.example/\u2066\u2069",
+    "http://a.example/\u061c\u200e\u200f\u2028\u2029",
+    "http://a.example/\\u{9b}",
+    "http://a.example/\x80\xff",
+)
+HOSTILE_BYTES = (
+    b"http://a.example/\x9b31m",
+    b"http://a.example/\xe2\x82",
+    b"http://a.example/\xe2\x82\xe2\x82\xac",
+    b"http://a.example/\xf0\x9f\x98",
+    b"http://a.example/\xc0\x80\xed\xa0\x80\xf5",
+)
+HOSTILE_BLOCK = (
+    b"HTTP/1.1 200 OK\r\nContent-Encoding: x\xc2\x9b31m\xe2\x80\xae\x9b\r\n\r\n"
+    b"\x1b]0;owned\x07\x00\x7f\r\r\n\rover\n\x9b\xe2\x82\r"
+)
 HOSTILE_ID = "urn:x:hostile"
-NAMES = ("x; id >owned #.warc", "it's", "two  words", "$(id)`id`", "a\nwarc: forged", "\x1b]0;owned\x07", "\u009b31m",
-         "\u202egpj.exe", "\\033", "-a.warc", "~", "é", "a\tb", "*", "'\x1b'\\")
+NAMES = (
+    "x; id >owned #.warc",
+    "it's",
+    "two  words",
+    "$(id)`id`",
+    "a\nwarc: forged",
+    "\x1b]0;owned\x07",
+    "\u009b31m",
+    "\u202egpj.exe",
+    "\\033",
+    "-a.warc",
+    "~",
+    "é",
+    "a\tb",
+    "*",
+    "'\x1b'\\",
+)
 
 
-def hostile_archive():
+def hostile_archive() -> bytes:
     """Targets that would control a terminal, and multibyte characters that the program's writes cut at each place."""
     texts = [text.encode() for text in HOSTILE_TEXTS] + list(HOSTILE_BYTES)
-    texts += [b"http://a.example/" + b"-" * (count % 7) + "\u20ac\U0001f600\u00e9\u009b".encode() * 40
-              for count in range(60)]
+    texts += [
+        b"http://a.example/" + b"-" * (count % 7) + "\u20ac\U0001f600\u00e9\u009b".encode() * 40 for count in range(60)
+    ]
     data = b""
     for number, text in enumerate(texts):
         head = system.record_text("resource", "urn:x:%d" % number, b"").replace(system.TARGET.encode(), text)
         data += head
     more = (("Content-Type", "application/http; msgtype=response"),)
-    return data + system.record_text("response", HOSTILE_ID, HOSTILE_BLOCK, more)
+    last: bytes = system.record_text("response", HOSTILE_ID, HOSTILE_BLOCK, more)
+    return data + last
 
 
-def shown(data):
+def shown(data: bytes) -> bytes:
     """The bytes that a terminal gets of a text."""
     text = data.decode("utf-8", "backslashreplace").replace("\r\n", "\ue000")
 
-    def escaped(match):
+    def escaped(match: "re.Match[str]") -> str:
         return "\\u{%x}" % ord(match[0])
 
     text = re.sub("[\x00-\x08\x0b-\x1f\x7f-\x9f\u061c\u200e\u200f\u2028-\u202e\u2066-\u2069]", escaped, text)
     return text.replace("\ue000", "\r\n").encode().replace(b"\n", b"\r\n")
 
 
-def hostile_contents(stress):
+def hostile_contents(stress: Stress) -> None:
     """On a terminal what an archive holds is escaped, but for the commands that give what was captured."""
     stress.begin("hostile contents")
     path = stress.file("hostile.warc", hostile_archive())
     last = str(len(HOSTILE_TEXTS) + len(HOSTILE_BYTES) + 60)
-    for words in (("list",), ("check",), ("captures",), ("fixity",), ("summary",), ("head", "0"), ("head", "6"),
-                  ("rewrite",), ("convert",), ("salvage",), ("split", "9")):
+    for words in (
+        ("list",),
+        ("check",),
+        ("captures",),
+        ("fixity",),
+        ("summary",),
+        ("head", "0"),
+        ("head", "6"),
+        ("rewrite",),
+        ("convert",),
+        ("salvage",),
+        ("split", "9"),
+    ):
         plain = stress.run(words_for(words, path))
         seen, _ = run(stress, words_for(words, path), is_out_shown=True)
         stress.judge(seen.message == shown(plain.out) + shown(plain.message), (*words, "escaped"), seen)
@@ -244,11 +316,13 @@ def hostile_contents(stress):
     for words in (("block", last), ("extract", HOSTILE_ID), ("body", last, "--stored")):
         plain = stress.run(words_for(words, path))
         seen, _ = run(stress, words_for(words, path), is_out_shown=True)
-        stress.judge(seen.message == plain.out.replace(b"\n", b"\r\n") + shown(plain.message), (*words, "as it is"), seen)
+        stress.judge(
+            seen.message == plain.out.replace(b"\n", b"\r\n") + shown(plain.message), (*words, "as it is"), seen
+        )
     stress.end()
 
 
-def hostile_messages(stress):
+def hostile_messages(stress: Stress) -> None:
     """On a terminal a message that quotes an archive or a word is escaped."""
     stress.begin("hostile messages")
     path = stress.file("hostile.warc", hostile_archive())
@@ -261,13 +335,13 @@ def hostile_messages(stress):
     stress.end()
 
 
-def read_by_shell(line, folder):
+def read_by_shell(line: str, folder: str) -> List[bytes]:
     """The words that bash reads in a line. A wrong line may do anything in the folder."""
     done = subprocess.run(["bash", "-c", "printf '%%s\\0' %s" % line], capture_output=True, check=False, cwd=folder)
     return done.stdout.split(b"\0")[:-1]
 
 
-def hostile_names(stress):
+def hostile_names(stress: Stress) -> None:
     """The words of a hint are those that the program was run with, and nothing in them controls the terminal."""
     stress.begin("hostile names")
     for name in NAMES:
@@ -276,28 +350,29 @@ def hostile_names(stress):
             seen, _ = run(stress, words, folder=stress.folder)
             line = seen.message.split(b"\r\n")[1]
             begin = b"this looks like gzip: zwarc "
-            read = read_by_shell(line[len(begin):].decode(), stress.folder)
+            read = read_by_shell(line[len(begin) :].decode(), stress.folder)
             is_right = line.startswith(begin) and read == list(map(os.fsencode, words))
             stress.judge(is_right and shown(line) == line, words, seen)
         seen, _ = run(stress, ("list", path + "/missing"))
         line = seen.message.split(b"\r\n")[1]
         reason = b": Not a directory (os error 20)"
-        read = read_by_shell(line[:-len(reason)].decode(), stress.folder)
+        read = read_by_shell(line[: -len(reason)].decode(), stress.folder)
         is_right = line.endswith(reason) and read == [os.fsencode(path + "/missing")]
         stress.judge(is_right and shown(line) == line, (path, "missing"), seen)
     stress.end()
 
 
-def revisit_archive(stated, revisited):
+def revisit_archive(stated: str, revisited: str) -> bytes:
     """A resource and a revisit of it, each with a payload digest or with none."""
     first = [("WARC-Payload-Digest", stated)] if stated else []
     second = [("WARC-Payload-Digest", revisited)] if revisited else []
     profile = [("WARC-Profile", generate.PROFILES[0]), ("WARC-Refers-To", "<%s>" % system.FIRST_ID)]
-    return (system.record_text("resource", system.FIRST_ID, b"abc", first)
-            + system.record_text("revisit", system.LAST_ID, b"", profile + second))
+    origin: bytes = system.record_text("resource", system.FIRST_ID, b"abc", first)
+    revisit: bytes = system.record_text("revisit", system.LAST_ID, b"", profile + second)
+    return origin + revisit
 
 
-def hints_wanted(stress):
+def hints_wanted(stress: Stress) -> Iterator[Tuple[Sequence[str], Optional[str], Optional[str]]]:
     """Words, standard input, and the line that a hint adds, or none."""
     packed = stress.file("packed.warc.gz", gzip.compress(stress.data))
     missing = stress.path("missing")
@@ -310,7 +385,9 @@ def hints_wanted(stress):
     yield ("replay", "--hints", stress.archive, *in_hex, "1999"), None, earliest
     yield ("replay", "--hints", "-", system.TARGET, "1999"), stress.archive, earliest
     yield ("replay", "--hints", stress.archive, "http://nowhere.example/", "1999"), None, None
-    for count, (stated, revisited) in enumerate((("sha1:A", "sha1:B"), ("sha1:A", "sha1:A"), ("sha1:A", ""), ("", "sha1:B"))):
+    for count, (stated, revisited) in enumerate(
+        (("sha1:A", "sha1:B"), ("sha1:A", "sha1:A"), ("sha1:A", ""), ("", "sha1:B"))
+    ):
         path = stress.file("revisit%d.warc" % count, revisit_archive(stated, revisited))
         line = "record 1 states another payload digest than record 0, whose body was given" if count == 0 else None
         yield ("body", "--hints", path, "1"), None, line
@@ -318,7 +395,7 @@ def hints_wanted(stress):
         yield ("replay", "--hints", path, system.TARGET, "9999"), None, line
 
 
-def hints_flag(stress):
+def hints_flag(stress: Stress) -> None:
     """With --hints the lines for people are written also where standard error is no terminal, and else only on one."""
     stress.begin("hints")
     for words, standard, line in hints_wanted(stress):
@@ -339,7 +416,7 @@ def hints_flag(stress):
     stress.end()
 
 
-def help_texts(stress):
+def help_texts(stress: Stress) -> None:
     """Each line of help fits into 78 columns."""
     stress.begin("help")
     for command in [(), *sorted({command[:1] for command in COMMANDS}), ("explain",)]:
@@ -349,12 +426,21 @@ def help_texts(stress):
     stress.end()
 
 
-KINDS = (system.plain_runs, progress, piped_progress, no_progress, lines_for_people, hostile_contents, hostile_messages,
-         hostile_names, hints_flag, help_texts)
+KINDS = (
+    system.plain_runs,
+    progress,
+    piped_progress,
+    no_progress,
+    lines_for_people,
+    hostile_contents,
+    hostile_messages,
+    hostile_names,
+    hints_flag,
+    help_texts,
+)
 
 
-
-def main(program):
+def main(program: str) -> int:
     root = os.path.join(system.TOP, "out", "stress")
     os.makedirs(root, exist_ok=True)
     folder = tempfile.mkdtemp(prefix="terminal-", dir=root)
@@ -364,8 +450,10 @@ def main(program):
             kind(stress)
     finally:
         shutil.rmtree(folder)
-    print("terminal: %d kinds, %d tried, %d surprises" % (
-        len(stress.tried), sum(stress.tried.values()), sum(stress.surprises.values())))
+    print(
+        "terminal: %d kinds, %d tried, %d surprises"
+        % (len(stress.tried), sum(stress.tried.values()), sum(stress.surprises.values()))
+    )
     return 1 if stress.surprises else 0
 
 
