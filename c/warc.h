@@ -35,8 +35,8 @@
  * library's, and stays until the next call of warc_field_at for another record of the archive, warc_grow or warc_close.
  *
  * MAPPED FILES. A read of a mapped file that fails kills the process by SIGBUS: where the file became shorter, and
- * where the disk or the network behind it fails. Read a file into memory where that may happen and the process must
- * live.
+ * where its disk or network fails. No call reads a file by its descriptor. Where that may happen and the process must
+ * live, read the file into memory first, which needs memory for all of it.
  *
  * THREADS. An archive is used by one thread at a time, in any thread. Archives share nothing: each thread may use its
  * own, also over the same bytes. No call is made from a signal handler.

@@ -15,9 +15,9 @@
     [Finding(position=13, number='N4', field=None), Finding(position=15, number='N4', field=None)]
     >>> archive.close()
 
-An archive is a file of records, stored uncompressed, which is mapped into memory. Heads, blocks and bodies are
-memoryviews of that memory: nothing is copied. The library refuses an archive if any of its records is damaged, and says
-which rule is broken, and at which byte:
+An archive is a file of records, which is mapped into memory. Heads, blocks and bodies are memoryviews of that memory:
+nothing is copied. A file that gzip or zstd compressed is decompressed first, into a file without a name. The library
+refuses an archive if any of its records is damaged, and says which rule is broken, and at which byte:
 
     >>> zogwedu.Archive.open("examples/damaged.warc")
     Traceback (most recent call last):
@@ -34,20 +34,22 @@ network fails. `Archive.open(path, mmap=False)` reads the file into memory.
 what a replay gives; `make` writes a new record. The exceptions are all a `WarcError`:
 
 - `Refused`: the archive is refused, F1 to F14 at an offset.
+- `CompressedError`: the file is compressed, and damaged or torn at the offset of a member.
 - `Changed`: bytes aren't what they were when the archive was opened.
 - `NoBody`: there is no body, P1 to P10. `Undecodable`: it can't be decoded.
 - `NoRecord`: there is no record at the position; it is an `IndexError`.
 - `NotMade`: no record can be made of these, M1 to M5. `WriteFailed`: a write failed, after `sent` bytes.
 - `Closed`: the archive is closed. `ViewsAlive`: it can't be closed while views are in use.
 
-What is proved is the library below this package. This package, the interpreter and the undoing of codings
-(`decoded=True`) are not.
+What is proved is the library below this package. This package, the interpreter, the decompression of files and the
+undoing of codings (`decoded=True`) are not.
 """
 from ._archive import Archive, Body, Finding, Fixity, Record, UnfitBlock
 from ._heads import Headers, Http
 from ._problems import (
     Changed,
     Closed,
+    CompressedError,
     NoBody,
     NoRecord,
     NotMade,
@@ -64,6 +66,7 @@ __all__ = [
     "Body",
     "Changed",
     "Closed",
+    "CompressedError",
     "Finding",
     "Fixity",
     "Headers",

@@ -3,7 +3,7 @@ import os
 import sys
 from typing import BinaryIO, List, NamedTuple, Sequence
 
-from . import Archive, Body, NoBody, Record, Undecodable, WarcError
+from . import Archive, Body, CompressedError, NoBody, Record, Undecodable, WarcError
 from ._library import CODED
 
 USAGE = "usage: python -m zogwedu unpack [--stored] ARCHIVE FOLDER"
@@ -77,9 +77,9 @@ def write_line(index: BinaryIO, columns: Sequence[str]) -> None:
 def unpack(path: str, folder: str, stored: bool) -> int:
     """Writes POSITION.body for each capture that has a body, and index.tsv; answers how many bodies there are.
 
-    A name never comes from a URI. A folder that exists is refused. The codings of a coded body are undone, and the column
-    `coding` says which; with `stored` it is written as it is stored. A body that can't be decoded has its reason in the
-    index and no file.
+    A name never comes from a URI. A folder that exists is refused. The codings of a coded body are undone, and the
+    column `coding` says which; with `stored` it is written as it is stored. A body that can't be decoded has its reason
+    in the index and no file.
     """
     count = 0
     with Archive.open(path) as archive:
@@ -105,12 +105,12 @@ def main(words: List[str]) -> int:
         return 3
     try:
         count = unpack(rest[0], rest[1], stored)
+    except (CompressedError, OSError) as error:
+        print(f"zogwedu: {error}", file=sys.stderr)
+        return 3
     except WarcError as error:
         print(f"zogwedu: {error}", file=sys.stderr)
         return 2
-    except OSError as error:
-        print(f"zogwedu: {error}", file=sys.stderr)
-        return 3
     print(f"{count} bodies")
     return 0
 

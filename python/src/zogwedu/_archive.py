@@ -1,6 +1,4 @@
 """Archives, their records and bodies."""
-import io
-import mmap as mapping
 import os
 import threading
 from collections.abc import Sequence
@@ -8,9 +6,10 @@ from datetime import datetime
 from typing import Any, Callable, Iterator, List, NamedTuple, NoReturn, Optional, Tuple, TYPE_CHECKING, Union, overload
 
 from ._decoding import DECODED_LIMIT, codings_of, decode
+from ._files import Contents, read_object, read_path, unmap
 from ._heads import Headers, Http, text_of
-from ._library import CODED, Lent, Opened, Spans, lib
-from ._problems import Closed, NoBody, NoRecord, Refused, Undecodable, ViewsAlive
+from ._library import CODED, TRUNCATED, Lent, Opened, Spans, lib
+from ._problems import Closed, CompressedError, NoBody, NoRecord, Refused, Undecodable, ViewsAlive
 from ._writing import Output, Text, bytes_of, date_of, write_to
 
 if TYPE_CHECKING:
@@ -20,7 +19,6 @@ else:
     Records = Sequence
 
 VERDICTS = ("good", "bad", "unchecked")
-PIECE = 1 << 20
 
 
 class Finding(NamedTuple):
@@ -112,8 +110,8 @@ class Record:
     `length` of its block in bytes, and `truncated`. `headers`, `http`, `verdict`, `head`, `block` and `body()` read the
     archive.
 
-    Records of one archive are equal where their positions are. Texts are decoded as UTF-8, with `surrogateescape` for other bytes: `text.encode("utf-8", "surrogateescape")` gives
-    the bytes.
+    Records of one archive are equal where their positions are. Texts are decoded as UTF-8, with `surrogateescape` for
+    other bytes: `text.encode("utf-8", "surrogateescape")` gives the bytes.
     """
 
     __slots__ = (
@@ -180,8 +178,9 @@ class Record:
 
         Raises NoBody if there is none, with the reason P3 to P10, or if the record is no capture. `decoded=True` undoes
         the codings of a body that is stored chunked or compressed, and says in `undone` which these were; that isn't
-        part of what is proved. Undecodable says that a coding is unknown, that its bytes are damaged, that there are more
-        than 8 codings, or that one of them gives more than `decoded_limit` bytes. A coded body in segments raises NoBody.
+        part of what is proved. Undecodable says that a coding is unknown, that its bytes are damaged, that there are
+        more than 8 codings, or that one of them gives more than `decoded_limit` bytes. A coded body in segments raises
+        NoBody.
         """
         opened = self._archive._use()
         return self._archive._body(lambda: opened.body_at(self.position), decoded, decoded_limit)
@@ -202,15 +201,22 @@ class Archive(Records):
     """An open archive. `Archive.open(path)` opens a file, `Archive(data)` bytes.
 
     It is a sequence of its records: `len(archive)`, `archive[position]`, `archive[2:5]`, `record in archive`,
-    `for record in archive`. It may be used by several threads, whose calls wait for each other; open one for each thread
-    to have them run at the same time. Once it is closed, each use raises Closed, also in other threads.
+    `for record in archive`. It may be used by several threads, whose calls wait for each other; open one for each
+    thread to have them run at the same time. Once it is closed, each use raises Closed, also in other threads.
     """
 
     def __init__(
-        self, data: Any, *, front: bool = False, _path: Optional[str] = None, _mapped: Optional[bool] = None
+        self,
+        data: Any,
+        *,
+        front: bool = False,
+        _path: Optional[str] = None,
+        _mapped: bool = False,
+        _contents: Contents = Contents(None),
     ) -> None:
         self._path = _path
-        self._wants_mapping = bool(_mapped)
+        self._wants_mapping = _mapped
+        self._contents = _contents._replace(data=None)
         self._growing = threading.Lock()
         self._opened: Optional[Opened] = None
         lent = Lent(data)
@@ -218,28 +224,49 @@ class Archive(Records):
             self._opened = Opened(lent, front)
         except BaseException:
             lent.give_back()
-            _unmap(data)
+            unmap(data)
             raise
 
     @classmethod
     def open(cls, file: Union["Path", Any], *, mmap: bool = True, front: bool = False) -> "Archive":
         """Opens a file by its path, or reads a binary file object such as `sys.stdin.buffer` to its end.
 
-        Raises Refused with the first fault and its offset. With `front=True` it opens the records before the first fault,
-        which is then `archive.fault`.
+        Raises Refused with the first fault and its offset. With `front=True` it opens the records before the first
+        fault, which is then `archive.fault`.
+
+        A file that begins as the output of gzip or zstd does is decompressed first, into a file without a name in the
+        folder that TMPDIR names, which needs the room: nothing else limits what a small file may become. Offsets are
+        those of the uncompressed bytes. Raises CompressedError if a member is damaged or torn; `front=True` opens what
+        the members before it hold. The undoing isn't part of what is proved.
 
         A path is mapped into memory. A read of a mapped file that fails kills the process by SIGBUS: where the file
-        became shorter, and where its disk or network fails. `mmap=False` reads the file into memory instead.
+        became shorter, and where its disk or network fails. `mmap=False` reads the file into memory instead, all of it.
         """
         if hasattr(file, "read"):
-            return cls(_read_object(file), front=front)
+            contents = read_object(file, mmap, front)
+            return cls(contents.data, front=front, _contents=contents)
         path = os.fspath(file)
-        return cls(_read(path, mmap), front=front, _path=path, _mapped=mmap)
+        contents = read_path(path, mmap, front)
+        return cls(contents.data, front=front, _path=path, _mapped=mmap, _contents=contents)
 
     @property
-    def fault(self) -> Optional[Refused]:
-        """The fault after the records, if the archive was opened with `front=True` and isn't whole."""
-        return self._use().fault
+    def compressed(self) -> Optional[str]:
+        """How the file was compressed that was opened: "gzip" or "zstd"; None if it wasn't."""
+        return self._contents.compressed
+
+    @property
+    def fault(self) -> Union[Refused, CompressedError, None]:
+        """The fault after the records, if the archive was opened with `front=True` and isn't whole.
+
+        It is a CompressedError if the file is damaged as a compressed one. If that leaves a part of a record, it is the
+        Refused of this record, and the CompressedError is its cause.
+        """
+        fault, damage = self._use().fault, self._contents.damage
+        if fault is None:
+            return damage
+        if fault.code == TRUNCATED:
+            fault.__cause__ = damage
+        return fault
 
     @property
     def length(self) -> int:
@@ -257,18 +284,18 @@ class Archive(Records):
     def close(self) -> None:
         """Closes the archive. Closing again does nothing.
 
-        Raises ViewsAlive, and leaves it open, if memoryviews of a mapped file are in use: release them (`view.release()`)
-        or copy them (`bytes(view)`) first. Views of bytes in memory stay valid. The end of `with` never raises it: there
-        the archive is closed, and a mapping goes with its last view.
+        Raises ViewsAlive, and leaves it open, if memoryviews of a mapped file are in use: release them
+        (`view.release()`) or copy them (`bytes(view)`) first. Views of bytes in memory stay valid. The end of `with`
+        never raises it: there the archive is closed, and a mapping goes with its last view.
         """
-        if self._opened is not None and not self._opened.close(_unmap):
+        if self._opened is not None and not self._opened.close(unmap):
             raise ViewsAlive("memoryviews of the archive are in use")
 
     def _close_for_good(self) -> None:
         """Closes it. A mapping goes now, or with the last view."""
         opened = getattr(self, "_opened", None)
         if opened is not None:
-            opened.close(lambda data: _unmap(data) or True)
+            opened.close(lambda data: unmap(data) or True)
 
     def __enter__(self) -> "Archive":
         return self
@@ -325,9 +352,9 @@ class Archive(Records):
     ) -> Body:
         """The body that was captured of a URI, as of a date: that of the latest capture that isn't later.
 
-        A date is a text such as "2021", "2021-06-30" or "2021-06-30T12:00:00Z", or a datetime, which is read as UTC if it
-        has no time zone. Raises NoBody with the reason P1 to P10 if there is none; it never gives an older capture in its
-        place. For `decoded` see `Record.body`.
+        A date is a text such as "2021", "2021-06-30" or "2021-06-30T12:00:00Z", or a datetime, which is read as UTC if
+        it has no time zone. Raises NoBody with the reason P1 to P10 if there is none; it never gives an older capture
+        in its place. For `decoded` see `Record.body`.
         """
         opened, words = self._use(), (bytes_of(uri), date_of(date))
         return self._body(lambda: opened.replay(*words), decoded, decoded_limit)
@@ -356,23 +383,25 @@ class Archive(Records):
 
         Raises Refused, and leaves the archive as it was, if what follows is damaged, or isn't whole yet; Changed if the
         file is shorter than the archive, or if the head of the last record isn't what it was. Only an archive that was
-        opened by its path grows. Its file is mapped or read, as when it was opened.
+        opened by its path grows. Its file is mapped or read, as when it was opened, and decompressed anew from its
+        beginning if it is compressed: CompressedError leaves the archive as it was, too.
         """
         if self._path is None:
             raise ValueError("only an archive that was opened by its path can grow")
         with self._growing:
             opened = self._use()
             before = opened.count()
-            data = _read(self._path, self._wants_mapping)
-            lent = Lent(data)
+            contents = read_path(self._path, self._wants_mapping, front=False)
+            lent = Lent(contents.data)
             try:
                 old = opened.grow(lent)
             except BaseException:
                 lent.give_back()
-                _unmap(data)
+                unmap(contents.data)
                 raise
             old.give_back()
-            _unmap(old.owner)
+            unmap(old.owner)
+            self._contents = contents._replace(data=None)
             return opened.count() - before
 
     def _body(self, ask: Callable[[], Any], decoded: bool, limit: int) -> Body:
@@ -403,8 +432,8 @@ class Archive(Records):
         """Writes the archive in canonical form to a binary file.
 
         A plain file is flushed and then written by its descriptor; any other object gets the bytes in pieces. Raises
-        WriteFailed, whose `sent` is how many bytes went out, if a write fails. Nothing is synced. The file must not be the
-        one that is read.
+        WriteFailed, whose `sent` is how many bytes went out, if a write fails. Nothing is synced. The file must not be
+        the one that is read.
         """
         self._write(lib.warc_rewrite, out)
 
@@ -428,43 +457,6 @@ class Archive(Records):
         return f"<zogwedu.Archive {self._path or 'of bytes'}, {len(self)} records>"
 
 
-class _Mapping(mapping.mmap):
-    """A mapped file that belongs to an archive. One that a caller passes is the caller's."""
-
-
-def _read(path: str, map_it: bool) -> Any:
-    """A file, mapped or read. An empty file, and one of no known length, can't be mapped."""
-    with open(path, "rb") as file:
-        if map_it and os.fstat(file.fileno()).st_size:
-            return _Mapping(file.fileno(), 0, access=mapping.ACCESS_READ)
-        return file.read()
-
-
-def _read_object(file: Any) -> bytes:
-    """The bytes of a binary file object, from where it is to its end."""
-    if isinstance(file, io.TextIOBase):
-        raise TypeError("an archive is read from a binary file: sys.stdin.buffer, or open(path, 'rb')")
-    parts: List[bytes] = []
-    while True:
-        part = file.read(PIECE)
-        if part is None:
-            raise BlockingIOError("the file has no bytes now: an archive is read from one that blocks")
-        if not part:
-            return b"".join(parts)
-        parts.append(bytes(part))
-
-
-def _unmap(data: Any) -> bool:
-    """Unmaps a file, and gives whether that was possible: not while views of it are in use. Other bytes stay."""
-    if not isinstance(data, _Mapping):
-        return True
-    try:
-        data.close()
-    except BufferError:
-        return False
-    return True
-
-
 def _finding(line: str) -> Finding:
     """A line of `warc check`: the position or `-`, the number, and the field, if it is about one."""
     position, number, *field = line.split(" ", 2)
@@ -472,6 +464,6 @@ def _finding(line: str) -> Finding:
 
 
 def _unfit(line: str) -> UnfitBlock:
-    """A line of `warc fixity`: the position, the verdict, the id, which has no tab, and the digest, which may have some."""
+    """A line of `warc fixity`: the position, the verdict, the id, and the digest, which alone may have tabs."""
     position, verdict, identity, digest = line.split("\t", 3)
     return UnfitBlock(int(position), verdict, identity, None if digest == "-" else digest)

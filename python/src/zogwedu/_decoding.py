@@ -1,4 +1,4 @@
-"""Undoes the codings of stored HTTP bodies, one by one, by zlib, and by brotli and zstandard where they are installed.
+"""Undoes the codings of stored HTTP bodies, one by one, by zlib, and by modules for brotli and zstd where they are.
 
 No part of this is proved. Which codings a body has is read of the fields that the library gives: those of each
 `Transfer-Encoding` and then of each `Content-Encoding`, the last one first. tests/callers/codings.json has its rules as
@@ -9,11 +9,13 @@ import re
 import zlib
 from typing import Any, Callable, Dict, Iterable, List, Tuple
 
+from ._members import GZIP, Damaged, Form, Members, zstd
 from ._problems import Undecodable
 
 MOST_CODINGS = 8
 DECODED_LIMIT = 1 << 30
 PIECE = 1 << 14
+ZSTD_WINDOW_LOG = 23  # 8 MiB, the most that RFC 9659 allows
 CHUNK_LINE = re.compile(rb"([0-9A-Fa-f]{1,15})[ \t]*(?:;[^\n]*)?\r?\n")
 CHUNK_END = re.compile(rb"\r?\n")
 
@@ -104,16 +106,19 @@ def _inflate(body: memoryview, at: int, taken: _Taken, bits: int) -> int:
     return at - len(stream.unused_data)
 
 
-def _gunzip(body: memoryview, taken: _Taken) -> bytes:
-    """All members, one after another. Zero bytes may follow them, as gzip allows."""
-    at = 0
+def _undo_members(body: memoryview, form: Form, taken: _Taken) -> bytes:
+    """What members give, one after another."""
     try:
-        while True:
-            at = _inflate(body, at, taken, zlib.MAX_WBITS | 16)
-            if at == len(body) or (body[at] == 0 and not bytes(body[at:]).strip(b"\0")):
-                return taken.whole()
-    except zlib.error as error:
-        raise taken.fail(error) from error
+        for piece in Members(iter((body,)), form):
+            taken.add(piece)
+    except Damaged as damaged:
+        raise taken.fail(damaged.why) from damaged.why
+    return taken.whole()
+
+
+def _gunzip(body: memoryview, taken: _Taken) -> bytes:
+    """Members of gzip."""
+    return _undo_members(body, GZIP, taken)
 
 
 def _deflated(body: memoryview, taken: _Taken) -> bytes:
@@ -127,18 +132,17 @@ def _deflated(body: memoryview, taken: _Taken) -> bytes:
     return taken.whole()
 
 
-def _module(name: str, taken: _Taken) -> Any:
-    """A module that may be installed."""
-    try:
-        return importlib.import_module(name)
-    except ImportError as error:
-        text = f"the coding {taken.coding} needs the module {name}, which isn't installed"
-        raise Undecodable(text, taken.coding) from error
+def _lacking(name: str, taken: _Taken) -> Undecodable:
+    """The exception for a module that isn't installed."""
+    return Undecodable(f"the coding {taken.coding} needs the module {name}, which isn't installed", taken.coding)
 
 
 def _brotli(body: memoryview, taken: _Taken) -> bytes:
     """A brotli stream. It is fed a few bytes at a time, since the module has no limit on what these become."""
-    module = _module("brotli", taken)
+    try:
+        module = importlib.import_module("brotli")
+    except ImportError as error:
+        raise _lacking("brotli", taken) from error
     stream, data = module.Decompressor(), bytes(body)
     try:
         for at in range(0, len(data), 16):
@@ -151,28 +155,12 @@ def _brotli(body: memoryview, taken: _Taken) -> bytes:
 
 
 def _zstandard(body: memoryview, taken: _Taken) -> bytes:
-    """Frames of Zstandard, with windows of at most 8 MiB (RFC 9659)."""
-    module = _module("zstandard", taken)
-    stream = module.ZstdDecompressor(max_window_size=1 << 23)
-    at = 0
+    """Frames of Zstandard."""
     try:
-        while at < len(body):
-            at = _decompress_frame(stream.decompressobj(), body, at, taken)
-    except module.ZstdError as error:
-        raise taken.fail(error) from error
-    return taken.whole()
-
-
-def _decompress_frame(frame: Any, body: memoryview, at: int, taken: _Taken) -> int:
-    """Takes what one frame gives that begins at a place, and answers the place after it. It is fed in pieces, of which
-    each becomes a bounded number of bytes."""
-    while not frame.eof:
-        piece = bytes(body[at : at + 1024])
-        if not piece:
-            raise taken.fail("it isn't whole")
-        taken.add(frame.decompress(piece))
-        at += len(piece)
-    return at - len(frame.unused_data)
+        form = zstd(ZSTD_WINDOW_LOG)
+    except ImportError as error:
+        raise _lacking("zstandard", taken) from error
+    return _undo_members(body, form, taken) if body else b""
 
 
 CODINGS: Dict[str, Callable[[memoryview, _Taken], bytes]] = {

@@ -23,8 +23,8 @@ class Headers(Texts):
     """The fields of a head: a mapping of names to values, in which ASCII case doesn't matter.
 
     `headers[name]` is the value of the first field of this name, and `headers.get_all(name)` lists those of all.
-    `headers.fields` has each field, in the order of the head, with repeated names. As a mapping it has each name once, as
-    it is written first. A folded value is one line.
+    `headers.fields` has each field, in the order of the head, with repeated names. As a mapping it has each name once,
+    as it is written first. A folded value is one line.
     """
 
     __slots__ = ("fields", "_places")
@@ -67,8 +67,8 @@ class Headers(Texts):
 
 
 class Http:
-    """The head of the HTTP response that a record's block begins with: `status`, `version` such as "HTTP/1.1", `reason`,
-    `headers`, and where the body is: `offset` and `length`, in the archive's bytes.
+    """The head of the HTTP response that a record's block begins with: `status`, `version` such as "HTTP/1.1",
+    `reason`, `headers`, and where the body is: `offset` and `length`, in the archive's bytes.
     """
 
     __slots__ = ("_archive", "status", "version", "reason", "headers", "offset", "length")

@@ -13,7 +13,7 @@ BAD_HEAD, CODED = 109, 110
 NO_RECORD, NOT_A_CAPTURE, CHANGED, NO_MEMORY = 201, 202, 203, 204
 WRITE_FAILED = 208
 FIRST_UNMADE, LAST_UNMADE = 301, 305
-LAST_FAULT = 14
+TRUNCATED, LAST_FAULT = 11, 14
 
 U32, U64, SIZE, POINTER, INT = c.c_uint32, c.c_uint64, c.c_size_t, c.c_void_p, c.c_int
 
@@ -128,8 +128,8 @@ def load() -> Any:
         library = c.CDLL(path)
     except OSError as error:
         raise ImportError(
-            f"zogwedu needs the library libwarc.so, and {path} can't be loaded ({error}). `make python` builds both; the"
-            " environment variable ZOGWEDU_LIBRARY names a library elsewhere."
+            f"zogwedu needs the library libwarc.so, and {path} can't be loaded ({error}). `make python` builds both;"
+            " the environment variable ZOGWEDU_LIBRARY names a library elsewhere."
         ) from error
     if not hasattr(library, "warc_abi_version"):
         raise ImportError(f"{path} isn't the library libwarc.so of zogwedu: it has no warc_abi_version.")
@@ -327,7 +327,7 @@ class Opened:
         return HttpHead(http.status, http.minor, reason, fields, (http.body.offset, http.body.length))
 
     def _located(self, ask: Any) -> Tuple[Answer, Spans]:
-        """What is said of a body, and its spans. `ask` is called again if there are more of them than it had room for."""
+        """What is said of a body, and its spans. `ask` is called again if there are more than it had room for."""
         room = 4
         while True:
             answer, spans, problem = Answer(), (Span * room)(), Problem()

@@ -5,8 +5,8 @@ from typing import Optional
 class WarcError(Exception):
     """What the library reports. `text` is what the program `warc` prints for it.
 
-    `code` is its number in warc.h; `name` its number and name, such as "F10 End" or "P1 NoCapture"; `offset` the offset
-    in the archive, where it is about one.
+    `code` is its number in warc.h, or 0 if it has none; `name` its number and name, such as "F10 End" or
+    "P1 NoCapture"; `offset` the offset in the archive, where it is about one.
     """
 
     def __init__(self, text: str, code: int = 0, offset: Optional[int] = None) -> None:
@@ -23,6 +23,17 @@ class WarcError(Exception):
 
 class Refused(WarcError):
     """The archive is refused: F1 to F14, at `offset`."""
+
+
+class CompressedError(WarcError):
+    """The file is compressed, and damaged or torn at `offset`: that of a member, in the compressed file.
+
+    Its cause is what zlib or the module for zstd says, or an EOFError where the file ends too early. It is raised for
+    zstd, too, where Python has no module for it; the cause is then an ImportError.
+    """
+
+    def __init__(self, text: str, offset: int) -> None:
+        super().__init__(text, offset=offset)
 
 
 class Changed(WarcError):

@@ -82,10 +82,10 @@ def make(
 ) -> None:
     """Writes one record of WARC/1.1 to a binary file, with the digest of its block.
 
-    `kind` is "resource", "metadata" or "conversion"; `date` a text or a datetime, which is read as UTC if it has no time
-    zone; `block` bytes; `uuid` that of its id, a random one if it is left out. Raises NotMade with M1 to M5 if no record
-    can be made of these, and then nothing is written; WriteFailed, whose `sent` is how many bytes went out, if a write
-    fails. Nothing is synced.
+    `kind` is "resource", "metadata" or "conversion"; `date` a text or a datetime, which is read as UTC if it has no
+    time zone; `block` bytes; `uuid` that of its id, a random one if it is left out. Raises NotMade with M1 to M5 if no
+    record can be made of these, and then nothing is written; WriteFailed, whose `sent` is how many bytes went out, if a
+    write fails. Nothing is synced.
     """
     texts = (bytes_of(kind), bytes_of(uri), date_of(date), bytes_of(uuid or str(uuids.uuid4())), bytes_of(media_type))
     lent = library.Lent(block)
