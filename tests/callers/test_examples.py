@@ -1,6 +1,9 @@
 #!/usr/bin/env python3
-"""The example programs of C and Python do what they say, where it isn't easy too: many spans, a full disk, no file."""
+"""The example programs do what they say, where it isn't easy too: many spans, a full disk, no file, a torn one."""
+import gzip
 import os
+import resource
+import signal
 import subprocess
 import sys
 import tempfile
@@ -20,6 +23,20 @@ def run(*words: str, **how: Any) -> Tuple[bytes, bytes, int]:
     return done.stdout, done.stderr, done.returncode
 
 
+def compiled(name: str, folder: str, *libraries: str) -> str:
+    """The program of an example of C."""
+    path = f"{folder}/{name}"
+    words = [COMPILER, *FLAGS, f"{TOP}/c/{name}.c", f"{TOP}/out/lib/libwarc.a", *libraries, "-o", path]
+    subprocess.run(words, check=True)
+    return path
+
+
+def has_zlib() -> bool:
+    """Whether a compiler finds the header of zlib."""
+    words = [COMPILER, "-E", "-include", "zlib.h", "-x", "c", "/dev/null"]
+    return subprocess.run(words, capture_output=True, check=False).returncode == 0
+
+
 class Examples(unittest.TestCase):
     folder: "tempfile.TemporaryDirectory[str]"
     programs: Dict[str, List[str]]
@@ -28,8 +45,7 @@ class Examples(unittest.TestCase):
     def setUpClass(cls) -> None:
         cls.folder = tempfile.TemporaryDirectory()
         for name in ("example", "headers"):
-            path = f"{cls.folder.name}/{name}"
-            subprocess.run([COMPILER, *FLAGS, f"{TOP}/c/{name}.c", f"{TOP}/out/lib/libwarc.a", "-o", path], check=True)
+            compiled(name, cls.folder.name)
         cls.programs = {
             "C": [f"{cls.folder.name}/example"],
             "Python": [sys.executable, f"{TOP}/python/example.py"],
@@ -85,6 +101,92 @@ class Examples(unittest.TestCase):
         self.assertEqual(
             (written.count(b"record "), written.splitlines()[-1][:18], status), (17, b"then F11 Truncated", 0)
         )
+
+
+class Compressed(unittest.TestCase):
+    """The examples that read what gzip compressed."""
+
+    folder: "tempfile.TemporaryDirectory[str]"
+    programs: Dict[str, str]
+
+    @classmethod
+    def setUpClass(cls) -> None:
+        cls.folder = tempfile.TemporaryDirectory()
+        cls.programs = {}
+        if has_zlib():
+            cls.programs["C"] = compiled("compressed", cls.folder.name, "-lz")
+        else:
+            print("no zlib.h: c/compressed.c isn't tried")
+        rust = f"{TOP}/out/rust/release/examples/compressed"
+        if os.path.exists(rust):
+            cls.programs["Rust"] = rust
+
+    @classmethod
+    def tearDownClass(cls) -> None:
+        cls.folder.cleanup()
+
+    def setUp(self) -> None:
+        with open(CRAWL, "rb") as file:
+            self.crawl = file.read()
+        offsets = [int(row.split(b"\t")[1]) for row in run(f"{TOP}/bin/warc", "list", CRAWL)[0].splitlines()]
+        ends = [*offsets[1:], len(self.crawl)]
+        self.members = [gzip.compress(self.crawl[begin:end]) for begin, end in zip(offsets, ends)]
+
+    def file(self, data: bytes) -> str:
+        path = f"{self.folder.name}/-a.warc.gz"
+        with open(path, "wb") as file:
+            file.write(data)
+        return path
+
+    def test_good(self) -> None:
+        whole, wanted = b"".join(self.members), run(f"{TOP}/bin/warc", "list", CRAWL)[0]
+        empty = gzip.compress(b"")
+        for data in (whole, gzip.compress(self.crawl), empty.join(self.members) + empty, whole + bytes(200_000)):
+            for name, program in self.programs.items():
+                with self.subTest(name, length=len(data)):
+                    self.assertEqual(run(program, self.file(data)), (wanted, b"", 0))
+        front = b"".join(wanted.splitlines(True)[:5])
+        for name, program in self.programs.items():
+            with self.subTest(name):
+                self.assertEqual(run(program, self.file(b"".join(self.members[:5]))), (front, b"", 0))
+                self.assertEqual(run(program, self.file(empty)), (b"", b"", 0))
+
+    def test_damaged(self) -> None:
+        whole, begin = b"".join(self.members), len(b"".join(self.members[:5]))
+        ends = [whole[:-1], whole[:-9], whole[: begin + 1], whole[: begin + 30], whole[:1], b""]
+        changed = [whole[:at] + bytes([whole[at] ^ 0xE0]) + whole[at + 1 :] for at in (begin, begin + 1, begin + 60)]
+        after = [
+            whole + b"abc",
+            whole + b"\n",
+            whole + self.crawl,
+            whole + bytes(99) + b"a",
+            whole + bytes(200_000) + b"a",
+        ]
+        for data in (*ends, *changed, *after, self.crawl, gzip.compress(self.crawl[:-1]), gzip.compress(whole)):
+            for name, program in self.programs.items():
+                with self.subTest(name, length=len(data)):
+                    written, message, status = run(program, self.file(data))
+                    self.assertEqual((written, status), (b"", 1))
+                    self.assertNotEqual(message, b"")
+
+    def test_no_file_and_full_disks(self) -> None:
+        path = self.file(gzip.compress(self.crawl))
+        for name, program in self.programs.items():
+            with self.subTest(name), open("/dev/full", "wb") as full:
+                self.assertNotEqual(run(program, f"{TOP}/nowhere")[1:], (b"", 0))
+                self.assertNotEqual(run(program, TOP)[1:], (b"", 0))
+                self.assertNotEqual(run(program)[1:], (b"", 0))
+                self.assertNotEqual(run(program, path, stdout=full, stderr=subprocess.PIPE)[2], 0)
+
+    def test_no_room_for_what_is_decompressed(self) -> None:
+        def limit() -> None:
+            signal.signal(signal.SIGXFSZ, signal.SIG_IGN)
+            resource.setrlimit(resource.RLIMIT_FSIZE, (4096, 4096))
+
+        if "C" in self.programs:
+            written, message, status = run(self.programs["C"], self.file(b"".join(self.members)), preexec_fn=limit)
+            self.assertEqual((written, status), (b"", 1))
+            self.assertIn(b"no room", message)
 
 
 if __name__ == "__main__":
