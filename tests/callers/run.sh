@@ -1,7 +1,8 @@
 #!/usr/bin/env bash
 # Compares what the program, C, Python and Rust give of the archives of the suites and of a crawl, has valgrind watch
-# the library over 10,000 damaged archives and the thread sanitizer over threads, runs the examples and the samples of
-# the pages, and opens a mapped file of 5 GB. Needs gcc; valgrind, hypothesis and cargo where they are.
+# the library over 10,000 damaged archives and the thread sanitizer over threads, installs the wheel, runs the examples
+# and the samples of the pages, and opens a mapped file of 5 GB. Needs gcc; valgrind, hypothesis, cargo, zlib.h and what
+# makes wheels are used where they are.
 #
 # CALLERS_COUNT is the number of damaged archives, CALLERS_SEED their seed, CALLERS_EXAMPLES the number that hypothesis
 # makes.
@@ -39,6 +40,7 @@ elif /usr/bin/python3 -c 'import hypothesis' 2> /dev/null; then
 else
     echo "no hypothesis: no archives are generated"
 fi
+python3 tests/callers/test_wheel.py
 python3 tests/callers/test_examples.py
 python3 tests/callers/test_samples.py
 $watch $out/mutated "${CALLERS_COUNT:-10000}" "${CALLERS_SEED:-1}" $out/archives/*.warc examples/crawl.warc
