@@ -9,97 +9,256 @@ import random
 import re
 import sys
 import uuid
+from typing import List, Tuple, Union
 
 KINDS = ("warcinfo", "response", "resource", "request", "metadata", "revisit", "conversion", "continuation")
-OTHER_FIELDS = ("WARC-Concurrent-To", "WARC-IP-Address", "WARC-Refers-To", "WARC-Refers-To-Target-URI",
-                "WARC-Refers-To-Date", "WARC-Filename", "WARC-Profile", "WARC-Warcinfo-ID", "WARC-Segment-Number",
-                "WARC-Segment-Origin-ID", "WARC-Segment-Total-Length", "WARC-Block-Digest", "WARC-Payload-Digest",
-                "WARC-Truncated", "WARC-Identified-Payload-Type", "Content-Type", "WARC-Target-URI", "X-Other", "x")
-DATES = ("2020", "2020-01", "2020-01-01", "2020-01-01T00:00Z", "2020-01-01T00:00:00Z", "2020-01-01T00:00:00.0Z",
-         "2020-02-29", "2020-01-01T00:00:00.5Z", "2020-01-01T00:00:00.000000001Z", "2019-12-31T23:59:59.999999999Z",
-         "0000", "9999", "2000-02-29", "2020-01-02T12:30:59.25Z")
-BAD_DATES = ("2021-02-29", "1900-02-29", "2020-13", "2020-00", "2020-01-00", "2020-01-01T24:00:00Z",
-             "2020-01-01T00:00:60Z", "2020-01-01T00:00:00+00:00", "2020-01-01T00:00:00.1234567890Z",
-             "2020-01-01T00:00:00", "2020-01-01T00:00:00.Z", "2020-01-01t00:00:00Z", "2020-1-1", "20200101", "",
-             "2020 ", "2020-01-01T00Z", "-2020", "2020Z", "99999", "2020-01-01T00:60Z", "2020-04-31")
-TARGETS = ("http://a.example/x", "http://a.example/y", "https://a.example/x", "HTTP://a.example/x", "ftp://a.example/",
-           "urn:x", "http:", "a b", "a\tb", "-", "--help", "<<x>>", "\u00fc", "http://a.example/x?<")
-PROFILES = ("http://netpreserve.org/warc/1.1/revisit/identical-payload-digest",
-            "http://netpreserve.org/warc/1.1/revisit/server-not-modified",
-            "http://netpreserve.org/warc/1.0/revisit/identical-payload-digest",
-            "http://netpreserve.org/warc/1.0/revisit/server-not-modified")
-BAD_PROFILES = ("", "<>", "http://netpreserve.org/warc/1.2/revisit/server-not-modified", "x",
-                "HTTP://netpreserve.org/warc/1.1/revisit/server-not-modified")
-NUMBERS = ("0", "1", "2", "3", "4", "01", "002", "281474976710656", "281474976710657", "-1", "+1", "x", "",
-           "1 2", " 2 ", "9" * 30, "0" * 40 + "2")
-ODD_VALUES = (b"", b"x", b"<x>", b"< x >", b"<>", b"\xff", b"a\xc3\xbcb", b"\xed\xa0\x80", b"a:b", b"a\tb",
-              b"=?x?q?y?=", b'"x"', b"<a><b>", b"<", b">", b"<a", b"a>")
+OTHER_FIELDS = (
+    "WARC-Concurrent-To",
+    "WARC-IP-Address",
+    "WARC-Refers-To",
+    "WARC-Refers-To-Target-URI",
+    "WARC-Refers-To-Date",
+    "WARC-Filename",
+    "WARC-Profile",
+    "WARC-Warcinfo-ID",
+    "WARC-Segment-Number",
+    "WARC-Segment-Origin-ID",
+    "WARC-Segment-Total-Length",
+    "WARC-Block-Digest",
+    "WARC-Payload-Digest",
+    "WARC-Truncated",
+    "WARC-Identified-Payload-Type",
+    "Content-Type",
+    "WARC-Target-URI",
+    "X-Other",
+    "x",
+)
+DATES = (
+    "2020",
+    "2020-01",
+    "2020-01-01",
+    "2020-01-01T00:00Z",
+    "2020-01-01T00:00:00Z",
+    "2020-01-01T00:00:00.0Z",
+    "2020-02-29",
+    "2020-01-01T00:00:00.5Z",
+    "2020-01-01T00:00:00.000000001Z",
+    "2019-12-31T23:59:59.999999999Z",
+    "0000",
+    "9999",
+    "2000-02-29",
+    "2020-01-02T12:30:59.25Z",
+)
+BAD_DATES = (
+    "2021-02-29",
+    "1900-02-29",
+    "2020-13",
+    "2020-00",
+    "2020-01-00",
+    "2020-01-01T24:00:00Z",
+    "2020-01-01T00:00:60Z",
+    "2020-01-01T00:00:00+00:00",
+    "2020-01-01T00:00:00.1234567890Z",
+    "2020-01-01T00:00:00",
+    "2020-01-01T00:00:00.Z",
+    "2020-01-01t00:00:00Z",
+    "2020-1-1",
+    "20200101",
+    "",
+    "2020 ",
+    "2020-01-01T00Z",
+    "-2020",
+    "2020Z",
+    "99999",
+    "2020-01-01T00:60Z",
+    "2020-04-31",
+)
+TARGETS = (
+    "http://a.example/x",
+    "http://a.example/y",
+    "https://a.example/x",
+    "HTTP://a.example/x",
+    "ftp://a.example/",
+    "urn:x",
+    "http:",
+    "a b",
+    "a\tb",
+    "-",
+    "--help",
+    "<<x>>",
+    "\u00fc",
+    "http://a.example/x?<",
+)
+PROFILES = (
+    "http://netpreserve.org/warc/1.1/revisit/identical-payload-digest",
+    "http://netpreserve.org/warc/1.1/revisit/server-not-modified",
+    "http://netpreserve.org/warc/1.0/revisit/identical-payload-digest",
+    "http://netpreserve.org/warc/1.0/revisit/server-not-modified",
+)
+BAD_PROFILES = (
+    "",
+    "<>",
+    "http://netpreserve.org/warc/1.2/revisit/server-not-modified",
+    "x",
+    "HTTP://netpreserve.org/warc/1.1/revisit/server-not-modified",
+)
+NUMBERS = (
+    "0",
+    "1",
+    "2",
+    "3",
+    "4",
+    "01",
+    "002",
+    "281474976710656",
+    "281474976710657",
+    "-1",
+    "+1",
+    "x",
+    "",
+    "1 2",
+    " 2 ",
+    "9" * 30,
+    "0" * 40 + "2",
+)
+ODD_VALUES = (
+    b"",
+    b"x",
+    b"<x>",
+    b"< x >",
+    b"<>",
+    b"\xff",
+    b"a\xc3\xbcb",
+    b"\xed\xa0\x80",
+    b"a:b",
+    b"a\tb",
+    b"=?x?q?y?=",
+    b'"x"',
+    b"<a><b>",
+    b"<",
+    b">",
+    b"<a",
+    b"a>",
+)
 ODD_IDS = ("x", "<x>", "< x >", "urn:uuid:x", "<urn:uuid:00000000000040008000000000000001>", "http://a.example/id", "X")
 BAD_IDS = ("", "<>", "<<x>>", "a b", "< a b >", "<a", "a>", "\t")
 
+Fields = List[Tuple[str, Union[str, bytes]]]
+Line = Tuple[str, ...]
 
-def yes(chance, one_in):
+
+def yes(chance: random.Random, one_in: int) -> bool:
     """True once in so many times."""
     return chance.randrange(one_in) == 0
 
 
-def sha1_text(block):
+def sha1_text(block: bytes) -> str:
     return "sha1:" + base64.b32encode(hashlib.sha1(block).digest()).decode()
 
 
-def random_case(chance, text):
+def random_case(chance: random.Random, text: str) -> str:
     return "".join(chance.choice((letter.lower(), letter.upper())) for letter in text)
 
 
-def some_id(chance):
+def some_id(chance: random.Random) -> str:
     """One of a few ids, so that several records share one, in one of several spellings."""
     if yes(chance, 12):
         return chance.choice(ODD_IDS)
-    text = "urn:uuid:" + str(uuid.UUID(int=(4 << 76) + (8 << 60) + chance.randrange(1, 9) * 0xabcdef))
+    text = "urn:uuid:" + str(uuid.UUID(int=(4 << 76) + (8 << 60) + chance.randrange(1, 9) * 0xABCDEF))
     if yes(chance, 6):
         text = random_case(chance, text)
     return chance.choice(("<%s>", "<%s>", "<%s>", "%s", "< %s >", "<%s\t>")) % text
 
 
-def some_target(chance):
+def some_target(chance: random.Random) -> str:
     text = chance.choice(TARGETS) if yes(chance, 4) else TARGETS[chance.randrange(3)]
     return chance.choice(("%s", "%s", "%s", "<%s>", "< %s >")) % text
 
 
-def some_date(chance):
+def some_date(chance: random.Random) -> str:
     return chance.choice(DATES)
 
 
-def some_digest(chance, block):
+def some_digest(chance: random.Random, block: bytes) -> str:
     """A block digest: good, bad, of another kind, or none that can be checked."""
     good = sha1_text(block)
-    return chance.choice((
-        good, good, good, good.lower(), random_case(chance, good), sha1_text(block + b"x"), good[:-1], good + "A",
-        "sha1:" + hashlib.sha1(block).hexdigest(), "sha256:" + hashlib.sha256(block).hexdigest(), "", "sha1:",
-        "sha1: " + good[5:], good + "\tx", "md5:x", "<%s>" % good, good[:-1] + "1"))
+    return chance.choice(
+        (
+            good,
+            good,
+            good,
+            good.lower(),
+            random_case(chance, good),
+            sha1_text(block + b"x"),
+            good[:-1],
+            good + "A",
+            "sha1:" + hashlib.sha1(block).hexdigest(),
+            "sha256:" + hashlib.sha256(block).hexdigest(),
+            "",
+            "sha1:",
+            "sha1: " + good[5:],
+            good + "\tx",
+            "md5:x",
+            "<%s>" % good,
+            good[:-1] + "1",
+        )
+    )
 
 
 # Blocks
 
-def plain_block(chance):
-    return chance.choice((b"", b"abc", b"\r\n\r\n", b"WARC/1.1\r\n", b"\0" * 9, b"x" * chance.randrange(300),
-                          b"a\nb\r\n"))
+
+def plain_block(chance: random.Random) -> bytes:
+    return chance.choice(
+        (b"", b"abc", b"\r\n\r\n", b"WARC/1.1\r\n", b"\0" * 9, b"x" * chance.randrange(300), b"a\nb\r\n")
+    )
 
 
-def http_fields(chance):
+GOOD_FIELDS = (
+    b"Content-Type: text/html",
+    b"content-TYPE: Text/HTML; a=b",
+    b"Content-Type: text",
+    b"A:",
+    b"a:b",
+    b"A: \tb \t",
+    b"A: \xff",
+    b"A: b:c",
+    b"a!#$%&'*+-.^_`|~9: x",
+    b"Content-Length: 3",
+    b"Content-Encoding: identity",
+    b"Transfer-Encoding:",
+    b"Content-Encoding: \tIdentity ",
+)
+CODED_FIELDS = (
+    b"Transfer-Encoding: chunked",
+    b"content-ENCODING: gzip",
+    b"Content-Encoding: identity, gzip",
+    b"Content-Encoding:\xff",
+)
+BAD_FIELDS = (
+    b" a: b",
+    b"a : b",
+    b": b",
+    b"a",
+    b"a\x01: b",
+    b"a: b\x01c",
+    b"a: b\x7f",
+    b"a: b\rc",
+    b"a(b: c",
+    b"\xffa: b",
+    b"a: b\r\n c",
+    b"a: b\0",
+    b"a: b\r",
+)
+
+
+def http_fields(chance: random.Random) -> List[bytes]:
     """Field lines of an HTTP head, good and bad."""
-    good = (b"Content-Type: text/html", b"content-TYPE: Text/HTML; a=b", b"Content-Type: text", b"A:", b"a:b", b"A: \tb \t", b"A: \xff", b"A: b:c", b"a!#$%&'*+-.^_`|~9: x",
-            b"Content-Length: 3", b"Content-Encoding: identity", b"Transfer-Encoding:",
-            b"Content-Encoding: \tIdentity ")
-    coded = (b"Transfer-Encoding: chunked", b"content-ENCODING: gzip", b"Content-Encoding: identity, gzip",
-             b"Content-Encoding:\xff")
-    bad = (b" a: b", b"a : b", b": b", b"a", b"a\x01: b", b"a: b\x01c", b"a: b\x7f", b"a: b\rc", b"a(b: c", b"\xffa: b",
-           b"a: b\r\n c", b"a: b\0", b"a: b\r")
-    lines = [chance.choice(good) for _ in range(chance.randrange(5))]
+    lines = [chance.choice(GOOD_FIELDS) for _ in range(chance.randrange(5))]
     if yes(chance, 6):
-        lines.insert(chance.randrange(len(lines) + 1), chance.choice(coded))
+        lines.insert(chance.randrange(len(lines) + 1), chance.choice(CODED_FIELDS))
     if yes(chance, 6):
-        lines.insert(chance.randrange(len(lines) + 1), chance.choice(bad))
+        lines.insert(chance.randrange(len(lines) + 1), chance.choice(BAD_FIELDS))
     if yes(chance, 60):
         lines = [b"a: b"] * chance.choice((255, 256, 257, 300))
     if yes(chance, 120):
@@ -107,12 +266,28 @@ def http_fields(chance):
     return lines
 
 
-def http_block(chance):
+def http_block(chance: random.Random) -> bytes:
     good = (b"HTTP/1.1 200 OK", b"HTTP/1.0 404 Not Found", b"HTTP/1.1 007 ", b"HTTP/1.1 304", b"HTTP/1.1 200 \xff\t")
-    bad = (b"HTTP/2 200 OK", b"HTTP/1.2 200 OK", b"http/1.1 200 OK", b"HTTP/1.1  200 OK", b"HTTP/1.1 20 OK",
-           b"ICY 200 OK", b"HTTP/1.1 2000", b"HTTP/1.1 200\tOK", b"HTTP/1.1 200 O\x01K", b" HTTP/1.1 200 OK", 
-           b"HTTP/1.1 200 a\rb", b"HTTP/1.1 ", b"HTTP/1.1 2x0 OK", b"GET / HTTP/1.1", b"HTTP/1.1 200 \x7f", b"HTTP/1.1 200  two",
-           b"\r", b"")
+    bad = (
+        b"HTTP/2 200 OK",
+        b"HTTP/1.2 200 OK",
+        b"http/1.1 200 OK",
+        b"HTTP/1.1  200 OK",
+        b"HTTP/1.1 20 OK",
+        b"ICY 200 OK",
+        b"HTTP/1.1 2000",
+        b"HTTP/1.1 200\tOK",
+        b"HTTP/1.1 200 O\x01K",
+        b" HTTP/1.1 200 OK",
+        b"HTTP/1.1 200 a\rb",
+        b"HTTP/1.1 ",
+        b"HTTP/1.1 2x0 OK",
+        b"GET / HTTP/1.1",
+        b"HTTP/1.1 200 \x7f",
+        b"HTTP/1.1 200  two",
+        b"\r",
+        b"",
+    )
     line_end = chance.choice((b"\r\n", b"\r\n", b"\r\n", b"\n"))
     lines = [chance.choice(bad) if yes(chance, 8) else chance.choice(good)] + http_fields(chance)
     text = chance.choice((b"", b"", b"", b"\r\n", b"\n\n")) + line_end.join(lines) + line_end
@@ -125,15 +300,19 @@ def http_block(chance):
 
 # Records
 
-def spelled_value(chance, value):
+
+def spelled_value(chance: random.Random, value: bytes) -> bytes:
     """A value with spaces around it and folds in place of some single spaces."""
     if yes(chance, 5) and b" " in value:
         value = value.replace(b" ", chance.choice((b"\r\n ", b"\r\n\t ", b"\r\n \t\t")), 1)
-    return chance.choice((b" ", b" ", b" ", b"", b"\t", b"  ", b"\r\n ", b" \r\n\t")) + value + chance.choice(
-        (b"", b"", b"", b" ", b"\t", b"\r\n ", b"\r\n \r\n\t"))
+    return (
+        chance.choice((b" ", b" ", b" ", b"", b"\t", b"  ", b"\r\n ", b" \r\n\t"))
+        + value
+        + chance.choice((b"", b"", b"", b" ", b"\t", b"\r\n ", b"\r\n \r\n\t"))
+    )
 
 
-def spelled(chance, fields, is_plain):
+def spelled(chance: random.Random, fields: Fields, is_plain: bool) -> bytes:
     """The lines of fields."""
     lines = []
     for name, value in fields:
@@ -144,10 +323,10 @@ def spelled(chance, fields, is_plain):
     return b"".join(lines)
 
 
-def revisit_fields(chance):
+def revisit_fields(chance: random.Random) -> Fields:
     """The fields by which a revisit names its referent: an id, a pair, both, or nothing."""
     profile = chance.choice(BAD_PROFILES) if yes(chance, 8) else chance.choice(PROFILES)
-    fields = [("WARC-Profile", chance.choice(("%s", "%s", "<%s>")) % profile)] if not yes(chance, 20) else []
+    fields: Fields = [("WARC-Profile", chance.choice(("%s", "%s", "<%s>")) % profile)] if not yes(chance, 20) else []
     way = chance.randrange(6)
     if way in (0, 1, 3):
         fields.append(("WARC-Refers-To", chance.choice(BAD_IDS) if yes(chance, 8) else some_id(chance)))
@@ -157,29 +336,41 @@ def revisit_fields(chance):
     return fields
 
 
-def continuation_fields(chance):
-    fields = [("WARC-Segment-Origin-ID", chance.choice(BAD_IDS) if yes(chance, 10) else some_id(chance)),
-              ("WARC-Segment-Number", chance.choice(NUMBERS))]
+def continuation_fields(chance: random.Random) -> Fields:
+    fields: Fields = [
+        ("WARC-Segment-Origin-ID", chance.choice(BAD_IDS) if yes(chance, 10) else some_id(chance)),
+        ("WARC-Segment-Number", chance.choice(NUMBERS)),
+    ]
     if yes(chance, 3):
         fields.append(("WARC-Segment-Total-Length", chance.choice(NUMBERS)))
     return fields
 
 
-def odd_fields(chance, fields):
+def odd_fields(chance: random.Random, fields: Fields) -> None:
     """Adds fields that don't belong there, repeated ones and odd values."""
     while yes(chance, 3):
         name = chance.choice(OTHER_FIELDS)
-        value = chance.choice((chance.choice(ODD_VALUES), some_id(chance), some_target(chance), some_date(chance),
-                               chance.choice(NUMBERS)))
+        values: Tuple[Union[str, bytes], ...] = (
+            chance.choice(ODD_VALUES),
+            some_id(chance),
+            some_target(chance),
+            some_date(chance),
+            chance.choice(NUMBERS),
+        )
+        value = chance.choice(values)
         fields.insert(chance.randrange(len(fields) + 1), (name, value))
 
 
-def break_field(chance, fields):
+def break_field(chance: random.Random, fields: Fields) -> None:
     """Makes one of the four fields of every record wrong, missing or repeated."""
     place = chance.randrange(len(fields))
     name = fields[place][0]
-    bad = {"Content-Length": NUMBERS + ("1099511627776", "1099511627777"), "WARC-Record-ID": BAD_IDS,
-           "WARC-Date": BAD_DATES, "WARC-Type": ("", "a b", "<response>", "re:x")}.get(name, ("", "x"))
+    bad = {
+        "Content-Length": NUMBERS + ("1099511627776", "1099511627777"),
+        "WARC-Record-ID": BAD_IDS,
+        "WARC-Date": BAD_DATES,
+        "WARC-Type": ("", "a b", "<response>", "re:x"),
+    }.get(name, ("", "x"))
     way = chance.randrange(4)
     if way == 0:
         del fields[place]
@@ -189,15 +380,18 @@ def break_field(chance, fields):
         fields[place] = (name, chance.choice(bad))
 
 
-def some_kind(chance):
+def some_kind(chance: random.Random) -> str:
     if yes(chance, 15):
         return chance.choice(("other", "Response", "REVISIT", "warc-info", "x!"))
     return chance.choice(KINDS + ("response", "response", "response", "resource", "revisit", "revisit"))
 
 
-def common_fields(chance, kind, block):
-    fields = [("WARC-Type", random_case(chance, kind) if yes(chance, 12) else kind),
-              ("WARC-Record-ID", some_id(chance)), ("WARC-Date", some_date(chance))]
+def common_fields(chance: random.Random, kind: str, block: bytes) -> Fields:
+    fields: Fields = [
+        ("WARC-Type", random_case(chance, kind) if yes(chance, 12) else kind),
+        ("WARC-Record-ID", some_id(chance)),
+        ("WARC-Date", some_date(chance)),
+    ]
     if kind != "warcinfo" and not yes(chance, 20):
         fields.append(("WARC-Target-URI", some_target(chance)))
     if not yes(chance, 5):
@@ -211,7 +405,7 @@ def common_fields(chance, kind, block):
     return fields
 
 
-def assembled(chance, fields, block, is_plain=False):
+def assembled(chance: random.Random, fields: Fields, block: bytes, is_plain: bool = False) -> bytes:
     """A record as text: version line, fields, block."""
     fields = fields + [("Content-Length", "0" * chance.choice((0, 0, 0, 1, 30)) + str(len(block)))]
     if not is_plain and yes(chance, 3):
@@ -224,7 +418,7 @@ def assembled(chance, fields, block, is_plain=False):
     return version + spelled(chance, fields, is_plain) + b"\r\n" + block + b"\r\n\r\n"
 
 
-def record(chance):
+def record(chance: random.Random) -> bytes:
     kind = some_kind(chance)
     is_http = kind.lower() == "response" and not yes(chance, 6)
     block = http_block(chance) if is_http else plain_block(chance)
@@ -238,11 +432,11 @@ def record(chance):
     return assembled(chance, fields, block, yes(chance, 2))
 
 
-def segments(chance):
+def segments(chance: random.Random) -> List[bytes]:
     """A record in segments, mostly whole, with one of them lost, doubled or changed now and then."""
     block = http_block(chance)
     size = chance.randrange(1, max(2, len(block)))
-    parts = [block[start:start + size] for start in range(0, len(block), size)][:6]
+    parts = [block[start : start + size] for start in range(0, len(block), size)][:6]
     total = sum(len(part) for part in parts) + (chance.randrange(-1, 2) if yes(chance, 8) else 0)
     name = some_id(chance) if yes(chance, 2) else "<urn:uuid:%s>" % uuid.UUID(int=chance.getrandbits(128))
     texts = []
@@ -264,7 +458,7 @@ def segments(chance):
     return texts
 
 
-def chain(chance):
+def chain(chance: random.Random) -> List[bytes]:
     """Revisits that name one another by id, from a record or in a loop."""
     count = chance.randrange(1, 7)
     names = ["<urn:uuid:%s>" % uuid.UUID(int=chance.getrandbits(128)) for _ in range(count)]
@@ -272,8 +466,11 @@ def chain(chance):
     for place, name in enumerate(names):
         is_first = place == 0 and not yes(chance, 3)
         block = plain_block(chance)
-        fields = [field for field in common_fields(chance, "resource" if is_first else "revisit", block)
-                  if field[0] != "WARC-Record-ID"]
+        fields = [
+            field
+            for field in common_fields(chance, "resource" if is_first else "revisit", block)
+            if field[0] != "WARC-Record-ID"
+        ]
         fields.append(("WARC-Record-ID", name))
         if not is_first:
             fields += [("WARC-Profile", PROFILES[0]), ("WARC-Refers-To", names[place - 1])]
@@ -281,7 +478,7 @@ def chain(chance):
     return texts
 
 
-def good_archive(chance):
+def good_archive(chance: random.Random) -> bytes:
     """Records in any order. Some of its fields may be wrong all the same."""
     texts = [record(chance) for _ in range(chance.choice((0, 1, 1, 2, 3, 5, 8, 13)))]
     if yes(chance, 2):
@@ -294,17 +491,18 @@ def good_archive(chance):
 
 # Damage
 
-def cut(chance, data):
-    return data[:chance.randrange(len(data) + 1)]
+
+def cut(chance: random.Random, data: bytes) -> bytes:
+    return data[: chance.randrange(len(data) + 1)]
 
 
-def change_byte(chance, data):
+def change_byte(chance: random.Random, data: bytes) -> bytes:
     place = chance.randrange(len(data))
     byte = chance.choice((0, 9, 10, 13, 32, 58, 127, 255, chance.randrange(256)))
-    return data[:place] + bytes((byte,)) + data[place + 1:]
+    return data[:place] + bytes((byte,)) + data[place + 1 :]
 
 
-def change_line(chance, data):
+def change_line(chance: random.Random, data: bytes) -> bytes:
     """A line removed, doubled or moved."""
     lines = data.split(b"\r\n")
     place = chance.randrange(len(lines))
@@ -317,7 +515,7 @@ def change_line(chance, data):
     return b"\r\n".join(lines)
 
 
-def change_length(chance, data):
+def change_length(chance: random.Random, data: bytes) -> bytes:
     head, found, rest = data.partition(b"Content-Length: ")
     length, _, rest = rest.partition(b"\r\n")
     if not found or not length.isdigit():
@@ -326,42 +524,80 @@ def change_length(chance, data):
     return head + found + str(changed).encode() + b"\r\n" + rest
 
 
-def to_line_feed(chance, data):
+def to_line_feed(chance: random.Random, data: bytes) -> bytes:
     if yes(chance, 2):
         return data.replace(b"\r\n", b"\n")
     place = data.find(b"\r\n", chance.randrange(len(data)))
-    return data if place < 0 else data[:place] + chance.choice((b"\n", b"\r", b"\n\r")) + data[place + 2:]
+    return data if place < 0 else data[:place] + chance.choice((b"\n", b"\r", b"\n\r")) + data[place + 2 :]
 
 
-def fill_with_zeros(chance, data):
+def fill_with_zeros(chance: random.Random, data: bytes) -> bytes:
     start = chance.randrange(len(data))
     return data[:start] + b"\0" * (len(data) - start)
 
 
-def insert_bytes(chance, data):
+def insert_bytes(chance: random.Random, data: bytes) -> bytes:
     place = chance.randrange(len(data) + 1)
-    return data[:place] + chance.choice((b"\r\n", b"\r\n\r\n", b" ", b"\t", b"\0", b"\xef\xbb\xbf", b"WARC/1.1\r\n",
-                                         b":",
-                                         b"\x1f\x8b\x08", b"\r\n ", b"\r", b"\n")) + data[place:]
+    return (
+        data[:place]
+        + chance.choice(
+            (
+                b"\r\n",
+                b"\r\n\r\n",
+                b" ",
+                b"\t",
+                b"\0",
+                b"\xef\xbb\xbf",
+                b"WARC/1.1\r\n",
+                b":",
+                b"\x1f\x8b\x08",
+                b"\r\n ",
+                b"\r",
+                b"\n",
+            )
+        )
+        + data[place:]
+    )
 
 
-def drop_bytes(chance, data):
+def drop_bytes(chance: random.Random, data: bytes) -> bytes:
     start = chance.randrange(len(data))
-    return data[:start] + data[start + chance.choice((1, 2, 4, 10, 50)):]
+    return data[:start] + data[start + chance.choice((1, 2, 4, 10, 50)) :]
 
 
-def append_bytes(chance, data):
-    return data + chance.choice((b"\r\n", b"W", b"WARC/1.1", b"WARC/1.1\r\n", b"WARC/1.2\r\n", b"\0" * 20,
-                                 b"WARC/1.0\r\nA: b\r\n",
-                                 b"WARC/1.1\r\n\r\n", b"WARC/1.1\r\nx\r\n", b"WARC/1.1\r\n" + b"x" * 66000,
-                                 b"WARC/1.1\r\na:" + b"x" * 65520 + b"\r\n\r\n", b"WARC/0.18\r\n"))
+def append_bytes(chance: random.Random, data: bytes) -> bytes:
+    return data + chance.choice(
+        (
+            b"\r\n",
+            b"W",
+            b"WARC/1.1",
+            b"WARC/1.1\r\n",
+            b"WARC/1.2\r\n",
+            b"\0" * 20,
+            b"WARC/1.0\r\nA: b\r\n",
+            b"WARC/1.1\r\n\r\n",
+            b"WARC/1.1\r\nx\r\n",
+            b"WARC/1.1\r\n" + b"x" * 66000,
+            b"WARC/1.1\r\na:" + b"x" * 65520 + b"\r\n\r\n",
+            b"WARC/0.18\r\n",
+        )
+    )
 
 
-DAMAGE = (cut, change_byte, change_line, change_length, to_line_feed, fill_with_zeros, insert_bytes, drop_bytes,
-          append_bytes)
+DAMAGE = (
+    cut,
+    change_byte,
+    change_line,
+    change_length,
+    to_line_feed,
+    fill_with_zeros,
+    insert_bytes,
+    drop_bytes,
+    append_bytes,
+)
 
 
-def archive(seed):
+def archive(seed: int) -> bytes:
     """The archive of a seed: one in three was damaged."""
     chance = random.Random(seed)
     data = good_archive(chance)
@@ -374,21 +610,22 @@ def archive(seed):
 
 # Command lines
 
-def asked_id(chance, data):
+
+def asked_id(chance: random.Random, data: bytes) -> str:
     """An id to extract: mostly one of the archive."""
-    found = re.findall(rb"urn:uuid:[0-9a-f-]{36}", data)
+    found: List[bytes] = re.findall(rb"urn:uuid:[0-9a-f-]{36}", data)
     if found and not yes(chance, 3):
         return chance.choice(("%s", "<%s>")) % chance.choice(found).decode()
     return chance.choice(BAD_IDS) if yes(chance, 8) else some_id(chance)
 
 
-def asked_target(chance):
+def asked_target(chance: random.Random) -> str:
     if yes(chance, 3):
         return chance.choice(TARGETS)
     return some_target(chance) if yes(chance, 20) else TARGETS[chance.randrange(3)]
 
 
-def in_hex(chance, line):
+def in_hex(chance: random.Random, line: Line) -> Line:
     """The line with its target as hexadecimal digits, now and then wrong ones."""
     digits = line[1].encode("utf-8").hex()
     if yes(chance, 10):
@@ -396,13 +633,15 @@ def in_hex(chance, line):
     return (line[0], digits.upper() if yes(chance, 3) else digits) + line[2:] + ("--uri-hex",)
 
 
-def pointed_command(chance, data):
+def pointed_command(chance: random.Random, data: bytes) -> Line:
     """A command with a position, an id, or a target, mostly with a date."""
-    command = chance.choice(("extract", "head", "block", "body", "body", "body", "replay", "replay", "replay", "captures"))
+    command = chance.choice(
+        ("extract", "head", "block", "body", "body", "body", "replay", "replay", "replay", "captures")
+    )
     if command == "extract":
         return (command, asked_id(chance, data))
     if command == "captures":
-        line = (command, asked_target(chance))
+        line: Line = (command, asked_target(chance))
         return in_hex(chance, line) if yes(chance, 4) else line
     if command == "replay":
         date = chance.choice(BAD_DATES) if yes(chance, 40) else chance.choice(DATES + ("9999",) * 20)
@@ -417,13 +656,13 @@ WHOLE = ("list", "check", "fixity", "salvage", "rewrite", "convert", "captures",
 FLAGS = ("--stored", "--uri-hex")
 
 
-def command_lines(seed, data):
+def command_lines(seed: int, data: bytes) -> List[Line]:
     """The twelve command lines to run over the archive of a seed, without the name of the archive."""
     chance = random.Random("commands %d" % seed)
     return [(command,) for command in WHOLE] + [pointed_command(chance, data) for _ in range(4)]
 
 
-def main(seed):
+def main(seed: int) -> None:
     data = archive(seed)
     sys.stdout.buffer.write(data)
     for line in command_lines(seed, data):

@@ -14,15 +14,16 @@ import shutil
 import subprocess
 import sys
 import tempfile
+from typing import Iterator, Sequence, Tuple
 
 import system
-from system import COMMANDS, Stress, is_failure, words_for
+from system import COMMANDS, Result, Stress, is_failure, words_for
 
 EACH_UP_TO = 150
 MOST = 100_000
 
 
-def library(stress):
+def library(stress: Stress) -> str:
     """The built library that refuses requests."""
     path = stress.path("refuse.so")
     source = os.path.join(system.HERE, "refuse.c")
@@ -30,7 +31,7 @@ def library(stress):
     return path
 
 
-def numbers():
+def numbers() -> Iterator[int]:
     """1, 2, 3 .. up to EACH_UP_TO, and then ever fewer."""
     number = 1
     while number < MOST:
@@ -38,18 +39,23 @@ def numbers():
         number += max(1, (number - EACH_UP_TO) // 20) if number > EACH_UP_TO else 1
 
 
-def refused(stress, preload, words, number, goes_on):
+def refused(stress: Stress, preload: str, words: Sequence[str], number: int, goes_on: bool) -> Tuple[Result, bool]:
     """Runs the program with a request refused. Returns the result, and whether one was."""
     note = stress.path("note")
     if os.path.exists(note):
         os.remove(note)
-    before = ["env", "REFUSE_AT=%d" % number, "REFUSE_NOTE=" + note, *(["REFUSE_ON=1"] if goes_on else []),
-              "LD_PRELOAD=" + preload]
+    before = [
+        "env",
+        "REFUSE_AT=%d" % number,
+        "REFUSE_NOTE=" + note,
+        *(["REFUSE_ON=1"] if goes_on else []),
+        "LD_PRELOAD=" + preload,
+    ]
     seen = stress.run(words, before)
     return seen, os.path.exists(note)
 
 
-def refused_requests(stress):
+def refused_requests(stress: Stress) -> None:
     """The k-th request for memory is refused, alone or with all later ones."""
     preload = library(stress)
     if not refused(stress, preload, ["list", stress.archive], 1, False)[1]:
@@ -70,14 +76,22 @@ def refused_requests(stress):
         stress.end()
 
 
-def refused_words(stress):
+def refused_words(stress: Stress) -> None:
     """The same while the words of a command line are read."""
     preload = library(stress)
     if not refused(stress, preload, ["list", stress.archive], 1, False)[1]:
         return
     stress.begin("a refused request for memory, other command lines")
-    for words in (["--help"], ["--version"], ["help", "replay"], ["list"], ["list", "a", "b"], ["nothing"],
-                  ["replay", "--help"], ["list", "--quiet", stress.archive]):
+    for words in (
+        ["--help"],
+        ["--version"],
+        ["help", "replay"],
+        ["list"],
+        ["list", "a", "b"],
+        ["nothing"],
+        ["replay", "--help"],
+        ["list", "--quiet", stress.archive],
+    ):
         wanted = stress.run(words)
         for number in numbers():
             seen, was_refused = refused(stress, preload, words, number, False)
@@ -90,7 +104,7 @@ def refused_words(stress):
     stress.end()
 
 
-def main(program):
+def main(program: str) -> int:
     root = os.path.join(system.TOP, "out", "stress")
     os.makedirs(root, exist_ok=True)
     folder = tempfile.mkdtemp(prefix="memory-", dir=root)
@@ -101,8 +115,10 @@ def main(program):
             kind(stress)
     finally:
         shutil.rmtree(folder)
-    print("memory: %d kinds, %d tried, %d surprises" % (
-        len(stress.tried), sum(stress.tried.values()), sum(stress.surprises.values())))
+    print(
+        "memory: %d kinds, %d tried, %d surprises"
+        % (len(stress.tried), sum(stress.tried.values()), sum(stress.surprises.values()))
+    )
     return 1 if stress.surprises else 0
 
 

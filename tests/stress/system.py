@@ -19,6 +19,7 @@ import sys
 import tempfile
 import threading
 import time
+from typing import IO, Callable, Counter, Dict, List, NamedTuple, Optional, Sequence, Tuple, Union
 
 HERE = os.path.dirname(os.path.abspath(__file__))
 TOP = os.path.dirname(os.path.dirname(HERE))
@@ -33,21 +34,38 @@ FIRST_ID = "urn:uuid:00000000-0000-4000-8000-000000000001"
 LAST_ID = "urn:uuid:00000000-0000-4000-8000-000000000009"
 WRITE_UUID = FIRST_ID[9:]
 SPARSE_BLOCK = 5_000_000_000
-SPLIT_SIZE = 2 ** 32 + 7
+SPLIT_SIZE = 2**32 + 7
 
-Result = collections.namedtuple("Result", "out message status")
+Words = Sequence[Union[str, bytes]]
+Command = Tuple[str, ...]
+Input = Union[int, IO[bytes]]
+Feed = Callable[[IO[bytes], bytes], None]
+
+
+class Result(NamedTuple):
+    """What a run wrote, and its status: None where it took too long."""
+
+    out: bytes
+    message: bytes
+    status: Optional[int]
 
 
 # Archives and what the commands give over them
 
-def record_text(kind, record_id, block, more=()):
-    fields = [("WARC-Type", kind), ("WARC-Record-ID", "<%s>" % record_id), ("WARC-Date", "2020-01-01"),
-              ("WARC-Target-URI", TARGET), *more]
+
+def record_text(kind: str, record_id: str, block: bytes, more: Sequence[Tuple[str, str]] = ()) -> bytes:
+    fields = [
+        ("WARC-Type", kind),
+        ("WARC-Record-ID", "<%s>" % record_id),
+        ("WARC-Date", "2020-01-01"),
+        ("WARC-Target-URI", TARGET),
+        *more,
+    ]
     lines = "".join("%s: %s\r\n" % field for field in fields)
     return b"WARC/1.0\r\n%sContent-Length: %d\r\n\r\n%s\r\n\r\n" % (lines.encode(), len(block), block)
 
 
-def small_archive():
+def small_archive() -> bytes:
     """Some 300,000 bytes, so that several reads and several writes are needed, and many lines in a list."""
     block = bytes(range(256)) * 600
     digest = ("WARC-Block-Digest", generate.sha1_text(block))
@@ -58,23 +76,42 @@ def small_archive():
     return text + record_text("revisit", LAST_ID, b"", revisit)
 
 
-def made_record(block):
+def made_record(block: bytes) -> bytes:
     """What the command write gives of a block."""
-    fields = (("WARC-Type", "resource"), ("WARC-Record-ID", "<%s>" % FIRST_ID), ("WARC-Date", "2020-01-01"),
-              ("WARC-Target-URI", TARGET), ("Content-Type", "text/plain"),
-              ("WARC-Block-Digest", generate.sha1_text(block)), ("Content-Length", str(len(block))))
+    fields = (
+        ("WARC-Type", "resource"),
+        ("WARC-Record-ID", "<%s>" % FIRST_ID),
+        ("WARC-Date", "2020-01-01"),
+        ("WARC-Target-URI", TARGET),
+        ("Content-Type", "text/plain"),
+        ("WARC-Block-Digest", generate.sha1_text(block)),
+        ("Content-Length", str(len(block))),
+    )
     lines = "".join("%s: %s\r\n" % field for field in fields)
     return b"WARC/1.1\r\n%s\r\n%s\r\n\r\n" % (lines.encode(), block)
 
 
-COMMANDS = (("list",), ("check",), ("fixity",), ("salvage",), ("rewrite",), ("convert",), ("extract", FIRST_ID),
-            ("head", "0"), ("block", "0"), ("body", "701"), ("replay", TARGET, "9999"), ("split", "50000"), ("write",))
+COMMANDS: Tuple[Command, ...] = (
+    ("list",),
+    ("check",),
+    ("fixity",),
+    ("salvage",),
+    ("rewrite",),
+    ("convert",),
+    ("extract", FIRST_ID),
+    ("head", "0"),
+    ("block", "0"),
+    ("body", "701"),
+    ("replay", TARGET, "9999"),
+    ("split", "50000"),
+    ("write",),
+)
 COMMANDS += tuple((name,) for name in ("captures", "summary") if name in warc_reference.COMMANDS)
 COMMANDS += (("body", "701", "--stored"), ("captures", TARGET))
 SHORT = ("list", "check", "fixity", "head", "body", "captures", "summary")
 
 
-def words_for(command, path):
+def words_for(command: Command, path: str) -> List[str]:
     """The words of a command over an archive. `write` takes the file last."""
     if command[0] == "write":
         return ["write", "resource", TARGET, "2020-01-01", WRITE_UUID, "text/plain", path]
@@ -84,30 +121,30 @@ def words_for(command, path):
 class Stress:
     """The program, a folder for files, and the counts of what was tried."""
 
-    def __init__(self, program, folder):
+    def __init__(self, program: str, folder: str) -> None:
         self.program = os.path.abspath(program)
         self.folder = folder
-        self.tried = collections.Counter()
-        self.surprises = collections.Counter()
+        self.tried: Counter[str] = collections.Counter()
+        self.surprises: Counter[str] = collections.Counter()
         self.kind = ""
         self.data = small_archive()
         self.archive = self.file("small.warc", self.data)
-        self.expected = {}
+        self.expected: Dict[Command, Result] = {}
 
-    def path(self, name):
+    def path(self, name: str) -> str:
         return os.path.join(self.folder, name)
 
-    def file(self, name, data):
+    def file(self, name: str, data: bytes) -> str:
         path = self.path(name)
         with open(path, "wb") as file:
             file.write(data)
         return path
 
-    def begin(self, kind):
+    def begin(self, kind: str) -> None:
         self.kind = kind
         self.tried[kind] = 0
 
-    def judge(self, is_right, words, seen):
+    def judge(self, is_right: bool, words: Sequence[object], seen: object) -> None:
         """Counts a trial, and prints it where it is a surprise."""
         self.tried[self.kind] += 1
         if is_right:
@@ -117,47 +154,69 @@ class Stress:
             shown = [word if len(word) < 200 else word[:200] + ".." for word in map(str, words)]
             print("surprise: %s: %s: %s" % (self.kind, " ".join(shown), describe(seen)))
 
-    def end(self):
+    def end(self) -> None:
         print("%s: %d tried, %d surprises" % (self.kind, self.tried[self.kind], self.surprises[self.kind]), flush=True)
 
-    def run(self, words, before=(), stdin=subprocess.DEVNULL, seconds=MOST_SECONDS):
+    def run(
+        self, words: Words, before: Words = (), stdin: Input = subprocess.DEVNULL, seconds: float = MOST_SECONDS
+    ) -> Result:
         """Runs the program with its standard output in a file. `before` holds the words of a wrapper."""
         with open(self.path("out"), "wb") as out:
             return self.run_into(out, words, before, stdin, seconds)
 
-    def run_into(self, out, words, before=(), stdin=subprocess.DEVNULL, seconds=MOST_SECONDS):
+    def run_into(
+        self,
+        out: IO[bytes],
+        words: Words,
+        before: Words = (),
+        stdin: Input = subprocess.DEVNULL,
+        seconds: float = MOST_SECONDS,
+    ) -> Result:
         try:
-            done = subprocess.run([*before, self.program, *words], stdin=stdin, stdout=out, stderr=subprocess.PIPE,
-                                  timeout=seconds, check=False)
+            done = subprocess.run(
+                [*before, self.program, *words],
+                stdin=stdin,
+                stdout=out,
+                stderr=subprocess.PIPE,
+                timeout=seconds,
+                check=False,
+            )
         except subprocess.TimeoutExpired:
             return Result(b"", b"the run took too long", None)
         return Result(contents(self.path("out")), done.stderr, done.returncode)
 
-    def run_piped(self, words, data, feed=None):
+    def run_piped(self, words: Words, data: bytes, feed: Optional[Feed] = None) -> Result:
         """Runs the program with bytes in a pipe as standard input."""
-        child = subprocess.Popen([self.program, *words], stdin=subprocess.PIPE, stdout=open(self.path("out"), "wb"),
-                                 stderr=subprocess.PIPE)
+        child = subprocess.Popen(
+            [self.program, *words], stdin=subprocess.PIPE, stdout=open(self.path("out"), "wb"), stderr=subprocess.PIPE
+        )
         writer = threading.Thread(target=feed or feed_all, args=(child.stdin, data))
         writer.start()
-        message = child.stderr.read()
+        with end_of(child.stderr) as errors:
+            message = errors.read()
         status = child.wait(MOST_SECONDS)
         writer.join()
-        child.stderr.close()
         return Result(contents(self.path("out")), message, status)
 
 
-def contents(path):
+def end_of(pipe: Optional[IO[bytes]]) -> IO[bytes]:
+    """Our end of a pipe to a child."""
+    assert pipe is not None
+    return pipe
+
+
+def contents(path: str) -> bytes:
     with open(path, "rb") as file:
         return file.read()
 
 
-def describe(seen):
+def describe(seen: object) -> str:
     if not isinstance(seen, Result):
-        return seen
+        return str(seen)
     return "status %s, %d bytes, message %r" % (seen.status, len(seen.out), seen.message[:300])
 
 
-def feed_all(pipe, data):
+def feed_all(pipe: IO[bytes], data: bytes) -> None:
     try:
         pipe.write(data)
         pipe.close()
@@ -165,26 +224,27 @@ def feed_all(pipe, data):
         pass
 
 
-def feed_slowly(pipe, data):
+def feed_slowly(pipe: IO[bytes], data: bytes) -> None:
     """Small pieces of odd lengths, so that reads are short."""
     try:
         for start in range(0, len(data), 4097):
-            pipe.write(data[start:start + 4097])
+            pipe.write(data[start : start + 4097])
             pipe.flush()
         pipe.close()
     except BrokenPipeError:
         pass
 
 
-def is_failure(seen, whole):
+def is_failure(seen: Result, whole: bytes) -> bool:
     """Whether a run failed as the pages say: status 3, a beginning of the output, and its right count."""
     if seen.status != 3 or not whole.startswith(seen.out):
         return False
     after = re.fullmatch(rb"warc: (?:read failed|write failed|out of memory) after (\d+)\n", seen.message)
     if after:
         return int(after.group(1)) == len(seen.out)
-    salvaged = re.fullmatch(rb"warc: F1[34] (?:Read|Memory) at \d+\nwarc: salvaged \d+ records, (\d+) bytes\n",
-                            seen.message)
+    salvaged = re.fullmatch(
+        rb"warc: F1[34] (?:Read|Memory) at \d+\nwarc: salvaged \d+ records, (\d+) bytes\n", seen.message
+    )
     if salvaged:
         return int(salvaged.group(1)) == len(seen.out)
     opened = rb"warc: (F13 Read at \d+|F14 Memory at \d+|open failed|M4 Memory)\n"
@@ -193,7 +253,8 @@ def is_failure(seen, whole):
 
 # The kinds of trials
 
-def plain_runs(stress):
+
+def plain_runs(stress: Stress) -> None:
     """What each command gives when nothing fails, against the second reading."""
     stress.begin("plain runs")
     for command in COMMANDS:
@@ -209,14 +270,24 @@ def plain_runs(stress):
     stress.end()
 
 
-def failing_calls(stress, calls, error, path):
+def failing_calls(stress: Stress, calls: str, error: str, path: str) -> None:
     """The k-th call on a path fails, for each k until the run meets none."""
     stress.begin("%s: %s" % (calls.split(",")[0], error))
     log = stress.path("log")
     for command in COMMANDS:
         for number in range(1, MOST_CALLS + 1):
-            before = ["strace", "-f", "-o", log, "-P", path, "-e", "trace=" + calls,
-                      "-e", "inject=%s:error=%s:when=%d" % (calls, error, number)]
+            before = [
+                "strace",
+                "-f",
+                "-o",
+                log,
+                "-P",
+                path,
+                "-e",
+                "trace=" + calls,
+                "-e",
+                "inject=%s:error=%s:when=%d" % (calls, error, number),
+            ]
             seen = stress.run(words_for(command, stress.archive), before)
             if b"(INJECTED)" not in contents(log):
                 stress.judge(seen == stress.expected[command], command, seen)
@@ -227,7 +298,7 @@ def failing_calls(stress, calls, error, path):
     stress.end()
 
 
-def failing_system_calls(stress):
+def failing_system_calls(stress: Stress) -> None:
     reads, writes = "read,pread64,readv,preadv,preadv2", "write,pwrite64,writev,pwritev,sendfile,copy_file_range"
     for error in ("EINTR", "EIO"):
         failing_calls(stress, reads, error, stress.archive)
@@ -236,7 +307,7 @@ def failing_system_calls(stress):
         failing_calls(stress, writes, error, stress.path("out"))
 
 
-def run_over_fifo(stress, words, before):
+def run_over_fifo(stress: Stress, words: Words, before: Words) -> Result:
     """Runs the program with a named pipe as standard input, so that strace finds the reads by its name."""
     path = stress.path("input")
     if not os.path.exists(path):
@@ -252,7 +323,7 @@ def run_over_fifo(stress, words, before):
     return seen
 
 
-def failing_piped_reads(stress):
+def failing_piped_reads(stress: Stress) -> None:
     """The k-th read of standard input fails, for each k until the run meets none."""
     calls = "read,readv"
     log = stress.path("log")
@@ -260,8 +331,18 @@ def failing_piped_reads(stress):
         stress.begin("read of a pipe: " + error)
         for command in COMMANDS:
             for number in range(1, MOST_CALLS + 1):
-                before = ["strace", "-f", "-o", log, "-P", stress.path("input"), "-e", "trace=" + calls,
-                          "-e", "inject=%s:error=%s:when=%d" % (calls, error, number)]
+                before = [
+                    "strace",
+                    "-f",
+                    "-o",
+                    log,
+                    "-P",
+                    stress.path("input"),
+                    "-e",
+                    "trace=" + calls,
+                    "-e",
+                    "inject=%s:error=%s:when=%d" % (calls, error, number),
+                ]
                 seen = run_over_fifo(stress, words_for(command, "-"), before)
                 if b"(INJECTED)" not in contents(log):
                     stress.judge(seen == stress.expected[command], command, seen)
@@ -272,7 +353,7 @@ def failing_piped_reads(stress):
         stress.end()
 
 
-def full_device(stress):
+def full_device(stress: Stress) -> None:
     stress.begin("/dev/full")
     for command in COMMANDS:
         with open("/dev/full", "wb") as out:
@@ -282,7 +363,7 @@ def full_device(stress):
     stress.end()
 
 
-def full_disks(stress):
+def full_disks(stress: Stress) -> None:
     """The output goes to a small disk, one in memory: the count is what arrived there. As root alone."""
     stress.begin("a full disk")
     folder = stress.path("disk")
@@ -300,7 +381,7 @@ def full_disks(stress):
     stress.end()
 
 
-def write_to_disk(stress, command, path, size):
+def write_to_disk(stress: Stress, command: Command, path: str, size: int) -> Tuple[bool, Sequence[object], Result]:
     """Runs a command with its output on a disk of so many bytes. Returns what `judge` takes."""
     wanted = stress.expected[command]
     with open(path, "wb") as out:
@@ -311,7 +392,7 @@ def write_to_disk(stress, command, path, size):
     return is_right, (*command, "disk of", size), seen
 
 
-def closed_outputs(stress):
+def closed_outputs(stress: Stress) -> None:
     """A closed standard output is a failed write. A closed or full standard error changes neither output nor status."""
     stress.begin("closed outputs")
     for command in COMMANDS:
@@ -327,7 +408,7 @@ def closed_outputs(stress):
     stress.end()
 
 
-def reader_goes_away(stress):
+def reader_goes_away(stress: Stress) -> None:
     """The reader of a pipe takes a little and leaves: the message counts what the pipe took."""
     stress.begin("| head -1")
     for command in COMMANDS:
@@ -336,49 +417,57 @@ def reader_goes_away(stress):
     stress.end()
 
 
-def leave_after(stress, command, wanted):
+def leave_after(stress: Stress, command: Command, wanted: int) -> Tuple[bool, Sequence[object], Result]:
     """Reads so many bytes of the output, then closes the pipe. Returns what `judge` takes."""
     whole = stress.expected[command].out
-    child = subprocess.Popen([stress.program, *words_for(command, stress.archive)], stdin=subprocess.DEVNULL,
-                             stdout=subprocess.PIPE, stderr=subprocess.PIPE, bufsize=0)
-    got = child.stdout.read(wanted) if wanted else b""
-    if wanted:
-        time.sleep(0.02)
-    child.stdout.close()
-    message = child.stderr.read()
+    child = subprocess.Popen(
+        [stress.program, *words_for(command, stress.archive)],
+        stdin=subprocess.DEVNULL,
+        stdout=subprocess.PIPE,
+        stderr=subprocess.PIPE,
+        bufsize=0,
+    )
+    with end_of(child.stdout) as pipe:
+        got = pipe.read(wanted) if wanted else b""
+        if wanted:
+            time.sleep(0.02)
+    with end_of(child.stderr) as errors:
+        message = errors.read()
     status = child.wait(MOST_SECONDS)
-    child.stderr.close()
     match = re.fullmatch(rb"warc: write failed after (\d+)\n", message)
     is_cut = status == 3 and match is not None and len(got) <= int(match.group(1)) < len(whole)
     is_whole = (message, status) == stress.expected[command][1:] and len(whole) <= len(got) + 65536
-    return (is_cut or is_whole) and whole.startswith(got), (*command, "reader takes", wanted), \
-        Result(got, message, status)
+    return (
+        (is_cut or is_whole) and whole.startswith(got),
+        (*command, "reader takes", wanted),
+        Result(got, message, status),
+    )
 
 
-def file_size_limit(stress):
+def file_size_limit(stress: Stress) -> None:
     """With the signal ignored it is a failed write; otherwise the signal ends the program."""
     stress.begin("ulimit -f")
     for command in COMMANDS:
         whole = stress.expected[command].out
         for limit in (0, 1, 3, 64, 65, 100, 149):
             for is_ignored in (True, False):
-                script = "ulimit -f %d; %s exec \"$@\"" % (limit, "trap '' XFSZ;" if is_ignored else "")
+                script = 'ulimit -f %d; %s exec "$@"' % (limit, "trap '' XFSZ;" if is_ignored else "")
                 seen = stress.run(words_for(command, stress.archive), ["bash", "-c", script, "bash"])
                 if len(whole) <= limit * 1024:
                     is_right = seen == stress.expected[command]
                 elif is_ignored:
                     is_right = is_failure(seen, whole) and len(seen.out) == limit * 1024
                 else:
-                    is_right = seen.status == -signal.SIGXFSZ and seen.out == whole[:limit * 1024]
+                    is_right = seen.status == -signal.SIGXFSZ and seen.out == whole[: limit * 1024]
                 stress.judge(is_right, (*command, "limit", limit, "ignored" if is_ignored else ""), seen)
     stress.end()
 
 
-def with_memory(limit):
+def with_memory(limit: int) -> List[str]:
     return ["bash", "-c", 'ulimit -v %d; exec "$@"' % limit, "bash"]
 
 
-def least_memory(stress):
+def least_memory(stress: Stress) -> int:
     """The least limit, in KiB, under which `warc --version` runs."""
     low, high = 0, 1 << 20
     while high - low > 4:
@@ -390,7 +479,7 @@ def least_memory(stress):
     return high
 
 
-def memory_limit(stress):
+def memory_limit(stress: Stress) -> None:
     """Swept down to what `warc --version` takes. Below that the system's loader fails, and not the program."""
     stress.begin("ulimit -v")
     least = least_memory(stress)
@@ -402,7 +491,7 @@ def memory_limit(stress):
     stress.end()
 
 
-def odd_files(stress):
+def odd_files(stress: Stress) -> None:
     """A folder, a FIFO, devices, a missing file."""
     stress.begin("odd files")
     fifo = stress.path("fifo")
@@ -422,20 +511,23 @@ def odd_files(stress):
             stress.judge(seen == Result(b"", b"warc: open failed\n", 3), (*command, path), seen)
         if command[0] != "write":
             seen = stress.run(words_for(command, "/dev/null"))
-            wanted = Result(*warc_reference.run(command[0], b"", [word.encode() for word in command[1:]])) \
-                if command[0] != "split" else Result(b"", b"", 0)
+            wanted = (
+                Result(*warc_reference.run(command[0], b"", [word.encode() for word in command[1:]]))
+                if command[0] != "split"
+                else Result(b"", b"", 0)
+            )
             stress.judge(seen == wanted, (*command, "/dev/null"), seen)
     os.close(keeper)
     stress.end()
 
 
-def dashed(words):
+def dashed(words: Sequence[str]) -> List[str]:
     """The words with -- before those that aren't flags."""
     flags = [word for word in words if word in generate.FLAGS]
     return [words[0], *flags, "--", *(word for word in words[1:] if word not in flags)]
 
 
-def odd_names(stress):
+def odd_names(stress: Stress) -> None:
     """Names with dashes, spaces, a line end, and bytes that aren't UTF-8."""
     stress.begin("odd names")
     here = os.getcwd()
@@ -463,7 +555,7 @@ def odd_names(stress):
     stress.end()
 
 
-def standard_input(stress):
+def standard_input(stress: Stress) -> None:
     """- through a pipe, a slow pipe, a socket and a redirected file, also where it isn't at its beginning."""
     stress.begin("standard input")
     for command in COMMANDS:
@@ -484,19 +576,24 @@ def standard_input(stress):
     stress.end()
 
 
-def run_over_socket(stress, words):
+def run_over_socket(stress: Stress, words: Words) -> Result:
     ours, theirs = socket.socketpair()
     writer = threading.Thread(target=feed_all, args=(ours.makefile("wb"), stress.data))
     writer.start()
     with theirs:
-        closer = threading.Thread(target=lambda: (writer.join(), ours.close()))
+
+        def close() -> None:
+            writer.join()
+            ours.close()
+
+        closer = threading.Thread(target=close)
         closer.start()
-        seen = stress.run(words, stdin=theirs)
+        seen = stress.run(words, stdin=theirs.fileno())
     closer.join()
     return seen
 
 
-def changing_files(stress):
+def changing_files(stress: Stress) -> None:
     """The file is cut, or grows, while the reader of the output waits."""
     stress.begin("files that change")
     block = b"0123456789abcdef" * 500_000
@@ -513,7 +610,7 @@ def changing_files(stress):
     stress.end()
 
 
-def change(path, data, way):
+def change(path: str, data: bytes, way: str) -> None:
     """Cuts the file in the middle, or appends a record to it."""
     with open(path, "r+b") as file:
         if way == "cut":
@@ -523,18 +620,21 @@ def change(path, data, way):
             file.write(record_text("resource", "urn:x:new", b"new"))
 
 
-def change_while_read(stress, command, data, way):
+def change_while_read(stress: Stress, command: Command, data: bytes, way: str) -> Tuple[bool, Sequence[object], Result]:
     """Changes the file when the first bytes of the output have arrived."""
     path = stress.file("changing.warc", data)
     whole = stress.run(words_for(command, path)).out
-    child = subprocess.Popen([stress.program, *words_for(command, path)], stdin=subprocess.DEVNULL,
-                             stdout=subprocess.PIPE, stderr=subprocess.PIPE)
-    got = child.stdout.read(1000)
-    change(path, data, way)
-    got += child.stdout.read()
-    message, status = child.stderr.read(), child.wait(MOST_SECONDS)
-    child.stdout.close()
-    child.stderr.close()
+    child = subprocess.Popen(
+        [stress.program, *words_for(command, path)],
+        stdin=subprocess.DEVNULL,
+        stdout=subprocess.PIPE,
+        stderr=subprocess.PIPE,
+    )
+    with end_of(child.stdout) as pipe, end_of(child.stderr) as errors:
+        got = pipe.read(1000)
+        change(path, data, way)
+        got += pipe.read()
+        message, status = errors.read(), child.wait(MOST_SECONDS)
     seen = Result(got, message, status)
     is_right = is_failure(seen, whole) or (status == 0 and got.startswith(whole))
     if way == "cut" and command[0] == "salvage":
@@ -542,7 +642,9 @@ def change_while_read(stress, command, data, way):
     return is_right, (*command, way), seen
 
 
-def change_while_opened(stress, command, data, way):
+def change_while_opened(
+    stress: Stress, command: Command, data: bytes, way: str
+) -> Tuple[bool, Sequence[object], Result]:
     """Changes the file while its reads are made slow."""
     path = stress.file("changing.warc", data)
     before_change = stress.run(words_for(command, path))
@@ -556,11 +658,18 @@ def change_while_opened(stress, command, data, way):
     return is_right, (*command, way), seen
 
 
-def two_at_once(stress):
+def two_at_once(stress: Stress) -> None:
     stress.begin("two runs at once")
     for command in COMMANDS:
-        children = [subprocess.Popen([stress.program, *words_for(command, stress.archive)], stdin=subprocess.DEVNULL,
-                                     stdout=subprocess.PIPE, stderr=subprocess.PIPE) for _ in range(2)]
+        children = [
+            subprocess.Popen(
+                [stress.program, *words_for(command, stress.archive)],
+                stdin=subprocess.DEVNULL,
+                stdout=subprocess.PIPE,
+                stderr=subprocess.PIPE,
+            )
+            for _ in range(2)
+        ]
         for child in children:
             out, message = child.communicate(timeout=MOST_SECONDS)
             seen = Result(out, message, child.returncode)
@@ -570,10 +679,12 @@ def two_at_once(stress):
 
 # A record of five billion bytes
 
-def sparse_archive(stress):
+
+def sparse_archive(stress: Stress) -> Tuple[str, bytes, bytes]:
     """A record whose block is a hole in the file, and a small record after it. Returns the path and the parts."""
-    head = record_text("resource", FIRST_ID, b"").replace(b"Content-Length: 0\r\n\r\n\r\n\r\n",
-                                                          b"Content-Length: %d\r\n\r\n" % SPARSE_BLOCK)
+    head = record_text("resource", FIRST_ID, b"").replace(
+        b"Content-Length: 0\r\n\r\n\r\n\r\n", b"Content-Length: %d\r\n\r\n" % SPARSE_BLOCK
+    )
     last = record_text("metadata", LAST_ID, b"abc")
     path = stress.path("sparse.warc")
     with open(path, "wb") as file:
@@ -584,62 +695,83 @@ def sparse_archive(stress):
     return path, head, last
 
 
-def count_output(stress, words):
+def count_output(stress: Stress, words: Words) -> Tuple[bytes, bytes, int, bytes, int]:
     """Runs the program, and gives the first and last bytes of its output, its length, the message and the status."""
-    child = subprocess.Popen([stress.program, *words], stdin=subprocess.DEVNULL, stdout=subprocess.PIPE,
-                             stderr=subprocess.PIPE, bufsize=0)
+    child = subprocess.Popen(
+        [stress.program, *words], stdin=subprocess.DEVNULL, stdout=subprocess.PIPE, stderr=subprocess.PIPE, bufsize=0
+    )
     first, last, length = b"", b"", 0
-    while True:
-        piece = child.stdout.read(1 << 20)
-        if not piece:
-            break
-        first = (first + piece)[:1000]
-        last = (last + piece)[-1000:]
-        length += len(piece)
-    message = child.stderr.read()
-    child.stdout.close()
-    child.stderr.close()
+    with end_of(child.stdout) as pipe, end_of(child.stderr) as errors:
+        while True:
+            piece = pipe.read(1 << 20)
+            if not piece:
+                break
+            first = (first + piece)[:1000]
+            last = (last + piece)[-1000:]
+            length += len(piece)
+        message = errors.read()
     return first, last, length, message, child.wait()
 
 
-def large_record(stress):
+def sparse_summary(length: int) -> bytes:
+    """What `summary` gives of both records, which have this length."""
+    counts = (2, length, 0, 0, 1, 0, 1, 0, 0, 0, 0, 1, 0, 0, 2, 0, 0)
+    names = (
+        b"records bytes warcinfo response resource request metadata revisit conversion continuation other captures"
+        b" good bad unchecked truncated segmented"
+    ).split()
+    lines = [b"%s\t%d\n" % pair for pair in zip(names, counts)]
+    return b"".join(lines) + b"first date\t2020-01-01\nlast date\t2020-01-01\n"
+
+
+def short_answers(head: bytes, last: bytes) -> Dict[Command, Result]:
+    """What commands give that don't write the large block."""
+    place, date, target = len(head) + SPARSE_BLOCK + 4, b"2020-01-01", TARGET.encode()
+    row = b"0\t0\t%d\tresource\t%s\t<%s>\t%s\n" % (SPARSE_BLOCK, date, FIRST_ID.encode(), target)
+    row += b"1\t%d\t3\tmetadata\t%s\t<%s>\t%s\n" % (place, date, LAST_ID.encode(), target)
+    capture = b"0\t%s\t%sT00:00:00.000000000Z\tresource\t0\t-\t-\t%d\t-\t%s\n" % (date, date, SPARSE_BLOCK, target)
+    unchecked = b"0\tunchecked\t%s\t-\n1\tunchecked\t%s\t-\n" % (FIRST_ID.encode(), LAST_ID.encode())
+    return {
+        ("list",): Result(row, b"", 0),
+        ("check",): Result(b"0 N7\n1 N7\n", b"", 1),
+        ("fixity",): Result(unchecked + b"records 2 good 0 bad 0 unchecked 2\n", b"", 4),
+        ("head", "0"): Result(head, b"", 0),
+        ("head", "1"): Result(last[:-7], b"", 0),
+        ("block", "1"): Result(b"abc", b"", 0),
+        ("extract", LAST_ID): Result(b"abc", b"", 0),
+        ("body", "1"): Result(b"", b"warc: E2 NoCapture\n", 1),
+        ("captures",): Result(capture, b"", 0),
+        ("summary",): Result(sparse_summary(place + len(last)), b"", 0),
+    }
+
+
+def long_answers(head: bytes, last: bytes) -> Dict[Command, Tuple[bytes, bytes, bytes]]:
+    """How the output of commands that write the large block begins and ends, and their messages."""
+    body = b"chosen 0 given 0 status - truncated no length %d\n" % SPARSE_BLOCK
+    good = b"warc: good 2 records, %d bytes\n" % (len(head) + SPARSE_BLOCK + 4 + len(last))
+    converted = head.replace(b"WARC/1.0", b"WARC/1.1"), last.replace(b"WARC/1.0", b"WARC/1.1")
+    return {
+        ("block", "0"): (b"", b"", b""),
+        ("extract", FIRST_ID): (b"", b"", b""),
+        ("body", "0"): (b"", b"", body),
+        ("replay", TARGET, "9999"): (b"", b"", body),
+        ("rewrite",): (head, b"\r\n\r\n" + last, b""),
+        ("convert",): (converted[0], b"\r\n\r\n" + converted[1], b""),
+        ("salvage",): (head, b"\r\n\r\n" + last, good),
+    }
+
+
+def large_record(stress: Stress) -> None:
     stress.begin("a record of 5,000,000,000 bytes")
     path, head, last = sparse_archive(stress)
-    place = len(head) + SPARSE_BLOCK + 4
-    date = b"2020-01-01"
-    row = b"0\t0\t%d\tresource\t%s\t<%s>\t%s\n" % (SPARSE_BLOCK, date, FIRST_ID.encode(), TARGET.encode())
-    row += b"1\t%d\t3\tmetadata\t%s\t<%s>\t%s\n" % (place, date, LAST_ID.encode(), TARGET.encode())
-    unchecked = b"".join(b"%d\tunchecked\t%s\t-\n" % (number, name.encode())
-                         for number, name in enumerate((FIRST_ID, LAST_ID)))
-    last_head = last[:-7]
-    short = ((("list",), row, 0, b""), (("check",), b"0 N7\n1 N7\n", 1, b""),
-             (("fixity",), unchecked + b"records 2 good 0 bad 0 unchecked 2\n", 4, b""),
-             (("head", "0"), head, 0, b""), (("head", "1"), last_head, 0, b""), (("block", "1"), b"abc", 0, b""),
-             (("extract", LAST_ID), b"abc", 0, b""), (("body", "1"), b"", 1, b"warc: E2 NoCapture\n"))
-    capture = b"0\t%s\t%sT00:00:00.000000000Z\tresource\t0\t-\t-\t%d\t-\t%s\n" % (
-        date, date, SPARSE_BLOCK, TARGET.encode())
-    counts = (2, place + len(last), 0, 0, 1, 0, 1, 0, 0, 0, 0, 1, 0, 0, 2, 0, 0)
-    names = (b"records bytes warcinfo response resource request metadata revisit conversion continuation other captures"
-             b" good bad unchecked truncated segmented").split()
-    summary = b"".join(b"%s\t%d\n" % pair for pair in zip(names, counts))
-    summary += b"first date\t%s\nlast date\t%s\n" % (date, date)
-    short += tuple((command, out, 0, b"") for command, out in ((("captures",), capture), (("summary",), summary))
-                   if command in COMMANDS)
-    for command, out, status, message in short:
+    for command, wanted in short_answers(head, last).items():
         seen = stress.run(words_for(command, path), seconds=600)
-        stress.judge(seen == Result(out, message, status), command, seen)
-    body = b"chosen 0 given 0 status - truncated no length %d\n" % SPARSE_BLOCK
-    good = b"warc: good 2 records, %d bytes\n" % (place + len(last))
-    converted = head.replace(b"WARC/1.0", b"WARC/1.1"), last.replace(b"WARC/1.0", b"WARC/1.1")
-    long = ((("block", "0"), b"", b"", b""), (("extract", FIRST_ID), b"", b"", b""), (("body", "0"), b"", b"", body),
-            (("replay", TARGET, "9999"), b"", b"", body), (("rewrite",), head, b"\r\n\r\n" + last, b""),
-            (("convert",), converted[0], b"\r\n\r\n" + converted[1], b""),
-            (("salvage",), head, b"\r\n\r\n" + last, good))
-    for command, begins, ends, message in long:
-        seen = count_output(stress, words_for(command, path))
+        stress.judge(seen == wanted, command, seen)
+    for command, (begins, ends, message) in long_answers(head, last).items():
+        counted = count_output(stress, words_for(command, path))
         length = len(begins) + SPARSE_BLOCK + len(ends)
-        wanted = (begins.ljust(1000, b"\0"), ends.rjust(1000, b"\0"), length, message, 0)
-        stress.judge(seen == wanted, command, "%d bytes, message %r, status %d" % seen[2:])
+        is_right = counted == (begins.ljust(1000, b"\0"), ends.rjust(1000, b"\0"), length, message, 0)
+        stress.judge(is_right, command, "%d bytes, message %r, status %d" % counted[2:])
     split_large_record(stress, path)
     seen = stress.run(words_for(("write",), path), with_memory(2_000_000), seconds=600)
     stress.judge(is_failure(seen, b""), ("write", "2 GB of memory"), seen)
@@ -647,11 +779,15 @@ def large_record(stress):
     stress.end()
 
 
-def split_large_record(stress, path):
+def split_large_record(stress: Stress, path: str) -> None:
     """A first segment of over 2^32 bytes; what is split is listed from a pipe."""
     script = '"$0" split "$1" %d | "$0" list -' % SPLIT_SIZE
-    done = subprocess.run(["bash", "-o", "pipefail", "-c", script, stress.program, path], capture_output=True,
-                          stdin=subprocess.DEVNULL, check=False)
+    done = subprocess.run(
+        ["bash", "-o", "pipefail", "-c", script, stress.program, path],
+        capture_output=True,
+        stdin=subprocess.DEVNULL,
+        check=False,
+    )
     rows = [line.split(b"\t") for line in done.stdout.splitlines()]
     seen = [(int(row[2]), row[3]) for row in rows]
     wanted = [(SPLIT_SIZE, b"resource"), (SPARSE_BLOCK - SPLIT_SIZE, b"continuation"), (3, b"metadata")]
@@ -659,12 +795,26 @@ def split_large_record(stress, path):
     stress.judge(is_right, script, (done.returncode, done.stderr, done.stdout))
 
 
-KINDS = (plain_runs, failing_system_calls, failing_piped_reads, full_device, full_disks, closed_outputs,
-         reader_goes_away, file_size_limit, memory_limit, odd_files, odd_names, standard_input, changing_files,
-         two_at_once, large_record)
+KINDS = (
+    plain_runs,
+    failing_system_calls,
+    failing_piped_reads,
+    full_device,
+    full_disks,
+    closed_outputs,
+    reader_goes_away,
+    file_size_limit,
+    memory_limit,
+    odd_files,
+    odd_names,
+    standard_input,
+    changing_files,
+    two_at_once,
+    large_record,
+)
 
 
-def main(program):
+def main(program: str) -> int:
     root = os.path.join(TOP, "out", "stress")
     os.makedirs(root, exist_ok=True)
     folder = tempfile.mkdtemp(prefix="system-", dir=root)
@@ -675,8 +825,10 @@ def main(program):
             kind(stress)
     finally:
         shutil.rmtree(folder)
-    print("system: %d kinds, %d tried, %d surprises" % (
-        len(stress.tried), sum(stress.tried.values()), sum(stress.surprises.values())))
+    print(
+        "system: %d kinds, %d tried, %d surprises"
+        % (len(stress.tried), sum(stress.tried.values()), sum(stress.surprises.values()))
+    )
     return 1 if stress.surprises else 0
 
 
