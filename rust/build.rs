@@ -10,8 +10,8 @@ fn main() {
     println!("cargo:rerun-if-changed={}", library.display());
     if !library.is_file() {
         let path = library.display();
-        eprintln!("\nzogwedu needs the library {path}, which isn't there. Run `make lib` at the top of its repository, or name");
-        eprintln!("the folder of a libwarc.a in the environment variable ZOGWEDU_LIB.\n");
+        eprintln!("\nzogwedu needs the library {path}, which isn't there. Run `make lib` at the top of its");
+        eprintln!("repository, or name the folder of a libwarc.a in the environment variable ZOGWEDU_LIB.\n");
         std::process::exit(1);
     }
     println!("cargo:rustc-link-search=native={}", folder.display());

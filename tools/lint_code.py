@@ -1,7 +1,7 @@
 #!/usr/bin/env python3
 """Checks the code that isn't proved: its types, its layout, and the tools' own warnings.
 
-Each check names the programs and the Python modules that it needs. Where one isn't installed, the check is left out,
+Each check names the programs, Python modules and files that it needs. Where one isn't installed, the check is left out,
 and a line says so. A check that runs and fails ends this script with 1, after all others have run.
 """
 from __future__ import annotations
@@ -9,6 +9,7 @@ from __future__ import annotations
 import dataclasses
 import glob
 import importlib.util
+import os
 import shutil
 import subprocess
 import sys
@@ -23,11 +24,14 @@ class Check:
     name: str
     words: tuple[str, ...]
     modules: tuple[str, ...] = ()
+    programs: tuple[str, ...] = ()  # beside the first word
+    files: tuple[str, ...] = ()
 
     def lacks(self) -> list[str]:
-        """Which of the programs and modules that it needs aren't here."""
-        programs = [] if shutil.which(self.words[0]) else [self.words[0]]
-        return programs + [name for name in self.modules if importlib.util.find_spec(name) is None]
+        """Which of the programs, modules and files that it needs aren't here."""
+        programs = [name for name in (self.words[0], *self.programs) if not shutil.which(name)]
+        modules = [name for name in self.modules if importlib.util.find_spec(name) is None]
+        return programs + modules + [path for path in self.files if not os.path.exists(path)]
 
     def passes(self) -> bool:
         """Runs it, and prints what it wrote if it failed."""
@@ -37,6 +41,8 @@ class Check:
             print(run.stdout + run.stderr, end="", flush=True)
         return run.returncode == 0
 
+
+LINTS = ("tools/lint_code.py", "tools/lint_rust.py", "tools/find_unsafe.py")
 
 # The scripts that install, pack and try the program, and their tests.
 MACHINE = (
@@ -70,7 +76,7 @@ CALLERS = tuple(
     path[len(TOP) + 1 :] for path in sorted(glob.glob(f"{TOP}/tests/callers/*.py")) if "generated" not in path
 )
 GENERATED = "tests/callers/generated.py"
-TERMINAL = "tests/stress/terminal.py"
+SYSTEM = tuple(f"tests/stress/{name}.py" for name in ("differential", "generate", "memory", "system", "terminal"))
 PAGE_SCRIPTS = tuple(sorted(path[len(TOP) + 1 :] for path in glob.glob(f"{TOP}/page/*.js")))
 PAGE_PYTHON = (
     *("tools/build_page.py", "tools/lint_page.py"),
@@ -86,7 +92,7 @@ UNTYPED_CALLS = ("--allow-untyped-calls",)  # they use scripts that have no type
 TYPES = ("mypy", "--strict", "--python-version=3.8")
 LAYOUT = ("black", "--quiet", "--check", "--line-length=120")
 COLLECTION = ("collection/__main__.py", "collection/zogwedu_collection")
-# The second reading and the generator have no types.
+# The second reading has no types.
 TRIALS = (
     *("tests/stress/collection.py", "tests/stress/collection_faults.py", "tests/stress/collection_trial.py"),
     *("--follow-imports=skip", "--ignore-missing-imports"),
@@ -95,8 +101,8 @@ ROWS = "tests/stress/collection_rows.py"
 
 # Debian's programs work with Debian's Python, so each is called by its own name.
 CHECKS = [
-    Check("types of tools/lint_code.py", ("mypy", "--strict", "--follow-imports=silent", "tools/lint_code.py")),
-    Check("layout of tools/lint_code.py", ("black", "--quiet", "--check", "--line-length=120", "tools/lint_code.py")),
+    Check("types of the lint's scripts", ("mypy", "--strict", "--follow-imports=silent", *LINTS)),
+    Check("layout of the lint's scripts", ("black", "--quiet", "--check", "--line-length=120", *LINTS)),
     Check("shell scripts", ("shellcheck", "shell/zwarc", *PACKAGING)),
     Check("types of scripts for the machine", ("mypy", "--strict", "--follow-imports=silent", *MACHINE)),
     Check("layout of scripts for the machine", ("black", "--quiet", "--check", "--line-length=120", *MACHINE)),
@@ -107,12 +113,14 @@ CHECKS = [
     ),
     Check("types of tests/callers", (*TYPES, "python/src/zogwedu", *CALLERS)),
     Check("types of tests/callers/generated.py", (*TYPES, "python/src/zogwedu", *CALLERS, GENERATED), ("hypothesis",)),
-    Check("types of tests/stress/terminal.py", (*TYPES, "--follow-imports=silent", *UNTYPED_CALLS, TERMINAL)),
-    Check("layout of tests/stress/terminal.py", (*LAYOUT, TERMINAL)),
+    Check("types of the trials of the program", ("mypy", "--strict", *TRIALS[3:], *SYSTEM)),
+    Check("layout of the trials of the program", (*LAYOUT, *SYSTEM)),
     Check("warnings of c/warc.c", ("gcc", *C_FLAGS, "c/warc.c")),
     Check("warnings of C's programs", ("gcc", *C_FLAGS, *C_PROGRAMS)),
+    Check("warnings of c/compressed.c", ("gcc", *C_FLAGS, "c/compressed.c"), files=("/usr/include/zlib.h",)),
     Check("c/warc.h as C++", ("g++", "-x", "c++", "-std=c++11", *C_FLAGS[1:], "c/warc.h")),
     Check("layout of the Rust crate", ("cargo", "fmt", "--check", "--manifest-path=rust/Cargo.toml")),
+    Check("clippy of the Rust crate", ("python3", "tools/lint_rust.py"), programs=("cargo", "cargo-clippy")),
     Check("no unsafe in Rust outside of raw.rs", ("python3", "tools/find_unsafe.py")),
     Check("types of collection/", (*TYPES, *COLLECTION)),
     Check("types of tests/stress/collection*.py", (*TYPES, *TRIALS)),

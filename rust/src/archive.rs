@@ -276,8 +276,8 @@ impl<'a> Archive<'a> {
         Ok(headers)
     }
 
-    /// The head of the HTTP response that the block of the record at a position begins with; `None` if it begins with no
-    /// such head.
+    /// The head of the HTTP response that the block of the record at a position begins with; `None` if it begins with
+    /// no such head.
     ///
     /// # Errors
     /// [`ErrorKind::NoRecord`]; [`ErrorKind::NoMemory`].

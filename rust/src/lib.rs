@@ -2,7 +2,8 @@
 //!
 //! ```
 //! # fn main() -> Result<(), zogwedu::Error> {
-//! let bytes = b"WARC/1.1\r\nWARC-Type: resource\r\nWARC-Record-ID: <urn:uuid:00000000-0000-4000-8000-000000000001>\r\n\
+//! let bytes = b"WARC/1.1\r\nWARC-Type: resource\r\n\
+//!     WARC-Record-ID: <urn:uuid:00000000-0000-4000-8000-000000000001>\r\n\
 //!     WARC-Date: 2020-01-01T00:00:00Z\r\nWARC-Target-URI: http://a.example/x\r\nContent-Length: 3\r\n\r\nabc\r\n\r\n";
 //! let archive = zogwedu::Archive::open(bytes)?;
 //! for record in &archive {
@@ -17,9 +18,9 @@
 //! # }
 //! ```
 //!
-//! An [`Archive`] borrows its bytes, which are a mapped file or any other memory. Heads, blocks and bodies are slices of
-//! them: nothing is copied. An archive is refused as a whole if any of its records is damaged, with the first fault and
-//! its offset; [`Archive::open_front`] opens the records before that.
+//! An [`Archive`] borrows its bytes, which are a mapped file or any other memory. Heads, blocks and bodies are slices
+//! of them: nothing is copied. An archive is refused as a whole if any of its records is damaged, with the first fault
+//! and its offset; [`Archive::open_front`] opens the records before that.
 //!
 //! A read of a mapped file that fails kills the process by SIGBUS: where the file became shorter, and where its disk or
 //! network fails. `std::fs::read` reads a file into memory.
