@@ -8,6 +8,8 @@ blocks. One of them, of 8,000 visits, is like what a crawler writes; the others 
 command runs nine times, the commands interleaved, and the least time counts. Printed per archive and command:
 seconds, ratios, bytes and records a second, peak memory.
 """
+from __future__ import annotations
+
 import os
 import sys
 
@@ -26,15 +28,15 @@ VISITS = 8_000
 TIMED = ("list", "check", "rewrite", "split", "replay")
 
 
-def measure(program, path, count, uri):
-    """Prints the least time of each command over an archive of n records, and its ratio to the yardsticks."""
+def measure(program: str, path: str, count: int, uri: str) -> None:
+    """Prints the least time of each command over an archive of `count` records, and by the yardsticks."""
     size = os.path.getsize(path)
     commands = {name: [program, name, path] for name in TIMED}
     commands["split"].append("1000000")
     commands["replay"] += [uri, "9999"]
     commands["cat"] = ["cat", path]
     commands["sha1sum"] = ["sha1sum", path]
-    least = {}
+    least: dict[str, tuple[float, int]] = {}
     for _ in range(RUNS):
         for key, words in commands.items():
             least[key] = min(least.get(key, (1e9, 0)), run(words))
@@ -48,7 +50,7 @@ def measure(program, path, count, uri):
         )
 
 
-def main():
+def main() -> None:
     program, folder = sys.argv[1:]
     os.makedirs(folder, exist_ok=True)
     for name, count, length in ARCHIVES:

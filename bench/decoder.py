@@ -3,8 +3,8 @@
 
 Usage: decoder.py REPOSITORY FOLDER
 
-It proves and builds bench/crates/bench_decoder. The program reads each archive twenty times; the least of seven runs counts, reading the archive from
-the disk once included. Printed per archive: bytes and heads a second.
+It proves and builds bench/crates/bench_decoder. The program reads each archive twenty times; the least of seven runs
+counts, reading the archive from the disk once included. Printed per archive: bytes and heads a second.
 """
 import os
 import subprocess
@@ -17,7 +17,7 @@ RUNS = 7
 ROUNDS = 20
 
 
-def resource(number):
+def resource(number: int) -> str:
     """A head of seven fields."""
     return (
         "WARC/1.1\r\nWARC-Type: resource\r\n"
@@ -28,7 +28,7 @@ def resource(number):
     )
 
 
-def response(number):
+def response(number: int) -> str:
     """A head of eleven fields, as common crawlers write it."""
     return (
         "WARC/1.1\r\nWARC-Type: response\r\n"
@@ -43,7 +43,7 @@ def response(number):
     )
 
 
-def main():
+def main() -> None:
     repository, folder = sys.argv[1:]
     program = build(repository, "bench_decoder", folder)
     for record, count in ((resource, 100_000), (response, 50_000)):

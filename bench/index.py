@@ -8,19 +8,23 @@ whose ids and targets all have one hash: at each the run with the least time of 
 nanoseconds a record. Printed here: the bytes that a record takes beside its texts, which are the most memory of a run
 that fills an index alone, without the texts.
 """
+from __future__ import annotations
+
 import os
 import subprocess
 import sys
 import time
+from collections.abc import Sequence
 
 from shared import build
 
 RUNS = 3
 
 
-def most_memory(words):
+def most_memory(words: Sequence[str]) -> tuple[int, str]:
     """The most memory of a run in bytes, and what it printed."""
     run = subprocess.Popen(words, stdout=subprocess.PIPE, text=True)
+    assert run.stdout is not None
     printed = run.stdout.read()
     _, status, usage = os.wait4(run.pid, 0)
     if status != 0:
@@ -28,7 +32,7 @@ def most_memory(words):
     return usage.ru_maxrss * 1024, printed
 
 
-def main():
+def main() -> None:
     program = build(sys.argv[1], "bench_index", sys.argv[2])
     for arguments in (["1000000"], ["10000000"], ["1000000", "equal"]):
         best, printed = 1e9, ""

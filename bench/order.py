@@ -4,7 +4,8 @@
 Usage: order.py REPOSITORY FOLDER
 
 It proves and builds bench/crates/bench_order, and runs it at 1,000,000 and 10,000,000 entries, and at 1,000,000
-whose texts all have one hash: at each the run with the least time of three. Printed by the program: nanoseconds an entry.
+whose texts all have one hash: at each the run with the least time of three. Printed by the program: nanoseconds an
+entry.
 """
 import subprocess
 import sys
@@ -15,7 +16,7 @@ from shared import build
 RUNS = 3
 
 
-def main():
+def main() -> None:
     program = build(sys.argv[1], "bench_order", sys.argv[2])
     for arguments in (["1000000"], ["10000000"], ["1000000", "equal"]):
         best, printed = 1e9, ""

@@ -1,5 +1,5 @@
 #!/usr/bin/env python3
-"""Times archives that answer: opening one beside a listing, replays from it, growth, and the program's `replay` beside `cat`.
+"""Times archives that answer: opening one beside a listing, replays, growth, and the program's `replay` beside `cat`.
 
 Usage: replay.py REPOSITORY PROGRAM FOLDER
 
@@ -8,10 +8,13 @@ each figure counts. Then the program replays a body of 1 GB that has no digest, 
 archive, both to where nothing is kept: each five times, by turns, and the least time counts. The most memory of the
 program is what the system reports of it while it runs once more. The archives are made in FOLDER once and kept.
 """
+from __future__ import annotations
+
 import os
 import subprocess
 import sys
 import time
+from collections.abc import Sequence
 
 from shared import build, make, run
 
@@ -20,19 +23,19 @@ OPENINGS = 3
 REPLAYS = "100000"
 
 
-def least_figures(words):
-    """By its verb, for each line that the runs of a program print, the least numbers before `ns`, by what is counted."""
-    least = {}
+def least_figures(words: Sequence[str]) -> dict[str, dict[int, int]]:
+    """By its verb, for each line that the runs of a program print, the least numbers before `ns`, by the count."""
+    least: dict[str, dict[int, int]] = {}
     for _ in range(OPENINGS):
         done = subprocess.run(words, check=True, capture_output=True, text=True)
         for line in done.stdout.splitlines():
             count, verb, _, each, _ = line.split(maxsplit=4)
             by_count = least.setdefault(verb, {})
-            by_count[int(count)] = min(by_count.get(int(count), 1e12), int(each))
+            by_count[int(count)] = min(by_count.get(int(count), 10**12), int(each))
     return least
 
 
-def most_memory(words):
+def most_memory(words: Sequence[str]) -> int:
     """The most memory of a run in kilobytes, without what Python took before it."""
     most = 0
     with open(os.devnull, "wb") as null:
@@ -46,7 +49,7 @@ def most_memory(words):
     return most
 
 
-def time_openings(program, path):
+def time_openings(program: str, path: str) -> None:
     least = least_figures([program, path, REPLAYS])
     for verb, by_count in least.items():
         for count, each in by_count.items():
@@ -57,7 +60,7 @@ def time_openings(program, path):
     print(f"growing by a record takes {many / few:.2f} of what it takes at 1,000")
 
 
-def time_replay(program, path):
+def time_replay(program: str, path: str) -> None:
     words = [program, "replay", path, "http://a.example/0", "2021"]
     replays, copies = [], []
     for _ in range(RUNS):
@@ -69,7 +72,7 @@ def time_replay(program, path):
     )
 
 
-def main():
+def main() -> None:
     repository, program, folder = sys.argv[1:]
     os.makedirs(folder, exist_ok=True)
     tiny, whole = os.path.join(folder, "tiny.warc"), os.path.join(folder, "plain.warc")

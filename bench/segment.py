@@ -11,7 +11,7 @@ import sys
 from shared import build
 
 
-def main():
+def main() -> None:
     program = build(sys.argv[1], "bench_segment", sys.argv[2])
     for count in ("10000", "100000", "1000000"):
         done = subprocess.run([program, count], check=True, capture_output=True, text=True)

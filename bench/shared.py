@@ -1,4 +1,6 @@
 """What the scripts that time share: programs that are proved and built, archives of resources, and runs of commands."""
+from __future__ import annotations
+
 import base64
 import hashlib
 import os
@@ -8,21 +10,22 @@ import subprocess
 import sys
 import tempfile
 import time
+from collections.abc import Sequence
 
 PROGRAMS = os.path.join(os.path.dirname(os.path.abspath(__file__)), "crates")
 # The identifiers of a crawl's requests begin here.
 REQUESTS = 1 << 24
 
 
-def lines_of(path):
+def lines_of(path: str) -> dict[str, list[str]]:
     """The libraries that each crate of such a file uses, by its name."""
     with open(path, encoding="utf-8") as text:
         rows = [line.partition(":") for line in text if line.strip() and not line.startswith("#")]
     return {name.strip(): uses.split() for name, _, uses in rows}
 
 
-def below(name, uses):
-    """The crate and all crates of the repository that it rests on."""
+def below(name: str, uses: dict[str, list[str]]) -> set[str]:
+    """The crate and all those of the repository that it is built from."""
     found = {name}
     for it in uses[name]:
         if it in uses:
@@ -30,7 +33,7 @@ def below(name, uses):
     return found
 
 
-def link_or_copy(source, to):
+def link_or_copy(source: str, to: str) -> None:
     """A file that takes no room of its own, where the file system allows it."""
     try:
         os.link(source, to)
@@ -38,9 +41,9 @@ def link_or_copy(source, to):
         shutil.copy2(source, to)
 
 
-def put_program(name, tree):
-    """Puts a crate of bench/crates/ into a tree: the files are its own but for the ending `.txt`, by which the gate leaves
-    them alone."""
+def put_program(name: str, tree: str) -> None:
+    """Puts a crate of bench/crates/ into a tree: the files are its own but for the ending `.txt`, by which the gate
+    leaves them alone."""
     for at, _, files in os.walk(f"{PROGRAMS}/{name}"):
         inside = os.path.relpath(at, PROGRAMS)
         os.makedirs(f"{tree}/crates/{inside}", exist_ok=True)
@@ -48,8 +51,8 @@ def put_program(name, tree):
             shutil.copy(f"{at}/{file}", f"{tree}/crates/{inside}/{file.removesuffix('.txt')}")
 
 
-def build(repository, name, folder):
-    """Has `rt run` prove and build a program of bench/crates/ in a tree of its own, beside the crates it rests on, with
+def build(repository: str, name: str, folder: str) -> str:
+    """Has `rt run` prove and build a program of bench/crates/ in a tree of its own, beside the crates that it uses with
     what their checks kept; gives the path of the program in the folder."""
     own = lines_of(f"{PROGRAMS}/list.txt")
     uses = {**lines_of(f"{repository}/crates.txt"), **own}
@@ -64,15 +67,16 @@ def build(repository, name, folder):
         with open(f"{tree}/crates.txt", "w", encoding="utf-8") as out:
             out.writelines(f"{it}: {' '.join(uses[it])}\n" for it in sorted(needed))
         # Without arguments and input it does nothing; what counts is that there is one.
-        words = {"cwd": f"{tree}/crates/{name}", "stdin": subprocess.DEVNULL, "capture_output": True, "text": True}
-        built = subprocess.run(["rt", "run"], **words)
-        program = f"{tree}/crates/{name}/out/{name}"
+        at = f"{tree}/crates/{name}"
+        built = subprocess.run(["rt", "run"], cwd=at, stdin=subprocess.DEVNULL, capture_output=True, text=True)
+        program = f"{at}/out/{name}"
         if not os.path.exists(program):
             sys.exit(built.stdout + built.stderr)
-        return shutil.copy(program, os.path.join(folder, name))
+        shutil.copy(program, folder)
+        return os.path.join(folder, name)
 
 
-def head(number, length, digest):
+def head(number: int, length: int, digest: str | None) -> bytes:
     """The head of record `number`, as common crawlers write it; without a digest where that is None."""
     digest_line = f"WARC-Block-Digest: sha1:{digest}\r\n" if digest else ""
     return (
@@ -85,8 +89,8 @@ def head(number, length, digest):
     ).encode()
 
 
-def make(path, count, length, has_digests=True):
-    """Makes an archive of n records with blocks of one length, unless it is there."""
+def make(path: str, count: int, length: int, has_digests: bool = True) -> None:
+    """Makes an archive of so many records with blocks of one length, unless it is there."""
     if os.path.exists(path):
         return
     block = (b"0123456789abcdef" * (length // 16 + 1))[:length]
@@ -99,7 +103,7 @@ def make(path, count, length, has_digests=True):
     os.rename(path + ".part", path)
 
 
-def crawl_record(kind, number, target, block, more=()):
+def crawl_record(kind: str, number: int, target: str, block: bytes, more: Sequence[tuple[str, str]] = ()) -> bytes:
     """A record of a crawl: number sixteen million and up are requests, so that no identifier comes twice."""
     digest = base64.b32encode(hashlib.sha1(block).digest()).decode()
     fields = [
@@ -117,20 +121,21 @@ def crawl_record(kind, number, target, block, more=()):
     return f"WARC/1.1\r\n{lines}\r\n".encode() + block + b"\r\n\r\n"
 
 
-def crawl_target(number):
+def crawl_target(number: int) -> str:
     """The URI of a page of the crawl."""
     return f"https://www.site{number % 300:03}.example/articles/{number % 17}/page-{number}.html?lang=en"
 
 
-def make_crawl(path, count):
-    """Makes an archive as a crawler writes it, unless it is there: n visits with a request each. A visit is a page of
-    20,000 to 60,000 random bytes, or, each seventh, a revisit of an earlier page."""
+def make_crawl(path: str, count: int) -> None:
+    """Makes an archive as a crawler writes it, unless it is there: `count` visits with a request each. A visit is a
+    page of 20,000 to 60,000 random bytes, or, each seventh, a revisit of an earlier page."""
     if os.path.exists(path):
         return
     numbers = random.Random(7)
     noise = numbers.randbytes(120_000)
-    response = "HTTP/1.1 200 OK\r\nContent-Type: text/html; charset=utf-8\r\nVary: Accept-Encoding\r\n" + f"X: {'p' * 500}\r\n"
-    pages = []
+    response = "HTTP/1.1 200 OK\r\nContent-Type: text/html; charset=utf-8\r\nVary: Accept-Encoding\r\n"
+    response += f"X: {'p' * 500}\r\n"
+    pages: list[tuple[str, str]] = []
     with open(path + ".part", "wb", buffering=1 << 20) as out:
         for number in range(count):
             target = crawl_target(number)
@@ -154,15 +159,15 @@ def make_crawl(path, count):
     os.rename(path + ".part", path)
 
 
-def run(words):
-    """Seconds and peak kilobytes of one run; its output and its messages are thrown away."""
+def run(words: Sequence[str]) -> tuple[float, int]:
+    """Seconds and peak kilobytes of one run; what it writes and tells is thrown away."""
     begin = time.perf_counter()
     child = os.fork()
     if child == 0:
         null = os.open(os.devnull, os.O_WRONLY)
         os.dup2(null, 1)
         os.dup2(null, 2)
-        os.execvp(words[0], words)
+        os.execvp(words[0], list(words))
     _, status, usage = os.wait4(child, 0)
     if status != 0:
         sys.exit(f"{' '.join(words)}: status {status}")

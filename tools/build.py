@@ -4,11 +4,13 @@
 Usage: build.py JOBS [FOLDER]
 
 Each crate is proved in a tree of its own below FOLDER (out/build if left out), which has its sources, and the crates
-below it with their libraries: the toolchain lets one run at a time work in a tree. The processors are shared among
-the crates whose lower crates are done. What was proved is kept there, and a later run proves only what changed: a
-crate is passed over if FOLDER/NAME/mark has the checksum of all that its proof rests on. A line is printed for
-each crate when it is done, with the seconds that it took; its log is FOLDER/NAME/log.
+below it with their libraries: the toolchain lets one run at a time work in a tree. The processors are shared among the
+crates whose lower crates are done. What was proved is kept there, and a later run proves only what changed: a crate is
+passed over where FOLDER/NAME/mark has the checksum of all that its proof stands on. A line is printed for each crate
+when it is done, with the seconds that it took; its log is FOLDER/NAME/log.
 """
+from __future__ import annotations
+
 import hashlib
 import os
 import re
@@ -16,8 +18,9 @@ import shutil
 import subprocess
 import sys
 import time
+from collections.abc import Callable, Iterator, Sequence
 
-from shared import TOP, below, crates, put_copy, read, rows
+from shared import TOP, below, crates, matched, put_copy, read, rows
 
 PROGRAM = "warc_tool"
 TREE = f"{TOP}/out/build"
@@ -30,7 +33,7 @@ LINES_OF_A_JOB = 500
 MEMORY_OF_A_JOB = 2_500_000_000
 
 
-def copy_crate(name, tree):
+def copy_crate(name: str, tree: str) -> None:
     """Copies the sources of a crate; what was proved there earlier, in its out/, stays."""
     to = f"{tree}/crates/{name}"
     os.makedirs(to, exist_ok=True)
@@ -40,7 +43,7 @@ def copy_crate(name, tree):
             shutil.copytree(f"{TOP}/crates/{name}/{part}", f"{to}/{part}")
 
 
-def link_library(name, tree, to):
+def link_library(name: str, tree: str, to: str) -> None:
     """Puts a crate that is done into the tree of one above it, with its library, by links and not by copies."""
     done = f"{tree}/{name}/crates/{name}"
     shutil.rmtree(f"{to}/crates/{name}", ignore_errors=True)
@@ -49,7 +52,7 @@ def link_library(name, tree, to):
             shutil.copytree(f"{done}/{part}", f"{to}/crates/{name}/{part}", copy_function=os.link)
 
 
-def make_tree(name, uses, tree):
+def make_tree(name: str, uses: dict[str, list[str]], tree: str) -> str:
     """Makes the tree in which a crate is proved, once those below it are done, and returns the crate's folder there."""
     to, fronts, names = f"{tree}/{name}", rows(), below(name, uses)
     copy_crate(name, to)
@@ -61,7 +64,7 @@ def make_tree(name, uses, tree):
     return f"{to}/crates/{name}"
 
 
-def sources(name):
+def sources(name: str) -> Iterator[tuple[str, bytes]]:
     """The path and the bytes of each file of a crate's code, definitions and proofs."""
     for part in PARTS:
         for at, folders, names in os.walk(f"{TOP}/crates/{name}/{part}"):
@@ -71,13 +74,13 @@ def sources(name):
                     yield os.path.relpath(f"{at}/{file}", TOP), text.read()
 
 
-def lines_of(name):
+def lines_of(name: str) -> int:
     """How many lines of code and proofs a crate has, by which its time is reckoned."""
     return sum(text.count(b"\n") for _, text in sources(name))
 
 
-def mark_of(name, uses, words, kit):
-    """A checksum of all that a crate's proof rests on: the toolchain, its sources, and those of crates below."""
+def mark_of(name: str, uses: dict[str, list[str]], words: Sequence[str], kit: str) -> str:
+    """A checksum of all that a crate's proof stands on: the toolchain, its sources and those of the crates below."""
     mark = hashlib.sha256(f"{kit} {words} {read('HANDLES')}".encode())
     for low in below(name, uses):
         mark.update(f"{rows()[low]}\n".encode())
@@ -86,9 +89,9 @@ def mark_of(name, uses, words, kit):
     return mark.hexdigest()
 
 
-def ways(names, uses):
+def ways(names: list[str], uses: dict[str, list[str]]) -> dict[str, int]:
     """For each crate the lines of the longest chain from it to the top, itself among them."""
-    found = {}
+    found: dict[str, int] = {}
     for name in reversed(names):
         found[name] = lines_of(name) + max([found[it] for it in names if name in uses[it]], default=0)
     return found
@@ -97,14 +100,14 @@ def ways(names, uses):
 class Run:
     """The check of one crate, with this number of jobs."""
 
-    def __init__(self, name, folder, words, jobs):
+    def __init__(self, name: str, folder: str, words: Sequence[str], jobs: int) -> None:
         self.name, self.jobs, self.begun = name, jobs, time.monotonic()
         self.path = os.path.join(os.path.dirname(os.path.dirname(folder)), "log")
         with open(self.path, "w", encoding="utf-8") as log:
             line = ["rt", words[0], "--jobs", str(jobs), *words[1:]]
             self.process = subprocess.Popen(line, cwd=folder, stdout=log, stderr=subprocess.STDOUT)
 
-    def report(self):
+    def report(self) -> None:
         """Prints how long it took. Where it failed, this script ends."""
         with open(self.path, encoding="utf-8", errors="replace") as log:
             text = log.read()
@@ -115,7 +118,7 @@ class Run:
         print(f"{self.name:15} {took}", flush=True)
 
 
-def ended(running):
+def ended(running: list[Run]) -> Run:
     """Waits until one of the runs has ended, and takes it out of them."""
     while True:
         for run in running:
@@ -125,16 +128,18 @@ def ended(running):
         time.sleep(0.1)
 
 
-def most_jobs(jobs):
+def most_jobs(jobs: int) -> int:
     """How many jobs run at a time, as many as the memory has room for."""
     with open("/proc/meminfo", encoding="ascii") as info:
-        free = int(re.search(r"^MemAvailable: +(\d+) kB$", info.read(), re.MULTILINE)[1]) * 1024
+        free = int(matched(re.search(r"^MemAvailable: +(\d+) kB$", info.read(), re.MULTILINE))[1]) * 1024
     return max(1, min(int(jobs * SPARE), free // MEMORY_OF_A_JOB))
 
 
-def start_ready(ready, running, way, most, start):
+def start_ready(
+    ready: list[str], running: list[Run], way: dict[str, int], most: int, start: Callable[[str, int], Run]
+) -> None:
     """Starts the crates that are ready. The one with the longest way gets all free jobs, but for one of each other."""
-    ready.sort(key=way.get, reverse=True)
+    ready.sort(key=way.__getitem__, reverse=True)
     while ready:
         free = most - sum(run.jobs for run in running)
         if free < 1:
@@ -145,10 +150,10 @@ def start_ready(ready, running, way, most, start):
 class Marks:
     """The marks of crates that are proved, in the files FOLDER/NAME/mark."""
 
-    def __init__(self, tree, marks):
+    def __init__(self, tree: str, marks: dict[str, str]) -> None:
         self.tree, self.marks = tree, marks
 
-    def is_kept(self, name):
+    def is_kept(self, name: str) -> bool:
         """Whether the crate as it is was proved by an earlier run."""
         path = f"{self.tree}/{name}/mark"
         if not os.path.exists(path):
@@ -156,20 +161,22 @@ class Marks:
         with open(path, encoding="ascii") as text:
             return text.read() == self.marks[name]
 
-    def drop(self, name):
+    def drop(self, name: str) -> None:
         """Takes the mark away, before the crate is proved anew."""
         if os.path.exists(f"{self.tree}/{name}/mark"):
             os.remove(f"{self.tree}/{name}/mark")
 
-    def put(self, name):
+    def put(self, name: str) -> None:
         """Marks a crate that is proved."""
         with open(f"{self.tree}/{name}/mark", "w", encoding="ascii") as text:
             text.write(self.marks[name])
 
 
-def prove(top, words, jobs, tree):
+def prove(top: str, words: Sequence[str], jobs: int, tree: str) -> str:
     """Proves a crate by these words of `rt`, and before it the crates below it."""
-    uses, running, done = crates(), [], set()
+    uses = crates()
+    done: set[str] = set()
+    running: list[Run] = []
     names = below(top, uses)
     words_of = {name: words if name == top else ["lib"] for name in names}
     kit = subprocess.run(["rt", "version"], capture_output=True, text=True, check=True).stdout
@@ -180,7 +187,7 @@ def prove(top, words, jobs, tree):
         done.add(name)
     waiting = [name for name in names if name not in done]
 
-    def start(name, share):
+    def start(name: str, share: int) -> Run:
         marks.drop(name)
         few = 1 + lines_of(name) // LINES_OF_A_JOB
         return Run(name, make_tree(name, uses, tree), words_of[name], min(share, few, jobs))
@@ -201,7 +208,7 @@ def prove(top, words, jobs, tree):
     return f"{tree}/{top}/crates/{top}"
 
 
-def main():
+def main() -> None:
     jobs, tree = int(sys.argv[1]), (sys.argv[2:] or [TREE])[0]
     begin = time.monotonic()
     folder = prove(PROGRAM, ["run", "--", "--version"], jobs, tree)

@@ -8,6 +8,8 @@ The crates are proved below FOLDER (out/build if left out), as build.py proves t
 what both use is proved once. The libraries are the proved functions, c/warc.c, and what the toolchain has of the C
 library's memory (liblibc_c.a).
 """
+from __future__ import annotations
+
 import os
 import re
 import shutil
@@ -15,9 +17,10 @@ import subprocess
 import sys
 import tempfile
 import time
+from collections.abc import Sequence
 
 from build import TREE, prove
-from shared import TOP, read
+from shared import TOP, matched, read
 
 CRATE = "warc_c"
 OUT = f"{TOP}/out/lib"
@@ -25,28 +28,28 @@ COMPILER = os.environ.get("CC", "cc")
 FLAGS = ["-std=c11", "-O2", "-fPIC", "-Wall", "-Wextra", "-Wconversion", "-ffile-prefix-map=" + TOP + "=."]
 
 
-def kit():
+def kit() -> str:
     """The toolchain's folder."""
     return os.path.dirname(subprocess.run(["rt", "doc"], capture_output=True, text=True, check=True).stdout.strip())
 
 
-def run(words, folder):
+def run(words: Sequence[str], folder: str) -> None:
     """Runs a command, whose failure ends this script."""
     if subprocess.run(words, cwd=folder, check=False).returncode:
         sys.exit(f"failed: {' '.join(words)}")
 
 
-def exported():
+def exported() -> list[str]:
     """The names that c/warc.map lists: what both libraries show."""
     return re.findall(r"\b(warc_\w+);", read("c/warc.map"))
 
 
-def abi():
+def abi() -> str:
     """The version of the interface, which is part of the library's name."""
-    return re.search(r"^#define WARC_ABI_VERSION (\d+)$", read("c/warc.h"), re.MULTILINE)[1]
+    return matched(re.search(r"^#define WARC_ABI_VERSION (\d+)$", read("c/warc.h"), re.MULTILINE))[1]
 
 
-def link_static(objects, folder):
+def link_static(objects: Sequence[str], folder: str) -> None:
     """Makes libwarc.a of one object, which shows the calls of warc.h alone."""
     run([COMPILER, "-r", "-nostdlib", "-o", "whole.o", *objects], folder)
     keep = [f"--keep-global-symbol={name}" for name in exported()]
@@ -56,17 +59,32 @@ def link_static(objects, folder):
     run(["ar", "rcsD", f"{OUT}/libwarc.a", "libwarc.o"], folder)
 
 
-def link_shared(objects, folder):
+def link_shared(objects: Sequence[str], folder: str) -> None:
     """Makes libwarc.so.N, whose symbols have a version, and libwarc.so, a link to it."""
     name = f"libwarc.so.{abi()}"
-    run([COMPILER, "-shared", "-o", f"{OUT}/{name}", f"-Wl,--version-script={TOP}/c/warc.map", f"-Wl,-soname,{name}",
-         "-Wl,-z,defs", "-Wl,-z,now", "-Wl,-z,relro", "-Wl,--gc-sections", "-Wl,--build-id=none", *objects], folder)
+    run(
+        [
+            COMPILER,
+            "-shared",
+            "-o",
+            f"{OUT}/{name}",
+            f"-Wl,--version-script={TOP}/c/warc.map",
+            f"-Wl,-soname,{name}",
+            "-Wl,-z,defs",
+            "-Wl,-z,now",
+            "-Wl,-z,relro",
+            "-Wl,--gc-sections",
+            "-Wl,--build-id=none",
+            *objects,
+        ],
+        folder,
+    )
     if os.path.lexists(f"{OUT}/libwarc.so"):
         os.remove(f"{OUT}/libwarc.so")
     os.symlink(name, f"{OUT}/libwarc.so")
 
 
-def link(proved, memory):
+def link(proved: str, memory: str) -> None:
     """Puts both libraries and the header under out/lib. `proved` and `memory` are archives of objects."""
     os.makedirs(OUT, exist_ok=True)
     shutil.copyfile(f"{TOP}/c/warc.h", f"{OUT}/warc.h")
@@ -79,7 +97,7 @@ def link(proved, memory):
         link_shared(objects, folder)
 
 
-def main():
+def main() -> None:
     """Proves, builds and links."""
     jobs, tree = int(sys.argv[1]), (sys.argv[2:] or [TREE])[0]
     begin = time.monotonic()

@@ -42,6 +42,14 @@ class Check:
         return run.returncode == 0
 
 
+TOOLS = tuple(
+    f"tools/{name}.py"
+    for name in (
+        *("build", "build_lib", "lint", "make_calling", "make_crawl", "make_man", "make_numbers", "make_picture"),
+        *("shared", "test_docs"),
+    )
+)
+BENCHES = tuple(f"bench/{name}.py" for name in ("bench", "decoder", "index", "order", "replay", "segment", "shared"))
 LINTS = ("tools/lint_code.py", "tools/lint_rust.py", "tools/find_unsafe.py")
 
 # The scripts that install, pack and try the program, and their tests.
@@ -103,6 +111,10 @@ ROWS = "tests/stress/collection_rows.py"
 CHECKS = [
     Check("types of the lint's scripts", ("mypy", "--strict", "--follow-imports=silent", *LINTS)),
     Check("layout of the lint's scripts", ("black", "--quiet", "--check", "--line-length=120", *LINTS)),
+    Check("types of other scripts of tools/", ("mypy", "--strict", *TOOLS)),
+    Check("layout of other scripts of tools/", ("black", "--quiet", "--check", "--line-length=120", *TOOLS)),
+    Check("types of bench/", ("mypy", "--strict", *BENCHES)),
+    Check("layout of bench/", ("black", "--quiet", "--check", "--line-length=120", *BENCHES)),
     Check("shell scripts", ("shellcheck", "shell/zwarc", *PACKAGING)),
     Check("types of scripts for the machine", ("mypy", "--strict", "--follow-imports=silent", *MACHINE)),
     Check("layout of scripts for the machine", ("black", "--quiet", "--check", "--line-length=120", *MACHINE)),

@@ -6,10 +6,13 @@ Usage: make_calling.py [--check]
 The caller is the code of crates/example_page, and the contracts are those of the sources, so that neither is written
 twice. With --check it compares, and the exit status is 1 where the page is another.
 """
+from __future__ import annotations
+
 import re
 import sys
+from collections.abc import Iterator
 
-from shared import TOP, read
+from shared import TOP, matched, read
 
 PAGE = "crates/warc/CALLING.md"
 SOURCES = ("archives", "reader", "iterating", "fixity", "front", "summary")
@@ -46,15 +49,17 @@ file name; docs/ARCHITECTURE.md has them in reading order, and docs/PROMISES.md 
 """
 
 
-def blocks():
+def blocks() -> Iterator[str]:
     """The code of the caller, each file with its path."""
     for language, path in CALLER:
         yield f"`{path}`:\n\n```{language}\n{read(path)}```\n"
 
 
-def calls(text):
+def calls(text: str) -> Iterator[tuple[str, list[str]]]:
     """Each public function of a source file, with the line of its `impl` (if it has one), comment and contract."""
-    kind, comment, taken = "", [], []
+    kind = ""
+    comment: list[str] = []
+    taken: list[str] = []
     for line in text.splitlines():
         if line.startswith("impl"):
             kind = line
@@ -71,11 +76,11 @@ def calls(text):
             comment = []
 
 
-def contracts():
+def contracts() -> Iterator[str]:
     """A section for each file, with its calls by their type."""
     for name in SOURCES:
         text = read(f"crates/warc/src/{name}.rt")
-        title = re.match(r"//! (.*)", text)[1].rstrip(".")
+        title = matched(re.match(r"//! (.*)", text))[1].rstrip(".")
         yield f"### {title} (`{name}.rt`)\n"
         last = None
         lines = []
@@ -87,12 +92,12 @@ def contracts():
         yield "```rust\n" + "\n".join(lines).rstrip() + "\n```\n"
 
 
-def page():
+def page() -> str:
     """The whole page."""
     return "\n".join([FRONT, *blocks(), CONTRACTS, *contracts()])
 
 
-def main():
+def main() -> None:
     text = page()
     if sys.argv[1:] != ["--check"]:
         with open(f"{TOP}/{PAGE}", "w", encoding="utf-8") as out:

@@ -4,32 +4,34 @@ FORMAT.md, and warc-collection.1 from COLLECTIONS.md.
 
 Usage: make_man.py FOLDER
 
-Of Markdown it knows what these pages use: headings, paragraphs, lists, tables, blocks of code, `code`, **bold** and
-*italic*.
-A section `## warc NAME` of PROGRAM.md is the page warc-NAME.1; the first block of code in it is the synopsis.
+Of Markdown it knows what these pages use: headings, paragraphs, lists, tables, blocks of code, `code`, **bold**,
+*italic*. A section `## warc NAME` of PROGRAM.md is the page warc-NAME.1; the first block of code in it is the synopsis.
 """
+from __future__ import annotations
+
 import os
 import re
 import sys
+from collections.abc import Iterator
 
-from shared import read, version
+from shared import matched, read, version
 
 HEADING = re.compile(r"^(#+) (.*)$")
 ITEM = re.compile(r"^(-|\d+\.) +(.*)$")
 
 
-def plain(text):
+def plain(text: str) -> str:
     """Text as roff reads it."""
     text = text.replace("\\", "\\e")
     return "\\&" + text if text.startswith((".", "'")) else text
 
 
-def code(text):
+def code(text: str) -> str:
     """Code: hyphens that can be copied, and no line broken at them."""
     return plain(text).replace("-", "\\-").replace("^", "\\(ha").replace("~", "\\(ti").replace("`", "\\(ga")
 
 
-def inline(text):
+def inline(text: str) -> str:
     """A paragraph's code, bold and italic words, and the page that a document became."""
     text = text.replace("docs/FORMAT.md", "warc(5)").replace("docs/PROGRAM.md", "warc(1)")
     text = text.replace("docs/COLLECTIONS.md", "warc-collection(1)")
@@ -48,18 +50,18 @@ def inline(text):
     return "\\&" + out if out.startswith((".", "'")) else out
 
 
-def cells(row):
+def cells(row: str) -> list[str]:
     """The cells of a table's row."""
     return [it.strip().replace("\\|", "|") for it in re.split(r"(?<!\\)\|", row.strip())[1:-1]]
 
 
-def sentence(title, cell):
+def sentence(title: str, cell: str) -> str:
     """What a cell says, with the title of its column where that isn't plain."""
     label = {"Status": "Status ", "Meaning": "", "Means": "", "When": "", "What to do": ""}.get(title, f"{title}: ")
     return inline(label + cell) + ("" if cell.endswith(".") else ".")
 
 
-def table(rows):
+def table(rows: list[str]) -> list[str]:
     """A table: its first column as the tags of a list, a column called Name beside it."""
     head, *body = [cells(it) for it in rows if not re.fullmatch(r"[|\s:-]+", it)]
     named = 2 if len(head) > 2 and head[1] == "Name" else 1
@@ -71,13 +73,14 @@ def table(rows):
     return out
 
 
-def blocks(text):
+def blocks(text: str) -> Iterator[tuple[str, list[str]]]:
     """The blocks of a page: (kind, its lines)."""
-    kind, lines = None, []
+    kind: str | None = None
+    lines: list[str] = []
     for line in [*text.splitlines(), ""]:
         if kind == "code":
             if line.startswith("```"):
-                yield kind, lines
+                yield "code", lines
                 kind, lines = None, []
             else:
                 lines.append(line)
@@ -97,21 +100,21 @@ def blocks(text):
         )
         goes_on = new == kind and kind in ("table", "text") or kind == "item" and new == "text"
         if not goes_on:
-            if lines:
+            if kind and lines:
                 yield kind, lines
             kind, lines = new, []
         if new and new != "code":
             lines.append(line)
-    if lines:
+    if kind and lines:
         yield kind, lines
 
 
-def body(text):
+def body(text: str) -> list[str]:
     """The roff lines of a page's blocks."""
     out = []
     for kind, lines in blocks(text):
         if kind == "head":
-            marks, title = HEADING.match(lines[0]).groups()
+            marks, title = matched(HEADING.match(lines[0])).groups()
             out.append(f".SH {plain(title).upper()}" if len(marks) < 4 else f".SS {plain(title)}")
         elif kind == "code":
             out += [".PP", ".EX", *("\\&" + code(it) for it in lines), ".EE"]
@@ -120,7 +123,7 @@ def body(text):
         elif lines[0].startswith("!["):
             continue  # a page has no pictures
         elif kind == "item":
-            mark, first = ITEM.match(lines[0]).groups()
+            mark, first = matched(ITEM.match(lines[0])).groups()
             words = " ".join([first, *(it.strip() for it in lines[1:])])
             sign = "\\(bu" if mark == "-" else mark
             out += [f".IP {sign} 3", inline(words)]
@@ -129,7 +132,7 @@ def body(text):
     return out
 
 
-def page(name, section, summary, text, also):
+def page(name: str, section: int, summary: str, text: str, also: list[str]) -> str:
     """A whole page."""
     title = f'.TH {name.upper()} {section} "" "Zogwedu {version()}" "Zogwedu manual"'
     see = ", ".join(f"\\fB{it.partition('(')[0]}\\fR({it.partition('(')[2]}" for it in also)
@@ -137,31 +140,26 @@ def page(name, section, summary, text, also):
     return "\n".join(lines) + "\n"
 
 
-def sections(text):
+def sections(text: str) -> tuple[str, list[tuple[str, str]]]:
     """The parts of a page below its first heading: the text before the first `## `, and each section by its title."""
     first, *rest = re.split(r"^## ", text, flags=re.MULTILINE)
     return first.partition("\n")[2], [it.partition("\n")[::2] for it in rest]
 
 
-def deeper(text):
+def deeper(text: str) -> str:
     """Headings of a section as those of a page: ### is then its highest."""
     return re.sub(r"^###", "#", text, flags=re.MULTILINE)
 
 
-def deepest(parts):
-    """Sections of a page, with their own headings one level lower."""
-    return "".join(f"# {title}\n{re.sub('^###', '####', it, flags=re.M)}" for title, it in parts)
-
-
-def synopsis(text):
+def synopsis(text: str) -> str:
     """A section with its first block of code as the synopsis, and the rest as the description."""
-    usage, rest = re.match(r"\s*```\n(.*?)```\n(.*)", text, re.DOTALL).groups()
+    usage, rest = matched(re.match(r"\s*```\n(.*?)```\n(.*)", text, re.DOTALL)).groups()
     return f"# Synopsis\n\n```\n{usage}```\n\n# Description\n\n{deeper(rest)}"
 
 
-def main_page(front, common, commands):
+def main_page(front: str, common: str, commands: list[tuple[str, str, str]]) -> str:
     """warc.1: what all commands share, and a table of the commands."""
-    usage = re.search(r"```\n.*?```\n", front, re.DOTALL)[0]
+    usage = matched(re.search(r"```\n.*?```\n", front, re.DOTALL))[0]
     rows = "".join(f"| `{title}` | {summary} |\n" for title, summary, _ in commands)
     intro = front.replace(usage, "").strip()
     text = f"# Synopsis\n\n{usage}\n# Description\n\n{intro}\n\n# Commands\n\n| Command | Does |\n|---|---|\n{rows}\n"
@@ -169,20 +167,20 @@ def main_page(front, common, commands):
     return page("warc", 1, "reads, checks, replays and writes web archives", text + deeper(common), also)
 
 
-def write(folder, name, section, text):
+def write(folder: str, name: str, section: int, text: str) -> None:
     """Writes a page into the folder of its section."""
     os.makedirs(f"{folder}/man{section}", exist_ok=True)
     with open(f"{folder}/man{section}/{name}.{section}", "w", encoding="utf-8") as out:
         out.write(text)
 
 
-def main():
+def main() -> None:
     folder = sys.argv[1]
     front, parts = sections(read("docs/PROGRAM.md"))
     commands = []
     for title, text in parts:
         if title.startswith("warc "):
-            summary = re.search(r"```\n.*?```\n\s*(.*?)\n", text, re.DOTALL)[1]
+            summary = matched(re.search(r"```\n.*?```\n\s*(.*?)\n", text, re.DOTALL))[1]
             commands.append((title, summary, text))
     for title, summary, text in commands:
         name = title.replace(" ", "-")
@@ -199,17 +197,21 @@ def main():
     common = shared[0][1] + "".join(f"### {title}\n{text}" for title, text in shared[1:])
     write(folder, "warc", 1, main_page(front, common, commands))
     first, rules = sections(read("docs/FORMAT.md"))
-    text = "# Description\n" + first + deepest(rules)
+    text = (
+        "# Description\n"
+        + first
+        + "".join(f"# {title}\n{re.sub('^###', '####', it, flags=re.M)}" for title, it in rules)
+    )
     write(folder, "warc", 5, page("warc", 5, "the WARC format, as Zogwedu reads it", text, ["warc(1)"]))
     write(folder, "warc-collection", 1, collection_page(read("docs/COLLECTIONS.md")))
 
 
-def collection_page(text):
+def collection_page(text: str) -> str:
     """warc-collection.1: the whole page, with its first block of code as the synopsis."""
     first, parts = sections(text)
-    summary, usage, rest = re.match(r"\s*(.*?)\n\n```\n(.*?)```\n(.*)", first, re.DOTALL).groups()
+    summary, usage, rest = matched(re.match(r"\s*(.*?)\n\n```\n(.*?)```\n(.*)", first, re.DOTALL)).groups()
     text = f"# Synopsis\n\n```\n{usage}```\n\n# Description\n\n{summary}\n\n{rest}"
-    text += deepest(parts)
+    text += "".join(f"# {title}\n{re.sub('^###', '####', it, flags=re.M)}" for title, it in parts)
     return page(
         "warc-collection", 1, "checks, catalogues and replays many web archives", text, ["warc(1)", "parallel(1)"]
     )

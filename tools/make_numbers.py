@@ -9,8 +9,9 @@ another number or another name.
 from __future__ import annotations
 
 import re
+from collections.abc import Iterator
 
-from shared import TOP, read
+from shared import TOP, matched, read
 
 TABLE = "crates/warc_arguments/src/numbers.rt"
 PAGE = "docs/NUMBERS.md"
@@ -47,36 +48,39 @@ def entries() -> list[tuple[str, str, str, str]]:
     return found
 
 
-def joined(lines):
+def joined(lines: str) -> str:
     """Lines as a cell of a table."""
     text = " ".join(lines.split())
     text = text[:1].upper() + text[1:]
     return COMMAND.sub(r"`\1`", text).replace("|", "\\|")
 
 
-def page():
+def page() -> str:
     """The text of the page."""
     out = [INTRO]
     rows = entries()
     for letter, (title, note) in TITLES.items():
         out.append(f"## {title}\n\n{note}\n\n| No. | Name | Meaning | What to do |\n|---|---|---|---|")
-        out += [f"| {' | '.join(row)} |" for row in rows if row[0][0] == letter]
+        out += [
+            f"| {number} | {name} | {means} | {remedy} |" for number, name, means, remedy in rows if number[0] == letter
+        ]
         out.append("")
     return "\n".join(out)
 
 
-def wrong():
+def wrong() -> Iterator[str]:
     """What is wrong with the table or the page, a line each."""
     rows = entries()
     order = [(list(TITLES).index(number[0]), int(number[1:])) for number, *_ in rows]
-    if order != sorted(set(order)) or len(rows) != int(re.search(r"; (\d+)\] = \[", read(TABLE))[1]):
+    if order != sorted(set(order)) or len(rows) != int(matched(re.search(r"; (\d+)\] = \[", read(TABLE)))[1]):
         yield f"{TABLE}: the numbers aren't in order, or a row isn't as tools/make_numbers.py reads it"
     for number, name, means, remedy in rows:
         if not (name and means and remedy):
             yield f"{TABLE}: {number} lacks a name, a meaning or what to do"
-    named = {}
-    row = re.compile(r"^\| ([FGPMSEN][0-9, F]*) \| ([A-Z]\w*(?:, [A-Z]\w*)*)", re.MULTILINE)
-    for line in row.findall(read("docs/FORMAT.md")):
+    named: dict[str, str] = {}
+    for line in re.findall(
+        r"^\| ([FGPMSEN][0-9, F]*) \| ([A-Z]\w*(?:, [A-Z]\w*)*)", read("docs/FORMAT.md"), re.MULTILINE
+    ):
         named.update(zip(line[0].split(", "), line[1].split(", ")))
     named.update({"F12": "TooLong", "F13": "Read", "F14": "Memory"})
     for number, name, *_ in rows:

@@ -3,10 +3,13 @@
 
 Usage: make_picture.py PROGRAM PICTURE
 """
+from __future__ import annotations
+
 import html
 import os
 import subprocess
 import sys
+from collections.abc import Iterator
 
 from shared import TOP
 
@@ -19,7 +22,7 @@ COMMANDS = [
 SIZE, LINE, EDGE, WIDTH = 14, 20, 18, 98
 
 
-def lines(program):
+def lines(program: str) -> Iterator[tuple[bool, str]]:
     """The lines of the terminal: whether each is a command, and its text."""
     path = f"{os.path.dirname(os.path.abspath(program))}:{os.environ['PATH']}"
     for words in COMMANDS:
@@ -36,23 +39,26 @@ def lines(program):
             yield False, line.expandtabs(8)
 
 
-def main():
+def main() -> None:
     program, picture = sys.argv[1:]
     shown = list(lines(program))
     width, height = WIDTH * SIZE * 0.6 + 2 * EDGE, len(shown) * LINE + 2 * EDGE
     out = [
-        f'<svg xmlns="http://www.w3.org/2000/svg" width="{width:.0f}" height="{height}" '
-        f'viewBox="0 0 {width:.0f} {height}">',
+        f'<svg xmlns="http://www.w3.org/2000/svg" width="{width:.0f}" height="{height}"'
+        f' viewBox="0 0 {width:.0f} {height}">',
         f'<rect width="{width:.0f}" height="{height}" rx="8" fill="#1d2433"/>',
-        f'<g font-family="DejaVu Sans Mono, Menlo, Consolas, monospace" font-size="{SIZE}" fill="#d7dce5" '
-        'xml:space="preserve">',
+        f'<g font-family="DejaVu Sans Mono, Menlo, Consolas, monospace" font-size="{SIZE}" fill="#d7dce5"'
+        ' xml:space="preserve">',
     ]
     for number, (is_command, text) in enumerate(shown):
         y = EDGE + number * LINE + SIZE
         text = html.escape(text)
-        if is_command:
-            text = f'<tspan fill="#7fc8a9">$ </tspan><tspan fill="#ffffff" font-weight="bold">{text}</tspan>'
-        out.append(f'<text x="{EDGE}" y="{y}">{text}</text>')
+        words = (
+            f'<tspan fill="#7fc8a9">$ </tspan><tspan fill="#ffffff" font-weight="bold">{text}</tspan>'
+            if is_command
+            else text
+        )
+        out.append(f'<text x="{EDGE}" y="{y}">{words}</text>')
     with open(picture, "w", encoding="utf-8") as file:
         file.write("\n".join([*out, "</g>", "</svg>", ""]))
 

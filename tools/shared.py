@@ -1,4 +1,4 @@
-"""What the scripts of tools/ share: where the project is, its version, and the crates that it is built from."""
+"""What the scripts of tools/ share: where the project is, its version, and the crates that the program is built of."""
 from __future__ import annotations
 
 import os
@@ -15,6 +15,13 @@ def read(path: str) -> str:
         return text.read()
 
 
+def matched(found: re.Match[str] | None) -> re.Match[str]:
+    """A match that has to be there: a file of the project isn't as a script reads it otherwise."""
+    if found is None:
+        raise ValueError("a file isn't as this script reads it")
+    return found
+
+
 def put_copy(source: str, to: str, mode: int = 0o755) -> None:
     """Puts a copy of a file in the place of another, which may be a program that runs: it goes on as it was."""
     shutil.copyfile(source, f"{to}.new")
@@ -25,7 +32,7 @@ def put_copy(source: str, to: str, mode: int = 0o755) -> None:
 def version() -> str:
     """The version of the program, which is written in one place alone."""
     with open(WORDS, encoding="utf-8") as text:
-        return re.search(r'^const VERSION: &str = "(.*)";$', text.read(), re.MULTILINE)[1]
+        return matched(re.search(r'^const VERSION: &str = "(.*)";$', text.read(), re.MULTILINE))[1]
 
 
 def rows() -> dict[str, tuple[str, list[str]]]:
@@ -41,7 +48,7 @@ def crates() -> dict[str, list[str]]:
 
 def below(name: str, uses: dict[str, list[str]]) -> list[str]:
     """A crate and the crates of the project that it is built from, lowest first."""
-    found = []
+    found: list[str] = []
     for it in uses[name]:
         if it in uses:
             found += [low for low in below(it, uses) if low not in found]

@@ -4,12 +4,14 @@ says.
 
 Usage: test_docs.py [--write] PROGRAM PAGE..
 
-A block between ```console and ``` is run by one shell, in a folder with a copy of examples/, with the program first
-in PATH. A line that begins with `$ ` is a command, and goes on in the next line where it ends with a backslash; what
-follows is all that it writes, to standard output and standard error. The blocks of a page share the folder. In a
-block that begins with ```sh each `make TARGET` has to be a target of the Makefile. --write puts what was written into
-the page.
+A block between ```console and ``` is run by one shell, in a folder with a copy of examples/, with the program first in
+PATH. A line that begins with `$ ` is a command, and goes on in the next line where it ends with a backslash; what
+follows is all that it writes, to standard output and standard error. The blocks of a page share the folder. In a block
+that begins with ```sh each `make TARGET` has to be a target of the Makefile. --write puts what was written into the
+page.
 """
+from __future__ import annotations
+
 import os
 import re
 import shutil
@@ -23,9 +25,10 @@ BLOCK = re.compile(r"^```(console|sh)\n(.*?)^```$", re.MULTILINE | re.DOTALL)
 END = "@@ end of a command"
 
 
-def commands(block):
-    """The commands of a block, each with the text that the page shows after it."""
-    found, goes_on = [], False
+def commands(block: str) -> list[list[str]]:
+    """The commands of a block, each with the text that the page shows behind it."""
+    found: list[list[str]] = []
+    goes_on = False
     for line in block.splitlines(keepends=True):
         if goes_on:
             found[-1][0] += line
@@ -38,7 +41,7 @@ def commands(block):
     return found
 
 
-def run(block, folder, program):
+def run(block: str, folder: str, program: str) -> list[str]:
     """What each command of a block writes."""
     script = "".join(f"{words}s=$?; printf '%s\\n' '{END}'; (exit $s)\n" for words, _ in commands(block))
     path = f"{os.path.dirname(os.path.abspath(program))}:{TOP}/shell:{os.environ['PATH']}"
@@ -54,20 +57,20 @@ def run(block, folder, program):
     return ran.stdout.decode(errors="replace").split(f"{END}\n")[:-1]
 
 
-def missing_targets(block):
+def missing_targets(block: str) -> list[str]:
     """The targets of `make` lines that the Makefile doesn't have."""
     targets = [line.split() for line in block.splitlines() if re.match(r"make\b", line)]
     named = [word for words in targets for word in words[1:2] if re.fullmatch(r"[a-z-]+", word)]
     return [it for it in named if subprocess.run(["make", "-n", it], cwd=TOP, capture_output=True).returncode]
 
 
-def try_page(page, program):
+def try_page(page: str, program: str) -> tuple[str, str, int]:
     """Runs the blocks of a page; gives the page as it ought to be, and how many commands were run."""
     with open(page, encoding="utf-8") as text:
         old = text.read()
     count = 0
 
-    def block_as_run(match):
+    def block_as_run(match: re.Match[str]) -> str:
         nonlocal count
         if match[1] == "sh":
             for it in missing_targets(match[2]):
@@ -88,7 +91,7 @@ def try_page(page, program):
     return old, new, count
 
 
-def main():
+def main() -> None:
     words = sys.argv[1:]
     write = words[0] == "--write"
     program, *pages = words[write:]
