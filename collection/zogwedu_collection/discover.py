@@ -12,7 +12,7 @@ from .disk import Stamp, is_regular, stamp_of
 from .states import TRIED_AGAIN
 from .texts import real_path, say, shown, stored_path
 
-SUFFIXES = (b".warc", b".warc.gz")
+SUFFIXES = (b".warc", b".warc.gz", b".warc.zst")
 # What the system says of a file that isn't there. Of any other error nothing follows.
 NOT_THERE = (errno.ENOENT, errno.ENOTDIR)
 

@@ -34,11 +34,12 @@ def is_regular(path: str) -> bool:
 
 
 def open_regular(path: str) -> IO[bytes]:
-    """Opens a regular file. A pipe isn't waited for, and a device isn't opened."""
+    """Opens a regular file. A pipe isn't waited for, and a device isn't opened. No byte is read ahead, since programs
+    read on where this one stopped."""
     if not is_regular(path):
         raise OSError(errno.EINVAL, "not a regular file", path)
     handle = os.open(path, os.O_RDONLY | os.O_NONBLOCK | os.O_NOCTTY | os.O_CLOEXEC)
-    file = os.fdopen(handle, "rb")
+    file = os.fdopen(handle, "rb", buffering=0)
     if not stat.S_ISREG(os.fstat(handle).st_mode):
         file.close()
         raise OSError(errno.EINVAL, "not a regular file", path)

@@ -15,7 +15,7 @@ from typing import Dict, IO, Iterator, List, Optional, Set, Tuple
 from .disk import Stamp, open_regular, open_stamp, reason_of, stamp_of, temporary_folder
 from .program import Settings, said
 from .texts import counted, last_line
-from .unpack import PIECE, Damaged, Members, is_compressed, unpacked
+from .unpack import PIECE, Damaged, pieces_of, unpacked
 
 COMMANDS = ("list", "fixity", "check", "summary", "captures")
 DONE = {"list": (0,), "fixity": (0, 1, 4), "check": (0, 1), "summary": (0,), "captures": (0, 1)}
@@ -58,11 +58,10 @@ def read_outcome(folder: str) -> Outcome:
 class Source:
     """What the program reads: the file itself, what it holds unpacked, or a pipe where there is no room to unpack it."""
 
-    def __init__(self, file: IO[bytes], path: str, temporary: Optional[str]) -> None:
+    def __init__(self, file: IO[bytes], temporary: Optional[str]) -> None:
         self.file = file
-        self.seekable: Optional[IO[bytes]] = (
-            unpacked(file, temporary_folder(temporary)) if is_compressed(path) else file
-        )
+        pieces = pieces_of(file)
+        self.seekable: Optional[IO[bytes]] = file if pieces is None else unpacked(pieces, temporary_folder(temporary))
 
     def run(self, words: List[str], out: IO[bytes]) -> Tuple[int, str]:
         """Runs the program over it. Returns its exit status and its message."""
@@ -78,9 +77,8 @@ class Source:
 
     def feed(self, pipe: IO[bytes]) -> None:
         """Writes what the file holds to a pipe, until its reader goes away."""
-        self.file.seek(0)
         with contextlib.suppress(BrokenPipeError), pipe:
-            for piece in Members(self.file):
+            for piece in pieces_of(self.file) or ():
                 pipe.write(piece)
 
     def close(self) -> None:
@@ -138,7 +136,7 @@ class Job:
             self.outcome.sha256 = sha256_of(file)
             file.seek(0)
         try:
-            source = Source(file, self.outcome.path, self.settings.temporary)
+            source = Source(file, self.settings.temporary)
             with contextlib.closing(source):
                 return self.judge(source)
         except Damaged as damage:

@@ -5,6 +5,7 @@ from __future__ import annotations
 import collections
 import contextlib
 import dataclasses
+import functools
 import hashlib
 import re
 import shutil
@@ -17,7 +18,7 @@ from .catalogue import Catalogue, Known
 from .disk import open_regular, open_stamp, reason_of, temporary_folder
 from .program import instant_of, said
 from .texts import Trouble, escaped, say, real_path
-from .unpack import PIECE, Damaged, Members, is_compressed, write_all
+from .unpack import PIECE, Damaged, pieces_of, write_all
 
 MOST_CANDIDATES = 64
 # The most captures that are asked what they lack, for one that is replayed.
@@ -101,27 +102,33 @@ class Files:
     @contextlib.contextmanager
     def joined(self, files: Sequence[Known]) -> Iterator[IO[bytes]]:
         """The bytes of files, unpacked, one after another. A lone file that isn't compressed is given as it is."""
-        if len(files) == 1 and not is_compressed(real_path(files[0].path)):
-            with self.opened(files[0]) as file:
+        if len(files) == 1:
+            with self.alone(files[0]) as file:
                 yield file
             return
         with tempfile.TemporaryFile(dir=self.temporary, buffering=0) as joined:
             for known in files:
-                self.copy(known, joined)
+                with self.opened(known) as file:
+                    write_pieces(joined, pieces_of(file) or whole_pieces(file))
             yield joined
 
-    def copy(self, known: Known, joined: IO[bytes]) -> None:
-        """Copies the bytes of a file, unpacked."""
-        with self.opened(known) as file:
-            if is_compressed(real_path(known.path)):
-                write_pieces(joined, Members(file))
-            else:
-                write_pieces(joined, iter(lambda: file.read(PIECE), b""))
+    @contextlib.contextmanager
+    def alone(self, known: Known) -> Iterator[IO[bytes]]:
+        """The bytes of a file, unpacked, or the file itself where it isn't compressed."""
+        with self.opened(known) as file, tempfile.TemporaryFile(dir=self.temporary, buffering=0) as out:
+            pieces = pieces_of(file)
+            write_pieces(out, pieces or ())
+            yield file if pieces is None else out
 
 
 def write_pieces(out: IO[bytes], pieces: Iterable[bytes]) -> None:
     for piece in pieces:
         write_all(out, piece)
+
+
+def whole_pieces(file: IO[bytes]) -> Iterator[bytes]:
+    """The bytes of a file, in pieces."""
+    return iter(functools.partial(file.read, PIECE), b"")
 
 
 class Replayer:

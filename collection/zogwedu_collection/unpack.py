@@ -1,8 +1,11 @@
-"""Compressed files: what the members hold, and where the file is damaged. zlib judges the bytes, and nothing else does."""
+"""Compressed files: what compressed them, as their first bytes say, what they hold, and whether they are damaged. zlib
+and the program zstd judge the bytes, and nothing else does."""
 from __future__ import annotations
 
 import errno
+import functools
 import os
+import subprocess
 import tempfile
 import zlib
 from typing import IO, Iterator, Optional
@@ -10,21 +13,58 @@ from typing import IO, Iterator, Optional
 PIECE = 1 << 20
 GZIP = 31  # zlib's word for a member with the head and the foot of gzip
 NO_ROOM = (errno.ENOSPC, errno.EDQUOT, errno.EFBIG)
+# The first bytes of what gzip and zstd write, as shell/zwarc has them.
+OF_GZIP = b"\x1f\x8b"
+OF_ZSTD = b"\x28\xb5\x2f\xfd"
+# The exit status by which zstd says that the bytes are at fault, and what it calls them.
+WRONG_BYTES = 1
+STDIN = "/*stdin*\\"
 
 
 class Damaged(Exception):
-    """The compressed file is damaged after some bytes: those of the members before, which are whole."""
+    """The compressed file is damaged, perhaps after a known number of bytes: those of the members before, which are
+    whole."""
 
-    def __init__(self, after: int, why: str) -> None:
-        super().__init__("damaged after %d bytes: %s" % (after, why))
+    def __init__(self, why: str, after: Optional[int] = None) -> None:
+        super().__init__("damaged%s: %s" % ("" if after is None else " after %d bytes" % after, why))
 
 
-def is_compressed(path: str) -> bool:
-    return os.fsencode(path).lower().endswith(b".gz")
+def pieces_of(file: IO[bytes]) -> Optional[Iterator[bytes]]:
+    """What a compressed file holds, in pieces, or None for one that isn't compressed. Its first bytes decide, and never
+    its name."""
+    beginning = os.pread(file.fileno(), len(OF_ZSTD), 0)
+    if beginning.startswith(OF_GZIP):
+        return iter(Members(file))
+    return frames_of(file) if beginning == OF_ZSTD else None
+
+
+def frames_of(file: IO[bytes]) -> Iterator[bytes]:
+    """What the frames of a file hold that zstd wrote, in pieces."""
+    file.seek(0)
+    try:
+        child = subprocess.Popen(["zstd", "-dcq"], stdin=file, stdout=subprocess.PIPE, stderr=subprocess.PIPE)
+    except FileNotFoundError:
+        raise OSError(errno.ENOENT, "zstd isn't installed") from None
+    with child:
+        assert child.stdout is not None and child.stderr is not None
+        yield from iter(functools.partial(child.stdout.read, PIECE), b"")
+        message = child.stderr.read().decode("utf-8", "replace").strip()
+    judge_zstd(child.returncode, message)
+
+
+def judge_zstd(status: int, message: str) -> None:
+    """Raises what a status of zstd means. Only one of them says something of the bytes."""
+    if status == 0:
+        return
+    first = message.partition("\n")[0]
+    why = first.partition(STDIN)[2].lstrip(" :") or first or "status %d" % status
+    if status == WRONG_BYTES and "too much memory" not in why:
+        raise Damaged(why)
+    raise OSError(errno.EIO, "zstd was ended by signal %d" % -status if status < 0 else "zstd: " + why)
 
 
 class Members:
-    """Gives what the members of a compressed file hold, in pieces."""
+    """Gives what the members of a file hold that gzip wrote, in pieces."""
 
     def __init__(self, file: IO[bytes]) -> None:
         self.file = file
@@ -33,6 +73,7 @@ class Members:
         self.whole = 0
 
     def __iter__(self) -> Iterator[bytes]:
+        self.file.seek(0)
         yield from self.member()
         while self.has_more():
             yield from self.member()
@@ -45,9 +86,10 @@ class Members:
             try:
                 piece = unpacker.decompress(data, PIECE)
             except zlib.error as error:
-                raise Damaged(self.whole, str(error).partition("decompressing data: ")[2] or str(error)) from None
+                why = str(error).partition("decompressing data: ")[2] or str(error)
+                raise Damaged(why, self.whole) from None
             if not (data or piece or unpacker.eof):
-                raise Damaged(self.whole, "the file ends in a member")
+                raise Damaged("the file ends in a member", self.whole)
             self.data = unpacker.unused_data if unpacker.eof else unpacker.unconsumed_tail
             self.taken += len(data) - len(self.data)
             yield piece
@@ -62,7 +104,7 @@ class Members:
             if not self.data or (rest and not is_padded and len(rest) == len(self.data)):
                 return bool(self.data)
             if rest:
-                raise Damaged(self.whole, "zero bytes, and then others")
+                raise Damaged("zero bytes, and then others", self.whole)
             is_padded, self.data = True, b""
 
 
@@ -73,7 +115,7 @@ def write_all(out: IO[bytes], piece: bytes) -> None:
         view = view[out.write(view) :]
 
 
-def unpacked(file: IO[bytes], folder: str) -> Optional[IO[bytes]]:
+def unpacked(pieces: Iterator[bytes], folder: str) -> Optional[IO[bytes]]:
     """What a compressed file holds, in a file without a name, which is gone with its last reader. Where there is no room
     for it there is none; the compressed file is judged all the same."""
     out: Optional[IO[bytes]] = None
@@ -83,7 +125,7 @@ def unpacked(file: IO[bytes], folder: str) -> Optional[IO[bytes]]:
         if error.errno not in NO_ROOM:
             raise
     try:
-        for piece in Members(file):
+        for piece in pieces:
             out = put(out, piece)
     except BaseException:
         if out is not None:

@@ -504,19 +504,22 @@ def lost_host(trial: Trial, archives: str) -> None:
 # Hostile files that can be opened: their bytes, and the state of each.
 GOOD = generate.archive(3)
 PACKED = gzip.compress(GOOD)
+ZSTD = subprocess.run(["zstd", "-qc"], input=GOOD, stdout=subprocess.PIPE, check=True).stdout
 HOSTILE: Dict[bytes, Tuple[bytes, str]] = {
-    **{b"odd%d\n\x1b]0;x\x07\xff'\"$(x){= 1 =}.warc" % number: (GOOD, "") for number in range(8)},
-    **{b"torn%d.warc" % number: (GOOD[: -9 - number], "refused") for number in range(4)},
+    **{b"odd%d\n\x1b]0;x\x07\xff'\"$(x){= 1 =}.warc" % number: (GOOD, "") for number in range(7)},
+    b"odd7\n\x1b]0;x\x07\xff'\"$(x){= 1 =}.warc.zst": (ZSTD, ""),
+    **{b"torn%d.warc" % number: (GOOD[: -9 - number], "refused") for number in range(3)},
+    b"torn.warc.zst": (ZSTD[:-9], "gunzip"),
     **{b"torn%d.warc.gz" % number: (PACKED[: -9 - number], "gunzip") for number in range(4)},
     **{b"shut%d.warc" % number: (GOOD, "failed") for number in range(3)},
     **{b"bomb%d.warc.gz" % number: (gzip.compress(bytes(1 << 27)), "refused") for number in range(2)},
     b"garbage.warc.gz": (PACKED + b"garbage", "gunzip"),
     b"padded.warc.gz": (PACKED + bytes(10_000), ""),
     b"empty.warc": (b"", "findings"),
-    b"empty.warc.gz": (b"", "gunzip"),
+    b"empty.warc.gz": (b"", "findings"),
     b"CAPITAL.WARC.GZ": (PACKED, ""),
-    b"packed.warc": (PACKED, "refused"),
-    b"plain.warc.gz": (GOOD, "gunzip"),
+    b"packed.warc": (PACKED, ""),
+    b"plain.warc.gz": (GOOD, ""),
 }
 
 

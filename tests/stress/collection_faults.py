@@ -25,7 +25,7 @@ import subprocess
 import sys
 import tempfile
 import time
-from typing import Callable, Dict, Iterator, List
+from typing import Callable, Dict, Iterator, List, Tuple
 
 from collection_trial import TOP, Trial, put, put_script, record, running_with, to_read
 
@@ -105,8 +105,7 @@ def damaged_members(trial: Trial) -> None:
         "garbage": (two + b"garbage", "damaged after %d bytes" % len(two)),
         "after-padding": (two + bytes(10) + b"x", "damaged after %d bytes" % len(two)),
         "cut": (two[:-9], "damaged after %d bytes" % len(one)),
-        "empty": (b"", "damaged after 0 bytes"),
-        "plain": (page(1), "damaged after 0 bytes"),
+        "short": (two[:9], "damaged after 0 bytes"),
         "flipped": (one + bytes([two[len(one)]]) + two[len(one) + 1 : -8] + b"12345678", "damaged after %d" % len(one)),
     }
     for name, (data, _) in bytes_of.items():
@@ -117,6 +116,91 @@ def damaged_members(trial: Trial) -> None:
     for name, (_, expected) in bytes_of.items():
         is_right = found[name].startswith("good" if expected == "good" else "gunzip " + expected)
         trial.judge(is_right, name, found[name])
+
+
+# What a file is compressed by, and what its name says, in each combination.
+PACKINGS: Dict[str, Tuple[str, ...]] = {"plain": (), "gzip": ("gzip", "-c"), "zstd": ("zstd", "-qc")}
+NAMED = ("a.warc", "a.warc.gz", "a.warc.zst", "A.WARC.ZST")
+
+
+def packed(packing: str, data: bytes) -> bytes:
+    words = PACKINGS[packing]
+    return subprocess.run(words, input=data, stdout=subprocess.PIPE, check=True).stdout if words else data
+
+
+def first_bytes(trial: Trial) -> None:
+    """The first bytes say what a file is compressed by, and not its name, as with zwarc."""
+    tools = trial.path("tools")
+    os.makedirs(tools)
+    shutil.copy(os.path.join(TOP, "shell", "zwarc"), tools)
+    os.symlink(trial.warc, tools + "/warc")
+    for packing in PACKINGS:
+        for name in NAMED:
+            put(trial.path("archives", packing, name), packed(packing, page(1) + page(2)))
+    odd = {"empty.warc.gz": b"", "zero.warc.gz": b"\0" + gzip.compress(page()), "half.warc.zst": b"\x28\xb5\x2f"}
+    for name, data in odd.items():
+        put(trial.path("archives", "odd", name), data)
+    trial.run("c", "run", trial.path("archives"))
+    for path, state, records in trial.ask("c", "SELECT path, state, coalesce(records, 0) FROM files"):
+        done = subprocess.run([tools + "/zwarc", "list", str(path)], capture_output=True, check=False)
+        expected = ("refused" if done.returncode == 2 else "good", done.stdout.count(b"\n"))
+        trial.judge((str(state).replace("findings", "good"), records) == expected, path, (state, records, expected))
+        if b"odd" not in os.fsencode(str(path)):
+            trial.judge(records == 2, "the records of %s" % path, records)
+    done = trial.run("c", "replay", URI.decode(), "9999")
+    trial.judge(done.stdout == b"abc" and done.stderr.count(b"agrees") == 23, "a replay", done.stderr)
+
+
+def frames(trial: Trial) -> None:
+    """zstd judges the bytes of a .warc.zst; where it can't, that is no damage."""
+    whole = packed("zstd", page(1, b"x" * 100_000))
+    flipped = whole[:-9] + bytes([whole[-9] ^ 255]) + whole[-8:]
+    wide = subprocess.run(["zstd", "-qc", "--ultra", "--long=30"], input=page(), stdout=subprocess.PIPE).stdout
+    bytes_of = {
+        "two": (whole + packed("zstd", page(2)), "good"),
+        "cut": (whole[:-9], "gunzip damaged: "),
+        "short": (whole[:5], "gunzip damaged: "),
+        "garbage": (whole + b"garbage", "gunzip damaged: "),
+        "flipped": (flipped, "gunzip damaged: "),
+        "wide": (wide, "failed zstd: "),
+    }
+    for name, (data, _) in bytes_of.items():
+        put(trial.path("archives", name + ".warc.zst"), data)
+    done = trial.run("c", "run", trial.path("archives"))
+    trial.judge(done.returncode == 1 and not running_with("zstd\0-dcq"), "a run", done.stderr)
+    rows = trial.ask("c", "SELECT path, state, detail FROM files")
+    found = {os.path.basename(str(path)).split(".")[0]: "%s %s" % (state, detail) for path, state, detail in rows}
+    for name, (_, expected) in bytes_of.items():
+        trial.judge(found.get(name, "").startswith(expected), name, found)
+    put(trial.path("one", "a.warc.zst"), whole)
+    with small_disk(trial.path("disk"), "64k") as disk:
+        done = trial.run("d", "run", "--temporary", disk, trial.path("one"))
+    trial.judge(b"no-room\t1" in done.stdout, "no room", done.stdout)
+    failing_zstd(trial)
+    done = trial.run("d", "run")
+    trial.judge(done.returncode == 0 and to_read(done) == 1, "with room and zstd", done.stdout + done.stderr)
+    done = trial.run("d", "replay", URI.decode(), "9999")
+    trial.judge(done.stdout == b"x" * 100_000, "its page", done.stderr)
+
+
+def failing_zstd(trial: Trial) -> None:
+    """A zstd that is killed, can't read or isn't there leaves a file that is read again."""
+    texts = {
+        "ended by signal 9": "kill -9 $$",
+        "Read error": "echo 'zstd: error 37 : Read error' >&2; exit 37",
+        "isn't installed": "",
+    }
+    for place, (words, text) in enumerate(texts.items()):
+        tools = trial.path("tools%d" % place)
+        os.makedirs(tools)
+        for folder in ("/usr/bin", "/bin"):
+            for name in set(os.listdir(folder)) - set(os.listdir(tools)) - {"zstd"}:
+                os.symlink(os.path.join(folder, name), os.path.join(tools, name))
+        if text:
+            put_script(tools + "/zstd", text + "\n")
+        done = trial.run("d", "run", env={"PATH": tools})
+        is_right = trial.states("d") == {"a.warc.zst": "failed"} and words in trial.detail("d")
+        trial.judge(is_right, "a zstd that " + words, (trial.detail("d"), done.stderr))
 
 
 def no_program(trial: Trial) -> None:
@@ -749,6 +833,8 @@ PARTS: List[Callable[[Trial], None]] = [
         no_room,
         failing_machine,
         damaged_members,
+        first_bytes,
+        frames,
         no_program,
         kept_rows,
         unknown_names,
