@@ -109,6 +109,17 @@ def add_questions(command: Command) -> None:
     made = command("replay", "writes the body that was captured of a URI, as of a date")
     add_request(made)
     made.add_argument("date", metavar="DATE")
+    add_codings(made)
+
+
+def add_codings(parser: argparse.ArgumentParser) -> None:
+    """The options for bodies that a server sent chunked or compressed."""
+    forms = parser.add_mutually_exclusive_group()
+    parser.set_defaults(form="plain")
+    stored = "writes a coded body (chunked, compressed) as it is stored, and names the codings"
+    forms.add_argument("--stored", dest="form", action="store_const", const="stored", help=stored)
+    decoded = "undoes the codings by the Python package zogwedu, which isn't proved, and says which"
+    forms.add_argument("--decoded", dest="form", action="store_const", const="decoded", help=decoded)
 
 
 def add_request(parser: argparse.ArgumentParser) -> None:

@@ -8,6 +8,7 @@ from typing import Sequence, Tuple
 
 from .captures import Request, chosen_captures, warn_of_unknown
 from .catalogue import Catalogue
+from .decode import Decoder
 from .export import export
 from .listing import all_good, capture_line, put, status_pieces
 from .moves import forget_files, prune
@@ -77,20 +78,21 @@ def find_command(options: Options) -> int:
 
 def replay_command(options: Options) -> int:
     catalogue, request = Catalogue(options.catalogue), Request(options.uri, options.uri_hex, options.date)
-    warc = usable_program(options.warc)
-    replayer = Replayer(catalogue, warc, options.temporary)
+    warc, decoder = usable_program(options.warc), Decoder() if options.form == "decoded" else None
+    replayer = Replayer(catalogue, warc, options.temporary, options.form != "plain")
     warn_of_unknown(catalogue, request.target())
     chosen = chosen_captures(catalogue, request, warc)
     answers = [answer for capture in chosen for answer in replayer.answers(capture)]
     first = settled(answers)
+    undone = "" if decoder is None else decoder.undo(replayer, first)
     write_body(first, sys.stdout.buffer)
-    print_answer(first, answers[1:])
+    print_answer(first, undone, answers[1:])
     return 0
 
 
-def print_answer(first: Answer, others: Sequence[Answer]) -> None:
-    """Says what was written, of which reading, from which files, and which others agree."""
-    lines = [first.chosen() + " " + first.line, first.joined()]
+def print_answer(first: Answer, undone: str, others: Sequence[Answer]) -> None:
+    """Says what was written, which codings were undone, of which reading, from which files, and which others agree."""
+    lines = [first.chosen() + " " + first.given(), undone, first.joined()]
     lines += ["%s: %s" % (mark, shown_file) for mark, shown_file in marks(first)]
     lines += ["agrees: " + answer.described() for answer in others]
     print("\n".join(filter(None, lines)), file=sys.stderr)

@@ -91,7 +91,7 @@ def instant_of(warc: str, date: str) -> str:
 
 def said(message: bytes) -> str:
     """A message of the program without its name."""
-    return message.decode("utf-8", "replace").replace("warc: ", "").strip()
+    return re.sub(r"^warc: ", "", message.decode("utf-8", "replace"), flags=re.MULTILINE).strip()
 
 
 def not_done(left: int, run: int) -> str:

@@ -7,6 +7,7 @@ import contextlib
 import dataclasses
 import functools
 import hashlib
+import os
 import re
 import shutil
 import subprocess
@@ -25,33 +26,47 @@ MOST_CANDIDATES = 64
 MOST_ASKED = 256
 UNRESOLVED = ("P4", "P5", "P7 Segment G2", "P7 Segment G4")
 NAMES = ("WARC-Refers-To", "WARC-Refers-To-Target-URI", "WARC-Refers-To-Date")
+# The most bytes of a record whose body is decoded.
+MOST_DECODED = 1 << 30
+# What the program says of a body: the record that it is of, its facts, and the fields that name its codings.
+GIVEN = re.compile(r"chosen \d+ given (\d+) (.*?)( coded .*)?", re.DOTALL)
+CODED = "P10 "
 
 
 @dataclasses.dataclass(frozen=True)
 class Answer:
-    """What a capture gives: a body with its digest and the line about it, or a reason; and the files that were joined."""
+    """What a capture gives: a body with its digest, the record that it is of, what is said of it, and its codings; or a
+    reason. Also the files that were joined."""
 
     capture: Capture
     files: Tuple[Known, ...]
     body: Optional[IO[bytes]] = None
     digest: Optional[str] = None
-    line: str = ""
+    file: Optional[Known] = None
+    position: int = 0
+    about: str = ""
+    codings: str = ""
     reason: Optional[str] = None
 
-    def fact(self) -> Tuple[Optional[str], str, Optional[str]]:
+    def fact(self) -> Tuple[Optional[str], str, str, Optional[str]]:
         """What must agree between two answers."""
-        return self.digest, self.line.partition(" status ")[2], self.reason
+        return self.digest, self.about, self.codings, self.reason
 
     def joined(self) -> str:
         return "joined " + " ".join(escaped(file.path) for file in self.files) if len(self.files) > 1 else ""
 
     def described(self) -> str:
         """A line about the answer."""
-        what = self.reason or "%s sha256 %s" % (self.line, self.digest)
+        what = self.reason or "%s sha256 %s" % (self.given(), self.digest)
         return " ".join(filter(None, (self.chosen(), what, self.joined())))
 
     def chosen(self) -> str:
         return "chosen %s %d" % (escaped(self.capture.path), self.capture.position)
+
+    def given(self) -> str:
+        """The record that a body is of, and what is said of it. What a server wrote is escaped."""
+        path = "" if self.file is None else escaped(self.file.path)
+        return "given %s %d %s" % (path, self.position, escaped(self.about + self.codings))
 
 
 def is_unresolved(reason: Optional[str]) -> bool:
@@ -132,20 +147,23 @@ def whole_pieces(file: IO[bytes]) -> Iterator[bytes]:
 
 
 class Replayer:
-    """Gives the bodies of captures."""
+    """Gives the bodies of captures; coded ones too where these are asked for as they are stored."""
 
-    def __init__(self, catalogue: Catalogue, warc: str, temporary: Optional[str]) -> None:
+    def __init__(self, catalogue: Catalogue, warc: str, temporary: Optional[str], is_stored: bool = False) -> None:
         self.catalogue = catalogue
         self.warc = warc
         self.files = Files(catalogue, temporary)
         self.temporary = temporary_folder(temporary)
+        self.options = ["--stored"] if is_stored else []
         self.asked: Dict[Tuple[int, Optional[int]], List[Capture]] = {}
 
-    def program(self, command: str, source: IO[bytes], position: int) -> Tuple[IO[bytes], int, str]:
+    def program(
+        self, command: str, source: IO[bytes], position: int, options: Sequence[str] = ()
+    ) -> Tuple[IO[bytes], int, str]:
         """Runs a command over a file and a position. Its output is a temporary file."""
         out = tempfile.TemporaryFile(dir=self.temporary)
         source.seek(0)
-        words = [self.warc, command, "-", str(position)]
+        words = [self.warc, command, "-", str(position), *options]
         done = subprocess.run(words, stdin=source, stdout=out, stderr=subprocess.PIPE, check=False)
         out.seek(0)
         return out, done.returncode, said(done.stderr)
@@ -155,17 +173,29 @@ class Replayer:
         files = tuple(self.files.known(file) for file in (*before, capture.file))
         first = sum(file.records for file in files[:-1])
         with self.files.joined(files) as source:
-            out, status, message = self.program("body", source, first + capture.position)
+            out, status, message = self.program("body", source, first + capture.position, self.options)
         if status == 1:
             out.close()
             return Answer(capture, files, reason=message)
-        given = re.fullmatch(r"chosen \d+ given (\d+) (.*)", message)
+        given = GIVEN.fullmatch(message)
         if status != 0 or given is None:
             out.close()
-            raise Trouble("%s: %s" % (", ".join(escaped(file.path) for file in files), message))
-        file, position = place_in(files, int(given[1]))
-        line = "given %s %d %s" % (escaped(file.path), position, given[2])
-        return Answer(capture, files, out, digest_of(out), line)
+            raise Trouble("%s: %s" % (", ".join(escaped(file.path) for file in files), escaped(message)))
+        place = place_in(files, int(given[1]))
+        return Answer(capture, files, out, digest_of(out), *place, given[2], given[3] or "")
+
+    def record(self, known: Known, position: int) -> bytes:
+        """The bytes of a record, from its beginning to that of the next one."""
+        query = "SELECT at_offset FROM records WHERE file = ? AND position BETWEEN ? AND ? ORDER BY position"
+        places = [row[0] for row in self.catalogue.rows(query, (known.file, position, position + 1))]
+        if not places:
+            raise Trouble("%s was read again: try again" % escaped(known.path))
+        with self.files.joined([known]) as source:
+            end = places[1] if len(places) > 1 else source.seek(0, os.SEEK_END)
+            if end - places[0] > MOST_DECODED:
+                raise Trouble("more than %d bytes are stored; --stored writes them" % MOST_DECODED)
+            source.seek(places[0])
+            return b"".join(iter(lambda: source.read(min(PIECE, end - source.tell())), b""))
 
     def named(self, capture: Capture) -> List[Optional[str]]:
         """What the head of a revisit names: the id, the target and the date of its referent."""
@@ -277,6 +307,8 @@ def settled(answers: Sequence[Answer]) -> Answer:
         return first
     for answer in answers:
         say(answer.described())
+    if not disagree and (first.reason or "").startswith(CODED):
+        say("--stored writes it as it is stored, and names the codings; --decoded undoes them")
     raise Trouble("files disagree on this capture: nothing was written" if disagree else first.reason or "", 1)
 
 

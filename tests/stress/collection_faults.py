@@ -724,6 +724,112 @@ def old_runs(trial: Trial) -> None:
     trial.judge(done.stdout.count(b"\n") == 1, "find", done.stdout)
 
 
+# Coded bodies
+
+TEXT = b"<p>a page</p>" * 50
+CHUNKED = b"%x\r\n%s\r\n0\r\n\r\n"
+CODINGS: Dict[str, Tuple[bytes, bytes, bytes]] = {
+    "gzip": (b"Content-Encoding: gzip\r\n", gzip.compress(TEXT), TEXT),
+    "chunked": (b"Transfer-Encoding: chunked\r\n", CHUNKED % (len(TEXT), TEXT), TEXT),
+    "none": (b"", TEXT, TEXT),
+    "both": (
+        b"Transfer-Encoding: chunked\r\nContent-Encoding: gzip\r\n",
+        CHUNKED % (len(gzip.compress(TEXT)), gzip.compress(TEXT)),
+        TEXT,
+    ),
+    "unknown": (b"Content-Encoding: \xc2\x9b31m\xe2\x80\xae coded x=y\r\n", b"abc", b""),
+    "cut": (b"Content-Encoding: gzip\r\n", gzip.compress(TEXT)[:-9], b""),
+}
+PACKAGE = os.path.join(TOP, "out", "python")
+
+
+def coded_pages(trial: Trial) -> None:
+    """Makes an archive with a page for each way of coding, and another one with a revisit of each."""
+    fields = {"content_type": "application/http;msgtype=response"}
+    pages, revisits = b"", b""
+    for number, (name, (head, body, _)) in enumerate(CODINGS.items(), 1):
+        data, target = b"HTTP/1.1 200 OK\r\n" + head + b"\r\n" + body, URI + name.encode()
+        pages += record("response", number, DATE, target, data, **fields)
+        named = {"WARC_Profile": REVISIT, "WARC_Refers_To": "<urn:uuid:00000000-0000-4000-8000-%012d>" % number}
+        revisits += record("revisit", number + 20, "2021-01-01T00:00:00Z", target, HEAD, **fields, **named)
+    put(trial.path("archives", "pages.warc.gz"), gzip.compress(pages))
+    put(trial.path("archives", "revisits.warc"), revisits)
+
+
+def stored_bodies(trial: Trial) -> None:
+    """A coded body is given as it is stored, also that of a revisit in another file. Its codings are named, and escaped."""
+    coded_pages(trial)
+    trial.run("c", "run", trial.path("archives"))
+    for name, (head, body, _) in CODINGS.items():
+        for date in ("2020", "9999"):
+            done = trial.run("c", "replay", "--stored", URI.decode() + name, date)
+            trial.judge(done.stdout == body and done.returncode == 0, "%s as of %s" % (name, date), done.stderr)
+            said = b"coded " in done.stderr and all(it in done.stderr for it in (b"gzip", b"chunked") if it in head)
+            trial.judge(said == bool(head), "the codings of " + name, done.stderr)
+            text = done.stderr.decode("utf-8", "replace")
+            is_safe = all(it.isprintable() or it == "\n" for it in text) and text.count("\nchosen") == 0
+            trial.judge(is_safe, "what is said of " + name, done.stderr)
+        done = trial.run("c", "replay", URI.decode() + name, "9999")
+        is_right = done.stdout == b"" and b"P10 Coded" in done.stderr and b"--stored" in done.stderr
+        trial.judge(is_right if head else done.stdout == TEXT, "without --stored: " + name, done.stderr)
+        trial.judge(done.returncode == (1 if head else 0), "the status: " + name, done.returncode)
+    done = trial.run("c", "replay", "--stored", "--decoded", URI.decode(), "9999")
+    trial.judge(done.returncode == 2, "--stored and --decoded", done.stderr)
+
+
+def decoded_bodies(trial: Trial) -> None:
+    """Codings are undone by the Python package, which is labelled; where it isn't there a sentence says so."""
+    coded_pages(trial)
+    trial.run("c", "run", trial.path("archives"))
+    for name in ("raise ImportError('no library')", "", "none"):
+        if name != "none":
+            put(trial.path("path " + name, "zogwedu", "__init__.py"), name.encode())
+        env = {"PYTHONPATH": trial.path("path " + name)}
+        done = trial.run("c", "replay", "--decoded", URI.decode() + "gzip", "2020", env=env)
+        is_right = (done.returncode, done.stdout) == (3, b"") and b"needs the Python package zogwedu" in done.stderr
+        trial.judge(is_right, "no package", done.stdout + done.stderr)
+    if not os.path.exists(PACKAGE + "/zogwedu/libwarc.so"):
+        print("--decoded: left out, since make python wasn't run", flush=True)
+        return
+    for name, (head, _, body) in CODINGS.items():
+        for date in ("2020", "9999"):
+            words = "replay", "--decoded", URI.decode() + name, date
+            done = trial.run("c", *words, env={"PYTHONPATH": PACKAGE})
+            is_given = (done.returncode, done.stdout) == ((0, body) if body else (3, b""))
+            trial.judge(is_given, "%s as of %s" % (name, date), done.stdout + done.stderr)
+            is_said = (b"\nundone " in done.stderr) == bool(head and body)
+            trial.judge(is_said and b"\x9b" not in done.stderr, "what is said of " + name, done.stderr)
+    segments_and_sizes(trial)
+
+
+def segments_and_sizes(trial: Trial) -> None:
+    """What isn't decoded, and is said to be had as it is stored: a body in segments, and one that becomes too long."""
+    head = b"HTTP/1.1 200 OK\r\nContent-Encoding: gzip\r\n\r\n"
+    fields = {"content_type": "application/http;msgtype=response"}
+    whole = put(trial.path("whole.warc"), record("response", 1, DATE, URI + b"segments", head + b"x" * 900, **fields))
+    bomb = gzip.compress(gzip.compress(bytes(1 << 30)) + gzip.compress(b"x"))
+    twice = head.replace(b"gzip", b"gzip, gzip")
+    put(trial.path("other", "bomb.warc"), record("response", 2, DATE, URI + b"bomb", twice + bomb, **fields))
+    with open(trial.path("other", "segments.warc"), "wb") as out:
+        subprocess.run([trial.warc, "split", whole, "300"], stdout=out, check=True)
+    trial.run("d", "run", trial.path("other"))
+    for name in ("segments", "bomb"):
+        done = trial.run("d", "replay", "--decoded", URI.decode() + name, "9999", env={"PYTHONPATH": PACKAGE})
+        is_right = (done.returncode, done.stdout) == (3, b"") and b"--stored" in done.stderr
+        trial.judge(is_right, name, done.stderr)
+        done = trial.run("d", "replay", "--stored", URI.decode() + name, "9999")
+        trial.judge(done.stdout == (bomb if name == "bomb" else b"x" * 900), name + " as stored", done.stderr)
+
+
+def agreeing_files(trial: Trial) -> None:
+    """Two copies of a file agree, whatever words are in their paths."""
+    for folder in ("a status b", "c"):
+        put(trial.path("archives", folder, "a.warc"), page())
+    trial.run("c", "run", trial.path("archives"))
+    done = trial.run("c", "replay", URI.decode(), "9999")
+    trial.judge((done.returncode, done.stdout) == (0, b"abc") and b"\nagrees: " in done.stderr, "a copy", done.stderr)
+
+
 # A night that can be green
 
 
@@ -852,6 +958,7 @@ PARTS: List[Callable[[Trial], None]] = [
         reports_elsewhere,
         odd_names,
     ),
+    *(stored_bodies, decoded_bodies, agreeing_files),
     *(odd_settings, many_users, old_runs, revisits_of_wget, moves, named_files, rot, older_catalogue),
 ]
 
