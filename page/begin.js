@@ -14,9 +14,12 @@ function refuse(text) {
 
 // Files are chosen, or dropped anywhere.
 function hearFiles() {
+  const take = (/** @type {FileList} */ files) => {
+    if (files.length) openFiles([...files]);
+  };
   for (const input of [byId('file'), byId('file-again')]) {
     input.addEventListener('change', () => {
-      if (input.files[0]) openFile(input.files[0]);
+      take(input.files);
       input.value = '';
     });
   }
@@ -28,7 +31,7 @@ function hearFiles() {
   addEventListener('drop', (event) => {
     event.preventDefault();
     byId('drop').classList.remove('over');
-    if (event.dataTransfer.files[0]) openFile(event.dataTransfer.files[0]);
+    take(event.dataTransfer.files);
   });
 }
 

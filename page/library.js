@@ -141,7 +141,7 @@ class Library {
     /** @type {Map<number, {done: (answers: Answer[]) => void, failed: (error: Error) => void}>} */
     this.waiting = new Map();  // what waits for an answer, by the number of its message
     this.asked = 0;
-    this.opened = 0;    // how many files were opened
+    this.opened = 0;    // how many archives were opened
     this.openings = 0;  // how often the worker opened an archive for questions
     this.forget();
     this.start();
@@ -175,12 +175,12 @@ class Library {
     this.report({report: 'failed', why});
   }
 
-  /** @param {File} file */
-  open(file) {
+  /** @param {File[]} files */
+  open(files) {
     this.forget();
     if (!this.worker) this.start();
     this.opened += 1;
-    this.worker.postMessage({open: file, number: this.opened});
+    this.worker.postMessage({open: files, number: this.opened});
   }
 
   /**

@@ -87,6 +87,7 @@ const KEYS = {
   target: (position) => latin.decode(room.rows.row(position).target),
   size: (position) => room.rows.blockLength(position),
   digest: (position) => room.rows.verdict(position),
+  file: (position) => fileAt(room.rows.row(position).offset),
 };
 
 /** @param {number[]} found */
@@ -102,17 +103,20 @@ function sortOrder(found) {
 }
 
 const COLUMNS = ['position', 'type', 'date', 'target', 'size', 'digest'];
+const columns = () => (isOfFiles() ? [...COLUMNS, 'file'] : COLUMNS);
 
 function drawHead() {
   const focused = /** @type {HTMLElement|null} */ (document.activeElement)?.dataset?.column;
-  byId('columns').replaceChildren(...COLUMNS.map(columnHead));
+  byId('columns').replaceChildren(...columns().map(columnHead));
   byId('columns').querySelectorAll('button').forEach(
       (/** @type {HTMLButtonElement} */ it, /** @type {number} */ number) => {
-        it.dataset.column = COLUMNS[number];
-        if (focused === COLUMNS[number]) it.focus();
+        it.dataset.column = columns()[number];
+        if (focused === it.dataset.column) it.focus();
       });
   byId('list').setAttribute('aria-rowcount', String((room.order?.length ?? 0) + 1));
 }
+
+const LAST_COLUMNS = new Map([['digest', 'last'], ['file', 'file']]);  // by their classes
 
 /** @param {string} name */
 function columnHead(name) {
@@ -121,7 +125,7 @@ function columnHead(name) {
   const words = [make('span', {}, name === 'position' ? 'no.' : name), isSorted ? arrow : ''];
   const sort = button('', () => sortBy(name), {tabIndex: 0, 'aria-label': `Sort by ${name}`}, ...words);
   const properties = {role: 'columnheader', 'aria-sort': isSorted ? order : 'none'};
-  return make('div', {className: name === 'digest' ? 'last' : '', ...properties}, sort);
+  return make('div', {className: LAST_COLUMNS.get(name) ?? '', ...properties}, sort);
 }
 
 /** @param {string} name */
@@ -175,6 +179,7 @@ function drawLine(position, number, top) {
   const row = room.rows.row(position), current = position === room.current;
   const cell = (/** @type {string} */ name, /** @type {(Node|string)[]} */...children) =>
       make('span', {className: name, role: 'gridcell'}, ...children);
+  const file = isOfFiles() ? plainly(room.parts[fileAt(row.offset)].name) : null;
   const kind = plainly(row.kind), target = seen(row.target.subarray(0, MOST_OF_TARGET)) || '–';
   const properties = {
     className: `line${current ? ' current' : ''}`,
@@ -189,7 +194,8 @@ function drawLine(position, number, top) {
       'div', properties, cell('position', String(position)),
       cell('kind', make('i', {'aria-hidden': 'true', title: kind}), make('span', {}, kind)),
       cell('date', plainly(row.date)), cell('target', make('bdi', {}, target)), cell('size', size(row.blockLength)),
-      cell(`verdict ${row.verdict}`, make('span', {}, row.verdict), row.verdict === 'bad' ? ' ●' : ''));
+      cell(`verdict ${row.verdict}`, make('span', {}, row.verdict), row.verdict === 'bad' ? ' ●' : ''),
+      file === null ? null : cell('file', make('bdi', {title: file}, file)));
 }
 
 /** @param {number} number */

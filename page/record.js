@@ -217,7 +217,8 @@ function verdictOf(row) {
 function titleOf(row) {
   const name = seen(row.target) || plainly(`${row.kind} ${latin.decode(row.id)}`);
   const facts = `Record ${row.position}, ${plainly(row.kind)}, ${plainly(row.date)}, ${size(row.blockLength)}, digest `;
-  const sub = [facts, verdictOf(row), row.truncated ? ', marked as truncated' : ''];
+  const file = isOfFiles() ? [', in ', make('bdi', {}, plainly(room.parts[fileAt(row.offset)].name))] : [];
+  const sub = [facts, verdictOf(row), row.truncated ? ', marked as truncated' : '', ...file];
   return make('header', {}, closing(), make('h2', {}, make('bdi', {}, name)), make('div', {className: 'sub'}, ...sub));
 }
 
@@ -391,7 +392,7 @@ async function blockTab({row, position}) {
 /** @type {(row: Row, stated: string) => [string, string][]} */
 const rowFacts = (row, stated) => [
     ['Position', String(row.position)],
-    ['Offset', `byte ${row.offset.toLocaleString('en')}`],
+    ['Offset', `byte ${row.offset.toLocaleString('en')}${placeInFile(row.offset)}`],
     ['Type', plainly(row.kind)],
     ['Date', plainly(row.date)],
     ['Id', plainly(latin.decode(row.id))],

@@ -3,6 +3,7 @@
 
 const LIMIT = 2 * 1024 ** 3;  // bytes: longer archives are listed, and not kept in memory
 const CAPTURES = new Set(['response', 'resource', 'revisit']);
+const MOST_NAMED = 20;           // files
 const MOST_TEXT = 2 * MEGABYTE;  // characters of a text that are shown
 const HOUR = 3600e3;
 const DAY = 24 * HOUR;
@@ -70,7 +71,7 @@ const seen = (bytes) => plainly(shown(bytes));
 
 /** @type {Room} */
 const room = {
-  ...emptyRoom(null),
+  ...emptyRoom(null, []),
   library: null,
   filters: new Map(),
   sort: {by: 'position', up: true},
@@ -80,12 +81,16 @@ const room = {
 };
 
 /**
- * What is known of a file that was just opened.
- * @param {File|null} file
+ * What is known of an archive that was just opened.
+ * @param {Blob|null} file
+ * @param {string[]} names of its files
  */
-function emptyRoom(file) {
+function emptyRoom(file, names) {
   return /** @type {RoomOfFile} */ ({
     file,
+    names,
+    parts: [],
+    damage: null,
     number: Date.now(),
     rows: new Rows(),
     counts: new Counts(),
@@ -130,6 +135,35 @@ function hostOf(target) {
   return plainly(found?.[1]?.toLowerCase() ?? '');
 }
 
+// Whether the archive is more than one file.
+const isOfFiles = () => room.parts.length > 1;
+
+/**
+ * The number of the file that has a byte of the archive.
+ * @param {number} offset
+ */
+function fileAt(offset) {
+  let low = 0, high = room.parts.length - 1;
+  while (low < high) {
+    const middle = (low + high + 1) >> 1;
+    if (room.parts[middle].start <= offset)
+      low = middle;
+    else
+      high = middle - 1;
+  }
+  return low;
+}
+
+/**
+ * Where a byte of the archive is, if the archive is more than one file, or compressed.
+ * @param {number} offset
+ */
+function placeInFile(offset) {
+  const {name, start, isPacked} = room.parts[fileAt(offset)], packed = isPacked ? ', decompressed' : '';
+  const where = isOfFiles() ? ` (byte ${(offset - start).toLocaleString('en')} of ${plainly(name)}${packed})` : '';
+  return where || (isPacked ? ' of what the file decompresses to' : '');
+}
+
 /** @param {Row} row */
 const isCapture = (row) => CAPTURES.has(row.kind.toLowerCase());
 
@@ -154,25 +188,36 @@ function showProgress(part) {
     bar.value = part;
 }
 
-/** @param {File} file */
-function openFile(file) {
+// What the head of the page says of the files: their names and sizes, in the order in which they are joined.
+function showFiles() {
+  const {names, parts, file} = room, first = plainly((parts[0]?.name) ?? names[0]);
+  const more = names.length > 1 ? ` and ${many(names.length - 1, 'more file')}` : '';
+  const packed = parts.some((part) => part.isPacked) ?
+      `, decompressed from ${size(parts.reduce((sum, part) => sum + part.size, 0))}` :
+      '';
+  const title = names.length > 1 ? parts.slice(0, MOST_NAMED).map((part) => plainly(part.name)).join('\n') : '';
+  byId('opened').replaceChildren(make('b', {title}, first), more, parts.length ? ` ${size(file.size)}${packed}` : '');
+  document.title = `${first}${more} – Zogwedu reading room`;
+}
+
+/** @param {File[]} files one or more */
+function openFiles(files) {
   closeRecord();
-  Object.assign(room, emptyRoom(file), {sort: {by: 'position', up: true}});
+  Object.assign(room, emptyRoom(files[0], files.map((file) => file.name)), {sort: {by: 'position', up: true}});
   room.filters.clear();
   byId('words').value = '';
   byId('start').hidden = true;
   byId('room').hidden = false;
-  byId('room').classList.remove('unreadable');
+  byId('room').classList.remove('unreadable', 'of-files');
   byId('another').hidden = false;
   byId('damage').hidden = true;
   byId('opened').hidden = false;
-  byId('opened').replaceChildren(make('b', {}, plainly(file.name)), ` ${size(file.size)}`);
-  document.title = `${plainly(file.name)} – Zogwedu reading room`;
+  showFiles();
   if (matchMedia('(max-width: 44em)').matches) foldPlots(true);
   say('Reading…');
   showProgress(0);
   drawAll();
-  room.library.open(file);
+  room.library.open(files);
 }
 
 let drawing = false;
@@ -195,6 +240,17 @@ const seconds = (time) => `${(time / 1000).toFixed(1)} s`;
  * @type {Record<string, (message: any) => void>}
  */
 const REPORTS = {
+  unpacking({name, read, size: all, unpacked}) {
+    say(`Decompressing ${plainly(name)}: ${size(read)} of ${size(all)}, to ${size(unpacked)}`);
+    showProgress(read / all);
+  },
+
+  joined({file, parts, damage}) {
+    Object.assign(room, {file, parts, damage});
+    byId('room').classList.toggle('of-files', isOfFiles());
+    showFiles();
+  },
+
   rows(message) {
     room.rows.add(message);
     say(`Reading: ${many(room.rows.count, 'record')}, ${size(message.read)} of ${size(message.size)}`);
@@ -205,7 +261,7 @@ const REPORTS = {
   listed({fault, end, holds}) {
     Object.assign(room, {fault, end, holds, listed: true, listedIn: performance.now() - room.began});
     showDamage();
-    const looks = holds && !(fault && !end), words = looks ? ' Looking for findings…' : '';
+    const looks = holds && Boolean(end || !(fault || room.damage)), words = looks ? ' Looking for findings…' : '';
     const tooLong = holds ? '' : ' This archive is too long to be replayed here.';
     say(`${many(room.rows.count, 'record')} read in ${seconds(room.listedIn)}.${words}${tooLong}`);
     showProgress(looks ? -1 : null);
@@ -279,49 +335,4 @@ function readFindings(lines) {
     const [position, number, ...field] = line.split(' ');
     return {position: position === '-' ? null : Number(position), number, field: field.join(' ')};
   });
-}
-
-// ---------------------------------------------------------------- damage
-
-/**
- * Whether a file begins as gzip output does.
- * @param {File} file
- */
-async function isPacked(file) {
-  const [first, second] = await bytesOfFile(file, 0, Math.min(2, file.size));
-  return first === 0x1f && second === 0x8b;
-}
-
-// A file without a record that can be read: what it may be. The room is empty, so it isn't shown.
-async function showUnreadable() {
-  const {file, fault} = room, packed = await isPacked(file), [, ...words] = inWords(fault);
-  if (file !== room.file) return;
-  const name = file.name.endsWith('.gz') ? plainly(file.name) : 'a.warc.gz';
-  const unpack =
-      ['Decompress it first, as by ', make('code', {}, `gunzip ${name}`), `, and open what that gives. (${fault})`];
-  byId('damage').replaceChildren(
-      make('h2', {}, packed ? 'This file is compressed' : `This file can’t be read: ${fault}`),
-      make('p', {}, ...(packed ? unpack : ['It has no record that is whole. ', ...prose(words.join(' '))])));
-}
-
-// A damaged archive: where and why, and its good part.
-function showDamage() {
-  const {fault, end, file} = room, place = byId('damage');
-  place.hidden = !fault;
-  byId('room').classList.toggle('unreadable', Boolean(fault) && !end);
-  if (!fault) return;
-  if (!end) {
-    showUnreadable();
-    return;
-  }
-  const [name, meaning, advice] = inWords(fault), field = /(?:Missing|Repeated) (\S+)/.exec(fault)?.[1];
-  const offset = Number(/ at (\d+)$/.exec(fault)?.[1] ?? 0).toLocaleString('en');
-  const where = `, at byte ${offset} of ${file.size.toLocaleString('en')}. `;
-  const part = `Its good part is shown: ${many(room.rows.count, 'record')}, ${size(end)}, before the damage.`;
-  const save = () => download(file.slice(0, end), `good-part-of-${file.name}`);
-  place.replaceChildren(
-      make('h2', {}, `This archive is damaged: ${fault}`),
-      make('p', {}, make('b', {}, field ? `${name} ${field}` : name), where, ...prose(`${meaning} ${advice}`)),
-      make('p', {}, `${part} Nothing is skipped, and nothing is repaired. The program refuses the whole archive.`),
-      make('div', {className: 'actions'}, button('button', save, {}, 'Save the good part')));
 }

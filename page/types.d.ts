@@ -12,6 +12,23 @@ interface TrustedPolicy {
 }
 declare var trustedTypes: { createPolicy(name: string, rules: object): TrustedPolicy } | undefined;
 
+interface ZStream {
+  input: Uint8Array | null;
+  next_in: number;
+  avail_in: number;
+  total_in: number;
+  output: Uint8Array | null;
+  next_out: number;
+  avail_out: number;
+  msg: string;
+}
+declare var ZStream: { new (): ZStream };
+declare const zlib: {
+  constants: Record<"Z_FINISH" | "Z_OK" | "Z_STREAM_END" | "Z_BUF_ERROR", number>;
+  inflateInit2(stream: ZStream, bits: number): number;
+  inflate(stream: ZStream, flush: number): number;
+};
+
 declare class DecompressionStream {
   constructor(format: string);
   readonly readable: ReadableStream<Uint8Array>;
@@ -19,6 +36,10 @@ declare class DecompressionStream {
 }
 
 type Piece = { first: number; base: number; count: number; view: DataView; words: Uint8Array; starts: Uint32Array };
+// A file of an archive: its size as it is stored, and where its bytes, decompressed, begin in the archive.
+type Part = { name: string; size: number; start: number; isPacked: boolean };
+// Why a compressed file isn't read further than it is: the number is the offset of a member, or of what isn't one.
+type PackedDamage = { kind: string; name: string; offset: number; why: string };
 type Finding = { position: number | null; number: string; field: string };
 type Capture = { position: number; time: number; date: string; kind: string };
 type Target = { uri: string; place: string };
@@ -83,7 +104,10 @@ interface Subject {
 type Tab = (it: Subject) => Promise<any[]>;
 
 interface RoomOfFile {
-  file: File | null;
+  file: Blob | null;
+  names: string[];
+  parts: Part[];
+  damage: PackedDamage | null;
   number: number;
   rows: Rows;
   counts: Counts;

@@ -462,19 +462,21 @@ function placed(fault, start) {
   return fault.replace(/ at (\d+)$/, (_, /** @type {string} */ offset) => ` at ${Number(offset) + start}`);
 }
 
-// One file, from its opening until another is opened.
+// One archive, from the opening of its files until others are opened.
 //
-// Its state is 'listing' while its records are found, 'listed' while its blocks are judged and it isn't open for
-// questions, 'open' then, and 'over' once another file is opened.
+// Its state is 'listing' while its files are joined and its records are found, 'listed' while its blocks are judged and
+// it isn't open for questions, 'open' then, and 'over' once others are opened.
 class Archive {
   /**
    * @param {Desk} desk
-   * @param {File} file
+   * @param {File[]} files
    * @param {number} number by which the page knows it
    */
-  constructor(desk, file, number) {
+  constructor(desk, files, number) {
     this.desk = desk;
-    this.file = file;
+    this.files = files;
+    /** @type {Blob} */
+    this.file = new Blob();  // the archive that they are, once they are joined
     this.number = number;
     this.state = 'listing';
     /** @type {Keeper|null} */
@@ -540,6 +542,16 @@ class Archive {
     this.end = end;
     this.tell({report: 'rows', base: start, count: records, rows, words, read: end, size}, [rows, words]);
     return !fault || (fault.startsWith('F11 ') && stop < size);
+  }
+
+  // Joins the files, and reports what they are. Returns whether they are whole.
+  async join() {
+    const tell = (/** @type {object} */ progress) => this.tell({report: 'unpacking', ...progress});
+    const joining = new Joining(this.files, this.desk.limit, () => this.isOver, tell);
+    this.file = await joining.join();
+    const {parts, damage} = joining;
+    this.tell({report: 'joined', file: this.file, parts, damage});
+    return !damage;
   }
 
   // Lists the file piece by piece, as it comes into the memory of a module, from a record's beginning on.
@@ -682,12 +694,13 @@ class Archive {
   }
 
   async open() {
+    const isWhole = !this.isOver && await this.join();
     if (this.isOver) return;
     const fault = await (this.file.size <= this.desk.limit ? this.listKept() : this.listPieces());
     if (this.isOver || fault === null) return;
     this.state = 'listed';
     this.tell({report: 'listed', fault, end: this.end, holds: this.holds});
-    if (this.end === 0 && fault) return;
+    if (this.end === 0 && (fault || !isWhole)) return;
     await this.work();
     if (!this.holds || this.isOver) return;
     await this.ready();
@@ -707,7 +720,7 @@ async function filled(module, {file, end}) {
   return keeper;
 }
 
-// Where the page's messages arrive: it opens one file after another, and asks questions on the last.
+// Where the page's messages arrive: it opens one archive after another, and asks questions on the last.
 class Desk {
   /** @param {{wasm: Uint8Array, limit: number, script: string}} given */
   constructor({wasm, limit, script}) {

@@ -8,7 +8,8 @@ warc_page is one: its line of crates.txt, and nothing else, is changed. What was
 proves only what changed. A folder that another user may write to isn't used. With --module, FILE is the module, and
 nothing is built.
 
-The page holds DOMPurify, of Debian's package node-dompurify, with its licence.
+The page holds DOMPurify, of Debian's package node-dompurify, and the inflating part of pako, of node-pako, with their
+licences.
 """
 from __future__ import annotations
 
@@ -28,6 +29,7 @@ MODULE = "warc_page"
 SCRIPTS = (
     *(
         "shared.js",
+        "members.js",
         "words.js",
         "library.js",
         "stored.js",
@@ -37,8 +39,9 @@ SCRIPTS = (
         "view.js",
         "overview.js",
     ),
-    *("list.js", "room.js", "body.js", "record.js", "begin.js"),
+    *("list.js", "room.js", "damage.js", "body.js", "record.js", "begin.js"),
 )
+WORKER_SCRIPTS = ("shared.js", "members.js", "unpack.js", "worker.js")
 POLICY = (
     "default-src 'none'; script-src '{hash}' 'wasm-unsafe-eval'; worker-src blob:; style-src 'unsafe-inline'; "
     "img-src blob: data:; font-src blob: data:; form-action 'none'; base-uri 'none'; "
@@ -46,6 +49,22 @@ POLICY = (
 )
 PURIFIER = "/usr/share/nodejs/dompurify/dist/purify.js"
 NO_PURIFIER = f"{PURIFIER} isn't there: install Debian's package node-dompurify (apt-get install node-dompurify)"
+INFLATER = "/usr/share/nodejs/pako/lib/zlib"
+INFLATER_LICENCE = "/usr/share/doc/node-pako/copyright"
+NO_INFLATER = "pako isn't there: install Debian's package node-pako (apt-get install node-pako)"
+# Each part requires those before it.
+INFLATER_PARTS = ("constants", "adler32", "crc32", "inffast", "inftrees", "zstream", "inflate")
+AROUND_INFLATER = """const {{zlib, ZStream}} = (() => {{
+const parts = {{}}, require = (name) => parts[name];
+{}
+return {{zlib: {{...parts['./inflate'], constants: parts['./constants']}}, ZStream: parts['./zstream']}};
+}})();
+"""
+AROUND_PART = """parts['./{name}'] = ((module) => {{
+{text}
+return module.exports;
+}})({{exports: {{}}}});
+"""
 # The script finds no window, so it makes no policy and touches no page: it gives a function that takes a window.
 # Debian's 2.4.1-2+deb12u1 also reads a variable that it doesn't have, and fails at each call; here it finds an empty
 # one.
@@ -85,16 +104,33 @@ def build_module(tree: str) -> str:
     return f"{folder}/out/{MODULE}.wasm"
 
 
+def debian(path: str, missing: str, has: str, has_not: str = "</?script") -> str:
+    """The text of a file of a Debian package, which has one text, and has none that ends what the page puts it into."""
+    try:
+        with open(path, encoding="utf-8") as file:
+            text = file.read()
+    except OSError:
+        sys.exit(missing)
+    if has not in text or re.search(has_not, text, re.IGNORECASE):
+        sys.exit(f"{path} isn't as it is expected")
+    return text
+
+
 def purifier() -> str:
     """DOMPurify, as a function that makes one for a window. Its own first line says whose it is, and its licence."""
-    try:
-        with open(PURIFIER, encoding="utf-8") as script:
-            text = script.read()
-    except OSError:
-        sys.exit(NO_PURIFIER)
-    if "@license DOMPurify" not in text or re.search("</?script", text, re.IGNORECASE):
-        sys.exit(f"{PURIFIER} isn't as it is expected")
+    text = debian(PURIFIER, NO_PURIFIER, "@license DOMPurify")
     return AROUND_PURIFIER.format(re.sub(r"\n//# sourceMappingURL.*", "", text))
+
+
+def inflater() -> str:
+    """The inflating part of pako, in whose files is their licence: zlib, and the ZStream that its calls take."""
+    texts = [(name, debian(f"{INFLATER}/{name}.js", NO_INFLATER, "module.exports")) for name in INFLATER_PARTS]
+    return AROUND_INFLATER.format("".join(AROUND_PART.format(name=name, text=text) for name, text in texts))
+
+
+def joined(names: tuple[str, ...]) -> str:
+    """Scripts of the page, as one after its first line."""
+    return "\n".join(read(f"page/{name}").replace("'use strict';\n", "") for name in names)
 
 
 def numbers() -> dict[str, list[str]]:
@@ -110,18 +146,19 @@ def quoted(value: object) -> str:
 
 def page(module: bytes) -> str:
     """The whole page."""
+    zlib = inflater()
     names = {
         "MODULE": quoted(base64.b64encode(module).decode()),
-        "WORKER": quoted(read("page/shared.js") + read("page/worker.js")),
+        "WORKER": quoted(f"'use strict';\n{zlib}{joined(WORKER_SCRIPTS)}"),
         "VERSION": quoted(version()),
         "NUMBERS": quoted(numbers()),
     }
-    script: str = "".join(f"const {name} = {value};\n" for name, value in names.items()) + purifier()
-    script += "\n".join(read(f"page/{name}").replace("'use strict';\n", "") for name in SCRIPTS)
-    script = f"\n'use strict';\n{script}"
+    script: str = "".join(f"const {name} = {value};\n" for name, value in names.items())
+    script = f"\n'use strict';\n{script}{purifier()}{zlib}{joined(SCRIPTS)}"
     digest = base64.b64encode(hashlib.sha256(script.encode()).digest()).decode()
     text: str = read("page/page.html").replace("/*POLICY*/", POLICY.format(hash=f"sha256-{digest}"))
     text = text.replace("/*STYLE*/", read("page/page.css")).replace("/*LICENCE*/", read("LICENSE-APACHE"))
+    text = text.replace("/*LICENCE-OF-PAKO*/", debian(INFLATER_LICENCE, NO_INFLATER, "Expat", "--!?>"))
     return text.replace("/*SCRIPT*/", script)
 
 

@@ -148,11 +148,11 @@ class Browser:
         self.ask("Page.navigate", {"url": f"file://{path}"})
         self.until("document.readyState === 'complete' && typeof room === 'object'")
 
-    def give_file(self, selector: str, path: str) -> None:
-        """Chooses a file, as a reader does."""
+    def give_file(self, selector: str, *paths: str) -> None:
+        """Chooses files, as a reader does."""
         root = self.ask("DOM.getDocument")["root"]["nodeId"]
         node = self.ask("DOM.querySelector", {"nodeId": root, "selector": selector})["nodeId"]
-        self.ask("DOM.setFileInputFiles", {"nodeId": node, "files": [os.path.abspath(path)]})
+        self.ask("DOM.setFileInputFiles", {"nodeId": node, "files": [os.path.abspath(path) for path in paths]})
 
     def press(self, key: str, text: str = "") -> None:
         for kind in ("keyDown", "keyUp"):

@@ -1,4 +1,4 @@
-"""The build of the page: a folder that others may write to isn't used, and a package that is missing is named."""
+"""The build of the page: a folder that others may write to isn't used, and packages that are missing are named."""
 
 from __future__ import annotations
 
@@ -8,7 +8,8 @@ import sys
 from typing import Any
 
 TOP = os.path.dirname(os.path.dirname(os.path.dirname(os.path.abspath(__file__))))
-WITHOUT_PACKAGE = "import build_page; build_page.PURIFIER = '/nowhere/purify.js'; build_page.purifier()"
+WITHOUT_PURIFIER = "import build_page; build_page.PURIFIER = '/nowhere/purify.js'; build_page.purifier()"
+WITHOUT_INFLATER = "import build_page; build_page.INFLATER = '/nowhere'; build_page.inflater()"
 
 
 def outcome(words: list[str]) -> tuple[int, str]:
@@ -18,7 +19,7 @@ def outcome(words: list[str]) -> tuple[int, str]:
 
 
 def building(tests: Any, folder: str) -> None:
-    """Both of them."""
+    """All of them."""
     shared = f"{folder}/shared"
     os.mkdir(shared)
     os.chmod(shared, 0o777)
@@ -30,7 +31,8 @@ def building(tests: Any, folder: str) -> None:
     tests.holds(
         status == 1 and "alone may write to" in words, "building: in a folder that a link names", (status, words)
     )
-    status, words = outcome(["-c", WITHOUT_PACKAGE])
-    tests.holds(
-        status == 1 and "apt-get install node-dompurify" in words, "building: without DOMPurify", (status, words)
-    )
+    for package, code in (("node-dompurify", WITHOUT_PURIFIER), ("node-pako", WITHOUT_INFLATER)):
+        status, words = outcome(["-c", code])
+        tests.holds(
+            status == 1 and f"apt-get install {package}" in words, f"building: without {package}", (status, words)
+        )

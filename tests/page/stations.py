@@ -3,6 +3,7 @@
 from __future__ import annotations
 
 import functools
+import glob
 import gzip
 import http.server
 import os
@@ -130,6 +131,16 @@ class Server(http.server.BaseHTTPRequestHandler):
 
 def crawl(path: str) -> str:
     """Crawls the site twice, the second time with revisits of what didn't change, into one archive."""
+    with tempfile.TemporaryDirectory() as folder, open(path, "wb") as archive:
+        site, parts = crawl_into(folder, "--no-warc-compression")
+        for part in parts:
+            with open(part, "rb") as file:
+                archive.write(file.read())
+    return site
+
+
+def crawl_into(folder: str, *more: str) -> tuple[str, list[str]]:
+    """The same as two archives in a folder, written by wget's default, or as it is also told. Gives their paths."""
     server = http.server.ThreadingHTTPServer(("127.0.0.1", 0), Server)
     threading.Thread(target=server.serve_forever, daemon=True).start()
     site = f"http://127.0.0.1:{server.server_address[1]}/"
@@ -143,19 +154,14 @@ def crawl(path: str) -> str:
         "-e",
         "robots=off",
         "--header=Accept-Encoding: gzip",
-        "--no-warc-compression",
         "--warc-cdx",
         "--no-warc-keep-log",
+        *more,
     ]
-    with tempfile.TemporaryDirectory() as folder:
-        with open(path, "wb") as archive:
-            runs: list[tuple[str, list[str]]] = [("first", []), ("second", ["--warc-dedup=first.cdx"])]
-            for name, more in runs:
-                subprocess.run([*words, f"--warc-file={name}", *more, site], cwd=folder, check=False)
-                with open(os.path.join(folder, f"{name}.warc"), "rb") as part:
-                    archive.write(part.read())
+    for name, dedup in (("first", ()), ("second", ("--warc-dedup=first.cdx",))):
+        subprocess.run([*words, f"--warc-file={name}", *dedup, site], cwd=folder, check=False)
     server.shutdown()
-    return site
+    return site, [glob.glob(f"{folder}/{name}.warc*")[0] for name in ("first", "second")]
 
 
 if __name__ == "__main__":

@@ -23,6 +23,7 @@ from typing import Any
 sys.path.insert(0, os.path.dirname(os.path.abspath(__file__)))
 import building
 import burdens
+import compressed
 import connections
 import faithful
 import firefox
@@ -68,12 +69,13 @@ class Tests:
             os.makedirs(self.pictures, exist_ok=True)
             browser.picture(f"{self.pictures}/{name}.png")
 
-    def opened(self, archive: str, page: str | None = None, **how: Any) -> Browser:
-        """A browser in which an archive is opened, and its findings are there."""
+    def opened(self, *archive: str, page: str | None = None, **how: Any) -> Browser:
+        """A browser in which an archive of one or more files is opened, and its findings are there."""
         browser = Browser(**how)
         browser.go(page or self.page)
-        browser.give_file("#file", archive)
-        browser.until("room.listed && (!room.holds || room.findings !== null || (room.fault && room.end === 0))", 600)
+        browser.give_file("#file", *archive)
+        is_empty = "(room.end === 0 && (room.fault || room.damage))"
+        browser.until(f"room.listed && (!room.holds || room.findings !== null || {is_empty})", 600)
         browser.until("room.counts.judged === room.rows.count", 600)
         return browser
 
@@ -109,9 +111,10 @@ def verdicts_by_program(tests: Tests, archive: str, count: int) -> list[str]:
     return [named.get(str(position), "good") for position in range(count)]
 
 
-def same_as_program(tests: Tests, name: str, archive: str) -> None:
-    """List, findings and every replay of an archive equal the program's bytes."""
-    browser = tests.opened(archive)
+def same_as_program(tests: Tests, name: str, archive: str, given: Any = ()) -> None:
+    """List, findings and every replay of an archive equal the program's bytes. Other files that are the same archive may be
+    given to the page."""
+    browser = tests.opened(*(given or [archive]))
     try:
         out, err, status = tests.warc("list", archive)
         if status != 0:
@@ -607,17 +610,6 @@ def damaged(tests: Tests, folder: str) -> None:
         tests.picture(browser, "damaged")
     finally:
         browser.close()
-    with open(f"{folder}/packed.warc.gz", "wb") as out:
-        out.write(b"\x1f\x8b\x08\0" + b"x" * 100)
-    browser = tests.opened(f"{folder}/packed.warc.gz")
-    try:
-        browser.until("document.getElementById('damage').innerText.includes('This file is compressed')", 10)
-        words = browser.run("document.body.innerText")
-        tests.holds(
-            "gunzip packed.warc.gz" in words and "Looking for findings" not in words, "compressed: says so", words[:300]
-        )
-    finally:
-        browser.close()
 
 
 def compare_all(tests: Tests, folder: str, crawled: str) -> None:
@@ -626,7 +618,6 @@ def compare_all(tests: Tests, folder: str, crawled: str) -> None:
     odd = {
         "split": tests.warc("split", f"{TOP}/examples/crawl.warc", "100")[0],
         "empty": b"",
-        "packed": b"\x1f\x8b\x08\0\0\0\0\0\0\xff" + b"x" * 100,
     }
     for name, data in odd.items():
         with open(f"{folder}/{name}.warc", "wb") as out:
@@ -641,12 +632,14 @@ def main() -> None:
         crawled, small = f"{folder}/stations.warc", f"{TOP}/examples/crawl.warc"
         names = os.environ.get(
             "PAGE_TESTS",
-            "building,compare,damaged,hostile,connections,firefox,burdens,robust,faithful,views,keyboard,saved,without,long,many,segments",
+            "building,compare,compressed,damaged,hostile,connections,firefox,burdens,robust,faithful,views,keyboard,"
+            "saved,without,long,many,segments",
         ).split(",")
         where = stations.crawl(crawled) if {"compare", "views"} & set(names) else ""
         parts = {
             "building": lambda: building.building(tests, folder),
             "compare": lambda: compare_all(tests, folder, crawled),
+            "compressed": lambda: compressed.compressed(tests, folder, same_as_program),
             "damaged": lambda: damaged(tests, folder),
             "hostile": lambda: hostile_archive(tests, folder),
             "connections": lambda: connections.no_connections(tests, folder),
