@@ -4,6 +4,8 @@
 const MOST_DECODED = 256 * MEGABYTE;  // bytes of one body
 const MOST_OF_HTTP_HEAD = 65536;      // bytes
 const MOST_OF_META = 2048;            // bytes in which a page names its charset
+const MOST_CODINGS = 8;               // of one body
+const GIVEN_AT_ONCE = MEGABYTE;       // bytes of a gzip body that has several members
 const MEDIA_TYPE = /^[a-z0-9.+-]+\/[a-z0-9.+-]+$/;
 
 /**
@@ -41,6 +43,20 @@ function warcFields(head) {
 /** @type {(fields: [string, string][], name: string) => string} */
 const fieldOf = (fields, name) => fields.find((field) => field[0].toLowerCase() === name.toLowerCase())?.[1] ?? '';
 
+// What can't be undone of a body's codings: one of them.
+class Undecodable extends Error {
+  /**
+   * @param {string} coding
+   * @param {string} why
+   */
+  constructor(coding, why) {
+    super(why);
+    this.coding = coding;
+  }
+}
+
+const CHUNK_LINE = /^([0-9A-Fa-f]{1,15})[ \t]*(?:;[^\n]*)?\r?$/;  // without its line feed
+
 /**
  * The body of a chunked message, without the chunks' lines; it throws where they are wrong.
  * @param {Uint8Array} bytes
@@ -48,14 +64,13 @@ const fieldOf = (fields, name) => fields.find((field) => field[0].toLowerCase() 
 function unchunk(bytes) {
   const parts = [];
   for (let at = 0;;) {
-    const end = bytes.indexOf(10, at);
-    if (end < 0) throw new Error('a chunk’s length is missing');
-    const length = parseInt(latin.decode(bytes.subarray(at, end)), 16);
-    if (!(length >= 0)) throw new Error('a chunk’s length is no number');
-    if (length === 0) return joined(parts);
-    if (end + 1 + length > bytes.length) throw new Error('the last chunk isn’t whole');
-    parts.push(bytes.subarray(end + 1, end + 1 + length));
-    at = end + 1 + length + (bytes[end + 1 + length] === 13 ? 2 : 1);
+    const start = bytes.indexOf(10, at) + 1, line = CHUNK_LINE.exec(latin.decode(bytes.subarray(at, start - 1)));
+    if (!start || !line) throw new Error('a chunk’s length is missing');
+    const end = start + parseInt(line[1], 16), isShort = bytes[end] === 10;
+    if (end === start) return joined(parts);
+    if (!isShort && (bytes[end] !== 13 || bytes[end + 1] !== 10)) throw new Error('a chunk isn’t whole');
+    parts.push(bytes.subarray(start, end));
+    at = end + (isShort ? 1 : 2);
   }
 }
 
@@ -69,6 +84,9 @@ function joined(parts) {
   }
   return all;
 }
+
+/** @param {number} most */
+const tooLong = (most) => `it is longer than ${size(most)} when decoded`;
 
 /**
  * The bytes that the browser's own decompression gives, up to a limit.
@@ -87,21 +105,60 @@ async function inflate(bytes, format, most) {
     length += value.length;
     if (length <= most) continue;
     reader.cancel().catch(() => {});
-    throw new RangeError(`it is longer than ${size(most)} when decoded`);
+    throw new RangeError(tooLong(most));
   }
 }
 
-// The formats of each coding, as the browser names them.
-const FORMATS = new Map([
-  ['gzip', ['gzip']],
-  ['x-gzip', ['gzip']],
-  ['deflate', ['deflate', 'deflate-raw']],
-  ['br', ['brotli']],
+/**
+ * What gzip wrote, as the browser decompresses it, or member by member: the browser takes one member, and nothing after
+ * it.
+ * @type {Undo}
+ */
+async function gunzip(bytes, most) {
+  try {
+    return await inflate(bytes, 'gzip', most);
+  } catch (error) {
+    if (error instanceof RangeError) throw error;
+  }
+  /** @type {Uint8Array[]} */
+  const parts = [], members = new Members(GIVEN_AT_ONCE, most, (part) => void parts.push(part.slice()));
+  try {
+    await members.take(bytes);
+    await members.end();
+  } catch (error) {
+    throw error.kind === 'long' ? new RangeError(tooLong(most)) : error;
+  }
+  return joined(parts);
+}
+
+/**
+ * A zlib stream, or a bare one, which some servers send.
+ * @type {Undo}
+ */
+function undeflate(bytes, most) {
+  const isZlib = bytes.length > 1 && (bytes[0] & 15) === 8 && (bytes[0] * 256 + bytes[1]) % 31 === 0;
+  return inflate(bytes, isZlib ? 'deflate' : 'deflate-raw', most);
+}
+
+/**
+ * How each coding is undone. tests/callers/codings.json has the rules as cases.
+ * @type {Map<string, Undo>}
+ */
+const UNDO = new Map([
+  ['chunked', async (/** @type {Uint8Array} */ bytes) => unchunk(bytes)],
+  ['gzip', gunzip],
+  ['x-gzip', gunzip],
+  ['deflate', undeflate],
+  ['br', (bytes, most) => inflate(bytes, 'brotli', most)],
+  ['zstd', (bytes, most) => inflate(bytes, 'zstd', most)],
 ]);
 
 /** @param {string} field */
-const codingsIn = (field) =>
-    field.toLowerCase().split(',').map((it) => it.trim()).filter((it) => it && it !== 'identity').reverse();
+const codingsIn = (field) => field.toLowerCase()
+                                 .split(',')
+                                 .map((it) => it.replace(/^[ \t]+|[ \t]+$/g, ''))
+                                 .filter((it) => it && it !== 'identity')
+                                 .reverse();
 
 /**
  * A coded body of HTTP, decoded by the browser: the bytes, and the codings in words.
@@ -111,30 +168,25 @@ async function decoded(block, left = MOST_DECODED) {
   const head = httpHead(block), steps = codingsIn(head?.get('transfer-encoding') ?? '');
   if (!head) throw new Error('there is no HTTP head');
   steps.push(...codingsIn(head.get('content-encoding')));
+  if (steps.length > MOST_CODINGS)
+    throw new Undecodable(steps[MOST_CODINGS], `it has ${steps.length} codings, more than ${MOST_CODINGS}`);
   let body = block.subarray(head.start);
-  for (const coding of steps) {
-    body = coding === 'chunked' ? unchunk(body) : await firstFitting(coding, body, Math.min(left, MOST_DECODED));
-  }
+  for (const coding of steps) body = await undone(coding, body, Math.min(left, MOST_DECODED));
   return {body, steps, head};
 }
 
 /**
- * Bytes decoded by the first format of a coding that fits them.
- * @param {string} coding
- * @param {Uint8Array} body
- * @param {number} most
+ * Bytes without a coding.
+ * @type {(coding: string, body: Uint8Array, most: number) => Promise<Uint8Array>}
  */
-async function firstFitting(coding, body, most) {
-  let last = new Error(`this browser can’t decode ${coding}`);
-  for (const format of FORMATS.get(coding) ?? []) {
-    try {
-      return await inflate(body, format, most);
-    } catch (error) {
-      last = error;
-      if (error instanceof RangeError) break;
-    }
+async function undone(coding, body, most) {
+  const undo = UNDO.get(coding);
+  if (!undo) throw new Undecodable(coding, `the coding ${coding} is unknown`);
+  try {
+    return await undo(body, most);
+  } catch (error) {
+    throw error instanceof RangeError ? error : new Undecodable(coding, `as ${coding}: ${whyOf(error)}`);
   }
-  throw last;
 }
 
 /**

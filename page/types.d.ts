@@ -85,6 +85,7 @@ interface HttpHead {
   get(name: string): string;
 }
 
+type Undo = (bytes: Uint8Array, most: number) => Promise<Uint8Array>;
 type StoredType = { fields: [string, string][]; http: HttpHead | null; type: string };
 type Found = { bytes: Uint8Array | null; stored?: Uint8Array; isDecoded?: boolean; words: Node[] };
 

@@ -23,6 +23,7 @@ from typing import Any
 sys.path.insert(0, os.path.dirname(os.path.abspath(__file__)))
 import building
 import burdens
+import codings
 import compressed
 import connections
 import faithful
@@ -632,12 +633,13 @@ def main() -> None:
         crawled, small = f"{folder}/stations.warc", f"{TOP}/examples/crawl.warc"
         names = os.environ.get(
             "PAGE_TESTS",
-            "building,compare,compressed,damaged,hostile,connections,firefox,burdens,robust,faithful,views,keyboard,"
+            "building,codings,compare,compressed,damaged,hostile,connections,firefox,burdens,robust,faithful,views,keyboard,"
             "saved,without,long,many,segments",
         ).split(",")
         where = stations.crawl(crawled) if {"compare", "views"} & set(names) else ""
         parts = {
             "building": lambda: building.building(tests, folder),
+            "codings": lambda: codings.codings(tests),
             "compare": lambda: compare_all(tests, folder, crawled),
             "compressed": lambda: compressed.compressed(tests, folder, same_as_program),
             "damaged": lambda: damaged(tests, folder),
