@@ -54,10 +54,8 @@ all:
 try:
 	@python3 tools/try_program.py
 
-# .ci/run takes the gate's own status from a file: make would write a line after the gate's last if a recipe failed.
-test: lint
-	@status=0; env -u MAKEFLAGS -u MFLAGS -u MAKELEVEL rt ci || status=$$?; \
-	    if [ -n "$$GATE_STATUS" ]; then echo "$$status" > "$$GATE_STATUS"; else exit "$$status"; fi
+test:
+	@.ci/run
 
 check:
 	@rt all check
