@@ -1,11 +1,11 @@
 #!/usr/bin/env python3
-"""Times how long the reading room takes to open an archive of 500 MB, and compares it with `warc list` and `warc check`.
+"""Times how long the reading room takes to open an archive of 500 MB, beside `warc list` and `warc check`.
 
 Usage: page.py PAGE PROGRAM FOLDER
 
 The archive is made in FOLDER once and kept: 50,000 pages of 10,000 bytes, each with the digest of its block. Printed:
-seconds of the program; seconds until the page shows its first rows, all rows, the findings and the last verdict, and until
-the archive is open for questions; and seconds of one answer then.
+seconds of the program; seconds until the page shows its first rows, all rows, the findings and the last verdict, and
+until the archive is open for questions; and seconds of one answer then.
 """
 import os
 import sys
@@ -21,18 +21,26 @@ RECORDS, LENGTH = 50_000, 10_000
 
 
 def open_page(page, archive):
-    """Seconds until the first rows, all rows, the findings and all verdicts are there and the archive is open, and those
-    of an answer."""
+    """Seconds until the first rows, all rows, the findings and all verdicts are there and the archive is open, and the
+    seconds of an answer."""
     browser = Browser()
     try:
         browser.go(os.path.abspath(page))
         browser.run("""window.seen = {}; const old = hear; room.library.worker.onmessage = (() => {
           const before = room.library.worker.onmessage;
-          return (event) => { if (event.data.report && (event.data.report === 'verdicts' || !window.seen[event.data.report])) window.seen[event.data.report] = performance.now(); before(event); }; })(); 0""")
-        browser.run("const given = openFile; openFile = (file) => { window.began = performance.now(); given(file); }; 0")
+          return (event) => {
+            const report = event.data.report;
+            if (report && (report === 'verdicts' || !window.seen[report])) window.seen[report] = performance.now();
+            before(event);
+          };
+        })(); 0""")
+        browser.run("""const given = openFile;
+          openFile = (file) => { window.began = performance.now(); given(file); }; 0""")
         browser.give_file("#file", archive)
-        browser.until("(room.findings !== null && room.isOpen && room.counts.judged === room.rows.count) || document.getElementById('status').textContent.includes('stopped')", 300)
-        times = browser.run("['rows', 'listed', 'findings', 'verdicts', 'opened'].map((name) => (window.seen[name] - window.began) / 1000)")
+        done = "(room.findings !== null && room.isOpen && room.counts.judged === room.rows.count)"
+        browser.until(f"{done} || document.getElementById('status').textContent.includes('stopped')", 300)
+        names = "['rows', 'listed', 'findings', 'verdicts', 'opened']"
+        times = browser.run(f"{names}.map((name) => (window.seen[name] - window.began) / 1000)")
         begun = time.monotonic()
         browser.run("room.library.ask([{ position: 7 }]).then((answers) => answers[0].length)")
         return [*times, time.monotonic() - begun]
@@ -49,7 +57,8 @@ def main():
     for command in ("list", "check"):
         print(f"  warc {command}: {min(run([*program.split(), command, archive]) for _ in range(RUNS))[0]:.2f} s")
     least = [min(times) for times in zip(*(open_page(page, archive) for _ in range(RUNS)))]
-    for name, seconds in zip(("first rows", "all rows", "findings", "all verdicts", "open for questions", "one answer"), least):
+    names = ("first rows", "all rows", "findings", "all verdicts", "open for questions", "one answer")
+    for name, seconds in zip(names, least):
         print(f"  page, {name}: {seconds:.3f} s")
 
 
