@@ -60,9 +60,10 @@ int main(int argc, char **argv) {
     int status = print_page(archive, bytes, argv[2], argv[3]);
     warc_close(archive);
 
-    /* What stdout holds back is written here, and may fail here. */
-    if (fclose(stdout) != 0) {
-        perror("standard output");
+    /* fclose writes what stdout holds back. It says nothing of writes that failed before. */
+    int has_failed = ferror(stdout);
+    if (fclose(stdout) != 0 || has_failed) {
+        fprintf(stderr, "standard output: write failed\n");
         return 1;
     }
     return status;

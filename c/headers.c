@@ -60,5 +60,8 @@ int main(int argc, char **argv) {
     }
     warc_close(archive);
     free(bytes);
-    return fclose(stdout) == 0 ? 0 : 1;
+
+    /* fclose writes what stdout holds back. It says nothing of writes that failed before. */
+    int has_failed = ferror(stdout);
+    return fclose(stdout) != 0 || has_failed ? 1 : 0;
 }

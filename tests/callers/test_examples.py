@@ -69,11 +69,17 @@ class Examples(unittest.TestCase):
                 self.assertEqual((written.split(b"\n", 1)[1], message, status), (whole, b"", 0))
 
     def test_a_full_disk(self) -> None:
-        for name, program in self.programs.items():
-            with self.subTest(name), open("/dev/full", "wb") as full:
-                done = run(*program, CRAWL, URI, "9999", stdout=full, stderr=subprocess.PIPE)
-                self.assertNotEqual((done[1], done[2]), (b"", 0))
-                self.assertNotEqual(done[2], 0)
+        """Also where a write fails before the last one."""
+        head = "WARC/1.1\r\nWARC-Type: resource\r\nWARC-Record-ID: <urn:x:1>\r\nWARC-Date: 2020\r\n"
+        large = f"{self.folder.name}/large.warc"
+        with open(large, "wb") as out:
+            out.write(f"{head}WARC-Target-URI: {URI}\r\nContent-Length: 1000000\r\n\r\n".encode())
+            out.write(bytes(1_000_000) + b"\r\n\r\n")
+        programs = [[*program, path, URI, "9999"] for program in self.programs.values() for path in (CRAWL, large)]
+        programs += [[f"{self.folder.name}/headers", CRAWL]]
+        for words in programs:
+            with self.subTest(words=words), open("/dev/full", "wb") as full:
+                self.assertNotEqual(run(*words, stdout=full, stderr=subprocess.PIPE)[2], 0)
 
     def test_no_file_no_bytes_no_page(self) -> None:
         empty = f"{self.folder.name}/empty"
@@ -170,13 +176,15 @@ class Compressed(unittest.TestCase):
                     self.assertNotEqual(message, b"")
 
     def test_no_file_and_full_disks(self) -> None:
-        path = self.file(gzip.compress(self.crawl))
         for name, program in self.programs.items():
-            with self.subTest(name), open("/dev/full", "wb") as full:
-                self.assertNotEqual(run(program, f"{TOP}/nowhere")[1:], (b"", 0))
-                self.assertNotEqual(run(program, TOP)[1:], (b"", 0))
-                self.assertNotEqual(run(program)[1:], (b"", 0))
-                self.assertNotEqual(run(program, path, stdout=full, stderr=subprocess.PIPE)[2], 0)
+            for words in ((f"{TOP}/nowhere",), (TOP,), ()):
+                with self.subTest(name, words=words):
+                    written, message, status = run(program, *words)
+                    self.assertEqual((written, message != b"", status != 0), (b"", True, True))
+            for count in (1, 100):
+                path = self.file(gzip.compress(self.crawl * count))
+                with self.subTest(name, count=count), open("/dev/full", "wb") as full:
+                    self.assertNotEqual(run(program, path, stdout=full, stderr=subprocess.PIPE)[2], 0)
 
     def test_no_room_for_what_is_decompressed(self) -> None:
         def limit() -> None:
