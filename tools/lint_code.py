@@ -136,7 +136,7 @@ CHECKS = [
     Check("no unsafe in Rust outside of raw.rs", ("python3", "tools/find_unsafe.py")),
     Check("types of collection/", (*TYPES, *COLLECTION)),
     Check("types of tests/stress/collection*.py", (*TYPES, *TRIALS)),
-    Check("types of tests/stress/collection_rows.py", (*TYPES, *COLLECTION, ROWS), ("hypothesis",)),
+    Check("types of tests/stress/collection_rows.py", (*TYPES, *UNTYPED_CALLS, *COLLECTION, ROWS), ("hypothesis",)),
     Check("types of tools/make_collection.py", (*TYPES, "--follow-imports=silent", "tools/make_collection.py")),
     Check("layout of collection/", (*LAYOUT, "collection", "tools/make_collection.py")),
     Check("layout of tests/stress/collection*.py", (*LAYOUT, *TRIALS[:3], ROWS)),
