@@ -84,7 +84,10 @@ CALLERS = tuple(
     path[len(TOP) + 1 :] for path in sorted(glob.glob(f"{TOP}/tests/callers/*.py")) if "generated" not in path
 )
 GENERATED = "tests/callers/generated.py"
-SYSTEM = tuple(f"tests/stress/{name}.py" for name in ("differential", "generate", "memory", "system", "terminal"))
+SYSTEM = (
+    "tests/reference/warc_reference.py",
+    *(f"tests/stress/{name}.py" for name in ("differential", "generate", "memory", "system", "terminal")),
+)
 PAGE_SCRIPTS = tuple(sorted(path[len(TOP) + 1 :] for path in glob.glob(f"{TOP}/page/*.js")))
 PAGE_PYTHON = (
     *("tools/build_page.py", "tools/lint_page.py"),
@@ -100,7 +103,7 @@ UNTYPED_CALLS = ("--allow-untyped-calls",)  # they use scripts that have no type
 TYPES = ("mypy", "--strict", "--python-version=3.8")
 LAYOUT = ("black", "--quiet", "--check", "--line-length=120")
 COLLECTION = ("collection/__main__.py", "collection/zogwedu_collection")
-# The second reading has no types.
+# The second reading and the generator are checked with the trials of the program.
 TRIALS = (
     *("tests/stress/collection.py", "tests/stress/collection_faults.py", "tests/stress/collection_trial.py"),
     *("--follow-imports=skip", "--ignore-missing-imports"),
@@ -125,8 +128,8 @@ CHECKS = [
     ),
     Check("types of tests/callers", (*TYPES, "python/src/zogwedu", *CALLERS)),
     Check("types of tests/callers/generated.py", (*TYPES, "python/src/zogwedu", *CALLERS, GENERATED), ("hypothesis",)),
-    Check("types of the trials of the program", ("mypy", "--strict", *TRIALS[3:], *SYSTEM)),
-    Check("layout of the trials of the program", (*LAYOUT, *SYSTEM)),
+    Check("types of the second reading and the trials of the program", ("mypy", "--strict", *SYSTEM)),
+    Check("layout of the second reading and the trials of the program", (*LAYOUT, *SYSTEM)),
     Check("warnings of c/warc.c", ("gcc", *C_FLAGS, "c/warc.c")),
     Check("warnings of C's programs", ("gcc", *C_FLAGS, *C_PROGRAMS)),
     Check("warnings of c/compressed.c", ("gcc", *C_FLAGS, "c/compressed.c"), files=("/usr/include/zlib.h",)),

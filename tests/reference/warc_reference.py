@@ -8,14 +8,14 @@ in memory. `run` gives what a command writes to standard output and standard err
 """
 import base64
 import binascii
-import collections
 import hashlib
 import re
 import sys
+from typing import Callable, Dict, List, NamedTuple, Optional, Sequence, Set, Tuple, TypeVar
 
 MAX_HEAD = 65536
-MAX_BLOCK = 2 ** 40
-MAX_NUMBER = 2 ** 48
+MAX_BLOCK = 2**40
+MAX_NUMBER = 2**48
 MAX_HTTP_FIELDS = 256
 VERSIONS = (b"WARC/1.0\r\n", b"WARC/1.1\r\n")
 
@@ -49,7 +49,9 @@ FIELD_TABLE = (
 
 PROFILES = tuple(
     b"http://netpreserve.org/warc/%s/revisit/%s" % (version, name)
-    for version in (b"1.1", b"1.0") for name in (b"identical-payload-digest", b"server-not-modified"))
+    for version in (b"1.1", b"1.0")
+    for name in (b"identical-payload-digest", b"server-not-modified")
+)
 
 TOKEN = re.compile(rb'[^\x00-\x20\x7f-\xff()<>@,;:\\"/\[\]?={}]+')
 CONTROL = re.compile(rb"[\x00-\x08\x0a-\x1f\x7f]")
@@ -62,11 +64,18 @@ STATUS_LINE = re.compile(rb"HTTP/1\.[01] (\d{3})(?: [\t\x20-\x7e\x80-\xff]*)?")
 MEDIA_TYPE = re.compile(rb"[!#$%&'*+\-.^_`|~0-9A-Za-z]+/[!#$%&'*+\-.^_`|~0-9A-Za-z]+")
 HTTP_FIELD = re.compile(rb"([!#$%&'*+\-.^_`|~0-9A-Za-z]+):([\t\x20-\x7e\x80-\xff]*)")
 
+Instant = Tuple[int, int, int, int, int, int, int]
+Fields = List[Tuple[bytes, bytes]]
+Pair = Tuple[bytes, Instant]
+Change = Callable[[bytes, bytes], bytes]
+Answer = Tuple[bytes, bytes, int]
+Value = TypeVar("Value")
+
 
 class Fault(Exception):
     """The archive is refused: the number and name, and the offset."""
 
-    def __init__(self, name, offset):
+    def __init__(self, name: str, offset: int) -> None:
         super().__init__(name)
         self.name = name
         self.offset = offset
@@ -76,9 +85,16 @@ class Reason(Exception):
     """A command gives nothing: the number and name of the reason."""
 
 
+def judged(value: Optional[Value]) -> Value:
+    """A value that is there, since the record was judged before."""
+    assert value is not None
+    return value
+
+
 # Values
 
-def number_of(value, greatest):
+
+def number_of(value: bytes, greatest: int) -> Optional[int]:
     """The number that a value holds, or None. Leading zeros are allowed."""
     if re.fullmatch(rb"[0-9]+", value) is None:
         return None
@@ -89,40 +105,42 @@ def number_of(value, greatest):
     return number if number <= greatest else None
 
 
-def days_in_month(year, month):
+def days_in_month(year: int, month: int) -> int:
     if month == 2:
         is_leap = year % 4 == 0 and (year % 100 != 0 or year % 400 == 0)
         return 29 if is_leap else 28
     return 30 if month in (4, 6, 9, 11) else 31
 
 
-def instant_of(value):
+def instant_of(value: bytes) -> Optional[Instant]:
     """The instant of a date as a tuple that sorts by time, or None."""
     match = DATE.fullmatch(value)
     if match is None:
         return None
-    year, month, day, hour, minute, second, fraction = match.groups()
-    year = int(year)
-    month = int(month or b"1")
-    day = int(day or b"1")
-    hour, minute, second = int(hour or b"0"), int(minute or b"0"), int(second or b"0")
+    year, month, day = int(match[1]), int(match[2] or b"1"), int(match[3] or b"1")
+    hour, minute, second = int(match[4] or b"0"), int(match[5] or b"0"), int(match[6] or b"0")
     if not 1 <= month <= 12 or not 1 <= day <= days_in_month(year, month):
         return None
     if hour > 23 or minute > 59 or second > 59:
         return None
-    return (year, month, day, hour, minute, second, int((fraction or b"0").ljust(9, b"0")))
+    return (year, month, day, hour, minute, second, int((match[7] or b"0").ljust(9, b"0")))
 
 
-def bare_text(value):
+def bare_text(value: bytes) -> bytes:
     """The value without one pair of brackets around it, and without the spaces inside them."""
     inside = value[1:-1]
-    if len(value) >= 2 and value.startswith(b"<") and value.endswith(b">") \
-            and b"<" not in inside and b">" not in inside:
+    if (
+        len(value) >= 2
+        and value.startswith(b"<")
+        and value.endswith(b">")
+        and b"<" not in inside
+        and b">" not in inside
+    ):
         value = inside
     return value.strip(b" \t")
 
 
-def id_of(value):
+def id_of(value: bytes) -> Optional[bytes]:
     """A text that is equal for the same ids, or None where the value holds no id."""
     bare = bare_text(value)
     if not bare or re.search(rb"[<> \t]", bare):
@@ -130,11 +148,11 @@ def id_of(value):
     return bare.lower() if UUID_ID.fullmatch(bare) else bare
 
 
-def sha1_text(block):
+def sha1_text(block: bytes) -> bytes:
     return base64.b32encode(hashlib.sha1(block).digest())
 
 
-def is_utf8(value):
+def is_utf8(value: bytes) -> bool:
     try:
         value.decode("utf-8")
     except UnicodeDecodeError:
@@ -144,10 +162,11 @@ def is_utf8(value):
 
 # Records
 
+
 class Record:
     """A record that can be read: its place, version, fields and block."""
 
-    def __init__(self, position, offset, version, fields, head, block):
+    def __init__(self, position: int, offset: int, version: bytes, fields: Fields, head: bytes, block: bytes) -> None:
         self.position = position
         self.offset = offset
         self.version = version
@@ -155,41 +174,45 @@ class Record:
         self.head = head
         self.block = block
         self.kind = self.kind_of()
-        self.id = id_of(self.first("WARC-Record-ID"))
-        self.instant = instant_of(self.first("WARC-Date"))
+        self.id = judged(id_of(self.stated("WARC-Record-ID")))
+        self.instant = judged(instant_of(self.stated("WARC-Date")))
         self.target = self.target_of()
 
-    def values(self, name):
+    def values(self, name: str) -> List[bytes]:
         wanted = name.lower().encode()
         return [value for field, value in self.fields if field.lower() == wanted]
 
-    def first(self, name):
+    def first(self, name: str) -> Optional[bytes]:
         """The value of the first field with a name, or None if it is absent."""
         values = self.values(name)
         return values[0] if values and values[0] else None
 
-    def kind_of(self):
-        kind = self.first("WARC-Type").lower().decode("ascii")
+    def stated(self, name: str) -> bytes:
+        """The value of a field that each record has."""
+        return judged(self.first(name))
+
+    def kind_of(self) -> Optional[str]:
+        kind = self.stated("WARC-Type").lower().decode("ascii")
         return kind if kind in KINDS else None
 
-    def target_of(self):
+    def target_of(self) -> Optional[bytes]:
         value = self.first("WARC-Target-URI")
         return (bare_text(value) or None) if value is not None else None
 
-    def is_absent(self, name):
+    def is_absent(self, name: str) -> bool:
         if name == "WARC-Target-URI":
             return self.target is None
         return self.first(name) is None
 
-    def number(self, name):
+    def number(self, name: str) -> Optional[int]:
         value = self.first(name)
         return None if value is None else number_of(value, MAX_NUMBER)
 
-    def stated_id(self, name):
+    def stated_id(self, name: str) -> Optional[bytes]:
         value = self.first(name)
         return None if value is None else id_of(value)
 
-    def digest_verdict(self):
+    def digest_verdict(self) -> str:
         """`good`, `bad` or `unchecked`."""
         value = self.first("WARC-Block-Digest")
         match = SHA1.fullmatch(value) if value is not None else None
@@ -197,14 +220,14 @@ class Record:
             return "unchecked"
         return "good" if match.group(1).upper() == sha1_text(self.block) else "bad"
 
-    def canonical(self, version=None, change=None):
+    def canonical(self, version: Optional[bytes] = None, change: Optional[Change] = None) -> bytes:
         lines = [version or self.version]
         for name, value in self.fields:
             lines.append(name + b": " + (change(name, value) if change else value) + b"\r\n")
         return b"".join(lines) + b"\r\n" + self.block + b"\r\n\r\n"
 
 
-def field_of(line):
+def field_of(line: bytes) -> Optional[Tuple[bytes, bytes]]:
     """The name and value of a line without its CRLF, or None."""
     name, colon, rest = line.partition(b":")
     if not colon or TOKEN.fullmatch(name) is None:
@@ -213,23 +236,23 @@ def field_of(line):
     return None if CONTROL.search(value) else (name, value)
 
 
-def fields_of(area, offset):
+def fields_of(area: bytes, offset: int) -> Fields:
     """The fields of a field area that begins at an offset of the archive."""
-    fields = []
+    fields: Fields = []
     start = 0
     while start < len(area):
         match = LINE_END.search(area, start)
-        field = field_of(area[start:match.start()]) if match else None
-        if field is None:
+        field = field_of(area[start : match.start()]) if match else None
+        if match is None or field is None:
             raise Fault("F3 Field", offset + start)
         fields.append(field)
         start = match.end()
     return fields
 
 
-def head_of(data, start):
+def head_of(data: bytes, start: int) -> bytes:
     """The bytes of the head of the record at an offset."""
-    there = data[start:start + 10]
+    there = data[start : start + 10]
     if not any(version.startswith(there) for version in VERSIONS):
         raise Fault("F1 Version", start)
     end = data.find(b"\r\n\r\n", start, start + MAX_HEAD)
@@ -237,10 +260,10 @@ def head_of(data, start):
         if len(data) - start >= MAX_HEAD:
             raise Fault("F2 HeadTooLong", start)
         raise Fault("F11 Truncated", len(data))
-    return data[start:end + 4]
+    return data[start : end + 4]
 
 
-def single(fields, name, start):
+def single(fields: Fields, name: str, start: int) -> bytes:
     """The value of a field that a record has exactly once."""
     values = [value for field, value in fields if field.lower() == name.lower().encode()]
     if not values:
@@ -250,7 +273,7 @@ def single(fields, name, start):
     return values[0]
 
 
-def judged_length(fields, start):
+def judged_length(fields: Fields, start: int) -> int:
     """The length of the block, after the four fields of every record were judged in their order."""
     length = number_of(single(fields, "Content-Length", start), MAX_BLOCK)
     if length is None:
@@ -264,34 +287,34 @@ def judged_length(fields, start):
     return length
 
 
-def read_record(data, start, position):
+def read_record(data: bytes, start: int, position: int) -> Record:
     head = head_of(data, start)
     fields = fields_of(head[10:-2], start + 10)
     if 12 + sum(4 + len(name) + len(value) for name, value in fields) > MAX_HEAD:
         raise Fault("F2 HeadTooLong", start)
     length = judged_length(fields, start)
     end = start + len(head) + length
-    if end <= len(data) and not b"\r\n\r\n".startswith(data[end:end + 4]):
+    if end <= len(data) and not b"\r\n\r\n".startswith(data[end : end + 4]):
         raise Fault("F10 End", end)
     if end + 4 > len(data):
         raise Fault("F11 Truncated", len(data))
-    return Record(position, start, head[:10], fields, head, data[end - length:end])
+    return Record(position, start, head[:10], fields, head, data[end - length : end])
 
 
 class Archive:
     """The records before the first fault, the fault or None, and how many bytes these records take."""
 
-    def __init__(self, data):
+    def __init__(self, data: bytes) -> None:
         self.data = data
-        self.records = []
-        self.fault = None
+        self.records: List[Record] = []
+        self.fault: Optional[Fault] = None
         self.end = 0
         try:
             self.read_all()
         except Fault as fault:
             self.fault = fault
 
-    def read_all(self):
+    def read_all(self) -> None:
         while self.end < len(self.data):
             record = read_record(self.data, self.end, len(self.records))
             self.records.append(record)
@@ -300,33 +323,43 @@ class Archive:
 
 # Findings
 
-def findings_of(record, used):
+
+def findings_of(record: Record, used: Set[bytes]) -> List[str]:
     """The findings of a record as texts, in their order. `used` holds the ids of the records before it."""
     if record.kind is None:
         return used_id(record, used) + not_utf8(record) + bare_id(record)
-    return (required(record) + forbidden(record) + repeated(record) + wrong_digest(record)
-            + wrong_segment(record) + used_id(record, used) + no_content_type(record) + unknown_profile(record)
-            + not_utf8(record) + bare_id(record) + no_origin(record))
+    return (
+        required(record)
+        + forbidden(record)
+        + repeated(record)
+        + wrong_digest(record)
+        + wrong_segment(record)
+        + used_id(record, used)
+        + no_content_type(record)
+        + unknown_profile(record)
+        + not_utf8(record)
+        + bare_id(record)
+        + no_origin(record)
+    )
 
 
-def required(record):
+def required(record: Record) -> List[str]:
     return ["N1 " + name for name, kinds, _ in FIELD_TABLE if record.kind in kinds and record.is_absent(name)]
 
 
-def forbidden(record):
+def forbidden(record: Record) -> List[str]:
     return ["N2 " + name for name, _, kinds in FIELD_TABLE if record.kind in kinds and not record.is_absent(name)]
 
 
-def repeated(record):
-    return ["N3 " + name for name, _, _ in FIELD_TABLE
-            if name != "WARC-Concurrent-To" and len(record.values(name)) > 1]
+def repeated(record: Record) -> List[str]:
+    return ["N3 " + name for name, _, _ in FIELD_TABLE if name != "WARC-Concurrent-To" and len(record.values(name)) > 1]
 
 
-def wrong_digest(record):
+def wrong_digest(record: Record) -> List[str]:
     return ["N4"] if record.digest_verdict() == "bad" else []
 
 
-def wrong_segment(record):
+def wrong_segment(record: Record) -> List[str]:
     is_continuation = record.kind == "continuation"
     wrong = False
     if not record.is_absent("WARC-Segment-Number"):
@@ -337,50 +370,58 @@ def wrong_segment(record):
     return ["N5"] if wrong else []
 
 
-def used_id(record, used):
+def used_id(record: Record, used: Set[bytes]) -> List[str]:
     return ["N6"] if record.id in used else []
 
 
-def no_content_type(record):
+def no_content_type(record: Record) -> List[str]:
     is_lacking = record.is_absent("Content-Type") and record.block and record.kind != "continuation"
     return ["N7"] if is_lacking else []
 
 
-def has_known_profile(record):
+def has_known_profile(record: Record) -> bool:
     value = record.first("WARC-Profile")
     return value is not None and bare_text(value) in PROFILES
 
 
-def unknown_profile(record):
+def unknown_profile(record: Record) -> List[str]:
     is_wrong = record.kind == "revisit" and not record.is_absent("WARC-Profile") and not has_known_profile(record)
     return ["N8"] if is_wrong else []
 
 
-def not_utf8(record):
+def not_utf8(record: Record) -> List[str]:
     return ["N9 " + name.decode("ascii") for name, value in record.fields if not is_utf8(value)]
 
 
-def bare_id(record):
-    value = record.first("WARC-Record-ID")
+def bare_id(record: Record) -> List[str]:
+    value = record.stated("WARC-Record-ID")
     return [] if value.startswith(b"<") and value.endswith(b">") else ["N10"]
 
 
-def no_origin(record):
-    is_wrong = (record.kind == "continuation" and not record.is_absent("WARC-Segment-Origin-ID")
-                and record.stated_id("WARC-Segment-Origin-ID") is None)
+def no_origin(record: Record) -> List[str]:
+    is_wrong = (
+        record.kind == "continuation"
+        and not record.is_absent("WARC-Segment-Origin-ID")
+        and record.stated_id("WARC-Segment-Origin-ID") is None
+    )
     return ["N11"] if is_wrong else []
 
 
 # Segments
 
-def series_of(records, record):
+
+def series_of(records: List[Record], record: Record) -> List[Tuple[int, Record]]:
     """The continuations of a record, each with its number."""
-    return [(other.number("WARC-Segment-Number"), other) for other in records
-            if other.kind == "continuation" and other.stated_id("WARC-Segment-Origin-ID") == record.id
-            and (other.number("WARC-Segment-Number") or 0) >= 2]
+    return [
+        (judged(other.number("WARC-Segment-Number")), other)
+        for other in records
+        if other.kind == "continuation"
+        and other.stated_id("WARC-Segment-Origin-ID") == record.id
+        and (other.number("WARC-Segment-Number") or 0) >= 2
+    ]
 
 
-def first_absent(numbers, last):
+def first_absent(numbers: List[int], last: int) -> Optional[int]:
     """The least number from 2 to `last` that isn't there, or None. It doesn't count up to `last`."""
     expected = 2
     for number in sorted(numbers):
@@ -390,7 +431,7 @@ def first_absent(numbers, last):
     return expected if expected <= last else None
 
 
-def joined(records, record):
+def joined(records: List[Record], record: Record) -> List[Record]:
     """The records whose blocks make the joined block, in order. Raises Reason with a gap."""
     if record.is_absent("WARC-Segment-Number"):
         return [record]
@@ -401,8 +442,11 @@ def joined(records, record):
     twice = [number for number in numbers if numbers.count(number) > 1]
     if twice:
         raise Reason("P7 Segment G1 Repeated %d" % min(twice))
-    totals = [(number, other.number("WARC-Segment-Total-Length")) for number, other in series
-              if other.number("WARC-Segment-Total-Length") is not None]
+    totals = [
+        (number, judged(other.number("WARC-Segment-Total-Length")))
+        for number, other in series
+        if other.number("WARC-Segment-Total-Length") is not None
+    ]
     if not totals:
         raise Reason("P7 Segment G2 Unfinished")
     last, total = min(totals)
@@ -420,7 +464,8 @@ def joined(records, record):
 
 # Captures
 
-def chosen_capture(records, target, moment):
+
+def chosen_capture(records: List[Record], target: bytes, moment: Instant) -> Record:
     captures = [record for record in records if record.kind in CAPTURES and record.target == target]
     if not captures:
         raise Reason("P1 NoCapture")
@@ -430,21 +475,21 @@ def chosen_capture(records, target, moment):
     return max(early, key=lambda record: (record.instant, record.position))
 
 
-def pair_of(record):
+def pair_of(record: Record) -> Optional[Pair]:
     """The target and instant that a revisit names, or None."""
     target = record.first("WARC-Refers-To-Target-URI")
     date = record.first("WARC-Refers-To-Date")
     if target is None or date is None:
         return None
-    target, instant = bare_text(target), instant_of(date)
-    return (target, instant) if target and instant is not None else None
+    bare, instant = bare_text(target), instant_of(date)
+    return (bare, instant) if bare and instant is not None else None
 
 
-def is_stored(record):
+def is_stored(record: Record) -> bool:
     return record.kind in ("response", "resource")
 
 
-def named_referent(records, record_id, pair):
+def named_referent(records: List[Record], record_id: Optional[bytes], pair: Optional[Pair]) -> Record:
     for record in records:
         if record_id is not None and record.kind in CAPTURES and record.id == record_id:
             return record
@@ -454,19 +499,25 @@ def named_referent(records, record_id, pair):
     raise Reason("P5 Unresolved")
 
 
-def same_payload(records, revisit):
+def same_payload(records: List[Record], revisit: Record) -> Record:
     """The referent of a revisit that names nothing."""
     digest = revisit.first("WARC-Payload-Digest")
-    found = [record for record in records
-             if is_stored(record) and digest is not None and record.first("WARC-Payload-Digest") == digest
-             and revisit.target is not None and record.target == revisit.target
-             and record.instant <= revisit.instant]
+    found = [
+        record
+        for record in records
+        if is_stored(record)
+        and digest is not None
+        and record.first("WARC-Payload-Digest") == digest
+        and revisit.target is not None
+        and record.target == revisit.target
+        and record.instant <= revisit.instant
+    ]
     if not found:
         raise Reason("P4 NoReference")
     return max(found, key=lambda record: (record.instant, record.position))
 
 
-def referent_of(records, revisit):
+def referent_of(records: List[Record], revisit: Record) -> Record:
     if not has_known_profile(revisit):
         raise Reason("P3 UnknownProfile")
     record_id = revisit.stated_id("WARC-Refers-To")
@@ -476,8 +527,8 @@ def referent_of(records, revisit):
     return same_payload(records, revisit)
 
 
-def origin_of(records, capture):
-    seen = set()
+def origin_of(records: List[Record], capture: Record) -> Record:
+    seen: Set[int] = set()
     while capture.kind == "revisit":
         if capture.position in seen:
             raise Reason("P6 Loop")
@@ -488,7 +539,8 @@ def origin_of(records, capture):
 
 # Payloads
 
-def http_line(text, start):
+
+def http_line(text: bytes, start: int) -> Tuple[Optional[bytes], int]:
     """A line without its end, and where the next one begins; None if it isn't whole."""
     end = text.find(b"\n", start)
     if end < 0:
@@ -497,9 +549,9 @@ def http_line(text, start):
     return (line[:-1] if line.endswith(b"\r") else line), end + 1
 
 
-def http_fields(text, start):
+def http_fields(text: bytes, start: int) -> Tuple[Optional[Fields], int]:
     """The fields of an HTTP head, and where the body begins; None if it is no head."""
-    fields = []
+    fields: Fields = []
     while True:
         line, start = http_line(text, start)
         if line == b"":
@@ -510,7 +562,7 @@ def http_fields(text, start):
         fields.append((match.group(1).lower(), match.group(2).strip(b" \t")))
 
 
-def http_head(block):
+def http_head(block: bytes) -> Optional[Tuple[int, Fields, int]]:
     """The status, the fields, and where the body begins, or None."""
     text = block[:MAX_HEAD]
     line, start = http_line(text, 0)
@@ -523,27 +575,40 @@ def http_head(block):
     return None if fields is None else (int(match.group(1)), fields, start)
 
 
-def codings_of(fields):
+def codings_of(fields: Fields) -> List[bytes]:
     """What is said of the fields that say that a body is coded."""
-    return [name + b"=" + value for name, value in fields
-            if name in (b"transfer-encoding", b"content-encoding") and value.lower() not in (b"", b"identity")]
+    return [
+        name + b"=" + value
+        for name, value in fields
+        if name in (b"transfer-encoding", b"content-encoding") and value.lower() not in (b"", b"identity")
+    ]
 
 
-def media_type_of(values):
+def media_type_of(values: List[bytes]) -> bytes:
     """The media type that the first of the values begins with, or a dash."""
     match = MEDIA_TYPE.match(values[0]) if values else None
     return b"-" if match is None else match.group()
 
 
-def is_http_response(record):
-    return (record.kind == "response" and record.target is not None
-            and re.match(rb"https?:", record.target, re.IGNORECASE) is not None)
+def is_http_response(record: Record) -> bool:
+    return (
+        record.kind == "response"
+        and record.target is not None
+        and re.match(rb"https?:", record.target, re.IGNORECASE) is not None
+    )
 
 
-Stored = collections.namedtuple("Stored", "status media_type codings truncated body")
+class Stored(NamedTuple):
+    """What is stored of a body, and what is said of it."""
+
+    status: str
+    media_type: bytes
+    codings: List[bytes]
+    truncated: str
+    body: bytes
 
 
-def stored_of(records, origin):
+def stored_of(records: List[Record], origin: Record) -> Stored:
     """What is stored of an origin, coded or not. Raises Reason."""
     parts = joined(records, origin)
     if any(part.digest_verdict() == "bad" for part in parts):
@@ -560,12 +625,14 @@ def stored_of(records, origin):
     return Stored(str(status), media_type, codings_of(fields), truncated, body[start:])
 
 
-def line_of(capture, origin, stored):
-    return ("chosen %d given %d status %s truncated %s length %d" % (
-        capture.position, origin.position, stored.status, stored.truncated, len(stored.body))).encode()
+def line_of(capture: Record, origin: Record, stored: Stored) -> bytes:
+    return (
+        "chosen %d given %d status %s truncated %s length %d"
+        % (capture.position, origin.position, stored.status, stored.truncated, len(stored.body))
+    ).encode()
 
 
-def payload_of(records, capture):
+def payload_of(records: List[Record], capture: Record) -> Tuple[bytes, bytes]:
     """The body that a capture gives, and the line about it. Raises Reason."""
     origin = origin_of(records, capture)
     stored = stored_of(records, origin)
@@ -576,26 +643,33 @@ def payload_of(records, capture):
 
 # Commands. Each takes the archive and its arguments, and gives standard output, standard error and the status.
 
-def list_command(archive):
+
+def list_command(archive: Archive) -> Answer:
     lines = []
     for record in archive.records:
-        columns = (b"%d" % record.position, b"%d" % record.offset, b"%d" % len(record.block),
-                   record.first("WARC-Type"), record.first("WARC-Date"), record.first("WARC-Record-ID"),
-                   b"-" if record.target is None else record.target)
+        columns = (
+            b"%d" % record.position,
+            b"%d" % record.offset,
+            b"%d" % len(record.block),
+            record.stated("WARC-Type"),
+            record.stated("WARC-Date"),
+            record.stated("WARC-Record-ID"),
+            b"-" if record.target is None else record.target,
+        )
         lines.append(b"\t".join(columns) + b"\n")
     return b"".join(lines), b"", 0
 
 
-def check_command(archive):
+def check_command(archive: Archive) -> Answer:
     lines = [] if archive.records else ["- N12\n"]
-    used = set()
+    used: Set[bytes] = set()
     for record in archive.records:
         lines += ["%d %s\n" % (record.position, finding) for finding in findings_of(record, used)]
         used.add(record.id)
     return "".join(lines).encode(), b"", 1 if lines else 0
 
 
-def fixity_command(archive):
+def fixity_command(archive: Archive) -> Answer:
     lines = []
     counts = {"good": 0, "bad": 0, "unchecked": 0}
     for record in archive.records:
@@ -603,45 +677,49 @@ def fixity_command(archive):
         counts[verdict] += 1
         if verdict != "good":
             stated = record.first("WARC-Block-Digest") or b"-"
-            lines.append(b"%d\t%s\t%s\t%s\n" % (
-                record.position, verdict.encode(), bare_text(record.first("WARC-Record-ID")), stated))
-    lines.append(b"records %d good %d bad %d unchecked %d\n" % (
-        len(archive.records), counts["good"], counts["bad"], counts["unchecked"]))
+            lines.append(
+                b"%d\t%s\t%s\t%s\n"
+                % (record.position, verdict.encode(), bare_text(record.stated("WARC-Record-ID")), stated)
+            )
+    lines.append(
+        b"records %d good %d bad %d unchecked %d\n"
+        % (len(archive.records), counts["good"], counts["bad"], counts["unchecked"])
+    )
     status = 1 if counts["bad"] else 4 if counts["unchecked"] else 0
     return b"".join(lines), b"", status
 
 
-def extract_command(archive, wanted):
-    wanted = id_of(wanted)
+def extract_command(archive: Archive, wanted: bytes) -> Answer:
+    wanted_id = id_of(wanted)
     for record in archive.records:
-        if wanted is not None and record.id == wanted:
+        if wanted_id is not None and record.id == wanted_id:
             return record.block, b"", 0
     raise Reason("E1 NoRecord")
 
 
-def record_at(archive, position):
-    number = number_of(position, MAX_NUMBER)
+def record_at(archive: Archive, position: bytes) -> Record:
+    number = judged(number_of(position, MAX_NUMBER))
     if number >= len(archive.records):
         raise Reason("E1 NoRecord")
     return archive.records[number]
 
 
-def head_command(archive, position):
+def head_command(archive: Archive, position: bytes) -> Answer:
     return record_at(archive, position).head, b"", 0
 
 
-def block_command(archive, position):
+def block_command(archive: Archive, position: bytes) -> Answer:
     return record_at(archive, position).block, b"", 0
 
 
-def replay_command(archive, target, date, flag=None):
+def replay_command(archive: Archive, target: bytes, date: bytes, flag: Optional[bytes] = None) -> Answer:
     target = target if flag is None else binascii.unhexlify(target)
-    capture = chosen_capture(archive.records, target, instant_of(date))
+    capture = chosen_capture(archive.records, target, judged(instant_of(date)))
     body, line = payload_of(archive.records, capture)
     return body, line, 0
 
 
-def body_command(archive, position, flag=None):
+def body_command(archive: Archive, position: bytes, flag: Optional[bytes] = None) -> Answer:
     capture = record_at(archive, position)
     if capture.kind not in CAPTURES:
         raise Reason("E2 NoCapture")
@@ -654,7 +732,7 @@ def body_command(archive, position, flag=None):
     return stored.body, b" ".join(words) + b"\n", 0
 
 
-def outcome_of(records, capture):
+def outcome_of(records: List[Record], capture: Record) -> Tuple[bytes, bytes, bytes, bytes, bytes]:
     """Five columns: the position of the origin, the status, the media type, the length and the reason."""
     try:
         origin = origin_of(records, capture)
@@ -670,8 +748,8 @@ def outcome_of(records, capture):
     return given, stored.status.encode(), stored.media_type, b"%d" % len(stored.body), b"-"
 
 
-def captures_command(archive, target=None, flag=None):
-    target = target if flag is None else binascii.unhexlify(target)
+def captures_command(archive: Archive, target: Optional[bytes] = None, flag: Optional[bytes] = None) -> Answer:
+    target = target if flag is None or target is None else binascii.unhexlify(target)
     captures = [record for record in archive.records if record.kind in CAPTURES]
     if target is not None:
         captures = [record for record in captures if record.target == target]
@@ -680,24 +758,29 @@ def captures_command(archive, target=None, flag=None):
         raise Reason("P1 NoCapture")
     lines = []
     for record in captures:
-        columns = (b"%d" % record.position, record.first("WARC-Date"),
-                   b"%04d-%02d-%02dT%02d:%02d:%02d.%09dZ" % record.instant, record.first("WARC-Type"),
-                   *outcome_of(archive.records, record), b"-" if record.target is None else record.target)
+        columns = (
+            b"%d" % record.position,
+            record.stated("WARC-Date"),
+            b"%04d-%02d-%02dT%02d:%02d:%02d.%09dZ" % record.instant,
+            record.stated("WARC-Type"),
+            *outcome_of(archive.records, record),
+            b"-" if record.target is None else record.target,
+        )
         lines.append(b"\t".join(columns) + b"\n")
     return b"".join(lines), b"", 0
 
 
-def dates_of(records):
+def dates_of(records: List[Record]) -> Tuple[bytes, bytes]:
     """The dates of the first and the last record by instant, as they are written."""
     if not records:
         return b"-", b"-"
-    dates = [record.first("WARC-Date") for record in records]
+    dates = [record.stated("WARC-Date") for record in records]
     instants = [record.instant for record in records]
     last = len(instants) - 1 - instants[::-1].index(max(instants))
     return dates[instants.index(min(instants))], dates[last]
 
 
-def summary_command(archive):
+def summary_command(archive: Archive) -> Answer:
     records = archive.records
     verdicts = [record.digest_verdict() for record in records]
     kinds = [record.kind or "other" for record in records]
@@ -712,41 +795,51 @@ def summary_command(archive):
     return b"".join(lines), b"", 0
 
 
-def rewrite_command(archive):
+def rewrite_command(archive: Archive) -> Answer:
     return b"".join(record.canonical() for record in archive.records), b"", 0
 
 
-def bare_target(name, value):
+def bare_target(name: bytes, value: bytes) -> bytes:
     return bare_text(value) if name.lower() == b"warc-target-uri" else value
 
 
-def convert_command(archive):
+def convert_command(archive: Archive) -> Answer:
     return b"".join(record.canonical(VERSIONS[1], bare_target) for record in archive.records), b"", 0
 
 
-def salvage_command(archive):
-    saved = archive.data[:archive.end]
+def salvage_command(archive: Archive) -> Answer:
+    saved = archive.data[: archive.end]
     counts = "%d records, %d bytes\n" % (len(archive.records), archive.end)
     if archive.fault is None:
         return saved, ("warc: good " + counts).encode(), 0
     return saved, fault_line(archive.fault) + ("warc: salvaged " + counts).encode(), 2
 
 
-COMMANDS = {"list": list_command, "check": check_command, "fixity": fixity_command, "extract": extract_command,
-            "head": head_command, "block": block_command, "replay": replay_command, "body": body_command,
-            "captures": captures_command, "rewrite": rewrite_command, "convert": convert_command,
-            "summary": summary_command}
+COMMANDS: Dict[str, Callable[..., Answer]] = {
+    "list": list_command,
+    "check": check_command,
+    "fixity": fixity_command,
+    "extract": extract_command,
+    "head": head_command,
+    "block": block_command,
+    "replay": replay_command,
+    "body": body_command,
+    "captures": captures_command,
+    "rewrite": rewrite_command,
+    "convert": convert_command,
+    "summary": summary_command,
+}
 
 
-def fault_line(fault):
+def fault_line(fault: Fault) -> bytes:
     return ("warc: %s at %d\n" % (fault.name, fault.offset)).encode()
 
 
-def is_hex(word):
+def is_hex(word: bytes) -> bool:
     return re.fullmatch(rb"([0-9A-Fa-f]{2})*", word) is not None
 
 
-def bad_argument(command, arguments):
+def bad_argument(command: str, arguments: Sequence[bytes]) -> Optional[bytes]:
     """The line about an argument that is refused before the archive is read, or None."""
     if command in ("head", "block", "body") and number_of(arguments[0], MAX_NUMBER) is None:
         return b"warc: bad position\n"
@@ -757,7 +850,7 @@ def bad_argument(command, arguments):
     return None
 
 
-def run_on(archive, command, arguments):
+def run_on(archive: Archive, command: str, arguments: Sequence[bytes]) -> Answer:
     """What a command gives over an archive that was read: output, message, status."""
     line = bad_argument(command, arguments)
     if line is not None:
@@ -772,11 +865,11 @@ def run_on(archive, command, arguments):
         return b"", ("warc: %s\n" % reason).encode(), 1
 
 
-def run(command, data, arguments=()):
+def run(command: str, data: bytes, arguments: Sequence[bytes] = ()) -> Answer:
     return run_on(Archive(data), command, list(arguments))
 
 
-def main(words):
+def main(words: List[str]) -> int:
     with open(words[1], "rb") as file:
         data = file.read()
     out, message, status = run(words[0], data, [word.encode() for word in words[2:]])
