@@ -34,8 +34,8 @@ def open_page(page, archive):
             before(event);
           };
         })(); 0""")
-        browser.run("""const given = openFile;
-          openFile = (file) => { window.began = performance.now(); given(file); }; 0""")
+        browser.run("""const given = openFiles;
+          openFiles = (files) => { window.began = performance.now(); given(files); }; 0""")
         browser.give_file("#file", archive)
         done = "(room.findings !== null && room.isOpen && room.counts.judged === room.rows.count)"
         browser.until(f"{done} || document.getElementById('status').textContent.includes('stopped')", 300)

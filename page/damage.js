@@ -72,7 +72,10 @@ function faultNodes() {
   const {fault, end, file, rows} = room, [name, meaning, advice] = inWords(fault);
   const field = /(?:Missing|Repeated) (\S+)/.exec(fault)?.[1], offset = Number(/ at (\d+)$/.exec(fault)?.[1] ?? 0);
   const bytes = `at byte ${offset.toLocaleString('en')} of ${file.size.toLocaleString('en')}`;
-  const part = `Its good part is shown: ${many(rows.count, 'record')}, ${size(end)}, before the damage.`;
+  const {name: last, start} = room.parts[fileAt(end)];
+  const upTo =
+      isOfFiles() ? `up to byte ${(end - start).toLocaleString('en')} of ${plainly(last)}` : 'before the damage';
+  const part = `Its good part is shown: ${many(rows.count, 'record')}, ${size(end)}, ${upTo}.`;
   return [
     make('h2', {}, `This archive is damaged: ${fault}`),
     make(

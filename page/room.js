@@ -190,13 +190,14 @@ function showProgress(part) {
 
 // What the head of the page says of the files: their names and sizes, in the order in which they are joined.
 function showFiles() {
-  const {names, parts, file} = room, first = plainly((parts[0]?.name) ?? names[0]);
+  const {names, parts, file} = room, first = plainly(parts[0]?.name ?? names[0]);
   const more = names.length > 1 ? ` and ${many(names.length - 1, 'more file')}` : '';
   const packed = parts.some((part) => part.isPacked) ?
       `, decompressed from ${size(parts.reduce((sum, part) => sum + part.size, 0))}` :
       '';
   const title = names.length > 1 ? parts.slice(0, MOST_NAMED).map((part) => plainly(part.name)).join('\n') : '';
-  byId('opened').replaceChildren(make('b', {title}, first), more, parts.length ? ` ${size(file.size)}${packed}` : '');
+  const sizes = parts.length ? `${more ? ',' : ''} ${size(file.size)}${packed}` : '';
+  byId('opened').replaceChildren(make('b', {title}, first), more, sizes);
   document.title = `${first}${more} – Zogwedu reading room`;
 }
 

@@ -171,6 +171,11 @@ def several(tests: Any, folder: str, records: list[bytes], same: Same) -> None:
         said,
     )
     browser.close()
+    torn = [paths[0], save(folder, "b2.warc", records[4][:-10]), paths[4]]
+    browser = tests.opened(*torn)
+    said = browser.run(SAID)
+    tests.holds("up to byte 0 of b2.warc" in said and "4 records" in said, "files: a damaged record", said)
+    browser.close()
 
 
 def by_wget(tests: Any, folder: str, same: Same) -> None:

@@ -1,4 +1,4 @@
-"""A headless Firefox that a script drives by Marionette, with Python's standard library alone, and its connection test.
+"""A headless Firefox that a script drives by Marionette, with Python's standard library alone, and its tests.
 
 Firefox resolves every name to this computer, so the listeners need the ports 80 and 443: without the right to use them, or
 without Firefox, the test is left out, and a line says so.
@@ -6,6 +6,7 @@ without Firefox, the test is left out, and a line says so.
 
 from __future__ import annotations
 
+import gzip
 import json
 import os
 import shutil
@@ -40,6 +41,11 @@ CLICK = """const page = document.querySelector('iframe.view')?.contentDocument;
 for (const it of page ? Document.prototype.querySelectorAll.call(page, '[id=click], a') : []) {
   it.dispatchEvent(new MouseEvent('click', { bubbles: true, cancelable: true }));
 }"""
+
+
+TOP = os.path.dirname(os.path.dirname(os.path.dirname(os.path.abspath(__file__))))
+FILES = """return [...document.querySelectorAll('.line .file')].map((it) => it.textContent);"""
+ENDED = "return /findings after|stopped/.test(document.getElementById('status').textContent)"
 
 
 class Firefox:
@@ -103,10 +109,10 @@ class Firefox:
                 raise RuntimeError(f"never true: {script} {words}")
             time.sleep(0.03)
 
-    def give_file(self, selector: str, path: str) -> None:
-        """Chooses a file, as a reader does."""
+    def give_file(self, selector: str, *paths: str) -> None:
+        """Chooses files, as a reader does."""
         found = self.ask("WebDriver:FindElement", {"using": "css selector", "value": selector})["value"]
-        self.ask("WebDriver:ElementSendKeys", {"id": next(iter(found.values())), "text": path})
+        self.ask("WebDriver:ElementSendKeys", {"id": next(iter(found.values())), "text": "\n".join(paths)})
 
     def close(self) -> None:
         """Ends this Firefox, and no other."""
@@ -151,11 +157,28 @@ def try_cases(tests: Any, firefox: Firefox, listeners: list[Listener], folder: s
     print(f"Firefox: {len(connected)} of {len(leaks.CASES)} cases connect in the reading room", flush=True)
 
 
+def opens_files(tests: Any, folder: str) -> None:
+    """Two files that gzip compressed are one archive, and its list names the file of a record."""
+    with open(f"{TOP}/examples/crawl.warc", "rb") as file:
+        data = file.read()
+    paths = [f"{folder}/{name}.warc.gz" for name in ("second", "first")]
+    for path in paths:
+        with open(path, "wb") as out:
+            out.write(gzip.compress(data[:700]) + gzip.compress(data[700:]) + bytes(20))
+    firefox = Firefox()
+    try:
+        firefox.ask("WebDriver:Navigate", {"url": f"file://{tests.page}"})
+        firefox.give_file("#file", *paths)
+        firefox.until(ENDED)
+        status = firefox.run("return document.getElementById('status').textContent")
+        tests.holds(status.startswith("36 records"), "Firefox: compressed files", status)
+        tests.holds(set(firefox.run(FILES)) == {"first.warc.gz"}, "Firefox: the list names the file")
+    finally:
+        firefox.close()
+
+
 def no_connections(tests: Any, folder: str) -> None:
-    """The cases in Firefox, where it can be had."""
-    if not shutil.which(PROGRAM):
-        print(f"Firefox: left out, since {PROGRAM} isn't installed", flush=True)
-        return
+    """The cases in Firefox, where the ports can be had."""
     try:
         listeners = [Listener(port) for port in PORTS]
     except OSError as error:
@@ -170,3 +193,12 @@ def no_connections(tests: Any, folder: str) -> None:
             it.close()
         if firefox:
             firefox.close()
+
+
+def in_firefox(tests: Any, folder: str) -> None:
+    """All of them, where Firefox can be had."""
+    if not shutil.which(PROGRAM):
+        print(f"Firefox: left out, since {PROGRAM} isn't installed", flush=True)
+        return
+    opens_files(tests, folder)
+    no_connections(tests, folder)

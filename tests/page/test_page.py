@@ -645,7 +645,7 @@ def main() -> None:
             "damaged": lambda: damaged(tests, folder),
             "hostile": lambda: hostile_archive(tests, folder),
             "connections": lambda: connections.no_connections(tests, folder),
-            "firefox": lambda: firefox.no_connections(tests, folder),
+            "firefox": lambda: firefox.in_firefox(tests, folder),
             "burdens": lambda: burdens.burdens(tests, folder),
             "robust": lambda: robust.robust(tests, folder),
             "faithful": lambda: faithful.faithful(tests, folder),
