@@ -2,13 +2,16 @@
 
 from __future__ import annotations
 
+import base64
 import gzip
+import json
 import os
 import time
 from collections.abc import Callable
 from typing import Any
 
 import stations
+from browser import Browser
 from variant import variant
 
 TOP = os.path.dirname(os.path.dirname(os.path.dirname(os.path.abspath(__file__))))
@@ -25,6 +28,28 @@ BOMB = 50_000_000
 MAKES_BLOB = "const blob = new Blob([bytes]);"
 NO_BLOB = "const blob = {slice: () => ({arrayBuffer: () => Promise.reject(new Error('x'))})};"
 SMALL_LIMIT = {"const LIMIT = 2 * 1024 ** 3;": "const LIMIT = 2000000;"}
+# What comes of a file of members: up to each place, and with each byte changed.
+TRIES = """async (text) => {
+  const whole = Uint8Array.from(atob(text), (it) => it.charCodeAt(0));
+  const outcome = async (bytes) => {
+    const parts = [], members = new Members(50, 1e6, (part) => void parts.push(...part));
+    let damage = null;
+    try {
+      for (let at = 0; at < bytes.length; at += 7) await members.take(bytes.subarray(at, at + 7));
+      await members.end();
+    } catch (error) {
+      damage = [error.kind, error.offset];
+      await members.flush();
+    }
+    return [btoa(String.fromCharCode(...parts.slice(0, members.whole))), damage];
+  };
+  const cuts = [], changes = [];
+  for (let at = 0; at < whole.length; at += 1) {
+    cuts.push(await outcome(whole.subarray(0, at)));
+    changes.push(await outcome(whole.map((byte, number) => (number === at ? byte ^ 0x55 : byte))));
+  }
+  return [cuts, changes];
+}"""
 HOSTILE = ("<img src=x onerror='window.hacked=1'>.warc.gz", "$(touch hacked).warc.gz", "gnp\u202eexe.warc.gz")
 Same = Callable[..., None]
 
@@ -48,6 +73,32 @@ def save(folder: str, name: str, data: bytes) -> str:
 def packed(records: list[bytes]) -> bytes:
     """Records as crawlers compress them: a member each."""
     return b"".join(gzip.compress(record) for record in records)
+
+
+def each_byte(tests: Any, records: list[bytes]) -> None:
+    """A file that is cut is torn at the member that is cut, or whole where none is. A byte that changes is found, or
+    says nothing. What is given is what the whole members before that place give."""
+    parts = [*records[:2], b"", *records[2:4]]
+    members = [gzip.compress(it) for it in parts]
+    starts = [len(b"".join(members[:number])) for number in range(len(members))]
+    browser = Browser()
+    browser.go(tests.page)
+    cuts, changes = browser.run(f"({TRIES})({json.dumps(base64.b64encode(b''.join(members)).decode())})")
+    browser.close()
+    wrong = []
+    for at, (cut, changed) in enumerate(zip(cuts, changes)):
+        before = max(number for number, start in enumerate(starts) if start <= at)
+        plain, start = base64.b64encode(b"".join(parts[:before])).decode(), starts[before]
+        if cut != [plain, None if at == start else ["torn", start]]:
+            wrong.append(("cut", at, cut[1]))
+        is_unseen = at - start in range(4, 10)  # the time and the system in the head of a member
+        if changed[1] is None and is_unseen:
+            plain = base64.b64encode(b"".join(parts)).decode()
+        elif changed[1] is None or changed[1][1] != start:
+            wrong.append(("changed", at, changed[1]))
+        if changed[0] != plain:
+            wrong.append(("other bytes", at, changed[1]))
+    tests.holds(len(cuts) == len(b"".join(members)) and not wrong, "members, cut or changed at each byte", wrong)
 
 
 def whole_ones(tests: Any, folder: str, records: list[bytes], same: Same) -> None:
@@ -251,6 +302,7 @@ def another_archive(tests: Any, folder: str, records: list[bytes]) -> None:
 def compressed(tests: Any, folder: str, same: Same) -> None:
     """All of them."""
     records = records_of(tests, f"{TOP}/examples/crawl.warc")
+    each_byte(tests, records)
     whole_ones(tests, folder, records, same)
     damaged_ones(tests, folder, records, same)
     without_records(tests, folder, records)
