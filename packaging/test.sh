@@ -23,8 +23,10 @@ for page in $(dpkg --listfiles zogwedu | sed -n 's|^/usr/share/man/man\(.\)/\(.*
     fi
 done
 for name in program python library; do
-    bash "$here/debian/tests/$name"
-    echo "the test $name passed"
+    for user in root nobody; do
+        runuser -u "$user" -- sh -s < "$here/debian/tests/$name"
+        echo "the test $name passed as $user"
+    done
 done
 packages=$(for deb in "$folder"/*.deb; do dpkg-deb --field "$deb" Package; done)
 # shellcheck disable=SC2086 # several words are wanted
