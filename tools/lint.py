@@ -8,8 +8,8 @@ It reports, a line each, and exits with 1 where there is any:
 - a word of specs/ that two specs files define;
 - a specs file that says "no public clause cites them" where the contract of a public function cites one of its words;
 - a line of over 120 characters: in src/ or specs/, but for imports (`ghost use`, `use`) and tactics, which rt fmt keeps
-  in one line; in a page, but for rows of tables, whose paragraphs tools/wrap_pages.py breaks; in a script of tools/,
-  bench/, packaging/ and some folders of tests/;
+  in one line; in a page, but for rows of tables and what a command writes (tools/wrap_pages.py breaks paragraphs); in a
+  script of tools/, bench/, packaging/ and some folders of tests/;
 - a must-fail edit that doesn't apply (a text that isn't in its file exactly once), or that has no line `why:`;
 - a number of a paper or of a request in place of a plain name.
 """
@@ -121,13 +121,26 @@ def untrue_headers(top: str, paths: list[str]) -> Iterator[str]:
                 yield f"{path}:1: says '{PRIVATE}', and a public contract cites {name}"
 
 
+def shown_lines(lines: list[str]) -> set[int]:
+    """The numbers of the lines of a page that show what commands write, which stays as it is."""
+    shown, inside = set(), False
+    for number, line in enumerate(lines, 1):
+        if line.startswith("```"):
+            inside = line == "```console"
+        elif inside and not line.startswith("$ "):
+            shown.add(number)
+    return shown
+
+
 def wide_lines(top: str, paths: list[str]) -> Iterator[str]:
     for path in paths:
         for files, wide in NARROW:
             if not files.fullmatch(path):
                 continue
-            for number, line in enumerate(lines_of(top, path), 1):
-                if len(line) > WIDTH and not (wide and wide.match(line)):
+            lines = lines_of(top, path)
+            shown = shown_lines(lines)
+            for number, line in enumerate(lines, 1):
+                if len(line) > WIDTH and number not in shown and not (wide and wide.match(line)):
                     yield f"{path}:{number}: {len(line)} characters"
 
 
