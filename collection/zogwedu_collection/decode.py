@@ -16,7 +16,7 @@ class Decoder:
         try:
             self.package: Any = importlib.import_module("zogwedu")
         except ImportError as error:
-            raise Trouble("--decoded needs the Python package zogwedu: %s" % error) from None
+            raise Trouble("--decoded needs the Python package zogwedu: %s" % escaped(str(error))) from None
         if not hasattr(self.package, "Undecodable"):
             raise Trouble("--decoded needs the Python package zogwedu of this version")
 

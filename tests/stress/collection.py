@@ -42,6 +42,8 @@ NO_BYTES = b"sha1:3I42H3S6NNFQ2MSVX7XZKYAYSCX5QBYJ"
 # root without the right to open each file
 LESS = ("setpriv", "--bounding-set=-dac_override,-dac_read_search", "--inh-caps=-dac_override,-dac_read_search")
 JOBS = str(os.environ.get("STRESS_JOBS", os.cpu_count()))
+# Files for each job of a rough night, which has many.
+BATCH = ("--batch", "10")
 Expected = Tuple[str, int, int, int, int]
 
 
@@ -591,7 +593,7 @@ def contents(trial: Trial, catalogue: str) -> Dict[str, Set[Tuple[object, ...]]]
 def disturbed(trial: Trial, archives: str, words: List[str], hosts: List[Host], disk: str, count: int) -> None:
     """A run without room and with a reader: a host fails at a quarter, and the run is killed at a half; then it goes
     on."""
-    words = [*words, "--temporary", disk, "--timeout", "300"]
+    words = [*words, *BATCH, "--temporary", disk, "--timeout", "300"]
     child = subprocess.Popen(
         [*LESS, *trial.words("rough", "run", *words, archives)], stdout=subprocess.DEVNULL, stderr=subprocess.PIPE
     )
@@ -622,13 +624,13 @@ def rough_night(trial: Trial, archives: str) -> None:
         with made_hosts(trial.path("rough-hosts")) as (hosts, words):
             disturbed(trial, archives, words, hosts, trial.path("disk"), count)
             without = len(trial.ask("rough", "SELECT file FROM files WHERE state = 'no-room'"))
-            done = trial.run("rough", "run", *words, before=LESS)
+            done = trial.run("rough", "run", *words, *BATCH, before=LESS)
     finally:
         subprocess.run(["umount", "--lazy", trial.path("disk")], check=True)
     reader.is_over.set()
     reader.join()
     trial.judge(done.returncode == 1 and b"no-room" not in done.stdout, "the run with room", done.stderr)
-    done = trial.run("still", "run", "--jobs", JOBS, archives, before=LESS)
+    done = trial.run("still", "run", "--jobs", JOBS, *BATCH, archives, before=LESS)
     trial.judge(done.returncode == 1 and to_read(done) == count, "the undisturbed run", done.stderr)
     rough, still = contents(trial, "rough"), contents(trial, "still")
     for table in still:

@@ -177,7 +177,7 @@ def frames(trial: Trial) -> None:
         done = trial.run("d", "run", "--temporary", disk, trial.path("one"))
     trial.judge(b"no-room\t1" in done.stdout, "no room", done.stdout)
     failing_zstd(trial)
-    done = trial.run("d", "run")
+    done = trial.run("d", "run", "--digest")
     trial.judge(done.returncode == 0 and to_read(done) == 1, "with room and zstd", done.stdout + done.stderr)
     done = trial.run("d", "replay", URI.decode(), "9999")
     trial.judge(done.stdout == b"x" * 100_000, "its page", done.stderr)
