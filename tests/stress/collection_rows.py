@@ -26,12 +26,11 @@ from zogwedu_collection import export, lines, runs, texts, unpack  # noqa: E402
 try:
     from hypothesis import given, settings
     from hypothesis import strategies as st
-    from hypothesis.configuration import set_hypothesis_home_dir
 except ImportError:
     print("collection_rows.py: left out, since python3-hypothesis isn't installed")
     sys.exit(0)
 
-set_hypothesis_home_dir(os.path.join(TOP, "out", "hypothesis"))
+os.environ["HYPOTHESIS_STORAGE_DIRECTORY"] = os.path.join(TOP, "out", "hypothesis")
 Value = Union[None, int, str, bytes]
 COUNT = int(sys.argv[1]) if len(sys.argv) > 1 else 500
 NAMES = st.one_of(st.binary(min_size=1), st.text(min_size=1).map(lambda name: name.encode("utf-8", "replace")))
