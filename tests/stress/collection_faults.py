@@ -4,7 +4,8 @@
     python3 tests/stress/collection_faults.py WARC [PART ..]
 
 Prints a line for each part, each surprise, and last a line with the totals. The exit status is 1 if there was a surprise.
-Needs root, mount, setpriv, strace and GNU parallel; PostgreSQL is left out where it isn't installed.
+Needs root, mount, setpriv, strace, zstd and GNU parallel; PostgreSQL is left out where it isn't installed, and the undoing of
+codings where `make python` wasn't run.
 """
 from __future__ import annotations
 
