@@ -30,9 +30,6 @@ head_passes version fields n e large =
     let past : nat_lt max_head (canonical_len version fields) ≡ true = lt-ltb _ _ (omega (arith, e, large, canonical_size version fields)) in
     sym (ap not past)
 
-pub head_passes_far : (version : Version) (fields : List Pair) → 2 ^ 64 ≤ length (canonical_fields fields) → false ≡ not (nat_lt max_head (canonical_len version fields))
-head_passes_far version fields large = head_passes version fields (length (canonical_fields fields)) refl (omega (arith, large))
-
 -- nor need it be measured, where a head of at most half the limit spells the fields
 pub short_fits : (version : Version) (fields : List Pair) (len : ℕ) → canonical_len version fields ≤ 2 * len → len ≤ 32768 → true ≡ not (nat_lt max_head (canonical_len version fields))
 short_fits version fields len within small =

@@ -60,7 +60,7 @@ fn find_head_len(text: &[u8]) -> Option<usize>
 }
 
 /// Whether the head of these fields, written canonically, is short enough.
-#[tactic(auto, using(crate::proofs::CanonicalLemmas::head_fits, crate::proofs::CanonicalLemmas::head_passes, crate::proofs::CanonicalLemmas::head_passes_far))]
+#[tactic(auto, using(crate::proofs::CanonicalLemmas::head_fits, crate::proofs::CanonicalLemmas::head_passes))]
 pub(crate) fn fits_head<A: Allocator>(version: Version, fields: &Fields<A>) -> bool
     ensures { result ≡ not (nat_lt max_head (canonical_len version fields.now)) }
 {
@@ -126,7 +126,7 @@ pub(crate) fn read_block_len<A: Allocator>(fields: &Fields<A>) -> Result<u64, Fr
 
 /// What a head with a known version and length says: its fields, and how long the block is. It is read in the memory
 /// of fields that are no longer needed.
-#[tactic(auto, using(crate::proofs::HeadLemmas::head_room, crate::proofs::HeadLemmas::head_within), unfolding(crate::specs::Reading::head_of))]
+#[tactic(auto, using(crate::proofs::HeadLemmas::head_within), unfolding(crate::specs::Reading::head_of))]
 pub(crate) fn read_fields<A: Allocator + Copy>(
     spare: Fields<A>,
     version: Version,
@@ -164,7 +164,7 @@ pub(crate) fn read_fields<A: Allocator + Copy>(
 /// The head at the beginning of a text, which anything may follow. A fault's offset counts from there: it is the first
 /// row of the table of refusals that fits, as far as framing goes, and the block isn't looked at. An empty text is
 /// Truncated at 0; lack of memory is reported at 0.
-#[tactic(auto, unfolding(crate::specs::Reading::head_of))]
+#[tactic(auto, using(crate::proofs::HeadLemmas::head_within), unfolding(crate::specs::Reading::head_of))]
 pub fn read_head<A: Allocator + Copy>(alloc: A, text: &[u8]) -> Result<Head<A>, Fault>
     ensures exact { AnswersAs
         (λ h. record { version = h.version; fields = h.fields; len = h.len; block_len = h.block_len })
