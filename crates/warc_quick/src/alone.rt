@@ -1,6 +1,7 @@
 //! What a plain head says, if it names no other record and says nothing of segments.
-ghost use Rattle.std.specs.Prelude.{◌≡◌, List, true, IfOk};
+ghost use Rattle.std.specs.Prelude.{◌≡◌, List, true, IfOk, OnErr};
 ghost use Rattle.warc_field.specs.Area.{Pair};
+ghost use Rattle.warc_record.specs.Ids.{IsOtherId};
 ghost use Rattle.warc_record.specs.Readings.{reading_of};
 ghost use Rattle.warc_quick.specs.Alone.{alone_said};
 ghost use Rattle.warc_quick.specs.Quick.{Says};
@@ -24,8 +25,11 @@ pub struct AloneHead<A: Allocator> {
 pub fn type_alone<A: Allocator>(alloc: A, head: &QuickHead<'_>) -> Result<AloneHead<A>, AllocError>
     requires alone { head.now.is_alone ≡ true }
     requires says { (fields : List Pair) × Says fields head.now }
-    ensures { (fields : List Pair) → Says fields head.now
+    ensures said { (fields : List Pair) → Says fields head.now
         → IfOk result (λ typed. alone_said head.now typed ≡ reading_of fields) }
+
+    // Memory is refused only for an id that isn't a UUID.
+    ensures memory { OnErr result (IsOtherId head.now.texts.id.now) }
 {
     let Some(id) = id_key(alloc, head.texts.id)? else {
         unreachable!()

@@ -7,7 +7,7 @@ ghost use Rattle.std.specs.Cmp.Lexicographic.{slice_cmp, pointwise};
 ghost use Rattle.std.specs.Ordering.{nat_cmp, as_partial_cmp};
 ghost use Rattle.uuid.specs.Text.{parsed_urn};
 ghost use Rattle.warc_field.specs.Text.{is_blank};
-ghost use Rattle.warc_record.specs.Ids.{is_bracket, ends_id, is_bracketed, bare_text, is_bare_id, id_key, key_of};
+ghost use Rattle.warc_record.specs.Ids.{is_bracket, ends_id, is_bracketed, bare_text, is_bare_id, id_key, key_of, IsOtherId};
 
 use memchr::memchr2;
 use std::alloc::{AllocError, Allocator, Global};
@@ -201,8 +201,7 @@ pub fn id_key<A: Allocator>(alloc: A, text: &[u8]) -> Result<Option<IdKey<A>>, A
     ensures key { IfOk result (λ key. key ≡ id_key text.now) }
 
     // Memory is refused only for an id that isn't a UUID.
-    ensures memory { let bare = bare_text text.now in
-        OnErr result ((is_bare_id bare ≡ true) × (parsed_urn bare ≡ None)) }
+    ensures memory { OnErr result (IsOtherId text.now) }
 {
     if let Some(key) = uuid_id_key(text) {
         return Ok(Some(IdKey {

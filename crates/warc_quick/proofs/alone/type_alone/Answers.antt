@@ -6,6 +6,6 @@ pub unreachable-requires-in_default-read_date : goal.unreachable-requires-in_def
 unreachable-requires-in_default-read_date v c =
     c.in_default-read_date.not-Some _ (c.read_date.ensures ∙ date_found _ _ c.requires.says.1)
 
-pub returns : goal.returns
-returns v c = λ fields says. reads_all fields c.args.head.now says _ c.named.ensures refl refl refl
+pub returns-clause-said : goal.returns-clause-said
+returns-clause-said v c = λ fields says. reads_all fields c.args.head.now says _ c.named.ensures refl refl refl
     (sym c.in-Some.is ∙ c.in_ok-id.ensures.key) c.in-Some-read_date.ensures refl refl refl refl refl refl c.requires.alone
