@@ -1,5 +1,5 @@
 -- What a source that is read through a window keeps, and what it asks. This project's own notion.
-use Rattle.std.specs.Prelude.{◌≡◌, ℕ, ◌-◌, ◌≤◌, ◌⊎◌, List, length, take, drop, min}
+use Rattle.std.specs.Prelude.{◌≡◌, ℕ, ◌+◌, ◌-◌, ◌<◌, ◌≤◌, ◌⊎◌, List, length, take, drop, min}
 use Rattle.warc_frame.specs.Count.{raised}
 use Rattle.warc_frame.specs.Seen.{SeenSource}
 
@@ -17,6 +17,10 @@ pub record Windowed (S : Type 0) : Type 0 where
 pub record IsPieceOf (bytes : List ℕ) (from : ℕ) (piece : List ℕ) : Type 0 where
   pub same : piece ≡ take (length piece) (drop from bytes)
   pub within : length piece ≤ length bytes - from
+
+-- a read at this offset begins in the piece
+abbrev pub BeginsIn : {S : Type 0} → ℕ → Windowed S → Type 0
+BeginsIn at w = (w.from ≤ at) × (at < w.from + length w.piece)
 
 -- the front of a buffer is that of these bytes, as long as both allow
 pub record IsCopiedFront (bytes old new : List ℕ) (count : ℕ) : Type 0 where

@@ -4,7 +4,7 @@ ghost use Rattle.warc_frame.specs.Count.{raised};
 ghost use Rattle.warc_frame.specs.Device.{Gives};
 ghost use Rattle.warc_frame.specs.Ranges.{IsReadAt};
 ghost use Rattle.warc_frame.specs.Seen.{IfHeld};
-ghost use Rattle.warc_stream.specs.Window.{IsAskedAtMostOnce, IsAskedOnce, IsCopiedFront, IsPieceOf};
+ghost use Rattle.warc_stream.specs.Window.{BeginsIn, IsAskedAtMostOnce, IsAskedOnce, IsCopiedFront, IsPieceOf};
 
 use std::alloc::{Allocator, Global};
 use std::marker::Model;
@@ -89,6 +89,7 @@ impl<S: Source, A: Allocator + Copy> WindowSource<S, A> {
     fn rest(&self, at: u64) -> &[u8]
         ensures there { IfHeld (S.seen self.now.source).holds (λ bytes. IsPieceOf bytes at result.now) }
         ensures whole { self.now.from ≡ at → result.now ≡ self.now.piece }
+        ensures some { BeginsIn at self.now → 0 < length result.now }
     {
         if at < self.from || at - self.from >= self.len as u64 {
             return &[];
@@ -151,6 +152,9 @@ impl<S: Source, A: Allocator + Copy> Source for WindowSource<S, A> {
         ensures bytes { (bytes : List ℕ) → (S.seen self.old.source).holds ≡ Some bytes
             → IfOk result (Gives bytes at buf.new) }
         ensures once { IsAskedAtMostOnce at (S.seen self.old.source) (S.seen self.new.source) }
+
+        // A read that begins in the piece doesn't ask the source.
+        ensures piece { BeginsIn at self.old → S.seen self.new.source ≡ S.seen self.old.source }
         ensures kept { (S.seen self.new.source).holds ≡ (S.seen self.old.source).holds }
         ensures cause { (S.seen self.new.source).faults ≡ (if is_err result then
             raised (S.seen self.old.source).faults else (S.seen self.old.source).faults) }
