@@ -99,12 +99,12 @@ impl<O: EntryList, A: Allocator + Copy> RecordIndex<O, A> {
     }
 
     /// Adds the next record, which names no other. `Err`: as of `add`.
-    pub fn add_alone(&mut self, record: &AloneRecord<'_>) -> Result<(), AllocError>
+    pub fn add_alone(&mut self, plain: &AloneRecord<'_>) -> Result<(), AllocError>
         ensures ok { (all : List Indexed) → IsIndexOf all self.old →
-            OnOk result (IsIndexOf (all ++ alone_seen record.now ∷ []) self.new) }
+            OnOk result (IsIndexOf (all ++ alone_seen plain.now ∷ []) self.new) }
         ensures err { OnErr result (self.new ≡ self.old) }
     {
-        self.put(&record.kept())
+        self.put(&plain.kept())
     }
 
     /// Keeps the first `count` records. It takes no memory.
