@@ -369,8 +369,7 @@ impl<A: Allocator + Copy> Batch<A> {
 }
 
 impl<A: Allocator> Batch<A> {
-    /// Whether those that wait are as many as may wait, or have no room for a block of this length, so that they should
-    /// be judged first.
+    /// Whether those that wait should be judged before a block of this length is added. If not, one more may wait.
     pub(crate) fn is_full(&self, len: u64) -> bool
         ensures { result ≡ false → length self.now < MAX_WAITING }
     {

@@ -55,9 +55,8 @@ impl<S: Source, A: Allocator> Checked<S, A> {
 }
 
 impl<S: Source, A: Allocator + Copy> Checked<S, A> {
-    /// Reads the source as a listing is read, 1 MiB at a time, and keeps with each row what its record has wrong:
-    /// 9 bytes for each record, and for each finding but a wrong digest 24 bytes and its field's name. While it reads,
-    /// it keeps at most 1 MiB of blocks, which are hashed side by side.
+    /// Reads the source as a listing is read, in larger pieces, and keeps with each row what its record has wrong.
+    /// docs/SPEED.md has the memory that this takes.
     pub fn open(alloc: A, source: S) -> Result<Checked<S, A>, (Fault, S)>
         ensures { Opens IsJudgedOf (S.seen source) (S.seen (source_judged result)) (judged_of result) }
     {

@@ -129,7 +129,7 @@ fn tally_rows<A: Allocator + Copy>(alloc: A, rows: &Rows<A>) -> Result<Tally<A>,
     Ok(Tally { counts, buckets })
 }
 
-/// The ids that earlier records use. Only those that may occur in the archive more than once are kept.
+/// The ids that earlier records use. An id whose bucket counts no other record may be left out.
 #[derive(Drop)]
 pub(crate) struct UsedIds<A: Allocator> {
     counts: Vec<u8, A>,
