@@ -1,6 +1,7 @@
 //! An allocator over memory of a host.
-ghost use Rattle.std.specs.Prelude.{◌≡◌, ◌*◌, ◌^◌, ◌<◌, ◌≤◌, IfSome};
+ghost use Rattle.std.specs.Prelude.{◌≡◌, ◌*◌, ◌^◌, ◌<◌, ◌≤◌, IfSome, None};
 ghost use Rattle.std.specs.Borrow.{ftrue};
+ghost use Rattle.warc_heap.specs.declared.heap.TheConstants.{OWN};
 
 use crate::memory::{Memory, UNIT};
 use std::alloc::{AllocError, Allocator};
@@ -37,6 +38,7 @@ impl Heap {
     /// suffice.
     pub fn for_good(memory: Memory, units: usize) -> Option<&'static Heap>
         requires { memory.units ≡ units }
+        ensures { units < OWN → result ≡ None }
     {
         if units < OWN {
             return None;

@@ -1,4 +1,6 @@
 //! The files of the system, and standard input.
+ghost use Rattle.std.specs.Prelude.{◌≡◌, IfOk, IfSome};
+
 use crate::progress::Progress;
 use std::cell::Cell;
 use std::fs::{self, File};
@@ -53,8 +55,11 @@ pub struct Host<'a> {
 }
 
 impl<'a> Host<'a> {
-    /// Opens the file at a path.
-    pub fn open(&self, path: &str) -> io::Result<HostFile<'a>> {
+    /// Opens the file at a path. Nobody has read it by what is given.
+    pub fn open(&self, path: &str) -> io::Result<HostFile<'a>>
+        ensures unread { IfOk result (λ file. file.reads ≡ 0) }
+        ensures sound { IfOk result (λ file. file.source.source.faults ≡ 0) }
+    {
         let opened = File::open(self.rt, path);
         note(self.reason, &opened);
         let file = opened?;
@@ -69,16 +74,23 @@ impl<'a> Host<'a> {
         Ok(WindowSource::new(self.rt.alloc(), source))
     }
 
-    /// Standard input as a file, where it is one that opens.
-    pub fn redirected(&self) -> Option<HostFile<'a>> {
+    /// Standard input as a file, if it is one that opens. Nobody has read it by what is given.
+    pub fn redirected(&self) -> Option<HostFile<'a>>
+        ensures unread { IfSome result (λ file. file.reads ≡ 0) }
+        ensures sound { IfSome result (λ file. file.source.source.faults ≡ 0) }
+    {
         match fs::metadata(self.rt, STANDARD_INPUT) {
             Ok(metadata) if metadata.is_file() => self.open(STANDARD_INPUT).ok(),
             _ => None,
         }
     }
 
-    /// Standard input as it comes.
-    pub fn stream(&self) -> HostStream<'a> {
+    /// Standard input as it comes. Its next byte is at offset 0, and nobody has read it by what is given.
+    pub fn stream(&self) -> HostStream<'a>
+        ensures begins { result.source.position ≡ 0 }
+        ensures unread { result.source.reads ≡ 0 }
+        ensures sound { result.source.faults ≡ 0 }
+    {
         let reader = Noted {
             reader: self.rt.stdin(),
             reason: self.reason,

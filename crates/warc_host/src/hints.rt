@@ -40,6 +40,7 @@ pub fn gives_bytes(command: &Command<'_>) -> bool {
             uri: _,
             date: _,
             in_hex: _,
+            stored: _,
         } => true,
         _ => false,
     }
