@@ -2,6 +2,7 @@ pub mod OutputLemmas
 pub mod EmitLemmas
 pub mod ExtractLemmas
 pub mod CountLemmas
+pub mod DateLemmas
 pub mod FixityLemmas
 pub mod FrontLemmas
 pub mod LawLemmas

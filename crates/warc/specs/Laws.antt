@@ -1,6 +1,6 @@
 -- The laws of archives.
-use Rattle.std.specs.Prelude.{◌≡◌, ◌≢◌, ◌⊎◌, ◌↔◌, ℕ, ◌^◌, ◌<◌, ◌≤◌, List, ◌++◌, length, map, Option, Some, Result}
-use Rattle.warc_value.specs.Dates.{Instant}
+use Rattle.std.specs.Prelude.{◌≡◌, ◌≢◌, ◌⊎◌, ◌↔◌, ℕ, ◌^◌, ◌<◌, ◌≤◌, List, ◌++◌, length, map, Option, Some, Result, IsSome}
+use Rattle.warc_value.specs.Dates.{Instant, instant_of}
 use Rattle.warc_frame.specs.Record.{Record, max_archive}
 use Rattle.warc_frame.specs.Spelling.{SpellsAll}
 use Rattle.warc_frame.specs.declared.fault.Fault.{Fault}
@@ -14,6 +14,7 @@ use Rattle.warc_answer.specs.declared.answer.ReplayFault.{ReplayFault}
 use Rattle.warc_reading.specs.Archive.{AreGood, IsArchiveOf, IsFaultOf, contents}
 use Rattle.warc_reading.specs.Opening.{IsRefusalOf, faults_after}
 use Rattle.warc_checking.specs.Checking.{check_text}
+use Rattle.warc.specs.Captures.{full_date}
 use Rattle.warc.specs.Forms.{record_as, texts_as}
 use Rattle.warc.specs.Listing.{listing}
 use Rattle.warc_reading.specs.Row.{Placed, Row, row_of}
@@ -97,3 +98,7 @@ abbrev pub MigrationKeepsReplays : Type 0
 MigrationKeepsReplays = (records : List Record) → AreGood records → (rows : List Row) (is : IsMigrated records rows)
     → (uri : List ℕ) (moment : Instant) (answer : Result Answer ReplayFault) (old new : Option (List ℕ))
     → IsReplay (contents is.are.records) uri moment answer old new ↔ IsReplay records uri moment answer old new
+
+-- a date in full is of the same instant
+abbrev pub FullDatesAreInstants : Type 0
+FullDatesAreInstants = (date : List ℕ) → IsSome (instant_of date) → instant_of (full_date date) ≡ instant_of date

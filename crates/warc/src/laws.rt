@@ -1,5 +1,5 @@
 //! Laws over the definitions: each function does nothing, and its contract is the law.
-ghost use Rattle.warc.specs.Laws.{ArchivesSpell, FaultsAreStable, NoFaultWhereSpelled, OneFault};
+ghost use Rattle.warc.specs.Laws.{ArchivesSpell, FaultsAreStable, FullDatesAreInstants, NoFaultWhereSpelled, OneFault};
 ghost use Rattle.warc.specs.Laws.{MigrationKeepsAnswers, MigrationKeepsReplays, OutputsAreCounted, SomeFaultElse};
 ghost use Rattle.warc.specs.Laws.{RecordsAreSpelled, RecordsAreTheSame, RefusedForFault};
 ghost use Rattle.warc.specs.Laws.{WrittenOpensAsSame, WrittenSpells};
@@ -73,3 +73,9 @@ pub fn migration_keeps_answers()
     written_opens_as_same();
     conversion_keeps_answers();
 }
+
+/// The date that `captures` writes in full is of the same instant as the one that the record states.
+#[tactic(auto, using(crate::proofs::DateLemmas::full_instant))]
+pub fn full_dates_are_instants()
+    ensures { FullDatesAreInstants }
+{}
