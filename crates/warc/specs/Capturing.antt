@@ -1,5 +1,5 @@
 -- The outcomes of captures, of which each origin is judged once.
-use Rattle.std.specs.Prelude.{◌≡◌, ◌⊎◌, ℕ, ◌+◌, ◌<◌, ◌≤◌, List, length, map, slice_get, Option, Some, Result, IfErr, IfOk}
+use Rattle.std.specs.Prelude.{◌≡◌, ◌⊎◌, ℕ, ◌+◌, ◌<◌, ◌≤◌, List, length, map, slice_get, Option, Some, None, Result, IfErr, IfOk}
 use Rattle.std.specs.List.{AllByRecursion, Contains}
 use Rattle.warc_frame.specs.Effects.{FailsBy, Preserves}
 use Rattle.warc_frame.specs.Record.{Record}
@@ -54,6 +54,11 @@ pub record IsRecalled {A : Type 0} (slots : List ℕ) (outcomes : List (Outcome 
   pub index : ℕ
   pub slot : slice_get slots origin ≡ Some (index + 1)
   pub there : slice_get outcomes index ≡ Some o
+
+-- the origin's slot names no outcome
+abbrev pub IsUnknown : {A : Type 0} → List ℕ → List (Outcome A) → ℕ → Type 0
+IsUnknown slots outcomes origin = (index : ℕ) → slice_get slots origin ≡ Some (index + 1)
+    → slice_get outcomes index ≡ None
 
 -- each slot names an outcome with what is stored of that origin
 abbrev pub Recalls : {A : Type 0} → List Record → List ℕ → List (Outcome A) → Type 0

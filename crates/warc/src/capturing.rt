@@ -1,8 +1,8 @@
 //! The captures of an archive, and their outcomes, of which each origin is judged once.
-ghost use Rattle.std.specs.Prelude.{◌≡◌, ◌+◌, ◌++◌, ◌∷◌, [], length, IfErr, IfOk, IfSome, OnOk};
+ghost use Rattle.std.specs.Prelude.{◌≡◌, ◌+◌, ◌++◌, ◌∷◌, [], length, None, IfErr, IfOk, IfSome, OnOk};
 ghost use Rattle.warc_record.specs.Kinds.{kind_named};
 ghost use Rattle.warc.specs.Captures.{capture_positions, position_if};
-ghost use Rattle.warc.specs.Capturing.{IsRecalled, JudgesAll, JudgesNext, JudgesOne, Remembers};
+ghost use Rattle.warc.specs.Capturing.{IsRecalled, IsUnknown, JudgesAll, JudgesNext, JudgesOne, Remembers};
 ghost use Rattle.warc.specs.Looking.{Judges};
 ghost use Rattle.warc.specs.Outcomes.{judged_seen};
 ghost use Rattle.warc_answer.specs.Seen.{stored_seen};
@@ -89,7 +89,8 @@ fn recalled<'a, A: Allocator>(
     outcomes: &'a [Outcome<A>],
     origin: usize,
 ) -> Option<&'a Outcome<A>>
-    ensures { IfSome result (λ o. IsRecalled slots.now outcomes.now origin o.now) }
+    ensures some { IfSome result (λ o. IsRecalled slots.now outcomes.now origin o.now) }
+    ensures none { result ≡ None → IsUnknown slots.now outcomes.now origin }
 {
     match slots.get(origin) {
         Some(slot) if *slot > 0 => outcomes.get(*slot - 1),

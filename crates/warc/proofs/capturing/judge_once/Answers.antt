@@ -9,7 +9,7 @@ pub returns-in-Some : goal.returns-in-Some
 returns-in-Some g c = record {
   told = λ bytes held is parts recalls.
       IfOk-weaker c.judged_again.result _ _
-      (λ r same. subst (λ j. IsStoredAt (contents is.are.records) c.args.origin j) (sym same) (recalls c.args.origin _ c.in-Some.ensures)) c.judged_again.ensures.same;
+      (λ r same. subst (λ j. IsStoredAt (contents is.are.records) c.args.origin j) (sym same) (recalls c.args.origin _ c.in-Some.ensures.some)) c.judged_again.ensures.same;
   early = memory_early _ c.judged_again.ensures.memory;
   inside = λ bytes is parts off. refl;
   keeps = record { kept = refl; watched = refl };
