@@ -13,8 +13,11 @@ use Rattle.warc_arguments.specs.Parsed.{IsParsed}
 use Rattle.warc_commands.specs.Devices.{devices}
 use Rattle.warc_commands.specs.Ends.{Ends, IsStatusOf, writes_front}
 use Rattle.warc_commands.specs.Program.{FaultEnds, IsNotRead, Tells, told_line}
+use Rattle.warc_commands.specs.Reads.{CommandReads}
 use Rattle.warc_commands.specs.declared.running.Place.{Place}
 use Rattle.warc_commands.specs.declared.running.Place.TheVariants.{File, Memory as InMemory, Input, Nowhere}
+use Rattle.warc_commands.specs.declared.running.RunSource.{RunSource}
+use Rattle.warc_commands.specs.declared.running.RunSource.TheVariants as sources
 use Rattle.warc_arguments.specs.declared.words.Command.{Command}
 use Rattle.warc_arguments.specs.declared.words.CommandFault.{CommandFault}
 use Rattle.warc_arguments.specs.declared.words.Request.{Request}
@@ -58,20 +61,32 @@ pub record IsStopped (why : List ℕ) (old new : Outputs) (status : ℕ) : Type 
   pub told : Tells (told_line why) old.err new.err
   pub status_is : status ≡ 3
 
--- a command was done over a source
-pub record IsRunOver (command : Command) (source : SeenSource) (old new : Outputs) (status : ℕ) : Type 0 where
-  pub last : SeenSource
+-- a command was done over a source, which it left in a last state
+pub record IsRunOver (command : Command) (source last : SeenSource) (old new : Outputs) (status : ℕ) : Type 0 where
   pub kept : last.holds ≡ source.holds
   pub ends : Ends command (devices source old.out old.err) (devices last new.out new.err) status
+  pub reads : CommandReads command source last
   pub silent : writes_front command ≡ false → status ≡ 2
       → (new.out.tells ≡ old.out.tells) × (new.out.faults ≡ old.out.faults)
   pub answers : IsStatusOf command status
 
+-- what is seen of what a run gives back, if it read something of the system's
+abbrev pub run_left : {F S : Type 0} → (F → SeenSource) → (S → SeenSource) → RunSource F S → Option SeenSource
+run_left file stream (sources.File f) = Some (file f)
+run_left file stream (sources.Stream s) = Some (stream s)
+run_left file stream sources.Nothing = None
+
+-- a command was done over a source of the system's, which was given back
+abbrev pub IsRunOnLeft : Command → SeenSource → Option SeenSource → Outputs → Outputs → ℕ → Type 0
+IsRunOnLeft command source None old new status = ⊥
+IsRunOnLeft command source (Some last) old new status = IsRunOver command source last old new status
+
 -- a command reads the file at its path
-pub record ReadsFile (gives : Offer → Type 0) (command : Command) (old new : Outputs) (status : ℕ) : Type 0 where
+pub record ReadsFile (gives : Offer → Type 0) (left : Option SeenSource) (command : Command) (old new : Outputs)
+    (status : ℕ) : Type 0 where
   pub file : Result SeenSource Error
   pub given : gives (opened (path_word command) file)
-  pub ends : MatchResult file (λ source. IsRunOver command source old new status)
+  pub ends : MatchResult file (λ source. IsRunOnLeft command source left old new status)
       (λ error. IsStopped (stop_text (codes "open failed") (error_kind error)) old new status)
 
 -- a source of bytes in memory, which nobody has read
@@ -87,9 +102,15 @@ in_memory bytes = record {
   jumps = 0;
 }
 
+-- a command was done over bytes in memory: no read of them failed
+pub record IsRunInMemory (command : Command) (bytes : List ℕ) (old new : Outputs) (status : ℕ) : Type 0 where
+  pub last : SeenSource
+  pub sound : last.faults ≡ 0
+  pub over : IsRunOver command (in_memory bytes) last old new status
+
 -- a command over bytes in memory, if they are few enough
 abbrev pub MemoryEnds : Bool → List ℕ → Command → List ℕ → Outputs → Outputs → ℕ → Type 0
-MemoryEnds true long command bytes old new status = IsRunOver command (in_memory bytes) old new status
+MemoryEnds true long command bytes old new status = IsRunInMemory command bytes old new status
 MemoryEnds false long command bytes old new status = IsStopped long old new status
 
 -- a command was done over all bytes of a source, which were read into memory, or stopped since they are too long
@@ -100,54 +121,60 @@ pub record IsDoneInMemory (long : List ℕ) (command : Command) (source last : S
   pub sound : last.faults ≡ source.faults
   pub ends : MemoryEnds (nat_le (length bytes) max_input) long command bytes old new status
 
--- a command reads standard input into memory first; where that fails the run stops
-pub record ReadsMemory (gives : Offer → Type 0) (long : List ℕ) (command : Command) (old new : Outputs) (status : ℕ)
-    : Type 0 where
+-- a command reads standard input into memory first, and gives it back; where reading fails the run stops
+pub record ReadsMemory (gives : Offer → Type 0) (left : Option SeenSource) (long : List ℕ) (command : Command)
+    (old new : Outputs) (status : ℕ) : Type 0 where
   pub source : SeenSource
   pub given : gives (streamed source)
   pub last : SeenSource
+  pub given_back : left ≡ Some last
   pub ends : IsDoneInMemory long command source last old new status
       ⊎ IsNotRead (devices source old.out old.err) (devices last new.out new.err) status
 
 -- a command reads standard input as it comes
-pub record ReadsStream (gives : Offer → Type 0) (command : Command) (old new : Outputs) (status : ℕ) : Type 0 where
+pub record ReadsStream (gives : Offer → Type 0) (left : Option SeenSource) (command : Command) (old new : Outputs)
+    (status : ℕ) : Type 0 where
   pub source : SeenSource
   pub given : gives (streamed source)
-  pub ends : IsRunOver command source old new status
+  pub ends : IsRunOnLeft command source left old new status
 
 abbrev pub too_long : List ℕ
 too_long = codes "standard input is too long for this command; write it to a file first"
 
 -- a command reads standard input that is no file: as it comes, if it can ask for each offset once, in order
-abbrev pub PipeEnds : Bool → (Offer → Type 0) → Command → Outputs → Outputs → ℕ → Type 0
-PipeEnds true gives command old new status = ReadsStream gives command old new status
-PipeEnds false gives command old new status = ReadsMemory gives too_long command old new status
+abbrev pub PipeEnds : Bool → (Offer → Type 0) → Option SeenSource → Command → Outputs → Outputs → ℕ → Type 0
+PipeEnds true gives left command old new status = ReadsStream gives left command old new status
+PipeEnds false gives left command old new status = ReadsMemory gives left too_long command old new status
 
 -- a command reads standard input: at any offset where it is a file
-pub record ReadsInput (gives : Offer → Type 0) (command : Command) (old new : Outputs) (status : ℕ) : Type 0 where
+pub record ReadsInput (gives : Offer → Type 0) (left : Option SeenSource) (command : Command) (old new : Outputs)
+    (status : ℕ) : Type 0 where
   pub file : Option SeenSource
   pub given : gives (redirected file)
-  pub ends : MatchOption file (PipeEnds (reads_once command) gives command old new status)
-      (λ source. IsRunOver command source old new status)
+  pub ends : MatchOption file (PipeEnds (reads_once command) gives left command old new status)
+      (λ source. IsRunOnLeft command source left old new status)
 
 -- how a command ends, by where its bytes are
-abbrev pub PlaceEnds : Place → (Offer → Type 0) → Command → Outputs → Outputs → ℕ → Type 0
-PlaceEnds File gives command old new status = ReadsFile gives command old new status
-PlaceEnds InMemory gives command old new status = ReadsMemory gives (codes "read failed after 0") command old new status
-PlaceEnds Input gives command old new status = ReadsInput gives command old new status
-PlaceEnds Nowhere gives command old new status = IsRunOver command (in_memory []) old new status
+abbrev pub PlaceEnds : Place → (Offer → Type 0) → Option SeenSource → Command → Outputs → Outputs → ℕ → Type 0
+PlaceEnds File gives left command old new status = ReadsFile gives left command old new status
+PlaceEnds InMemory gives left command old new status =
+    ReadsMemory gives left (codes "read failed after 0") command old new status
+PlaceEnds Input gives left command old new status = ReadsInput gives left command old new status
+PlaceEnds Nowhere gives left command old new status = IsRunInMemory command [] old new status
 
 -- how a run ends whose words are texts
-pub record WordsEnd (gives : Offer → Type 0) (words : List (List ℕ)) (old new : Outputs) (status : ℕ) : Type 0 where
+pub record WordsEnd (gives : Offer → Type 0) (left : Option SeenSource) (words : List (List ℕ)) (old new : Outputs)
+    (status : ℕ) : Type 0 where
   pub parsed : Result Request CommandFault
   pub is : IsParsed words parsed
   pub ends : MatchResult parsed
-      (λ request. PlaceEnds (command_place request.command) gives request.command old new status)
+      (λ request. PlaceEnds (command_place request.command) gives left request.command old new status)
       (λ fault. FaultEnds fault old.out new.out old.err new.err status)
 
--- how a run ends
-abbrev pub RunEnds : {A B : Type 0} → (Offer → Type 0) → Result (Vec (String A) B) Error → Outputs → Outputs → ℕ
-    → Type 0
-RunEnds gives (Ok words) old new status = WordsEnd gives (map string_bytes words.items) old new status
-RunEnds gives (Err error) old new status =
+-- How a run ends, by what the system gives and by what is seen of the source that it gives back: a failed read is
+-- reported only where that source has failed.
+abbrev pub RunEnds : {A B : Type 0} → (Offer → Type 0) → Option SeenSource → Result (Vec (String A) B) Error → Outputs
+    → Outputs → ℕ → Type 0
+RunEnds gives left (Ok words) old new status = WordsEnd gives left (map string_bytes words.items) old new status
+RunEnds gives left (Err error) old new status =
     IsStopped (stop_text (codes "the arguments aren't text") (error_kind error)) old new status

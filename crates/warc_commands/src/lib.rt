@@ -18,7 +18,7 @@ mod summary;
 mod uris;
 
 pub use program::{perform, refuse};
-pub use running::{System, run};
+pub use running::{RunSource, System, run};
 
 // What the calls above take, so that a caller needs this crate alone.
 pub use warc_arguments::{Command, CommandFault, Draft, EXPLANATIONS, Request, parse};

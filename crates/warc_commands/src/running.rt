@@ -4,8 +4,8 @@ ghost use Rattle.std.specs.Prelude.{◌≡◌, ◌≤◌, [], length, map, nat_l
 ghost use Rattle.std.specs.Result.{result_map_both};
 ghost use Rattle.std.specs.IoError.{error_kind};
 ghost use Rattle.warc_commands.specs.Program.{Tells, told_line};
-ghost use Rattle.warc_commands.specs.Running.{Offer, IsRunOver, MemoryEnds, PipeEnds, PlaceEnds, ReadsFile, ReadsInput, ReadsMemory, ReadsStream, RunEnds, WordsEnd};
-ghost use Rattle.warc_commands.specs.Running.{command_place, in_memory, max_input, opened, outputs, place_at, redirected, stop_text, streamed};
+ghost use Rattle.warc_commands.specs.Running.{Offer, IsRunInMemory, IsRunOver, MemoryEnds, PipeEnds, PlaceEnds, ReadsFile, ReadsInput, ReadsMemory, RunEnds, WordsEnd};
+ghost use Rattle.warc_commands.specs.Running.{command_place, max_input, opened, outputs, place_at, redirected, run_left, stop_text, streamed};
 ghost use Rattle.warc_arguments.specs.Command.{reads_once};
 
 use crate::making::read_front;
@@ -47,6 +47,14 @@ pub trait System {
         ensures { gives self.now (streamed (Self.Stream.seen result)) };
 }
 
+/// What a run read of the system's, as the run leaves it.
+#[derive(Drop)]
+pub enum RunSource<F, S> {
+    File(F),
+    Stream(S),
+    Nothing,
+}
+
 /// Where the bytes of a command are: in the file at its path; in memory, into which standard input is read first; in
 /// standard input; or nowhere, if it reads nothing.
 #[derive(Clone, Copy, Debug, PartialEq, Eq)]
@@ -58,42 +66,52 @@ enum Place {
 }
 
 /// Does what words say, of which the first is the program's name: all of `main` but opening. The answer is the exit
-/// status. Words that aren't text and a file that doesn't open are reported on `err`, with status 3. The path `-` is
-/// standard input: at any offset where it is a file, as it comes where the command can ask for each offset once, in
-/// order, and else read into memory, at most 2^30 bytes of it. The path `/dev/stdin` is always read into memory. A
-/// command that reads nothing opens nothing.
+/// status, and what was read: a failed read is reported only if a read of that source failed. Words that aren't text
+/// and a file that doesn't open are reported on `err`, with status 3. The path `-` is standard input: at any offset if
+/// it is a file, as it comes if the command can ask for each offset once, in order, and else read into memory, at most
+/// 2^30 bytes of it. The path `/dev/stdin` is always read into memory. A command that reads nothing opens nothing.
 pub fn run<Y, W, E>(
     alloc: Global,
     system: &Y,
     words: &io::Result<Vec<String>>,
     out: &mut W,
     err: &mut E,
-) -> u8
+) -> (u8, RunSource<Y::File, Y::Stream>)
 where
     Y: System,
     W: Sink,
     E: Sink,
-    ensures { RunEnds (Y.gives system.now) words.now (outputs (W.seen out.old) (E.seen err.old)) (outputs
-        (W.seen out.new) (E.seen err.new)) result }
+    ensures { RunEnds (Y.gives system.now) (run_left Y.File.seen Y.Stream.seen result.1) words.now
+        (outputs (W.seen out.old) (E.seen err.old)) (outputs (W.seen out.new) (E.seen err.new)) result.0 }
 {
     match words {
         Ok(words) => run_words(alloc, system, words.as_slice(), out, err),
-        Err(error) => stop(error, "the arguments aren't text", err),
+        Err(error) => (
+            stop(error, "the arguments aren't text", err),
+            RunSource::Nothing,
+        ),
     }
 }
 
 /// Does what words that are texts say.
-fn run_words<Y, W, E>(alloc: Global, system: &Y, words: &[String], out: &mut W, err: &mut E) -> u8
+fn run_words<Y, W, E>(
+    alloc: Global,
+    system: &Y,
+    words: &[String],
+    out: &mut W,
+    err: &mut E,
+) -> (u8, RunSource<Y::File, Y::Stream>)
 where
     Y: System,
     W: Sink,
     E: Sink,
-    ensures { WordsEnd (Y.gives system.now) (map string_bytes words.now) (outputs (W.seen out.old) (E.seen err.old))
-        (outputs (W.seen out.new) (E.seen err.new)) result }
+    ensures { WordsEnd (Y.gives system.now) (run_left Y.File.seen Y.Stream.seen result.1)
+        (map string_bytes words.now)
+        (outputs (W.seen out.old) (E.seen err.old)) (outputs (W.seen out.new) (E.seen err.new)) result.0 }
 {
     match parse(alloc, words) {
         Ok(request) => run_command(alloc, system, &request.command, out, err),
-        Err(fault) => refuse(&fault, out, err),
+        Err(fault) => (refuse(&fault, out, err), RunSource::Nothing),
     }
 }
 
@@ -104,19 +122,23 @@ fn run_command<Y, W, E>(
     command: &Command<'_>,
     out: &mut W,
     err: &mut E,
-) -> u8
+) -> (u8, RunSource<Y::File, Y::Stream>)
 where
     Y: System,
     W: Sink,
     E: Sink,
-    ensures { PlaceEnds (command_place command.now) (Y.gives system.now) command.now (outputs (W.seen out.old)
-        (E.seen err.old)) (outputs (W.seen out.new) (E.seen err.new)) result }
+    ensures { PlaceEnds (command_place command.now) (Y.gives system.now)
+        (run_left Y.File.seen Y.Stream.seen result.1) command.now
+        (outputs (W.seen out.old) (E.seen err.old)) (outputs (W.seen out.new) (E.seen err.new)) result.0 }
 {
     match place_of(command) {
         Place::File => run_file(alloc, system, command, out, err),
         Place::Memory => run_memory(alloc, system, command, READ_FAILED, out, err),
         Place::Input => run_input(alloc, system, command, out, err),
-        Place::Nowhere => run_over_nothing(alloc, command, out, err),
+        Place::Nowhere => (
+            run_over_nothing(alloc, command, out, err),
+            RunSource::Nothing,
+        ),
     }
 }
 
@@ -138,16 +160,10 @@ fn run_over_nothing<W: Sink, E: Sink>(
     out: &mut W,
     err: &mut E,
 ) -> u8
-    ensures { IsRunOver command.now (in_memory []) (outputs (W.seen out.old) (E.seen err.old)) (outputs
+    ensures { IsRunInMemory command.now [] (outputs (W.seen out.old) (E.seen err.old)) (outputs
         (W.seen out.new) (E.seen err.new)) result }
 {
-    run_over(
-        alloc,
-        command,
-        MemSource::new(Vec::new(alloc), usize::MAX),
-        out,
-        err,
-    )
+    run_in_memory(alloc, command, Vec::new(alloc), out, err)
 }
 
 /// Where the bytes at a path are.
@@ -168,17 +184,20 @@ fn run_file<Y, W, E>(
     command: &Command<'_>,
     out: &mut W,
     err: &mut E,
-) -> u8
+) -> (u8, RunSource<Y::File, Y::Stream>)
 where
     Y: System,
     W: Sink,
     E: Sink,
-    ensures { ReadsFile (Y.gives system.now) command.now (outputs (W.seen out.old) (E.seen err.old)) (outputs
-        (W.seen out.new) (E.seen err.new)) result }
+    ensures { ReadsFile (Y.gives system.now) (run_left Y.File.seen Y.Stream.seen result.1) command.now
+        (outputs (W.seen out.old) (E.seen err.old)) (outputs (W.seen out.new) (E.seen err.new)) result.0 }
 {
     match system.open(command.path()) {
-        Ok(file) => run_over(alloc, command, file, out, err),
-        Err(error) => stop(&error, "open failed", err),
+        Ok(file) => {
+            let (status, file) = run_over(alloc, command, file, out, err);
+            (status, RunSource::File(file))
+        }
+        Err(error) => (stop(&error, "open failed", err), RunSource::Nothing),
     }
 }
 
@@ -189,16 +208,19 @@ fn run_input<Y, W, E>(
     command: &Command<'_>,
     out: &mut W,
     err: &mut E,
-) -> u8
+) -> (u8, RunSource<Y::File, Y::Stream>)
 where
     Y: System,
     W: Sink,
     E: Sink,
-    ensures { ReadsInput (Y.gives system.now) command.now (outputs (W.seen out.old) (E.seen err.old)) (outputs
-        (W.seen out.new) (E.seen err.new)) result }
+    ensures { ReadsInput (Y.gives system.now) (run_left Y.File.seen Y.Stream.seen result.1) command.now
+        (outputs (W.seen out.old) (E.seen err.old)) (outputs (W.seen out.new) (E.seen err.new)) result.0 }
 {
     match system.redirected() {
-        Some(file) => run_over(alloc, command, file, out, err),
+        Some(file) => {
+            let (status, file) = run_over(alloc, command, file, out, err);
+            (status, RunSource::File(file))
+        }
         None => run_pipe(alloc, system, command, out, err),
     }
 }
@@ -210,16 +232,18 @@ fn run_pipe<Y, W, E>(
     command: &Command<'_>,
     out: &mut W,
     err: &mut E,
-) -> u8
+) -> (u8, RunSource<Y::File, Y::Stream>)
 where
     Y: System,
     W: Sink,
     E: Sink,
-    ensures { PipeEnds (reads_once command.now) (Y.gives system.now) command.now (outputs (W.seen out.old)
-        (E.seen err.old)) (outputs (W.seen out.new) (E.seen err.new)) result }
+    ensures { PipeEnds (reads_once command.now) (Y.gives system.now) (run_left Y.File.seen Y.Stream.seen result.1)
+        command.now
+        (outputs (W.seen out.old) (E.seen err.old)) (outputs (W.seen out.new) (E.seen err.new)) result.0 }
 {
     if command.reads_once() {
-        run_over(alloc, command, system.stream(), out, err)
+        let (status, stream) = run_over(alloc, command, system.stream(), out, err);
+        (status, RunSource::Stream(stream))
     } else {
         run_memory(alloc, system, command, TOO_LONG, out, err)
     }
@@ -234,19 +258,22 @@ fn run_memory<Y, W, E>(
     long: &str,
     out: &mut W,
     err: &mut E,
-) -> u8
+) -> (u8, RunSource<Y::File, Y::Stream>)
 where
     Y: System,
     W: Sink,
     E: Sink,
     requires { length long.now ≤ 100 }
-    ensures { ReadsMemory (Y.gives system.now) long.now command.now (outputs (W.seen out.old) (E.seen err.old)) (outputs
-        (W.seen out.new) (E.seen err.new)) result }
+    ensures { ReadsMemory (Y.gives system.now) (run_left Y.File.seen Y.Stream.seen result.1) long.now command.now
+        (outputs (W.seen out.old) (E.seen err.old)) (outputs (W.seen out.new) (E.seen err.new)) result.0 }
 {
     let mut source = system.stream();
     match read_front(alloc, &mut source, MOST_INPUT + 1) {
-        Ok(bytes) => run_bytes(alloc, command, bytes, long, out, err),
-        Err(fault) => tell_cut(fault, err),
+        Ok(bytes) => {
+            let status = run_bytes(alloc, command, bytes, long, out, err);
+            (status, RunSource::Stream(source))
+        }
+        Err(fault) => (tell_cut(fault, err), RunSource::Stream(source)),
     }
 }
 
@@ -264,29 +291,43 @@ fn run_bytes<W: Sink, E: Sink>(
         (W.seen out.old) (E.seen err.old)) (outputs (W.seen out.new) (E.seen err.new)) result }
 {
     if bytes.len() as u64 <= MOST_INPUT {
-        run_over(alloc, command, MemSource::new(bytes, usize::MAX), out, err)
+        run_in_memory(alloc, command, bytes, out, err)
     } else {
         tell_stop(long, err)
     }
 }
 
-/// Does what a command says, over a source.
+/// Does what a command says, over bytes in memory.
+fn run_in_memory<W: Sink, E: Sink>(
+    alloc: Global,
+    command: &Command<'_>,
+    bytes: Vec<u8>,
+    out: &mut W,
+    err: &mut E,
+) -> u8
+    ensures { IsRunInMemory command.now bytes.items (outputs (W.seen out.old) (E.seen err.old)) (outputs
+        (W.seen out.new) (E.seen err.new)) result }
+{
+    let (status, _) = run_over(alloc, command, MemSource::new(bytes, usize::MAX), out, err);
+    status
+}
+
+/// Does what a command says, over a source, and gives it back.
 fn run_over<S, W, E>(
     alloc: Global,
     command: &Command<'_>,
     source: S,
     out: &mut W,
     err: &mut E,
-) -> u8
+) -> (u8, S)
 where
     S: Source + Drop,
     W: Sink,
     E: Sink,
-    ensures { IsRunOver command.now (S.seen source) (outputs (W.seen out.old) (E.seen err.old)) (outputs
-        (W.seen out.new) (E.seen err.new)) result }
+    ensures { IsRunOver command.now (S.seen source) (S.seen result.1) (outputs (W.seen out.old) (E.seen err.old))
+        (outputs (W.seen out.new) (E.seen err.new)) result.0 }
 {
-    let (status, _) = perform(alloc, command, source, out, err);
-    status
+    perform(alloc, command, source, out, err)
 }
 
 /// Reports why a run can't begin: the text, or that memory was refused; and answers the exit status.

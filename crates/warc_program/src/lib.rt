@@ -32,7 +32,7 @@ pub fn run_program(rt: &HostRuntime) -> ExitCode {
             reason: &reason,
         },
     };
-    let status = run(rt.alloc(), &files, &words, &mut out, &mut err);
+    let (status, _) = run(rt.alloc(), &files, &words, &mut out, &mut err);
     let status = if out.end() { status } else { FAILED };
     err.sink.end();
     progress.erase();
