@@ -149,7 +149,8 @@ def version_of(program: str) -> str:
 
 def writers() -> list[Writer]:
     """All of them, in the order of the table."""
-    wget, stored = f"wget {version_of('wget')}", "P10: the server sent it in chunks or compressed; `warc body --stored`"
+    wget = f"wget {version_of('wget')}"
+    stored = "P10: the server sent it in chunks or compressed; `warc replay --stored`"
     return [
         Writer(wget, by_wget, stored),
         Writer(
@@ -168,10 +169,10 @@ def writers() -> list[Writer]:
         Writer(
             "warcprox 2 (made)",
             made(shapes.warcprox),
-            "hexadecimal digests aren't checked: start it with `--base32`. P10: `warc body --stored`",
+            "hexadecimal digests aren't checked: start it with `--base32`. P10: `warc replay --stored`",
         ),
         Writer("browser-based crawlers (made)", made(shapes.browser), "nothing is verified: SHA-256 isn't checked"),
-        Writer("warcio and pywb (made)", made(shapes.warcio), "P10: `warc body --stored`"),
+        Writer("warcio and pywb (made)", made(shapes.warcio), "P10: `warc replay --stored`"),
         Writer("crawlers before 2009, WARC/0.18 (made)", made(shapes.draft), "convert it with another tool"),
     ]
 

@@ -88,7 +88,7 @@ pub(crate) fn is_command(word: &str) -> bool {
 /// Whether the last of the words is an option, where it has to be one.
 fn ends_in_option(words: &[String]) -> bool {
     match (word(words, 0), words.len()) {
-        ("replay", 4) => word(words, 3) == "--uri-hex",
+        ("replay", 4) => matches!(word(words, 3), "--uri-hex" | "--stored"),
         ("captures", 3) => word(words, 2) == "--uri-hex",
         ("body", 3) => word(words, 2) == "--stored",
         _ => true,
@@ -124,6 +124,7 @@ pub(crate) fn command_of<'a>(words: &'a [String], case: &'a Case<'_>) -> Option<
             uri: word(words, 1),
             date: word(words, 2),
             in_hex: word(words, 3) == "--uri-hex",
+            stored: word(words, 3) == "--stored",
         },
         "body" => Command::Body {
             archive,

@@ -16,7 +16,7 @@ abbrev pub view_of : Command → Text × List Text
 view_of (command.List archive) = (codes "list", archive.now ∷ [])
 view_of (command.Check archive) = (codes "check", archive.now ∷ [])
 view_of (command.Extract archive id) = (codes "extract", archive.now ∷ id.now ∷ [])
-view_of (command.Replay archive uri date hex) = (codes "replay", archive.now ∷ uri.now ∷ date.now ∷ [])
+view_of (command.Replay archive uri date hex stored) = (codes "replay", archive.now ∷ uri.now ∷ date.now ∷ [])
 view_of (command.Body archive position stored) = (codes "body", archive.now ∷ position.now ∷ [])
 view_of (command.Captures archive uri hex) =
     (codes "captures", archive.now ∷ option_to_list (option_map (λ u. u.now) uri))
@@ -33,7 +33,7 @@ view_of (command.Explain number) = (codes "explain", number.now ∷ [])
 
 -- whether each of its flags is given, in order; `--quiet` and `--hints`, which every command has, aren't among them
 abbrev pub flags_of : Command → List Bool
-flags_of (command.Replay archive uri date hex) = hex ∷ []
+flags_of (command.Replay archive uri date hex stored) = hex ∷ stored ∷ []
 flags_of (command.Body archive position stored) = stored ∷ []
 flags_of (command.Captures archive uri hex) = hex ∷ []
 flags_of _ = []
@@ -53,7 +53,7 @@ abbrev pub path_word : Command → Text
 path_word (command.List archive) = archive.now
 path_word (command.Check archive) = archive.now
 path_word (command.Extract archive id) = archive.now
-path_word (command.Replay archive uri date hex) = archive.now
+path_word (command.Replay archive uri date hex stored) = archive.now
 path_word (command.Body archive position stored) = archive.now
 path_word (command.Captures archive uri hex) = archive.now
 path_word (command.Rewrite archive) = archive.now

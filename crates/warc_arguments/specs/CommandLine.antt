@@ -35,7 +35,7 @@ replay_layout = record {
   name = codes "replay";
   words = codes "archive" ∷ codes "uri" ∷ codes "date" ∷ [];
   optional = [];
-  flags = codes "uri-hex" ∷ [];
+  flags = codes "uri-hex" ∷ codes "stored" ∷ [];
 }
 
 abbrev pub body_layout : Layout

@@ -219,7 +219,8 @@ What to do: the block can be had as it is with 'warc block'.
         "P10",
         "P10 Coded
 The body is stored chunked or compressed, as its Transfer-Encoding or Content-Encoding says. It isn't decoded.
-What to do: 'warc body --stored' writes it as it is stored, and names the codings. Decode it with another tool.
+What to do: with --stored, 'warc replay' and 'warc body' write it as it is stored, and name the codings. Decode it with
+another tool.
 ",
     ),
     (

@@ -34,14 +34,15 @@ pub enum Command<'a> {
         archive: &'a str,
         id: &'a str,
     },
-    /// The body for a URI as of the first instant of a date.
+    /// The body for a URI as of the first instant of a date; as it is stored, also a coded one, if that is asked for.
     Replay {
         archive: &'a str,
         uri: &'a str,
         date: &'a str,
         in_hex: bool,
+        stored: bool,
     },
-    /// The body that the capture at a position gives; as it is stored, also a coded one, where that is asked for.
+    /// The body that the capture at a position gives; as it is stored, also a coded one, if that is asked for.
     Body {
         archive: &'a str,
         position: &'a str,
@@ -128,6 +129,7 @@ impl<'a> Command<'a> {
                 uri: _,
                 date: _,
                 in_hex: _,
+                stored: _,
             } => archive,
             Command::Body {
                 archive,
@@ -287,7 +289,7 @@ Example:
   warc extract examples/abc.warc urn:uuid:00000000-0000-4000-8000-000000000001";
 
 const REPLAY_NOTES: &str =
-    "The body is that of the latest capture of the URI that isn't later than the
+    "The body is what the latest capture of the URI gives that isn't later than the
 date: its segments joined, and of an HTTP response what follows its head. A
 date is YYYY, YYYY-MM, YYYY-MM-DD, YYYY-MM-DDThh:mmZ or YYYY-MM-DDThh:mm:ssZ,
 also with a fraction of a second, and names its first instant: 2010 is before
@@ -295,7 +297,9 @@ everything of 2010. With --uri-hex the URI is written as hexadecimal digits,
 as for one that isn't UTF-8. A line on standard error has the positions of the
 chosen record and of the one whose body is given, the status of the HTTP
 response or '-', whether a record is marked as truncated, and the length of
-the body in bytes.
+the body in bytes. With --stored a coded body is written too, as it is stored
+after the HTTP head; then the line ends with 'coded' and the fields that name
+the codings, as 'coded transfer-encoding=chunked content-encoding=gzip'.
 
 Exit status: 0 written; 1 there is no body, for one of the reasons P1 to P10,
 and nothing was written; 2 the archive is refused, and nothing was written;
@@ -305,11 +309,11 @@ Example: warc replay examples/abc.warc http://a.example/x 2021";
 
 const BODY_NOTES: &str =
     "The body is the one that 'warc replay' gives if it chooses this capture: of a
-revisit that of the record to which it leads, its segments joined, and of an
-HTTP response what follows its head. Positions are those of 'warc list', from
-0. The line on standard error is that of 'warc replay'. With --stored a coded
-body is written too, as it is stored after the HTTP head; then the line ends
-with 'coded' and the fields that name the codings, as
+revisit the body of the record to which it leads, its segments joined, and of
+an HTTP response what follows its head. Positions count from 0, as 'warc list'
+shows them. The line on standard error is the one that 'warc replay' writes.
+With --stored a coded body is written too, as it is stored after the HTTP
+head; then the line ends with 'coded' and the fields that name the codings, as
 'coded transfer-encoding=chunked content-encoding=gzip'.
 
 Exit status: 0 written; 1 nothing was written: there is no body, for the
@@ -566,7 +570,7 @@ const FIRST_COMMANDS: [Entry; 6] = [
         notes: REPLAY_NOTES,
         words: &[ARCHIVE, URI, DATE],
         optional: &[],
-        flags: &[URI_HEX],
+        flags: &[URI_HEX, STORED],
     },
     Entry {
         name: "body",
@@ -838,6 +842,7 @@ fn read_command<'a>(name: &str, texts: &ArgMatches<'a>) -> Command<'a>
             uri: text_at(texts, "uri"),
             date: text_at(texts, "date"),
             in_hex: is_given(texts, "uri-hex"),
+            stored: is_given(texts, "stored"),
         },
         "body" => Command::Body {
             archive,

@@ -1,6 +1,5 @@
 -- How each command ends, and its exit statuses.
 use Rattle.std.specs.Prelude.{◌≡◌, ℕ, ◌⊎◌, Bool, true, false, option_map}
-use Rattle.warc_value.specs.Dates.{instant_of}
 use Rattle.warc.specs.Forms.{texts_as}
 use Rattle.warc.specs.declared.copying.Form.TheVariants.{Canonical, Converted}
 use Rattle.warc.specs.declared.part.Part.TheVariants.{Head, Block}
@@ -11,10 +10,10 @@ use Rattle.warc_commands.specs.Devices.{Devices}
 use Rattle.warc_commands.specs.Explaining.{ExplainEnds}
 use Rattle.warc_commands.specs.Fixity.{FixityEnds}
 use Rattle.warc_commands.specs.Parts.{PartEnds, position_of}
-use Rattle.warc_commands.specs.Program.{CheckEnds, ExtractEnds, ListEnds, MakeEnds, ReplayEnds, SplitEnds, WriteEnds, size_of}
+use Rattle.warc_commands.specs.Program.{CheckEnds, ExtractEnds, ListEnds, MakeEnds, SplitEnds, WriteEnds, size_of}
 use Rattle.warc_commands.specs.Captures.{CapturesEnds}
 use Rattle.warc_commands.specs.Salvage.{SalvageEnds}
-use Rattle.warc_commands.specs.Stored.{StoredEnds}
+use Rattle.warc_commands.specs.Stored.{ReplayedAs, StoredEnds}
 use Rattle.warc_commands.specs.Summaries.{SummaryEnds}
 use Rattle.warc_commands.specs.Uris.{UriEnds, uri_listed}
 use Rattle.warc_arguments.specs.declared.words.Command.{Command}
@@ -25,8 +24,8 @@ abbrev pub Ends : Command → Devices → Devices → ℕ → Type 0
 Ends (command.List archive) old new status = ListEnds old new status
 Ends (command.Check archive) old new status = CheckEnds old new status
 Ends (command.Extract archive id) old new status = ExtractEnds id.now old new status
-Ends (command.Replay archive uri date hex) old new status =
-    UriEnds (λ bytes. ReplayEnds bytes (instant_of date.now)) hex (uri_named hex uri.now) old new status
+Ends (command.Replay archive uri date hex stored) old new status =
+    UriEnds (ReplayedAs stored date.now) hex (uri_named hex uri.now) old new status
 Ends (command.Body archive position false) old new status = BodyEnds (position_of position.now) old new status
 Ends (command.Body archive position true) old new status = StoredEnds (position_of position.now) old new status
 Ends (command.Captures archive uri hex) old new status =
@@ -47,7 +46,8 @@ abbrev pub IsStatusOf : Command → ℕ → Type 0
 IsStatusOf (command.List archive) status = (status ≡ 0) ⊎ ((status ≡ 2) ⊎ (status ≡ 3))
 IsStatusOf (command.Check archive) status = (status ≡ 0) ⊎ ((status ≡ 1) ⊎ ((status ≡ 2) ⊎ (status ≡ 3)))
 IsStatusOf (command.Extract archive id) status = (status ≡ 0) ⊎ ((status ≡ 1) ⊎ ((status ≡ 2) ⊎ (status ≡ 3)))
-IsStatusOf (command.Replay archive uri date hex) status = (status ≡ 0) ⊎ ((status ≡ 1) ⊎ ((status ≡ 2) ⊎ (status ≡ 3)))
+IsStatusOf (command.Replay archive uri date hex stored) status =
+    (status ≡ 0) ⊎ ((status ≡ 1) ⊎ ((status ≡ 2) ⊎ (status ≡ 3)))
 IsStatusOf (command.Body archive position stored) status = (status ≡ 0) ⊎ ((status ≡ 1) ⊎ ((status ≡ 2) ⊎ (status ≡ 3)))
 IsStatusOf (command.Captures archive uri hex) status = (status ≡ 0) ⊎ ((status ≡ 1) ⊎ ((status ≡ 2) ⊎ (status ≡ 3)))
 IsStatusOf (command.Rewrite archive) status = (status ≡ 0) ⊎ ((status ≡ 2) ⊎ (status ≡ 3))

@@ -1,16 +1,23 @@
--- How `body --stored` ends: what is stored of the origin of the capture at a position.
-use Rattle.std.specs.Prelude.{◌≡◌, ℕ, Bool, true, false, List, [], ◌++◌, codes, Option, Some, None, Result, Ok, Err, ◌⊎◌}
+-- How `body --stored` and `replay --stored` end: what is stored of the origin of a capture.
+use Rattle.std.specs.Prelude.{◌≡◌, ℕ, Bool, true, false, List, [], ◌++◌, codes, Option, Some, None, Result, Ok, Err, MatchResult, map, ◌⊎◌}
+use Rattle.warc_value.specs.Dates.{Instant, instant_of}
 use Rattle.warc_frame.specs.Failing.{HasFailedBy, MayHaveFailedBy, failed_by}
 use Rattle.warc_frame.specs.Record.{Record}
 use Rattle.warc_frame.specs.Seen.{IfHeld}
+use Rattle.warc_index.specs.Captures.{chosen_of}
+use Rattle.warc_index.specs.declared.unfound.Unfound.{Unfound}
+use Rattle.warc_answer.specs.Answers.{index_of}
+use Rattle.warc_answer.specs.Payloads.{read_record}
+use Rattle.warc_answer.specs.ReasonText.{reason_text}
 use Rattle.warc_answer.specs.Stored.{answer_with}
+use Rattle.warc_answer.specs.declared.answer.Reason.TheVariants.{NotFound}
 use Rattle.warc_answer.specs.declared.answer.ReplayFault.TheVariants.{Reason, Out as ReplayOut}
 use Rattle.warc.specs.Bodies.{body_fault_text}
 use Rattle.warc.specs.Outcomes.{IsSilentBefore, IsStoredOut, StoredAnswer, fault_result}
 use Rattle.warc.specs.declared.fault.BodyFault.{BodyFault}
 use Rattle.warc.specs.declared.fault.BodyFault.TheVariants.{NoRecord, NoCapture, Replay}
 use Rattle.warc_commands.specs.Devices.{Devices}
-use Rattle.warc_commands.specs.Program.{AreGoodRecordsOf, IsBadWord, IsNotOpened, Tells, answer_text, told_line}
+use Rattle.warc_commands.specs.Program.{AreGoodRecordsOf, IsBadWord, IsNotOpened, ReplayEnds, Tells, answer_text, told_line}
 
 -- what is said of a coded body: the fields that say that it is coded
 abbrev pub coded_text : Bool → List ℕ → List ℕ
@@ -53,3 +60,34 @@ pub record IsStoredGiven (position : ℕ) (old new : Devices) (status : ℕ) : T
 abbrev pub StoredEnds : Option ℕ → Devices → Devices → ℕ → Type 0
 StoredEnds None old new status = IsBadWord (codes "bad position") old new status
 StoredEnds (Some position) old new status = IsStoredGiven position old new status ⊎ IsNotOpened old new status
+
+-- the capture that is chosen for a URI as of a moment among the records that the bytes spell, or why there is none
+pub record IsChosenOf (uri : List ℕ) (moment : Instant) (found : Result ℕ Unfound) (bytes : List ℕ) : Type 0 where
+  pub records : List Record
+  pub are : AreGoodRecordsOf bytes records
+  pub chosen : found ≡ chosen_of (index_of (map read_record records)) uri moment
+
+-- no capture is chosen: nothing was written
+pub record IsUnfound (unfound : Unfound) (old new : Devices) (status : ℕ) : Type 0 where
+  pub sound : new.source.faults ≡ old.source.faults
+  pub untouched : new.out ≡ old.out
+  pub told : Tells (told_line (reason_text (NotFound unfound))) old.err new.err
+  pub status_is : status ≡ 1
+
+-- the archive was opened, and what is stored was asked for, of the capture that is chosen
+pub record IsStoredReplayed (uri : List ℕ) (moment : Instant) (old new : Devices) (status : ℕ) : Type 0 where
+  pub found : Result ℕ Unfound
+  pub is : IfHeld old.source.holds (IsChosenOf uri moment found)
+  pub ends : MatchResult found (λ position. IsStoredGiven position old new status)
+      (λ unfound. IsUnfound unfound old new status)
+
+-- how `replay --stored` ends, as of the first instant of a date
+abbrev pub StoredReplayEnds : List ℕ → Option Instant → Devices → Devices → ℕ → Type 0
+StoredReplayEnds uri None old new status = IsBadWord (codes "bad date") old new status
+StoredReplayEnds uri (Some moment) old new status =
+    IsStoredReplayed uri moment old new status ⊎ IsNotOpened old new status
+
+-- how `replay` ends, with `--stored` or without it
+abbrev pub ReplayedAs : Bool → List ℕ → List ℕ → Devices → Devices → ℕ → Type 0
+ReplayedAs false date uri old new status = ReplayEnds uri (instant_of date) old new status
+ReplayedAs true date uri old new status = StoredReplayEnds uri (instant_of date) old new status

@@ -1,12 +1,14 @@
 //! The commands that give a block or a body of an archive, and the lines that they write.
 ghost use Rattle.std.specs.Prelude.{◌≡◌, ◌≤◌, ◌⊎◌, ◌++◌, length, Some, codes};
-ghost use Rattle.warc_value.specs.Dates.{Instant, instant_of};
+ghost use Rattle.warc_value.specs.Dates.{Instant};
 ghost use Rattle.warc_answer.specs.ReasonText.{reason_text};
 ghost use Rattle.warc_commands.specs.Devices.{devices};
 ghost use Rattle.warc_commands.specs.Program.{ExtractEnds, ReplayEnds, Tells, TellsIf, answer_text, extract_line, extract_status, number_or_dash, replay_line, replay_status, told_line, yes_or_no};
 ghost use Rattle.warc_commands.specs.Reads.{ReadsTimes};
+ghost use Rattle.warc_commands.specs.Stored.{ReplayedAs};
 
 use crate::program::{DONE, FAILED, FOUND, LINE, tell, tell_cut, tell_refusal};
+use crate::stored::stored_as_of;
 use arrayvec::ArrayString;
 use itoa::Buffer;
 use std::alloc::Allocator;
@@ -43,11 +45,18 @@ where
     (tell_extract(answer, err), archive.into_source())
 }
 
+/// The date as of which a body is wanted, and whether it is wanted as it is stored.
+#[derive(Clone, Copy)]
+pub(crate) struct AsOf<'a> {
+    pub(crate) date: &'a str,
+    pub(crate) stored: bool,
+}
+
 /// Writes the body for a URI as of the first instant of a date.
 pub(crate) fn replay<A, S, W, E>(
     alloc: A,
     uri: &[u8],
-    date: &str,
+    as_of: AsOf<'_>,
     source: S,
     out: &mut W,
     err: &mut E,
@@ -57,20 +66,21 @@ where
     S: Source + Drop,
     W: Sink,
     E: Sink,
-    ensures ends { ReplayEnds uri.now (instant_of date.now) (devices (S.seen source) (W.seen out.old)
+    ensures ends { ReplayedAs as_of.entry.stored as_of.entry.date.now uri.now (devices (S.seen source) (W.seen out.old)
         (E.seen err.old)) (devices (S.seen result.1) (W.seen out.new) (E.seen err.new)) result.0 }
 
     // The source still holds what it held.
     ensures kept { (S.seen result.1).holds ≡ (S.seen source).holds }
     ensures reads { ReadsTimes 3 (S.seen source) (S.seen result.1) }
 {
-    match read_date(date.as_bytes()) {
-        Some(moment) => replay_as_of(alloc, uri, &moment, source, out, err),
-        None => {
-            tell("warc: bad date\n", err);
-            (FAILED, source)
-        }
+    let Some(moment) = read_date(as_of.date.as_bytes()) else {
+        tell("warc: bad date\n", err);
+        return (FAILED, source);
+    };
+    if as_of.stored {
+        return stored_as_of(alloc, uri, &moment, source, out, err);
     }
+    replay_as_of(alloc, uri, &moment, source, out, err)
 }
 
 /// Writes the body for a URI as of a moment.

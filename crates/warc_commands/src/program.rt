@@ -12,7 +12,7 @@ use crate::bodies::body;
 use crate::captures::captures;
 use crate::checking::check;
 use crate::explaining::explain;
-use crate::extracting::extract;
+use crate::extracting::{AsOf, extract};
 use crate::fixity::fixity;
 use crate::making::write;
 use crate::parts::give;
@@ -86,7 +86,14 @@ where
             uri,
             date,
             in_hex,
-        } => replay_named(alloc, *in_hex, uri, date, source, out, err),
+            stored,
+        } => {
+            let as_of = AsOf {
+                date,
+                stored: *stored,
+            };
+            replay_named(alloc, *in_hex, uri, as_of, source, out, err)
+        }
         Command::Body {
             archive: _,
             position,

@@ -1,4 +1,4 @@
-//! The command that gives what is stored of a capture, coded or not.
+//! The commands that give what is stored of a capture, coded or not.
 ghost use Rattle.std.specs.Prelude.{◌≡◌, ◌++◌, ℕ, List, Some, codes, map};
 ghost use Rattle.std.specs.List.{concat};
 ghost use Rattle.warc_answer.specs.Seen.{stored_seen};
@@ -8,16 +8,17 @@ ghost use Rattle.warc_commands.specs.Devices.{devices};
 ghost use Rattle.warc_commands.specs.Parts.{position_of};
 ghost use Rattle.warc_commands.specs.Program.{Tells, answer_text};
 ghost use Rattle.warc_commands.specs.Reads.{ReadsTimes};
-ghost use Rattle.warc_commands.specs.Stored.{StoredEnds, coded_text, stored_line, stored_status};
+ghost use Rattle.warc_commands.specs.Stored.{StoredEnds, StoredReplayEnds, coded_text, stored_line, stored_status};
 
 use crate::bodies::tell_body;
-use crate::extracting::line_of_answer;
+use crate::extracting::{line_of_answer, tell_replay};
 use crate::parts::position_of;
 use crate::program::{DONE, FAILED, tell, tell_refusal};
 use std::alloc::Allocator;
 use warc::{Archive, BodyFault, StoredAt};
-use warc_answer::Answer;
+use warc_answer::{Answer, Reason, ReplayFault};
 use warc_frame::{OutBuffer, Sink, Source, put_all};
+use warc_value::Moment;
 
 /// Writes what is stored of the origin of the capture at a position, which a word says.
 pub(crate) fn stored<A, S, W, E>(
@@ -68,6 +69,44 @@ where
     };
     let answer = archive.stored_to(position, out);
     (tell_stored(&answer, err), archive.into_source())
+}
+
+/// Writes what is stored for a URI as of a moment: of the origin of the capture that is chosen.
+pub(crate) fn stored_as_of<A, S, W, E>(
+    alloc: A,
+    uri: &[u8],
+    moment: &Moment,
+    source: S,
+    out: &mut W,
+    err: &mut E,
+) -> (u8, S)
+where
+    A: Allocator + Copy,
+    S: Source + Drop,
+    W: Sink,
+    E: Sink,
+    ensures ends { StoredReplayEnds uri.now (Some moment.now) (devices (S.seen source) (W.seen out.old)
+        (E.seen err.old)) (devices (S.seen result.1) (W.seen out.new) (E.seen err.new)) result.0 }
+
+    // The source still holds what it held.
+    ensures kept { (S.seen result.1).holds ≡ (S.seen source).holds }
+    ensures reads { ReadsTimes 3 (S.seen source) (S.seen result.1) }
+{
+    let mut archive = match Archive::open(alloc, source) {
+        Ok(archive) => archive,
+        Err((fault, source)) => return (tell_refusal(fault, err), source),
+    };
+    match archive.chosen(uri, moment) {
+        Ok(position) => {
+            let answer = archive.stored_to(position, out);
+            (tell_stored(&answer, err), archive.into_source())
+        }
+        Err(unfound) => {
+            let reason = Reason::NotFound(unfound);
+            let status = tell_replay(Err(ReplayFault::Reason(reason)), err);
+            (status, archive.into_source())
+        }
+    }
 }
 
 /// Reports what is said of what is stored, or why it isn't written, or not whole, and answers the exit status.

@@ -1,13 +1,13 @@
 //! URIs that are written as hexadecimal digits.
 ghost use Rattle.std.specs.Prelude.{◌≡◌, true};
-ghost use Rattle.warc_value.specs.Dates.{instant_of};
 ghost use Rattle.warc_commands.specs.Devices.{devices};
-ghost use Rattle.warc_commands.specs.Program.{ReplayEnds, Tells, told_line};
+ghost use Rattle.warc_commands.specs.Program.{Tells, told_line};
 ghost use Rattle.warc_commands.specs.Reads.{ReadsTimes};
+ghost use Rattle.warc_commands.specs.Stored.{ReplayedAs};
 ghost use Rattle.warc_commands.specs.Uris.{UriEnds, uri_fault_text};
 ghost use Rattle.warc_arguments.specs.Digits.{uri_named};
 
-use crate::extracting::replay;
+use crate::extracting::{AsOf, replay};
 use crate::program::{FAILED, tell, tell_cut};
 use std::alloc::Allocator;
 use warc_arguments::{UriFault, bytes_of};
@@ -32,7 +32,7 @@ pub(crate) fn replay_named<A, S, W, E>(
     alloc: A,
     in_hex: bool,
     uri: &str,
-    date: &str,
+    as_of: AsOf<'_>,
     source: S,
     out: &mut W,
     err: &mut E,
@@ -42,8 +42,8 @@ where
     S: Source + Drop,
     W: Sink,
     E: Sink,
-    ensures ends { UriEnds (λ bytes. ReplayEnds bytes (instant_of date.now)) in_hex (uri_named in_hex uri.now) (devices
-        (S.seen source) (W.seen out.old) (E.seen err.old)) (devices (S.seen result.1) (W.seen out.new)
+    ensures ends { UriEnds (ReplayedAs as_of.entry.stored as_of.entry.date.now) in_hex (uri_named in_hex uri.now)
+        (devices (S.seen source) (W.seen out.old) (E.seen err.old)) (devices (S.seen result.1) (W.seen out.new)
         (E.seen err.new)) result.0 }
 
     // The source still holds what it held.
@@ -51,16 +51,16 @@ where
     ensures reads { ReadsTimes 3 (S.seen source) (S.seen result.1) }
 {
     if in_hex {
-        return replay_in_hex(alloc, uri, date, source, out, err);
+        return replay_in_hex(alloc, uri, as_of, source, out, err);
     }
-    replay(alloc, uri.as_bytes(), date, source, out, err)
+    replay(alloc, uri.as_bytes(), as_of, source, out, err)
 }
 
 /// Writes the body for the URI whose digits a word has, as of the first instant of a date.
 fn replay_in_hex<A, S, W, E>(
     alloc: A,
     uri: &str,
-    date: &str,
+    as_of: AsOf<'_>,
     source: S,
     out: &mut W,
     err: &mut E,
@@ -70,7 +70,7 @@ where
     S: Source + Drop,
     W: Sink,
     E: Sink,
-    ensures ends { UriEnds (λ bytes. ReplayEnds bytes (instant_of date.now)) true (uri_named true uri.now) (devices
+    ensures ends { UriEnds (ReplayedAs as_of.entry.stored as_of.entry.date.now) true (uri_named true uri.now) (devices
         (S.seen source) (W.seen out.old) (E.seen err.old)) (devices (S.seen result.1) (W.seen out.new)
         (E.seen err.new)) result.0 }
 
@@ -79,7 +79,7 @@ where
     ensures reads { ReadsTimes 3 (S.seen source) (S.seen result.1) }
 {
     match bytes_of(alloc, uri) {
-        Ok(bytes) => replay(alloc, &bytes, date, source, out, err),
+        Ok(bytes) => replay(alloc, &bytes, as_of, source, out, err),
         Err(fault) => (tell_fault(fault, err), source),
     }
 }

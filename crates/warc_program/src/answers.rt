@@ -44,12 +44,14 @@ fn uri_of(rt: &HostRuntime, command: &Command<'_>) -> Option<Vec<u8>> {
             uri,
             date: _,
             in_hex: true,
+            stored: _,
         } => bytes_of(rt.alloc(), uri).ok(),
         Command::Replay {
             archive: _,
             uri,
             date: _,
             in_hex: false,
+            stored: _,
         } => {
             let mut bytes = Vec::new(rt.alloc());
             bytes.extend_from_slice(uri.as_bytes()).ok()?;
