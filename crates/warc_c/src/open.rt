@@ -1,5 +1,5 @@
 //! Archives that stay open between calls, over bytes that C keeps where they are.
-ghost use Rattle.std.specs.Prelude.{box_value, IfErr, IfOk};
+ghost use Rattle.std.specs.Prelude.{◌≡◌, false, box_value, IfErr, IfOk};
 ghost use Rattle.std.specs.Bool.{OnFalse, OnTrue};
 ghost use Rattle.warc_reading.specs.Indexed.{IsIndexed};
 ghost use Rattle.warc_lent.specs.Texts.{IsRefusedFor};
@@ -37,6 +37,7 @@ pub extern "C" fn warc_rt_open(
 ) -> bool
     ensures opened { OnTrue result (IsArchive bytes.now) }
     ensures refused { OnFalse result (IsRefusedBy bytes.now problem.new) }
+    ensures open { handle.new.is_open ≡ result }
 {
     drop(handle.take(alloc));
     match open_box(alloc, bytes) {
@@ -82,6 +83,8 @@ pub extern "C" fn warc_rt_grow(
 
 /// Closes the archive, if one is open.
 #[unsafe(no_mangle)]
-pub extern "C" fn warc_rt_close(alloc: Global, handle: &mut WarcArchive) {
+pub extern "C" fn warc_rt_close(alloc: Global, handle: &mut WarcArchive)
+    ensures { handle.new.is_open ≡ false }
+{
     drop(handle.take(alloc));
 }

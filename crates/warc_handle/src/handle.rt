@@ -1,4 +1,5 @@
 //! An open archive, in a form that C can keep.
+ghost use Rattle.std.specs.Prelude.{◌≡◌, true, false, is_some};
 ghost use Rattle.warc_handle.specs.Handle.{handle_owns};
 
 use crate::detached::Detached;
@@ -28,7 +29,9 @@ impl Model for WarcArchive {
 
 impl WarcArchive {
     /// A handle that holds no archive.
-    fn closed() -> WarcArchive {
+    fn closed() -> WarcArchive
+        ensures { result.is_open ≡ false }
+    {
         WarcArchive {
             at: null_mut(),
             is_open: false,
@@ -36,14 +39,18 @@ impl WarcArchive {
     }
 
     /// A handle that holds the archive of a box.
-    fn holding(archive: Detached<Open, Global>) -> WarcArchive {
+    fn holding(archive: Detached<Open, Global>) -> WarcArchive
+        ensures { result.is_open ≡ true }
+    {
         let Detached { at, alloc: _ } = archive;
         let at = at as *mut u8;
         WarcArchive { at, is_open: true }
     }
 
     /// The box of the archive that it holds, if it holds one.
-    fn into_detached(self, alloc: Global) -> Option<Detached<Open, Global>> {
+    fn into_detached(self, alloc: Global) -> Option<Detached<Open, Global>>
+        ensures { is_some result ≡ self.is_open }
+    {
         let WarcArchive { at, is_open } = self;
         if is_open {
             let at = at as *mut Open;
@@ -54,7 +61,10 @@ impl WarcArchive {
     }
 
     /// Takes out the archive, if one is open, and leaves none.
-    pub fn take(&mut self, alloc: Global) -> Option<Box<Open>> {
+    pub fn take(&mut self, alloc: Global) -> Option<Box<Open>>
+        ensures taken { is_some result ≡ self.old.is_open }
+        ensures left { self.new.is_open ≡ false }
+    {
         match mem::replace(self, WarcArchive::closed()).into_detached(alloc) {
             Some(detached) => Some(detached.into_box()),
             None => None,
@@ -62,7 +72,9 @@ impl WarcArchive {
     }
 
     /// Puts in an archive, in the place of one that is open.
-    pub fn put(&mut self, archive: Box<Open>, alloc: Global) {
+    pub fn put(&mut self, archive: Box<Open>, alloc: Global)
+        ensures { self.new.is_open ≡ true }
+    {
         let old = mem::replace(self, WarcArchive::holding(Detached::from_box(archive)));
         if let Some(detached) = old.into_detached(alloc) {
             drop(detached.into_box());

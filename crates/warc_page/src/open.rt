@@ -1,5 +1,5 @@
 //! Archives that stay open between questions, over bytes that the page keeps where they are.
-ghost use Rattle.std.specs.Prelude.{◌≡◌, IfErr, IfOk};
+ghost use Rattle.std.specs.Prelude.{◌≡◌, true, IfErr, IfOk};
 ghost use Rattle.warc_reading.specs.Indexed.{IsIndexed};
 ghost use Rattle.warc_lent.specs.Texts.{IsRefusedFor};
 ghost use Rattle.warc_page.specs.Shown.{EndsOpened};
@@ -39,7 +39,9 @@ pub extern "C" fn page_open(
     outcome: &mut PageOutcome,
 )
     requires { memory.units ≡ units }
-    ensures { EndsOpened bytes.now outcome.new text.new }
+    ensures ends { EndsOpened bytes.now outcome.new text.new }
+    ensures holds { outcome.new.state ≡ 0 → handle.new.is_open ≡ true }
+    ensures stays { handle.old.is_open ≡ true → handle.new.is_open ≡ true }
 {
     let Some(heap) = Heap::for_good(memory, units) else {
         *outcome = ended(MEMORY, 0);

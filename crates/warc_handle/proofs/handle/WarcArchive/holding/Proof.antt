@@ -1,15 +1,16 @@
 -- The handle keeps the pointer, and owns what the box owned.
-use Rattle.std.proofs.Common.{List, [], ◌∷◌, ◌++◌, refl, sym, subst}
-use mathlib.Core.Bool.{true}
+use Rattle.std.proofs.Common.{List, [], ◌∷◌, ◌++◌, refl, sym, subst, ◌≡◌}
+use mathlib.Core.Bool.{true, Bool}
 use mir.Syntax.{Fn}
 use mir.Val.{Val, vptr}
-use base.Logic.{SProp, ent, id⊢}
+use base.Logic.{SProp, ent, id⊢, emp}
 use base.Fml.{ftrue}
 use prog.Wp.{WpFn}
 use types.Kit.{‵, raw, ◌⊛◌, ◌$◌, ◌∵◌, !, qed, by, move, keep, drop, split, fsplit, fjoin, fpack, suffices, use0}
 use types.Run.{stop, fld, true_lit, of_opd, no_more, and_then, returns, enter}
 use types.ByLocal.{alloc_all, pass_all, free_all, look_at, get, get_in, sets}
 use types.Part.{agg, sub, whole}
+use contract.Monad.{fact, fact_i}
 use contract.Running.{tables}
 use denote.RattleType.{RattleType, owns}
 use denote.Signature.{types_at, plain}
@@ -62,5 +63,8 @@ holding_spec 𝓤 𝓛 𝓜 𝓡 wired =
     returns ! (look_at ! 0 refl) $ free_all ! refl $
     fpack ! (R.Denot × Z.Denot) (λ s. box_owns (g.dealloc_token s.1) R (block_ptr b o) s.0) (x, d.alloc) $
     use0 𝓛 (‵ (handle_fields (block_ptr b o) true (made ∷ []))) (handle_made 𝓛 (block_ptr b o) true) $ fjoin ! $
-    nothing ! $ nothing ! $ fjoin ! $ nothing ! $ keep ! (5 ∷ 1 ∷ 2 ∷ 0 ∷ []) $
+    nothing ! $ nothing ! $ fjoin ! $
+    let Said : Type 0 = ◌≡◌ {A = Bool} true true in
+    use0 𝓛 (raw (fact 𝓤 Said)) (fact_i 𝓤 Said (emp 𝓤) refl) $
+    keep ! (5 ∷ 1 ∷ 2 ∷ 0 ∷ []) $
     by ! (leaves 𝓛 E stays c z made (record { at = block_ptr b o; is_open = true }) (_, tt) (tt, tt)))))

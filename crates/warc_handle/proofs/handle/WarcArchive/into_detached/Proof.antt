@@ -1,9 +1,9 @@
 -- A handle that is open gives its box, and any other nothing.
-use Rattle.std.proofs.Common.{List, [], ◌∷◌, ◌++◌, refl, lit<}
+use Rattle.std.proofs.Common.{List, [], ◌∷◌, ◌++◌, refl, lit<, ◌≡◌, sym}
 use mathlib.Core.Bool.{Bool, true, false}
 use mir.Syntax.{Fn, impl, tnil, dnil}
 use mir.Val.{Val, vptr, vcons, vnil}
-use base.Logic.{SProp, id⊢}
+use base.Logic.{SProp, id⊢, emp}
 use base.Fml.{ftrue}
 use prog.Wp.{Env, WpFn}
 use types.Kit.{‵, raw, ◌⊛◌, prop, at_ret, ◌$◌, ◌∵◌, !, qed, by, move, keep, drop, split, fsplit, fjoin, regoal, use0, use1}
@@ -11,6 +11,7 @@ use types.Run.{stop, fld, lit, of_opd, no_more, and_then, first, branches, exec,
 use types.ByLocal.{alloc_all, pass_all, free_all, look_at, get, get_in, sets, sets_last, env}
 use types.Match.{live}
 use types.Part.{agg, sub, whole}
+use contract.Monad.{fact, fact_i}
 use contract.Running.{tables}
 use denote.RattleType.{RattleType, owns}
 use denote.Signature.{types_at, type_at, plain}
@@ -83,7 +84,10 @@ into_detached_spec 𝓤 𝓛 𝓜 𝓡 wired =
     sets ! (of_opd ! (get ! refl)) refl (tt, (record { fits = lit< tt }, tt)) $
     returns ! (look_at ! 0 refl) $ free_all ! refl $
     use0 𝓛 (‵ (Out.own_val None (made ∷ []))) (none_of 𝓛 (Detached R Z laws g)) $
-    nothing ! $ nothing ! $ fjoin ! $ nothing ! $ fjoin ! $ nothing ! $ keep ! (5 ∷ 1 ∷ 2 ∷ 0 ∷ []) $
+    nothing ! $ nothing ! $ fjoin ! $ nothing ! $ fjoin ! $
+    let Said : Type 0 = ◌≡◌ {A = Bool} false v.is_open in
+    use0 𝓛 (raw (fact 𝓤 Said)) (fact_i 𝓤 Said (emp 𝓤) (sym shut)) $
+    keep ! (5 ∷ 1 ∷ 2 ∷ 0 ∷ []) $
     by ! (leaves 𝓛 E stays c z made None (_, (_, tt)) (tt, (tt, tt))))))
     (λ b o s at opened. let given : Val = handle_val (block_ptr b o) true in
     let parts : Val = pair_val (vptr b o) h in
@@ -109,5 +113,8 @@ into_detached_spec 𝓤 𝓛 𝓜 𝓡 wired =
     use1 𝓛 (‵ (box_owns (g.dealloc_token a) R (block_ptr b o) s.0)) (id⊢ 𝓤 _) $
     detached_in R Z laws g ! b o h a s.0 $
     use1 𝓛 (‵ (Out.own_val (Some d) (made ∷ []))) (Some-of 𝓛 (Detached R Z laws g) d parts) $
-    nothing ! $ nothing ! $ fjoin ! $ nothing ! $ fjoin ! $ nothing ! $ keep ! (4 ∷ 1 ∷ 2 ∷ 0 ∷ []) $
+    nothing ! $ nothing ! $ fjoin ! $ nothing ! $ fjoin ! $
+    let Said : Type 0 = ◌≡◌ {A = Bool} true v.is_open in
+    use0 𝓛 (raw (fact 𝓤 Said)) (fact_i 𝓤 Said (emp 𝓤) (sym opened)) $
+    keep ! (4 ∷ 1 ∷ 2 ∷ 0 ∷ []) $
     by ! (leaves 𝓛 E stays c z made (Some d) (_, (_, tt)) (tt, (tt, tt)))) (λ wrong. absurd wrong)))))

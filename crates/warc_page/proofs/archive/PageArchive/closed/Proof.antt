@@ -1,14 +1,15 @@
 -- A handle of null owns nothing.
-use Rattle.std.proofs.Common.{[], ◌∷◌, refl, lit<}
-use mathlib.Core.Bool.{false}
+use Rattle.std.proofs.Common.{[], ◌∷◌, refl, lit<, ◌≡◌}
+use mathlib.Core.Bool.{false, Bool}
 use mir.Syntax.{Fn}
 use mir.Val.{Val}
-use base.Logic.{SProp}
+use base.Logic.{SProp, emp}
 use base.Fml.{ftrue}
 use types.Kit.{‵, raw, ◌⊛◌, ◌$◌, ◌∵◌, !, qed, by, move, drop, split, fjoin, use0}
 use types.Run.{lit, false_lit, no_more, and_then, returns, enter}
 use types.ByLocal.{alloc_all, pass_all, free_all, look_at, sets}
 use types.Part.{agg}
+use contract.Monad.{fact, fact_i}
 use contract.Running.{tables}
 use denote.RattleType.{owns}
 use denote.Signature.{types_at}
@@ -41,5 +42,7 @@ closed_spec 𝓤 𝓛 𝓜 𝓡 wired =
     (tt, (record { fits = lit< tt }, (tt, tt))) $
     returns ! (look_at ! 0 refl) $ free_all ! refl $
     nothing ! $ use0 𝓛 (‵ (handle_fields null_ptr false (made ∷ []))) (handle_made 𝓛 null_ptr false) $ fjoin ! $
-    nothing ! $ nothing ! $ move ! (3 ∷ 0 ∷ 2 ∷ 1 ∷ []) $
+    let Said : Type 0 = ◌≡◌ {A = Bool} false false in
+    use0 𝓛 (raw (fact 𝓤 Said)) (fact_i 𝓤 Said (emp 𝓤) refl) $
+    nothing ! $ move ! (3 ∷ 0 ∷ 2 ∷ 1 ∷ []) $
     by ! (leaves 𝓛 E stays c z made (record { at = null_ptr; is_open = false }) tt tt)))

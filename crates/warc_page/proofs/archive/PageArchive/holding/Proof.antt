@@ -1,15 +1,16 @@
 -- The handle keeps the pointer of the reference, and owns what the reference owned.
-use Rattle.std.proofs.Common.{List, [], ◌∷◌, ◌++◌, refl, sym, subst}
-use mathlib.Core.Bool.{true}
+use Rattle.std.proofs.Common.{List, [], ◌∷◌, ◌++◌, refl, sym, subst, ◌≡◌}
+use mathlib.Core.Bool.{true, Bool}
 use mir.Syntax.{Fn}
 use mir.Val.{Val, vptr}
-use base.Logic.{SProp, ent, id⊢}
+use base.Logic.{SProp, ent, id⊢, emp}
 use base.Fml.{ftrue}
 use prog.Wp.{WpFn}
 use types.Kit.{‵, raw, ◌⊛◌, ◌$◌, ◌∵◌, !, qed, by, move, keep, drop, split, fsplit, fjoin, fpack, feq_i, feq_l, suffices, use0}
 use types.Run.{stop, addr, true_lit, of_opd, no_more, and_then, returns, enter}
 use types.ByLocal.{alloc_all, pass_all, free_all, look_at, get, through, sets}
 use types.Part.{agg}
+use contract.Monad.{fact, fact_i}
 use contract.Running.{tables}
 use denote.RattleType.{owns}
 use denote.Ref.{mut_vals}
@@ -56,5 +57,8 @@ holding_spec 𝓤 𝓛 𝓜 𝓡 wired =
     feq_i ! Ptr p p refl $ fjoin ! $
     fpack ! (reference_row).Denot (leads_to p) r $
     use0 𝓛 (‵ (handle_fields p true (made ∷ []))) (handle_made 𝓛 p true) $ fjoin ! $
-    nothing ! $ nothing ! $ fjoin ! $ nothing ! $ keep ! (4 ∷ 1 ∷ 2 ∷ 0 ∷ []) $
+    nothing ! $ nothing ! $ fjoin ! $
+    let Said : Type 0 = ◌≡◌ {A = Bool} true true in
+    use0 𝓛 (raw (fact 𝓤 Said)) (fact_i 𝓤 Said (emp 𝓤) refl) $
+    keep ! (4 ∷ 1 ∷ 2 ∷ 0 ∷ []) $
     by ! (leaves 𝓛 E stays c z made (record { at = p; is_open = true }) (_, tt) (tt, tt)))))

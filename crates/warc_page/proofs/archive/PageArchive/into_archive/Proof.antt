@@ -1,9 +1,9 @@
 -- A handle that is open gives its reference, and any other nothing.
-use Rattle.std.proofs.Common.{List, [], ◌∷◌, ◌++◌, refl, lit<}
+use Rattle.std.proofs.Common.{List, [], ◌∷◌, ◌++◌, refl, lit<, ◌≡◌, sym}
 use mathlib.Core.Bool.{Bool, true, false}
 use mir.Syntax.{Fn}
 use mir.Val.{Val, vptr, vcons, vnil}
-use base.Logic.{SProp}
+use base.Logic.{SProp, emp}
 use base.Fml.{ftrue}
 use prog.Wp.{Env, Wp, WpFn, after_seq}
 use types.Kit.{‵, raw, ◌⊛◌, prop, at_ret, any_q, post, ◌$◌, ◌∵◌, !, qed, by, move, keep, drop, split, fsplit, fjoin, regoal, use0, use1}
@@ -11,6 +11,7 @@ use types.Run.{stop, fld, lit, addr, of_opd, no_more, and_then, first, blocks, b
 use types.ByLocal.{alloc_all, pass_all, free_all, look_at, get, get_in, through, sets, sets_last, env}
 use types.Match.{live}
 use types.Part.{agg, sub, whole}
+use contract.Monad.{fact, fact_i}
 use contract.Running.{tables}
 use denote.RattleType.{RattleType, owns}
 use denote.Signature.{types_at, type_at, plain}
@@ -69,7 +70,10 @@ into_archive_spec 𝓤 𝓛 𝓜 𝓡 wired =
     sets ! (of_opd ! (get ! refl)) refl (tt, (record { fits = lit< tt }, tt)) $
     returns ! (look_at ! 0 refl) $ free_all ! refl $
     use0 𝓛 (‵ (Out.own_val None (made ∷ []))) (none_of 𝓛 reference_row) $
-    nothing ! $ nothing ! $ fjoin ! $ nothing ! $ keep ! (4 ∷ 1 ∷ 2 ∷ 0 ∷ []) $
+    nothing ! $ nothing ! $ fjoin ! $
+    let Said : Type 0 = ◌≡◌ {A = Bool} false v.is_open in
+    use0 𝓛 (raw (fact 𝓤 Said)) (fact_i 𝓤 Said (emp 𝓤) (sym shut)) $
+    keep ! (4 ∷ 1 ∷ 2 ∷ 0 ∷ []) $
     by ! (leaves 𝓛 E stays c z made None (_, tt) (tt, tt)))))
     (λ r at opened. let p : Ptr = block_ptr r.ref_ptr.0 r.ref_ptr.1 in
     let given : Val = handle_val p true in
@@ -94,5 +98,8 @@ into_archive_spec 𝓤 𝓛 𝓜 𝓡 wired =
     sets ! (of_opd ! (get ! refl)) refl (tt, (record { fits = lit< tt }, (tt, tt))) $
     returns ! (look_at ! 0 refl) $ free_all ! refl $
     use1 𝓛 (‵ (Out.own_val (Some r) (made ∷ []))) (Some-of 𝓛 reference_row r led) $
-    nothing ! $ nothing ! $ fjoin ! $ nothing ! $ keep ! (4 ∷ 1 ∷ 2 ∷ 0 ∷ []) $
+    nothing ! $ nothing ! $ fjoin ! $
+    let Said : Type 0 = ◌≡◌ {A = Bool} true v.is_open in
+    use0 𝓛 (raw (fact 𝓤 Said)) (fact_i 𝓤 Said (emp 𝓤) (sym opened)) $
+    keep ! (4 ∷ 1 ∷ 2 ∷ 0 ∷ []) $
     by ! (leaves 𝓛 E stays c z made (Some r) (_, tt) (tt, tt))) (λ wrong. absurd wrong))))
