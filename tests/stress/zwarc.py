@@ -11,6 +11,7 @@ surprise. Needs gzip, zstd and strace; a crawl by wget, a full disk (as root) an
 from __future__ import annotations
 
 import collections
+import contextlib
 import dataclasses
 import functools
 import gzip
@@ -357,10 +358,14 @@ def no_room(trials: Trials) -> None:
         done = subprocess.run(words, capture_output=True, check=False, env=environment)
         seen = Result(done.stdout, done.stderr, done.returncode)
         trials.judge((seen.out, seen.status) == (b"", 3) and seen.message != b"", words, seen)
+    # Links to the system's programs are in a folder of their own, so that nothing is ever written through one.
+    tools = f"{trials.folder}/tools"
+    os.mkdir(tools)
     for name in ("sh", "od", "sed", "rm", "mktemp", "tr", "gzip", "cat", "mkfifo"):
-        os.symlink(str(shutil.which(name)), f"{trials.bin}/{name}")
+        os.symlink(str(shutil.which(name)), f"{tools}/{name}")
     packed = trials.file("archive.zst", zstd(PLAIN))
-    done = subprocess.run(["zwarc", "list", packed], capture_output=True, check=False, env={"PATH": trials.bin})
+    path = f"{trials.bin}:{tools}"
+    done = subprocess.run(["zwarc", "list", packed], capture_output=True, check=False, env={"PATH": path})
     seen = Result(done.stdout, done.stderr, done.returncode)
     trials.judge(seen == Result(b"", b"zwarc: zstd isn't installed\n", 3), ("no zstd",), seen)
 
@@ -425,7 +430,9 @@ def wrap(trials: Trials, name: str, call: str, error: str, count: int) -> None:
     """Puts a program in front of another whose call of the system fails once."""
     real = shutil.which(name, path="/usr/bin:/bin")
     inject = f"-e trace={call} -e inject={call}:error={error}:when={count}"
-    with open(f"{trials.bin}/{name}", "w", encoding="utf-8") as out:
+    with contextlib.suppress(FileNotFoundError):
+        os.remove(f"{trials.bin}/{name}")
+    with open(f"{trials.bin}/{name}", "x", encoding="utf-8") as out:
         out.write(f'#!/bin/sh\nexec strace -o {trials.folder}/log {inject} {real} "$@"\n')
     os.chmod(out.name, 0o755)
 
