@@ -7,6 +7,8 @@ The archive is made in FOLDER once and kept: 50,000 pages of 10,000 bytes, each 
 seconds of the program; seconds until the page shows its first rows, all rows, the findings and the last verdict, and
 until the archive is open for questions; and seconds of one answer then.
 """
+from __future__ import annotations
+
 import os
 import sys
 import time
@@ -20,22 +22,26 @@ RUNS = int(os.environ.get("RUNS", "3"))
 RECORDS, LENGTH = 50_000, 10_000
 
 
-def open_page(page, archive):
+def open_page(page: str, archive: str) -> list[float]:
     """Seconds until the first rows, all rows, the findings and all verdicts are there and the archive is open, and the
     seconds of an answer."""
     browser = Browser()
     try:
         browser.go(os.path.abspath(page))
-        browser.run("""window.seen = {}; const old = hear; room.library.worker.onmessage = (() => {
+        browser.run(
+            """window.seen = {}; const old = hear; room.library.worker.onmessage = (() => {
           const before = room.library.worker.onmessage;
           return (event) => {
             const report = event.data.report;
             if (report && (report === 'verdicts' || !window.seen[report])) window.seen[report] = performance.now();
             before(event);
           };
-        })(); 0""")
-        browser.run("""const given = openFiles;
-          openFiles = (files) => { window.began = performance.now(); given(files); }; 0""")
+        })(); 0"""
+        )
+        browser.run(
+            """const given = openFiles;
+          openFiles = (files) => { window.began = performance.now(); given(files); }; 0"""
+        )
         browser.give_file("#file", archive)
         done = "(room.findings !== null && room.isOpen && room.counts.judged === room.rows.count)"
         browser.until(f"{done} || document.getElementById('status').textContent.includes('stopped')", 300)
@@ -48,7 +54,8 @@ def open_page(page, archive):
         browser.close()
 
 
-def main():
+def main() -> None:
+    """Makes the archive, and prints the times."""
     page, program, folder = sys.argv[1:]
     os.makedirs(folder, exist_ok=True)
     archive = os.path.join(folder, "pages.warc")

@@ -3,6 +3,8 @@
 
 What it does is the line `why:` of its file, and else the name of the file.
 """
+from __future__ import annotations
+
 import glob
 import os
 import re
@@ -10,14 +12,15 @@ import re
 from shared import TOP, read
 
 
-def function_of(crate, path, old):
+def function_of(crate: str, path: str, old: str) -> str:
     """The name of the function of a source file in which a line is."""
     before = read(f"crates/{crate}/{path}").partition(old)[0]
-    names = re.findall(r"^ *(?:pub(?:\([a-z]+\))? )?(?:const )?fn (\w+)", before, re.MULTILINE)
+    names: list[str] = re.findall(r"^ *(?:pub(?:\([a-z]+\))? )?(?:const )?fn (\w+)", before, re.MULTILINE)
     return names[-1] if names else path
 
 
-def main():
+def main() -> None:
+    """Prints them, in the order of their files."""
     for path in sorted(glob.glob(f"{TOP}/crates/*/must-fail/*.edit")):
         crate = path.split("/")[-3]
         text = read(os.path.relpath(path, TOP))

@@ -16,7 +16,7 @@ LOCAL_DISKS = ("bcachefs", "btrfs", "ext2", "ext3", "ext4", "f2fs", "jfs", "tmpf
 
 @dataclasses.dataclass(frozen=True)
 class Stamp:
-    """What shows that a file is the same as before: its size, the times of its last changes (nanoseconds), its inode."""
+    """What shows that a file is the same as before: its size, its last changes in nanoseconds, its inode."""
 
     size: int
     modified: int

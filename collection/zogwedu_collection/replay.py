@@ -185,7 +185,7 @@ class Replayer:
         return Answer(capture, files, out, digest_of(out), *place, given[2], given[3] or "")
 
     def record(self, known: Known, position: int) -> bytes:
-        """The bytes of a record, from its beginning to that of the next one."""
+        """The bytes of a record, up to the beginning of the next one."""
         query = "SELECT at_offset FROM records WHERE file = ? AND position BETWEEN ? AND ? ORDER BY position"
         places = [row[0] for row in self.catalogue.rows(query, (known.file, position, position + 1))]
         if not places:

@@ -27,7 +27,7 @@ BRACE = "'\"$(printf '\\173')\"'"
 
 @dataclasses.dataclass(frozen=True)
 class Plan:
-    """A list of jobs: its run, its folder, how many there are, and whether a part of the collection couldn't be read."""
+    """A list of jobs: its run, its folder, how many there are, and whether a part of the collection can't be read."""
 
     run: int
     folder: str

@@ -50,7 +50,7 @@ def clobbered(tests: Any, folder: str) -> None:
 
 
 def many_kinds(tests: Any, folder: str) -> None:
-    """More types than a call takes parameters: the plot has the most frequent ones, and says how many more there are."""
+    """More types than a call takes parameters: the plot has the most frequent ones, and says how many are left."""
     with open(f"{folder}/kinds.warc", "wb") as out:
         out.writelines(map(kind_record, range(KINDS)))
     browser = tests.opened(f"{folder}/kinds.warc")
@@ -102,7 +102,7 @@ def dying_helpers(tests: Any, folder: str) -> None:
 
 
 def another_file(tests: Any, folder: str) -> None:
-    """Another file is opened while the first is listed and judged: it is there at once, and nothing comes of the first."""
+    """Another file is opened while the first is judged: it is there at once, and nothing comes of the first."""
     page = variant(tests.page, f"{folder}/smaller.html", SMALLER)
     first, site = long_archive(f"{folder}/first.warc"), Site()
     site.add("a", "<p id=last>x")
@@ -178,7 +178,7 @@ def revisit(number: int) -> bytes:
 
 
 def seen_by_use(tests: Any, folder: str) -> None:
-    """Hosts in UTF-8, signs that turn a text, a frame without an address, captures that are all later, revisits by wget."""
+    """Hosts in UTF-8, signs that turn a text, a frame without an address, later captures alone, revisits by wget."""
     path, parts = f"{folder}/use.warc", []
     page = b"HTTP/1.1 200 OK\r\nContent-Type: text/html\r\n\r\n<p id=last>x<iframe srcdoc='y'></iframe>"
     for number, target in enumerate(("http://m\u00fcller.example/a", f"{SITE}/{TURNED}", f"{SITE}/again")):

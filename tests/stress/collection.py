@@ -4,12 +4,13 @@
     python3 tests/stress/collection.py WARC COUNT [PART ..]
 
 Makes COUNT archives, half of them by wget over loopback and half by hand: good, damaged, compressed, cut and growing.
-What the catalogue holds of each must be what the second reading in tests/reference gives: nothing lost, nothing counted
-twice. For the two hosts 40 hostile files are added, and a run that is killed twice, has no room to unpack and a reader
-beside it must come to the catalogue of an undisturbed run; `collection.py WARC 2000 rough_night` does this part alone,
-over 2,000 files. Prints a line for each part, each surprise, and last a line with the totals. The exit status is 1 if
-there was a surprise. Needs root, wget, zstd, GNU parallel, setpriv, sshd and ip; the two hosts are network namespaces of
-this machine, each with an sshd of its own. STRESS_JOBS and STRESS_HOST_JOBS are the jobs at a time here and on a host.
+What the catalogue holds of each must be what the second reading in tests/reference gives: nothing lost, nothing
+counted twice. For the two hosts 40 hostile files are added, and a run that is killed twice, has no room to unpack and
+a reader beside it must come to the catalogue of an undisturbed run; `collection.py WARC 2000 rough_night` does this
+part alone, over 2,000 files. Prints a line for each part, each surprise, and last a line with the totals. The exit
+status is 1 if there was a surprise. Needs root, wget, zstd, GNU parallel, setpriv, sshd and ip; the two hosts are
+network namespaces of this machine, each with an sshd of its own. STRESS_JOBS and STRESS_HOST_JOBS are the jobs at a
+time here and on a host.
 """
 from __future__ import annotations
 

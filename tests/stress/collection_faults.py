@@ -3,9 +3,9 @@
 
     python3 tests/stress/collection_faults.py WARC [PART ..]
 
-Prints a line for each part, each surprise, and last a line with the totals. The exit status is 1 if there was a surprise.
-Needs root, mount, setpriv, strace, zstd and GNU parallel; PostgreSQL is left out where it isn't installed, and the undoing of
-codings where `make python` wasn't run.
+Prints a line for each part, each surprise, and last a line with the totals. The exit status is 1 if there was a
+surprise. Needs root, mount, setpriv, strace, zstd and GNU parallel; PostgreSQL is left out where it isn't installed,
+and the undoing of codings where `make python` wasn't run.
 """
 from __future__ import annotations
 
@@ -758,7 +758,7 @@ def coded_pages(trial: Trial) -> None:
 
 
 def stored_bodies(trial: Trial) -> None:
-    """A coded body is given as it is stored, also that of a revisit in another file. Its codings are named, and escaped."""
+    """A coded body is given as it is stored, also of a revisit in another file. Its codings are named, and escaped."""
     coded_pages(trial)
     trial.run("c", "run", trial.path("archives"))
     for name, (head, body, _) in CODINGS.items():

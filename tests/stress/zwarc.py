@@ -3,10 +3,11 @@
 
     python3 tests/stress/zwarc.py WARC
 
-Output, message and status must be those of warc over the uncompressed archive, or those that are due: a file that can't be
-decompressed to its end gives no output, the decompressor's message and status 3. However a run ends, nothing of it is left
-in TMPDIR. Prints a line for each kind of trial, each surprise, and last the totals. The exit status is 1 if there was a
-surprise. Needs gzip, zstd and strace; a crawl by wget, a full disk (as root) and other shells are tried where they are.
+Output, message and status must be those of warc over the uncompressed archive, or those that are due: a file that
+can't be decompressed to its end gives no output, the decompressor's message and status 3. However a run ends, nothing
+of it is left in TMPDIR. Prints a line for each kind of trial, each surprise, and last the totals. The exit status is 1
+if there was a surprise. Needs gzip, zstd and strace; a crawl by wget, a full disk (as root) and other shells are tried
+where they are.
 """
 from __future__ import annotations
 
@@ -438,8 +439,8 @@ def wrap(trials: Trials, name: str, call: str, error: str, count: int) -> None:
 
 
 def failing_calls(trials: Trials) -> None:
-    """Calls of the system fail in turn in each program that the script runs: no other status than 0 and 3, no output but
-    that of warc, and with 0 all of it."""
+    """Calls of the system fail in turn in each program that the script runs: the status is 0 or 3, and with 0 the
+    output is all that warc writes."""
     path = trials.file("archive.gz", b"".join(MEMBERS))
     wanted = trials.run(["warc", "list", trials.file("plain", PLAIN)])
     calls = {"gzip": ("read", "write", "openat"), "od": ("read", "write"), "mktemp": ("openat",)}
