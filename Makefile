@@ -13,6 +13,7 @@
 # make lint-code    checks the code that isn't proved: types, layout, warnings; leaves out what isn't installed
 # make lint-docs    compares README's code with the example crates, and looks for what the pages may not hold
 # make numbers      makes docs/NUMBERS.md from the table of numbers
+# make statuses     makes the exit statuses of docs/PROGRAM.md from the help texts
 # make man          makes the manual pages and the completions under out/
 # make collection   makes the one file out/warc-collection of the package in collection/
 # make install      copies what is built to PREFIX: the program, pages, completions, docs, examples, and the library,
@@ -39,7 +40,7 @@ JOBS ?= $(shell nproc)
 
 .PHONY: all try test check lint lint-code test-docs lint-docs man install uninstall install-python uninstall-python
 .PHONY: dist verify-dist test-compatibility test-package stress bench clean lib python rust test-callers page test-page
-.PHONY: numbers collection
+.PHONY: numbers statuses collection
 
 define PAGES
 @python3 tools/make_collection.py out/warc-collection
@@ -98,6 +99,9 @@ lint-docs:
 
 numbers:
 	@python3 tools/make_numbers.py
+
+statuses:
+	@python3 tools/make_statuses.py
 
 collection:
 	@python3 tools/make_collection.py out/warc-collection

@@ -7,13 +7,13 @@
 - A call or a law that docs/PROMISES.md names after a crate is in this crate.
 - docs/TRUST.md is as tools/lint_trust.py says, and docs/ARCHITECTURE.md as tools/lint_architecture.py says.
 - Each file that has the word of a row of CONTRIBUTING.md's table of changes is in that row.
-- docs/PROGRAM.md has a section and a row of exit statuses, and README.md a row, for each command of the program and for
-  no other.
+- docs/PROGRAM.md has a section, and README.md a row, for each command of the program and for no other.
 - A link or a path that a page names is there.
 - README.md has at most 9 KB.
 - CHANGELOG.md has a section for the version, and the packages for Python and Rust have that version.
 - docs/PROMISES.md names the number of cases that the reports of the suites count.
 - docs/NUMBERS.md is what tools/make_numbers.py makes, and docs/FORMAT.md has the same numbers and names.
+- The exit statuses of docs/PROGRAM.md are what tools/make_statuses.py makes of the help texts.
 - crates/warc/CALLING.md is what tools/make_calling.py makes.
 """
 from __future__ import annotations
@@ -29,6 +29,7 @@ import lint_changes
 import lint_trust
 import make_calling
 import make_numbers
+import make_statuses
 from shared import TOP, crates, read, version
 
 PAGES = ["README.md", "CONTRIBUTING.md", "CHANGELOG.md", "docs/*.md", "*/README.md"]
@@ -90,10 +91,7 @@ def commands_elsewhere() -> Iterator[str]:
     )
     sections = set(re.findall(r"^## warc (\w+)$", read("docs/PROGRAM.md"), re.MULTILINE))
     rows = set(re.findall(r"^\| `warc (\w+)", read("README.md"), re.MULTILINE))
-    matrix = read("docs/PROGRAM.md").partition("### Exit status\n")[2].partition("\n### ")[0]
-    statuses = set(re.findall(r"`(\w+)`", "".join(re.findall(r"^\|(.*?)\|", matrix, re.MULTILINE))))
-    where = (("docs/PROGRAM.md", sections), ("README.md", rows), ("docs/PROGRAM.md, Exit status:", statuses - {"help"}))
-    for page, named in where:
+    for page, named in (("docs/PROGRAM.md", sections), ("README.md", rows)):
         for name in sorted(own ^ named):
             yield f"{page}: {'lacks' if name in own else 'has'} the command {name}"
 
@@ -140,6 +138,7 @@ def main() -> None:
         *calls_elsewhere(),
         *commands_elsewhere(),
         *make_numbers.wrong(),
+        *make_statuses.wrong(),
         *lint_trust.wrong(),
     ]
     found += [*cases_elsewhere(), *versions_elsewhere()]
