@@ -76,6 +76,20 @@ def calls(text: str) -> Iterator[tuple[str, list[str]]]:
             comment = []
 
 
+def types(text: str) -> list[str]:
+    """The public types of a source file that has no public function: what contracts see of them, and what they give."""
+    lines: list[str] = []
+    comment: list[str] = []
+    for line in text.splitlines():
+        if re.match(r"impl|pub struct|    (?:ghost \w+ =|type) ", line):
+            lines += ["", *comment] if not line.startswith(" ") else []
+            lines.append(line.removesuffix(" {"))
+            comment = []
+        elif line.startswith("///"):
+            comment.append(line)
+    return lines[1:]
+
+
 def contracts() -> Iterator[str]:
     """A section for each file, with its calls by their type."""
     for name in SOURCES:
@@ -89,7 +103,7 @@ def contracts() -> Iterator[str]:
                 lines += [kind] if kind else []
             last = kind
             lines += [*call, ""]
-        yield "```rust\n" + "\n".join(lines).rstrip() + "\n```\n"
+        yield "```rust\n" + "\n".join(lines or types(text)).rstrip() + "\n```\n"
 
 
 def page() -> str:
