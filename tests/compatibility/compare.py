@@ -157,7 +157,7 @@ def writers() -> list[Writer]:
             f"{wget} with `--warc-dedup`",
             by_wget_again,
             "N4 and `bad` in revisits mean nothing: wget states the digest of no bytes. "
-            "P5: join the file with that of the first crawl, `cat one.warc two.warc > both.warc`",
+            "P5: join the file with the first crawl, `cat one.warc two.warc > both.warc`",
         ),
         Writer(f"{wget} as ArchiveBox calls it", by_archivebox, stored),
         Writer(
