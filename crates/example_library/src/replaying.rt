@@ -6,11 +6,9 @@ use warc::{Archive, MemSink, MemSource, Moment, ReplayFault};
 
 /// Prints the offset and the target of each record.
 pub fn print_rows(rt: &HostRuntime, archive: &Archive<MemSource>) -> io::Result<()> {
-    for position in 0..archive.count() {
-        if let Some(row) = archive.row(position) {
-            let target = str::from_utf8(row.target).unwrap_or("-");
-            println!(rt; "{} {target}", row.offset)?;
-        }
+    for row in archive.rows() {
+        let target = str::from_utf8(row.target).unwrap_or("-");
+        println!(rt; "{} {target}", row.offset)?;
     }
     Ok(())
 }
