@@ -6,7 +6,7 @@ use Rattle.warc_frame.specs.Count.{capped}
 use Rattle.warc_reading.specs.Row.{Row}
 use Rattle.warc.specs.declared.fault.TakeFault.{TakeFault}
 use Rattle.warc.specs.declared.fault.TakeFault.TheVariants.{NoRecord, Read, Memory}
-use Rattle.warc_lent.specs.Buffers.{HoldsFront}
+use Rattle.warc_lent.specs.Buffers.{HoldsFront, KeepsAfter}
 use Rattle.warc_lent.specs.declared.problem.Problem.{Problem}
 use Rattle.warc_lent.specs.declared.problem.Problem.TheVariants as problems
 use Rattle.warc_lent.specs.declared.rows.RowNumbers.{RowNumbers}
@@ -48,8 +48,10 @@ row_numbers row = record {
 abbrev pub row_texts : Row → List ℕ
 row_texts row = row.kind ++ row.date ++ row.id ++ row.target
 
--- what is put of a row: its numbers, and its texts as far as there is room; the length of these is answered
-pub record IsRowPut (row : Row) (length_answered : ℕ) (numbers : RowNumbers) (texts : List ℕ) : Type 0 where
+-- what is put of a row: its numbers, and its texts as far as there is room; the length of these is answered, and what
+-- follows them in the buffer stays
+pub record IsRowPut (row : Row) (length_answered : ℕ) (numbers : RowNumbers) (old texts : List ℕ) : Type 0 where
   pub numbers_are : numbers ≡ row_numbers row
   pub texts_are : HoldsFront (row_texts row) texts
+  pub rest_stays : KeepsAfter (length (row_texts row)) old texts
   pub length_is : length_answered ≡ capped (length (row_texts row))

@@ -1,7 +1,7 @@
 //! What is put into buffers that callers lend.
 ghost use Rattle.std.specs.Prelude.{◌≡◌, ◌++◌, ℕ, List, drop, length, min, take};
 ghost use Rattle.warc_frame.specs.Count.{capped};
-ghost use Rattle.warc_lent.specs.Buffers.{HoldsFront};
+ghost use Rattle.warc_lent.specs.Buffers.{HoldsFront, KeepsAfter};
 
 /// Copies as much of a text as a buffer has room for.
 fn copy_front(text: &[u8], out: &mut [u8])
@@ -20,7 +20,7 @@ fn copy_front(text: &[u8], out: &mut [u8])
 pub fn put_text(text: &[u8], out: &mut [u8]) -> usize
     ensures whole { result ≡ length text.now }
     ensures front { HoldsFront text.now out.new }
-    ensures rest { drop (length text.now) out.new ≡ drop (length text.now) out.old }
+    ensures rest { KeepsAfter (length text.now) out.old out.new }
     ensures room { length out.new ≡ length out.old }
 {
     copy_front(text, out);
@@ -35,7 +35,7 @@ pub fn put_text_at(text: &[u8], at: usize, out: &mut [u8]) -> usize
     ensures front { (before : List ℕ) → at ≡ capped (length before) → HoldsFront before out.old →
         HoldsFront (before ++ text.now) out.new }
     ensures rest { (before : List ℕ) → at ≡ capped (length before) →
-        drop (length (before ++ text.now)) out.new ≡ drop (length (before ++ text.now)) out.old }
+        KeepsAfter (length (before ++ text.now)) out.old out.new }
     ensures room { length out.new ≡ length out.old }
 {
     let from = at.min(out.len());
@@ -47,16 +47,20 @@ pub fn put_text_at(text: &[u8], at: usize, out: &mut [u8]) -> usize
 fn copy_positions(positions: &[usize], out: &mut [usize])
     ensures front { take (min (length positions.now) (length out.old)) out.new
         ≡ take (min (length positions.now) (length out.old)) positions.now }
+    ensures rest { drop (min (length positions.now) (length out.old)) out.new
+        ≡ drop (min (length positions.now) (length out.old)) out.old }
     ensures room { length out.new ≡ length out.old }
 {
     let count = positions.len().min(out.len());
     out[..count].copy_from_slice(&positions[..count]);
 }
 
-/// Puts the first positions into a buffer, as many as it has room for, and answers how many there are.
+/// Puts the first positions into a buffer, as many as it has room for, and answers how many there are. What follows in
+/// the buffer stays.
 pub fn put_positions(positions: &[usize], out: &mut [usize]) -> usize
     ensures number { result ≡ length positions.now }
     ensures front { HoldsFront positions.now out.new }
+    ensures rest { KeepsAfter (length positions.now) out.old out.new }
     ensures room { length out.new ≡ length out.old }
 {
     copy_positions(positions, out);

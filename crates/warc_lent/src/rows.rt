@@ -1,8 +1,8 @@
 //! What is kept of a record, as numbers and texts.
-ghost use Rattle.std.specs.Prelude.{◌≡◌, ◌++◌, ℕ, List, [], Result, drop, length, slice_get, IfErr, IfOk, OnErr, Some, None};
+ghost use Rattle.std.specs.Prelude.{◌≡◌, ◌++◌, ℕ, List, [], Result, length, slice_get, IfErr, IfOk, OnErr, Some, None};
 ghost use Rattle.warc_frame.specs.Count.{capped};
 ghost use Rattle.warc_reading.specs.Row.{Row as Seen};
-ghost use Rattle.warc_lent.specs.Buffers.{HoldsFront};
+ghost use Rattle.warc_lent.specs.Buffers.{HoldsFront, KeepsAfter};
 ghost use Rattle.warc.specs.Judged.{GivesVerdict};
 ghost use Rattle.warc.specs.declared.fault.TakeFault.{TakeFault as GhostFault};
 ghost use Rattle.warc_value.specs.declared.hash.Verdict.{Verdict as Found};
@@ -90,8 +90,8 @@ pub fn put_row_texts(row: &Row<'_>, at: usize, out: &mut [u8]) -> usize
         result ≡ capped (length (before ++ row_texts row.now)) }
     ensures front { (before : List ℕ) → at ≡ capped (length before) → HoldsFront before out.old →
         HoldsFront (before ++ row_texts row.now) out.new }
-    ensures rest { (before : List ℕ) → at ≡ capped (length before) → drop (length (before ++ row_texts row.now)) out.new
-        ≡ drop (length (before ++ row_texts row.now)) out.old }
+    ensures rest { (before : List ℕ) → at ≡ capped (length before) →
+        KeepsAfter (length (before ++ row_texts row.now)) out.old out.new }
     ensures room { length out.new ≡ length out.old }
 {
     let date = put_text_at(row.kind, at, out);
@@ -102,7 +102,7 @@ pub fn put_row_texts(row: &Row<'_>, at: usize, out: &mut [u8]) -> usize
 
 /// Puts a row: its numbers, and its texts as far as there is room for them. The answer is the length of the texts.
 fn put_kept(row: &Row<'_>, numbers: &mut RowNumbers, texts: &mut [u8]) -> usize
-    ensures put { IsRowPut row.now result numbers.new texts.new }
+    ensures put { IsRowPut row.now result numbers.new texts.old texts.new }
     ensures room { length texts.new ≡ length texts.old }
 {
     *numbers = row_numbers(row);
@@ -110,7 +110,7 @@ fn put_kept(row: &Row<'_>, numbers: &mut RowNumbers, texts: &mut [u8]) -> usize
 }
 
 /// Puts what is kept of the record at a position: numbers, and its type, date, id and target one after another, as far
-/// as there is room for them. The answer is the length of these texts.
+/// as there is room for them. What follows in the buffer stays. The answer is the length of these texts.
 pub fn put_row<S: Source, A: Allocator>(
     archive: &Archive<S, A>,
     position: usize,
@@ -118,7 +118,7 @@ pub fn put_row<S: Source, A: Allocator>(
     texts: &mut [u8],
 ) -> Result<usize, Problem>
     ensures kept { IfOk result (λ answered. (row : Seen) × (slice_get archive.now.listing.rows position ≡ Some row) ×
-        IsRowPut row answered numbers.new texts.new) }
+        IsRowPut row answered numbers.new texts.old texts.new) }
     ensures absent { IfErr result (λ problem. (problem ≡ Problem.NoRecord) ×
         (slice_get archive.now.listing.rows position ≡ None)) }
     ensures same { OnErr result ((numbers.new ≡ numbers.old) × (texts.new ≡ texts.old)) }

@@ -4,6 +4,7 @@ ghost use Rattle.warc.specs.Listing.{listing};
 ghost use Rattle.warc_checking.specs.Checking.{check_text};
 ghost use Rattle.warc_reading.specs.Archive.{IsArchiveOf, contents};
 ghost use Rattle.warc_reading.specs.Indexed.{IsUnchanged};
+ghost use Rattle.warc_lent.specs.Buffers.{KeepsAfter};
 ghost use Rattle.warc_lent.specs.Problems.{problem_result, problem_text};
 ghost use Rattle.warc_frame.specs.Effects.{FailsBy, Preserves};
 ghost use Rattle.warc_frame.specs.Seen.{IfHeld};
@@ -93,6 +94,7 @@ pub fn findings_text<A: Allocator + Copy>(alloc: A, bytes: &[u8]) -> Result<Vec<
 /// has these numbers, or memory runs out.
 pub fn put_problem<A: Allocator>(alloc: A, numbers: Numbers, out: &mut [u8]) -> usize
     ensures put { IsProblemPut numbers result out.old out.new }
+    ensures rest { KeepsAfter result out.old out.new }
     ensures room { length out.new ≡ length out.old }
 {
     let Some(problem) = Problem::of(numbers) else {
@@ -112,6 +114,7 @@ pub fn put_list<A: Allocator + Copy, S: Source>(
 ) -> Result<usize, Problem>
     ensures lines { IfOk result (λ answered. IsTextPut (listing archive.now.listing.rows) answered out.new) }
     ensures memory { IfErr result (λ problem. problem ≡ Problem.Memory) }
+    ensures rest { IfOk result (λ answered. KeepsAfter answered out.old out.new) }
     ensures same { OnErr result (out.new ≡ out.old) }
     ensures room { length out.new ≡ length out.old }
 {
@@ -130,6 +133,7 @@ pub fn put_check<A: Allocator + Copy, S: Source>(
     ensures findings { IfOk result (λ answered. IfHeld (S.seen archive.old.listing.source).holds (λ bytes.
         (is : IsArchiveOf bytes archive.old.listing.rows) → IsTextPut (check_text (contents is.are.records)) answered
         out.new)) }
+    ensures rest { IfOk result (λ answered. KeepsAfter answered out.old out.new) }
     ensures same { OnErr result (out.new ≡ out.old) }
     ensures room { length out.new ≡ length out.old }
     ensures refused { IfErr result IsUnreadable }
@@ -151,6 +155,7 @@ pub fn put_fixity<A: Allocator + Copy>(
     out: &mut [u8],
 ) -> Result<usize, Problem>
     ensures puts { PutsFixity bytes.now result out.old out.new }
+    ensures rest { IfOk result (λ answered. KeepsAfter answered out.old out.new) }
     ensures room { length out.new ≡ length out.old }
 {
     match fixity_text(alloc, bytes) {
@@ -166,6 +171,7 @@ pub fn put_findings<A: Allocator + Copy>(
     out: &mut [u8],
 ) -> Result<usize, Problem>
     ensures puts { PutsFindings bytes.now result out.old out.new }
+    ensures rest { IfOk result (λ answered. KeepsAfter answered out.old out.new) }
     ensures room { length out.new ≡ length out.old }
 {
     match findings_text(alloc, bytes) {
