@@ -75,6 +75,14 @@ reads_once (command.Fixity archive) = true
 reads_once (command.Summary archive) = true
 reads_once _ = false
 
+-- whether its output is bytes as they were captured
+abbrev pub gives_bytes : Command → Bool
+gives_bytes (command.Extract archive id) = true
+gives_bytes (command.Replay archive uri date hex stored) = true
+gives_bytes (command.Body archive position stored) = true
+gives_bytes (command.Block archive position) = true
+gives_bytes _ = false
+
 -- whether it opens no file and reads nothing
 abbrev pub opens_nothing : Command → Bool
 opens_nothing (command.Explain number) = true

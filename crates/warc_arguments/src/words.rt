@@ -7,7 +7,7 @@ ghost use Rattle.clap.specs.Takes.{takes};
 ghost use Rattle.clap.specs.Values.{kind_of};
 ghost use Rattle.clap.specs.Walk.{first_of, rows_of, rule_of};
 ghost use Rattle.clap.specs.declared.builder.command.Command.TheViews.{out-Command};
-ghost use Rattle.warc_arguments.specs.Command.{asked_by, draft_texts, flags_of, opens_nothing, path_word, reads_once, view_of};
+ghost use Rattle.warc_arguments.specs.Command.{asked_by, draft_texts, flags_of, gives_bytes, opens_nothing, path_word, reads_once, view_of};
 ghost use Rattle.warc_arguments.specs.CommandLine.{IsToldBy, asked_in, bare_app, first_app, asked_of, command_fault_text, draft_words, flags_in, is_flagged};
 ghost use Rattle.warc_arguments.specs.CommandLine.{layout_seen, named, rule_as, text_of, warc_app, with_layout, with_rules};
 
@@ -169,6 +169,32 @@ impl<'a> Command<'a> {
             | Command::Check { archive: _ }
             | Command::Fixity { archive: _ }
             | Command::Summary { archive: _ } => true,
+            _ => false,
+        }
+    }
+
+    /// Whether the output is bytes as they were captured, which a terminal gets as they are.
+    pub fn gives_bytes(&self) -> bool
+        ensures { result ≡ gives_bytes self.now }
+    {
+        match self {
+            Command::Block {
+                archive: _,
+                position: _,
+            }
+            | Command::Body {
+                archive: _,
+                position: _,
+                stored: _,
+            }
+            | Command::Extract { archive: _, id: _ }
+            | Command::Replay {
+                archive: _,
+                uri: _,
+                date: _,
+                in_hex: _,
+                stored: _,
+            } => true,
             _ => false,
         }
     }
@@ -411,9 +437,9 @@ the digest as the head states it; '-' for none. A block is unchecked if no
 digest is stated or it isn't SHA-1 in base32. The last line counts all
 records: 'records 60 good 58 bad 0 unchecked 2'.
 
-Exit status: 0 all blocks are good; 1 some block is bad; 4 none is bad, and
-some can't be checked; 2 the archive is refused, and nothing was written;
-3 see 'warc --help'.
+Exit status: 0 all blocks are good; 1 some block is bad; 2 the archive is
+refused, and nothing was written; 3 see 'warc --help'; 4 none is bad, and some
+can't be checked.
 
 Example: warc fixity examples/abc.warc";
 

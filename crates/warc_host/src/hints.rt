@@ -1,8 +1,11 @@
 //! The words of the command line, and the lines for people that follow a run.
+ghost use Rattle.std.specs.Prelude.{◌≡◌, map, string_bytes, IfErr, IfOk, IfSome, None, Some};
+ghost use Rattle.warc_arguments.specs.Command.{asked_by};
+ghost use Rattle.warc_arguments.specs.CommandLine.{asked_of};
 
 use crate::shown::is_escaped;
 use std::{env, fmt, io};
-use warc_arguments::{Command, Request, parse};
+use warc_arguments::{Request, parse};
 
 /// The exit status where the archive was refused, and where a run failed.
 const REFUSED: u8 = 2;
@@ -15,35 +18,19 @@ pub fn words(rt: &HostRuntime) -> io::Result<Vec<String>> {
 }
 
 /// What the words ask for, if they name a command.
-pub fn request<'a>(rt: &HostRuntime, words: &'a io::Result<Vec<String>>) -> Option<Request<'a>> {
-    match words {
-        Ok(words) => parse(rt.alloc(), words.as_slice()).ok(),
-        Err(_) => None,
+pub fn request<'a>(rt: &HostRuntime, words: &'a io::Result<Vec<String>>) -> Option<Request<'a>>
+    ensures asked { IfOk words.now (λ given. IfSome result (λ request.
+        Some (asked_by request) ≡ asked_of (map string_bytes given.items))) }
+    ensures none { IfErr words.now (λ _. result ≡ None) }
+{
+    let Ok(words) = words else {
+        return None;
+    };
+    match parse(rt.alloc(), words.as_slice()) {
+        Ok(request) => return Some(request),
+        Err(_) => {}
     }
-}
-
-/// Whether a command's output is the bytes that were captured, which a terminal gets as they are.
-pub fn gives_bytes(command: &Command<'_>) -> bool {
-    match command {
-        Command::Block {
-            archive: _,
-            position: _,
-        } => true,
-        Command::Body {
-            archive: _,
-            position: _,
-            stored: _,
-        } => true,
-        Command::Extract { archive: _, id: _ } => true,
-        Command::Replay {
-            archive: _,
-            uri: _,
-            date: _,
-            in_hex: _,
-            stored: _,
-        } => true,
-        _ => false,
-    }
+    None
 }
 
 /// How a run ended: its status, the compression that its input looks like, and the number of the system's last error.

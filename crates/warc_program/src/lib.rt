@@ -10,7 +10,7 @@ use std::cell::Cell;
 use std::io::IsTerminal;
 use std::process::ExitCode;
 use warc_commands::run;
-use warc_host::{Ended, ErasingSink, Host, Progress, ShownSink, gives_bytes, hint, request, words};
+use warc_host::{Ended, ErasingSink, Host, Progress, ShownSink, hint, request, words};
 
 /// The exit status where a write failed.
 const FAILED: u8 = 3;
@@ -21,7 +21,7 @@ pub fn run_program(rt: &HostRuntime) -> ExitCode {
     let request = request(rt, &words);
     let progress = Progress::new(rt, request.is_some_and(|it| it.quiet));
     let reason = Cell::new(None);
-    let is_text = !request.is_some_and(|it| gives_bytes(&it.command));
+    let is_text = !request.is_some_and(|it| it.command.gives_bytes());
     let mut out = ShownSink::new(rt.stdout(), is_text && rt.stdout().is_terminal());
     let is_terminal = rt.stderr().is_terminal();
     let mut err = ErasingSink::new(ShownSink::new(rt.stderr(), is_terminal), &progress);
