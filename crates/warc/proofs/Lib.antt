@@ -22,3 +22,5 @@ pub mod CaptureLemmas
 pub mod HeadingLemmas
 pub mod JudgedLemmas
 pub mod JoinedLemmas
+pub mod OtherLemmas
+pub mod SelectLemmas

@@ -20,6 +20,8 @@ pub mod Locating
 pub mod Parts
 pub mod Replaying
 pub mod Segments
+pub mod Selected
+pub mod Selecting
 pub mod Standing
 pub mod Summary
 pub mod TakeText

@@ -19,6 +19,7 @@ ghost use Rattle.warc_reading.specs.Opening.{Opens};
 ghost use Rattle.warc.specs.Replaying.{Replays};
 ghost use Rattle.warc_reading.specs.Row.{Placed};
 ghost use Rattle.warc.specs.Judged.{GivesVerdict};
+ghost use Rattle.warc.specs.Selecting.{AreOthers, ArePositions, Selects};
 ghost use Rattle.warc.specs.Taking.{GivesRecord};
 
 use crate::capture_line::list_outcomes;
@@ -358,6 +359,28 @@ impl<S: Source, A: Allocator + Copy> Archive<S, A> {
             result ≡ chosen_of (map indexed_record records) uri.now moment.now }
     {
         self.lookup.index.latest(uri, moment)
+    }
+
+    /// Writes the records at positions, byte for byte, as a listing does.
+    pub fn select<W: Sink>(&mut self, positions: &[usize], out: &mut W) -> Result<(), OutFault>
+        requires ascending { ArePositions (length self.old.listing.rows) positions.now }
+        ensures selects { Selects self.old.listing.rows positions.now (S.seen self.old.listing.source)
+            (S.seen self.new.listing.source) (W.seen out.old) (W.seen out.new) result }
+
+        // The rows stay, and so does what finds and joins the records.
+        ensures rows { self.new.listing.rows ≡ self.old.listing.rows }
+        ensures index { self.new.index ≡ self.old.index }
+        ensures parts { self.new.parts ≡ self.old.parts }
+    {
+        self.listing.select(positions, out)
+    }
+
+    /// The positions of all records but those at positions, as a listing gives them.
+    pub fn others(&self, positions: &[usize]) -> Result<Vec<usize, A>, AllocError>
+        requires ascending { ArePositions (length self.now.listing.rows) positions.now }
+        ensures { IfOk result (λ others. AreOthers (length self.now.listing.rows) positions.now others.items) }
+    {
+        self.listing.others(positions)
     }
 
     /// Writes a line for each finding, as a listing does, and answers how many there are. A read that fails does so

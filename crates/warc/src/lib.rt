@@ -26,6 +26,7 @@ mod replay;
 mod rewriting;
 mod row;
 mod segments;
+mod selecting;
 mod summary;
 
 pub use archives::Archive;

@@ -1,5 +1,5 @@
 //! A listing: the rows of an archive over the source that holds its bytes.
-ghost use Rattle.std.specs.Prelude.{◌≡◌, ℕ, List, length, OnErr, slice_get};
+ghost use Rattle.std.specs.Prelude.{◌≡◌, ℕ, List, length, IfOk, OnErr, slice_get};
 ghost use Rattle.warc_frame.specs.Effects.{SendsText};
 ghost use Rattle.warc_reading.specs.Archive.{IsArchiveOf, rows_of, source_of};
 ghost use Rattle.warc_checking.specs.Checks.{Checks};
@@ -17,6 +17,7 @@ ghost use Rattle.warc_reading.specs.Stream.{IsKeptOf};
 ghost use Rattle.warc.specs.Replaying.{Replays};
 ghost use Rattle.warc.specs.Heading.{GivesHead};
 ghost use Rattle.warc.specs.Judged.{GivesVerdict};
+ghost use Rattle.warc.specs.Selecting.{AreOthers, ArePositions, Selects};
 ghost use Rattle.warc.specs.Taking.{GivesRecord};
 
 use crate::blocks::send_range;
@@ -34,7 +35,8 @@ use crate::records::take_record;
 use crate::replay::replay_rows;
 use crate::rewriting::{Replacement, write_rows};
 use crate::row::put_line;
-use std::alloc::{Allocator, Global};
+use crate::selecting::{other_positions, send_selected};
+use std::alloc::{AllocError, Allocator, Global};
 use std::marker::Model;
 use std::mem;
 use warc_answer::{Answer, Located, ReplayFault};
@@ -417,6 +419,32 @@ impl<S: Source, A: Allocator + Copy> Listing<S, A> {
         ensures rows { self.new.rows ≡ self.old.rows }
     {
         self.write_each(Replacement::Split(size), out)
+    }
+
+    /// Writes the records at positions, byte for byte: the positions ascend, so that each record is written once, and
+    /// in the archive's order. Without positions nothing is written. No record is kept: each goes through a buffer of
+    /// 8,192 bytes.
+    ///
+    /// A read that fails, or a source that no longer gives what it gave at opening, is `Read`; a write that fails is
+    /// `Write`. Each says how many bytes went out, which are the first of these records.
+    pub fn select<W: Sink>(&mut self, positions: &[usize], out: &mut W) -> Result<(), OutFault>
+        requires ascending { ArePositions (length self.old.rows) positions.now }
+        ensures selects { Selects self.old.rows positions.now (S.seen self.old.source) (S.seen self.new.source)
+            (W.seen out.old) (W.seen out.new) result }
+
+        // The rows stay.
+        ensures rows { self.new.rows ≡ self.old.rows }
+    {
+        send_selected(&mut self.source, &self.rows, positions, out)
+    }
+
+    /// The positions of all records but those at positions, in ascending order, as `select` takes them. `Err`: no
+    /// memory for them.
+    pub fn others(&self, positions: &[usize]) -> Result<Vec<usize, A>, AllocError>
+        requires ascending { ArePositions (length self.now.rows) positions.now }
+        ensures { IfOk result (λ others. AreOthers (length self.now.rows) positions.now others.items) }
+    {
+        other_positions(self.rows.allocator(), self.rows.len(), positions)
     }
 
     /// Writes what replaces each record.
