@@ -24,3 +24,4 @@ pub mod JudgedLemmas
 pub mod JoinedLemmas
 pub mod OtherLemmas
 pub mod SelectLemmas
+pub mod SelectionLaws

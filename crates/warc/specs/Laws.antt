@@ -1,5 +1,6 @@
 -- The laws of archives.
 use Rattle.std.specs.Prelude.{◌≡◌, ◌≢◌, ◌⊎◌, ◌↔◌, ℕ, ◌^◌, ◌<◌, ◌≤◌, List, ◌++◌, length, map, Option, Some, Result, IsSome}
+use Rattle.std.specs.List.{range_with_len}
 use Rattle.warc_value.specs.Dates.{Instant, instant_of}
 use Rattle.warc_frame.specs.Record.{Record, max_archive}
 use Rattle.warc_frame.specs.Spelling.{SpellsAll}
@@ -17,6 +18,7 @@ use Rattle.warc_checking.specs.Checking.{check_text}
 use Rattle.warc.specs.Captures.{full_date}
 use Rattle.warc.specs.Forms.{record_as, texts_as}
 use Rattle.warc.specs.Listing.{listing}
+use Rattle.warc.specs.Selecting.{ArePositions, at_positions, selected_text}
 use Rattle.warc_reading.specs.Row.{Placed, Row, row_of}
 use Rattle.warc.specs.declared.copying.Form.{Form}
 use Rattle.warc.specs.declared.copying.Form.TheVariants.{Canonical, Converted}
@@ -98,6 +100,23 @@ abbrev pub MigrationKeepsReplays : Type 0
 MigrationKeepsReplays = (records : List Record) → AreGood records → (rows : List Row) (is : IsMigrated records rows)
     → (uri : List ℕ) (moment : Instant) (answer : Result Answer ReplayFault) (old new : Option (List ℕ))
     → IsReplay (contents is.are.records) uri moment answer old new ↔ IsReplay records uri moment answer old new
+
+-- what is written of the records at positions of an archive is an archive
+abbrev pub SelectionIsAnArchive : Type 0
+SelectionIsAnArchive = (bytes : List ℕ) (rows : List Row) (positions : List ℕ) → IsArchiveOf bytes rows
+    → ArePositions (length rows) positions
+    → (others : List Row) × IsArchiveOf (selected_text rows positions bytes) others
+
+-- and its records are those at the positions, in their order
+abbrev pub SelectionIsOfTheSelected : Type 0
+SelectionIsOfTheSelected = (bytes : List ℕ) (rows : List Row) (is : IsArchiveOf bytes rows) (positions : List ℕ)
+    (others : List Row) (other : IsArchiveOf (selected_text rows positions bytes) others)
+    → contents other.are.records ≡ at_positions (contents is.are.records) positions
+
+-- what is written of all records is the archive, byte for byte
+abbrev pub AllGiveTheArchive : Type 0
+AllGiveTheArchive = (bytes : List ℕ) (rows : List Row) → IsArchiveOf bytes rows
+    → selected_text rows (range_with_len 0 (length rows)) bytes ≡ bytes
 
 -- a date in full is of the same instant
 abbrev pub FullDatesAreInstants : Type 0

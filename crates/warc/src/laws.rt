@@ -2,6 +2,7 @@
 ghost use Rattle.warc.specs.Laws.{ArchivesSpell, FaultsAreStable, FullDatesAreInstants, NoFaultWhereSpelled, OneFault};
 ghost use Rattle.warc.specs.Laws.{MigrationKeepsAnswers, MigrationKeepsReplays, OutputsAreCounted, SomeFaultElse};
 ghost use Rattle.warc.specs.Laws.{RecordsAreSpelled, RecordsAreTheSame, RefusedForFault};
+ghost use Rattle.warc.specs.Laws.{AllGiveTheArchive, SelectionIsAnArchive, SelectionIsOfTheSelected};
 ghost use Rattle.warc.specs.Laws.{WrittenOpensAsSame, WrittenSpells};
 
 use warc_answer::laws::conversion_keeps_answers;
@@ -73,6 +74,19 @@ pub fn migration_keeps_answers()
     written_opens_as_same();
     conversion_keeps_answers();
 }
+
+/// What `select` writes of an archive is an archive, whose records are those at the positions, in their order.
+pub fn selection_is_an_archive()
+    ensures archive { SelectionIsAnArchive }
+    ensures records { SelectionIsOfTheSelected }
+{
+    spelling_is_unambiguous();
+}
+
+/// What `select` writes of all records is the archive, byte for byte.
+pub fn all_give_the_archive()
+    ensures { AllGiveTheArchive }
+{}
 
 /// The date that `captures` writes in full is of the same instant as the one that the record states.
 #[tactic(auto, using(crate::proofs::DateLemmas::full_instant))]

@@ -1,0 +1,5 @@
+use Rattle.warc.proofs.SelectionLaws.{all_give_the_archive}
+use Rattle.warc.proofs.laws.all_give_the_archive.Goals as goal
+
+pub returns : goal.returns
+returns c = all_give_the_archive
