@@ -25,3 +25,4 @@ pub mod JoinedLemmas
 pub mod OtherLemmas
 pub mod SelectLemmas
 pub mod SelectionLaws
+pub mod RestLemmas

@@ -45,7 +45,8 @@ pub whole_text : (bytes : List ℕ) (rows : List Row) → IsArchiveOf bytes rows
 whole_text bytes rows is =
     ap (λ l. flat_map (record_bytes bytes) l) is.are.rows_are ∙ whole_from 0 [] is.are.records bytes refl is.are.spelled
 
-one_left : {X : Type 0} (xs : List X) (n : ℕ) → n < length xs → (x : X) × (slice_get xs n ≡ Some x) × (drop n xs ≡ x ∷ drop (n + 1) xs)
+-- the element at a place, and what comes after it
+pub one_left : {X : Type 0} (xs : List X) (n : ℕ) → n < length xs → (x : X) × (slice_get xs n ≡ Some x) × (drop n xs ≡ x ∷ drop (n + 1) xs)
 one_left {X} [] n within = absurd (omega (arith, within))
 one_left {X} (y ∷ ys) zero within = (y, refl, refl)
 one_left {X} (y ∷ ys) (suc n) within =

@@ -1,6 +1,7 @@
 -- The laws of archives.
 use Rattle.std.specs.Prelude.{◌≡◌, ◌≢◌, ◌⊎◌, ◌↔◌, ℕ, ◌^◌, ◌<◌, ◌≤◌, List, ◌++◌, length, map, Option, Some, Result, IsSome}
 use Rattle.std.specs.List.{range_with_len}
+use Rattle.std.specs.List.Sorted.{IsPermutation}
 use Rattle.warc_value.specs.Dates.{Instant, instant_of}
 use Rattle.warc_frame.specs.Record.{Record, max_archive}
 use Rattle.warc_frame.specs.Spelling.{SpellsAll}
@@ -18,7 +19,7 @@ use Rattle.warc_checking.specs.Checking.{check_text}
 use Rattle.warc.specs.Captures.{full_date}
 use Rattle.warc.specs.Forms.{record_as, texts_as}
 use Rattle.warc.specs.Listing.{listing}
-use Rattle.warc.specs.Selecting.{ArePositions, at_positions, selected_text}
+use Rattle.warc.specs.Selecting.{AreOthers, ArePositions, at_positions, selected_text}
 use Rattle.warc_reading.specs.Row.{Placed, Row, row_of}
 use Rattle.warc.specs.declared.copying.Form.{Form}
 use Rattle.warc.specs.declared.copying.Form.TheVariants.{Canonical, Converted}
@@ -117,6 +118,12 @@ SelectionIsOfTheSelected = (bytes : List ℕ) (rows : List Row) (is : IsArchiveO
 abbrev pub AllGiveTheArchive : Type 0
 AllGiveTheArchive = (bytes : List ℕ) (rows : List Row) → IsArchiveOf bytes rows
     → selected_text rows (range_with_len 0 (length rows)) bytes ≡ bytes
+
+-- the records at positions and those at all others are all records, each once
+abbrev pub OthersAreTheRest : Type 0
+OthersAreTheRest = (records : List Record) (positions others : List ℕ) → ArePositions (length records) positions
+    → AreOthers (length records) positions others
+    → IsPermutation (at_positions records positions ++ at_positions records others) records
 
 -- a date in full is of the same instant
 abbrev pub FullDatesAreInstants : Type 0

@@ -2,7 +2,8 @@
 ghost use Rattle.warc.specs.Laws.{ArchivesSpell, FaultsAreStable, FullDatesAreInstants, NoFaultWhereSpelled, OneFault};
 ghost use Rattle.warc.specs.Laws.{MigrationKeepsAnswers, MigrationKeepsReplays, OutputsAreCounted, SomeFaultElse};
 ghost use Rattle.warc.specs.Laws.{RecordsAreSpelled, RecordsAreTheSame, RefusedForFault};
-ghost use Rattle.warc.specs.Laws.{AllGiveTheArchive, SelectionIsAnArchive, SelectionIsOfTheSelected};
+ghost use Rattle.warc.specs.Laws.{AllGiveTheArchive, OthersAreTheRest};
+ghost use Rattle.warc.specs.Laws.{SelectionIsAnArchive, SelectionIsOfTheSelected};
 ghost use Rattle.warc.specs.Laws.{WrittenOpensAsSame, WrittenSpells};
 
 use warc_answer::laws::conversion_keeps_answers;
@@ -86,6 +87,12 @@ pub fn selection_is_an_archive()
 /// What `select` writes of all records is the archive, byte for byte.
 pub fn all_give_the_archive()
     ensures { AllGiveTheArchive }
+{}
+
+/// The records at positions and those at all others are all records, each once: so what `select` writes of the ones and
+/// of the others has each record once between them.
+pub fn others_are_the_rest()
+    ensures { OthersAreTheRest }
 {}
 
 /// The date that `captures` writes in full is of the same instant as the one that the record states.
