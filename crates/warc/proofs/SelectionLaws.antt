@@ -1,10 +1,10 @@
 -- The laws of selections: what is written of some records of an archive is an archive of these records.
-use Rattle.std.proofs.Common.{◌≡◌, ℕ, zero, suc, ◌+◌, ◌-◌, ◌<◌, ◌≤◌, List, [], ◌∷◌, ◌++◌, length, map, take, drop, get_or, nat_cmp, Option, Some, None, append_assoc, length-append, refl, sym, ap, subst, ◌∙◌, arith}
+use Rattle.std.proofs.Common.{◌≡◌, ℕ, zero, suc, ◌+◌, ◌-◌, ◌^◌, ◌<◌, ◌≤◌, List, [], ◌∷◌, ◌++◌, length, map, take, drop, get_or, nat_cmp, Option, Some, None, append_assoc, length-append, refl, sym, ap, subst, ◌∙◌, arith}
 use Rattle.std.specs.Prelude.{⊤, option_map, slice_range}
 use Rattle.std.specs.List.{AllByRecursion, cons_option, flat_map, range_with_len, slice_get, sum_by}
 use Rattle.std.specs.List.Sorted.{IsStrictlyIncreasing}
 use Rattle.std.proofs.lemmas.List.{drop_all, length-drop, length-take-le, take-take}
-use Rattle.std.proofs.lemmas.List.Sums.{sum_by-cons, sum_by-take-le, sum_by_push}
+use Rattle.std.proofs.lemmas.List.Sums.{sum_by-append, sum_by-cons, sum_by-take-le, sum_by_push}
 use Rattle.std.proofs.lemmas.List.Kept.{AllPairs-from_increasing}
 use Rattle.std.proofs.lemmas.Map.Keys.{IsStrictlyIncreasing-from_sorted, sorted_from_strictly_increasing, sorted_tail}
 use Rattle.std.proofs.lemmas.Option.{slice_get-map}
@@ -23,7 +23,7 @@ use Rattle.warc.specs.Laws.{AllGiveTheArchive, SelectionIsAnArchive, SelectionIs
 use Rattle.warc.specs.Selected.{HasBytesOf}
 use Rattle.warc.specs.Selecting.{at_positions, record_bytes, records_len, selected_text}
 use Rattle.warc.specs.Taking.{record_len}
-use Rattle.warc.proofs.SelectLemmas.{all_at, has_bytes}
+use Rattle.warc.proofs.SelectLemmas.{all_at, at_more, at_split, has_bytes}
 
 -- ---- all records are the archive
 
@@ -123,6 +123,21 @@ selection_short bytes rows ps is up =
     let all = text_len bytes rows (all_in (HasBytesOf bytes) rows (has_bytes bytes rows is)) in
     let whole = ap (λ t. length t) (whole_text bytes rows is) in
     omega (arith, all, whole, some_of (λ (row : Row). record_len (Some row)) rows 0 ps (ascends 0 ps up (λ k lt. omega arith)))
+
+-- one more record
+pub len_more : (bytes : List ℕ) (rows : List Row) (ps : List ℕ) (i : ℕ) (row : Row) (total len : ℕ) → IsArchiveOf bytes rows → IsStrictlyIncreasing ps → i < length ps
+    → slice_get rows (get_or ps i 0) ≡ Some row → total ≡ records_len (at_positions rows (take i ps))
+    → (row.block_start + row.block_len + 4 < 2 ^ 64 → len ≡ record_len (Some row))
+    → (total + len < 2 ^ 64) × (total + len ≡ records_len (at_positions rows (take (i + 1) ps)))
+len_more bytes rows ps i row total len is up within at so_far exact =
+    let has = has_bytes bytes rows is (get_or ps i 0) row at in
+    let one : len ≡ record_len (Some row) = exact (omega (arith, has.0, has.1)) in
+    let more = ap (λ l. records_len l) (at_more rows ps i row within at)
+    ∙ sum_by_push (λ (r : Row). record_len (Some r)) (at_positions rows (take i ps)) row in
+    let part = ap (λ l. records_len l) (at_split rows ps (i + 1))
+    ∙ sum_by-append (λ (r : Row). record_len (Some r)) (at_positions rows (take (i + 1) ps)) (at_positions rows (drop (i + 1) ps)) in
+    let whole : total + len ≡ records_len (at_positions rows (take (i + 1) ps)) = omega (arith, so_far, one, more) in
+    (omega (arith, whole, part, is.short, selection_short bytes rows ps is up), whole)
 
 -- ---- its records
 

@@ -7,6 +7,7 @@ ghost use Rattle.warc_checking.specs.Checks.{Checks};
 ghost use Rattle.warc.specs.Extracting.{Extracts, position_with};
 ghost use Rattle.warc_reading.specs.Keeping.{kept_bytes};
 ghost use Rattle.warc_index.specs.Captures.{AreCapturesOf, chosen_of};
+ghost use Rattle.warc_reading.specs.Archive.{IsArchiveOf};
 ghost use Rattle.warc_reading.specs.Indexed.{AreOf, IsIndexed, archive_of, indexed_record, source_left};
 ghost use Rattle.warc.specs.Capturing.{JudgesAll};
 ghost use Rattle.warc.specs.Captures.{capture_positions, captures_text};
@@ -19,7 +20,7 @@ ghost use Rattle.warc_reading.specs.Opening.{Opens};
 ghost use Rattle.warc.specs.Replaying.{Replays};
 ghost use Rattle.warc_reading.specs.Row.{Placed};
 ghost use Rattle.warc.specs.Judged.{GivesVerdict};
-ghost use Rattle.warc.specs.Selecting.{AreOthers, ArePositions, Selects};
+ghost use Rattle.warc.specs.Selecting.{AreOthers, ArePositions, Selects, selected_text};
 ghost use Rattle.warc.specs.Taking.{GivesRecord};
 
 use crate::capture_line::list_outcomes;
@@ -373,6 +374,15 @@ impl<S: Source, A: Allocator + Copy> Archive<S, A> {
         ensures parts { self.new.parts ≡ self.old.parts }
     {
         self.listing.select(positions, out)
+    }
+
+    /// How many bytes `select` writes of the records at positions.
+    pub fn selected_len(&self, positions: &[usize]) -> u64
+        requires ascending { ArePositions (length self.now.listing.rows) positions.now }
+        ensures { (bytes : List ℕ) → IsArchiveOf bytes self.now.listing.rows →
+            result ≡ length (selected_text self.now.listing.rows positions.now bytes) }
+    {
+        self.listing.selected_len(positions)
     }
 
     /// The positions of all records but those at positions, as a listing gives them.

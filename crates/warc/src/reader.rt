@@ -17,7 +17,7 @@ ghost use Rattle.warc_reading.specs.Stream.{IsKeptOf};
 ghost use Rattle.warc.specs.Replaying.{Replays};
 ghost use Rattle.warc.specs.Heading.{GivesHead};
 ghost use Rattle.warc.specs.Judged.{GivesVerdict};
-ghost use Rattle.warc.specs.Selecting.{AreOthers, ArePositions, Selects};
+ghost use Rattle.warc.specs.Selecting.{AreOthers, ArePositions, Selects, selected_text};
 ghost use Rattle.warc.specs.Taking.{GivesRecord};
 
 use crate::blocks::send_range;
@@ -35,7 +35,7 @@ use crate::records::take_record;
 use crate::replay::replay_rows;
 use crate::rewriting::{Replacement, write_rows};
 use crate::row::put_line;
-use crate::selecting::{other_positions, send_selected};
+use crate::selecting::{other_positions, selected_len, send_selected};
 use std::alloc::{AllocError, Allocator, Global};
 use std::marker::Model;
 use std::mem;
@@ -436,6 +436,15 @@ impl<S: Source, A: Allocator + Copy> Listing<S, A> {
         ensures rows { self.new.rows ≡ self.old.rows }
     {
         send_selected(&mut self.source, &self.rows, positions, out)
+    }
+
+    /// How many bytes `select` writes of the records at positions.
+    pub fn selected_len(&self, positions: &[usize]) -> u64
+        requires ascending { ArePositions (length self.now.rows) positions.now }
+        ensures { (bytes : List ℕ) → IsArchiveOf bytes self.now.rows →
+            result ≡ length (selected_text self.now.rows positions.now bytes) }
+    {
+        selected_len(&self.rows, positions)
     }
 
     /// The positions of all records but those at positions, in ascending order, as `select` takes them. `Err`: no

@@ -1,8 +1,9 @@
 //! Some records of an archive, written byte for byte.
-ghost use Rattle.std.specs.Prelude.{◌≡◌, ◌≢◌, ◌+◌, ◌<◌, ◌≤◌, ◌^◌, All, IfErr, IfOk, Some, length, slice_index, true, false};
+ghost use Rattle.std.specs.Prelude.{◌≡◌, ◌≢◌, ◌+◌, ◌<◌, ◌≤◌, ◌^◌, ℕ, List, All, IfErr, IfOk, Some, length, slice_index, true, false};
 ghost use Rattle.warc_frame.specs.Effects.{Emits, IsOfDevice, IsRange, ReadsOnly, Sends};
 ghost use Rattle.warc.specs.Selected.{AreBytesOf};
-ghost use Rattle.warc.specs.Selecting.{AreOthers, ArePositions, ReadsRecords, at_positions};
+ghost use Rattle.warc_reading.specs.Archive.{IsArchiveOf};
+ghost use Rattle.warc.specs.Selecting.{AreOthers, ArePositions, ReadsRecords, at_positions, selected_text};
 ghost use Rattle.warc.specs.Taking.{IsInRecord, record_len};
 
 use std::alloc::{AllocError, Allocator};
@@ -90,6 +91,22 @@ pub(crate) fn send_selected<S: Source, A: Allocator, W: Sink>(
         Ok(()) => Ok(()),
         Err(fault) => Err(OutFault::Write(fault.sent)),
     }
+}
+
+/// How many bytes the records at positions have.
+pub(crate) fn selected_len<A: Allocator>(rows: &Rows<A>, positions: &[usize]) -> u64
+    requires { ArePositions (length rows.now) positions.now }
+    ensures { (bytes : List ℕ) → IsArchiveOf bytes rows.now →
+        result ≡ length (selected_text rows.now positions.now bytes) }
+{
+    let mut total = 0u64;
+    'counting: for chosen in positions {
+        let Some(row) = rows.get(*chosen) else {
+            unreachable!()
+        };
+        total = total.saturating_add(whole_len(&row));
+    }
+    total
 }
 
 /// Whether a position is the one at a place among positions.

@@ -1,4 +1,4 @@
-use Rattle.std.proofs.Common.{rules, ◌≡◌, ◌+◌, ℕ, List, Some, arith, get_or, take_all, sym, subst, ◌∙◌}
+use Rattle.std.proofs.Common.{rules, ◌≡◌, ◌+◌, ℕ, List, Some, arith, get_or, take_all, sym, subst}
 use Rattle.std.specs.List.{slice_get}
 use Rattle.warc.specs.Selected.{AreBytesOf}
 use Rattle.warc.specs.Selecting.{at_positions}
@@ -19,7 +19,7 @@ selecting-preserved g c =
     let rows = c.args.rows.now in
     let ps = c.args.positions.now in
     let i = c.selecting.position-index in
-    let is : slice_get rows (get_or ps i 0) ≡ Some c.in-Some.row = sym c.get.ensures ∙ c.in-Some.is in
+    let is : slice_get rows (get_or ps i 0) ≡ Some c.in-Some.row = search rules in
     record {
       room = omega (arith, c.selecting.invariant.room, c.put_whole.auto.scratch);
       emits = both c.selecting.invariant.emits c.in-Ok.ensures.emits
@@ -42,7 +42,7 @@ returns-in-Err-clause-emits g c =
     let rows = c.args.rows.now in
     let ps = c.args.positions.now in
     let i = c.selecting.position-index in
-    let is : slice_get rows (get_or ps i 0) ≡ Some c.in-Some.row = sym c.get.ensures ∙ c.in-Some.is in
+    let is : slice_get rows (get_or ps i 0) ≡ Some c.in-Some.row = search rules in
     short (both c.selecting.invariant.emits c.in-Err.ensures.emits (λ bytes text held is. is))
     (λ bytes text held are. bytes_begin_more rows ps i c.in-Some.row bytes text c.selecting-test.true is are)
 
@@ -51,5 +51,5 @@ returns-in-Err-clause-reads g c =
     let rows = c.args.rows.now in
     let ps = c.args.positions.now in
     let i = c.selecting.position-index in
-    let is : slice_get rows (get_or ps i 0) ≡ Some c.in-Some.row = sym c.get.ensures ∙ c.in-Some.is in
+    let is : slice_get rows (get_or ps i 0) ≡ Some c.in-Some.row = search rules in
     reads_all rows ps (i + 1) (reads_more rows ps i c.in-Some.row c.selecting-test.true is c.selecting.invariant.reads c.in-Err.ensures.reads)
