@@ -565,6 +565,19 @@ class Decoding(unittest.TestCase):
         archive = zogwedu.Archive(stored(head, gzip.compress(b"abc"), uri=uri))
         self.assertEqual(bytes(archive[0].body(decoded=True)), b"abc")
 
+    def test_transfer_codings_alone(self) -> None:
+        packed = gzip.compress(b"abc")
+        chunks = b"%x\r\n%s\r\n0\r\n\r\n" % (len(packed), packed)
+        head = "HTTP/1.1 200 OK\r\nContent-Encoding: gzip\r\nTransfer-Encoding: chunked"
+        for archive, undone in (
+            (stored(head, chunks), ("chunked",)),
+            (stored("HTTP/1.1 200 OK\r\nContent-Encoding: gzip", packed), ()),
+        ):
+            body = zogwedu.Archive(archive)[0].body(decoded="transfer")
+            self.assertEqual((bytes(body), body.undone), (packed, undone))
+        with self.assertRaises(zogwedu.Undecodable):
+            zogwedu.Archive(stored(head, packed))[0].body(decoded="transfer")
+
     def test_plain_bodies_are_not_touched(self) -> None:
         body = zogwedu.Archive(stored("HTTP/1.1 200 OK", b"abc"))[0].body(decoded=True)
         self.assertEqual((bytes(body), body.undone), (b"abc", ()))

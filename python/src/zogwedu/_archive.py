@@ -3,9 +3,10 @@ import os
 import threading
 from collections.abc import Sequence
 from datetime import datetime
-from typing import Any, Callable, Iterator, List, NamedTuple, NoReturn, Optional, Tuple, TYPE_CHECKING, Union, overload
+from typing import Any, Callable, Iterator, List, Literal, NamedTuple, NoReturn, Optional, Tuple, TYPE_CHECKING, Union
+from typing import overload
 
-from ._decoding import DECODED_LIMIT, codings_of, decode
+from ._decoding import CONTENT, DECODED_LIMIT, TRANSFER, codings_of, decode
 from ._files import Contents, read_object, read_path, unmap
 from ._heads import Headers, Http, text_of
 from ._library import CODED, TRUNCATED, Lent, Opened, Spans, lib
@@ -17,6 +18,8 @@ if TYPE_CHECKING:
     Path = Union[str, "os.PathLike[str]"]
 else:
     Records = Sequence
+
+Decoding = Union[bool, Literal["transfer"]]
 
 VERDICTS = ("good", "bad", "unchecked")
 
@@ -173,14 +176,14 @@ class Record:
         head = self._archive._use().http(self.position)
         return None if head is None else Http(self._archive, head)
 
-    def body(self, decoded: bool = False, *, decoded_limit: int = DECODED_LIMIT) -> Body:
+    def body(self, decoded: Decoding = False, *, decoded_limit: int = DECODED_LIMIT) -> Body:
         """The body that this capture gives: that of the record itself, or of the one that a revisit leads to.
 
         Raises NoBody if there is none, with the reason P3 to P10, or if the record is no capture. `decoded=True` undoes
         the codings of a body that is stored chunked or compressed, and says in `undone` which these were; that isn't
         part of what is proved. Undecodable says that a coding is unknown, that its bytes are damaged, that there are
         more than 8 codings, or that one of them gives more than `decoded_limit` bytes. A coded body in segments raises
-        NoBody.
+        NoBody. `decoded="transfer"` undoes what `Transfer-Encoding` names, and leaves the content as it is coded.
         """
         opened = self._archive._use()
         return self._archive._body(lambda: opened.body_at(self.position), decoded, decoded_limit)
@@ -347,7 +350,7 @@ class Archive(Records):
         uri: Text,
         date: Union[Text, datetime],
         *,
-        decoded: bool = False,
+        decoded: Decoding = False,
         decoded_limit: int = DECODED_LIMIT,
     ) -> Body:
         """The body that was captured of a URI, as of a date: that of the latest capture that isn't later.
@@ -404,24 +407,24 @@ class Archive(Records):
             self._contents = contents._replace(data=None)
             return opened.count() - before
 
-    def _body(self, ask: Callable[[], Any], decoded: bool, limit: int) -> Body:
+    def _body(self, ask: Callable[[], Any], decoded: Decoding, limit: int) -> Body:
         try:
             answer, spans = ask()
         except NoBody as reason:
             if not decoded or reason.code != CODED:
                 raise
-            return self._decoded(reason, limit)
+            return self._decoded(reason, (TRANSFER,) if decoded == "transfer" else (TRANSFER, CONTENT), limit)
         return Body(self, answer.chosen, answer.given, answer.status or None, bool(answer.is_truncated), spans)
 
-    def _decoded(self, reason: NoBody, limit: int) -> Body:
-        """The body of a response that is stored coded, its codings undone."""
+    def _decoded(self, reason: NoBody, names: Tuple[str, ...], limit: int) -> Body:
+        """The body of a response that is stored coded, with the codings undone that the fields of these names have."""
         if reason.chosen is None or reason.given is None:
             raise reason
         origin = self[reason.given]
         http = origin.http
         if http is None or "WARC-Segment-Number" in origin.headers:
             raise reason
-        codings = codings_of(http.headers.fields)
+        codings = codings_of(http.headers.fields, names)
         try:
             own = decode(http.stored, codings, limit)
         except Undecodable as error:

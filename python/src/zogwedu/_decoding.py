@@ -7,11 +7,13 @@ cases.
 import importlib
 import re
 import zlib
-from typing import Any, Callable, Dict, Iterable, List, Tuple
+from typing import Any, Callable, Dict, Iterable, List, Sequence, Tuple
 
 from ._members import GZIP, Damaged, Form, Members, zstd
 from ._problems import Undecodable
 
+# The fields that name codings, in the order in which these are undone.
+TRANSFER, CONTENT = "transfer-encoding", "content-encoding"
 MOST_CODINGS = 8
 DECODED_LIMIT = 1 << 30
 PIECE = 1 << 14
@@ -20,13 +22,14 @@ CHUNK_LINE = re.compile(rb"([0-9A-Fa-f]{1,15})[ \t]*(?:;[^\n]*)?\r?\n")
 CHUNK_END = re.compile(rb"\r?\n")
 
 
-def codings_of(fields: Iterable[Tuple[str, str]]) -> List[str]:
-    """The codings that the fields of an HTTP head name, in lower case, in the order in which they are undone."""
-    found: Dict[str, List[str]] = {"transfer-encoding": [], "content-encoding": []}
+def codings_of(fields: Iterable[Tuple[str, str]], names: Sequence[str] = (TRANSFER, CONTENT)) -> List[str]:
+    """The codings that the fields of an HTTP head name, in lower case, in the order in which they are undone: those of
+    the fields with these names."""
+    found: Dict[str, List[str]] = {name: [] for name in names}
     for name, value in fields:
         if name.lower() in found:
             found[name.lower()] += [word.strip(" \t").lower() for word in value.split(",")]
-    words = found["transfer-encoding"][::-1] + found["content-encoding"][::-1]
+    words = [word for name in names for word in reversed(found[name])]
     return [word for word in words if word not in ("", "identity")]
 
 
