@@ -1,10 +1,6 @@
 // The body of a capture: as a page, a picture or a text, or why there is none.
 'use strict';
 
-const MOST_LISTED = 2000;  // lines of a list
-const MOST_BYTES = 4096;   // of a view of bytes
-const BINARY = /[\x00-\x08]/;
-
 // A revisit as wget 1.21 writes it: with the digest of no bytes, although it stores the HTTP head.
 const EMPTY_DIGEST = 'SHA1:3I42H3S6NNFQ2MSVX7XZKYAYSCX5QBYJ';  // the SHA-1 of no bytes
 const OF_WGET = 'The digest of this revisit is bad since wget 1.21 states the digest of no bytes in each revisit, ' +
@@ -53,9 +49,6 @@ function fileName(it) {
   return path || 'page.html';
 }
 
-/** @type {(name: string, bytes: Uint8Array, text: string) => HTMLButtonElement} */
-const saving = (name, bytes, text) => button('button', () => download(new Blob([bytes]), name), {}, text);
-
 /**
  * Whether the library gives no body because it is stored chunked or compressed.
  * @param {Answer|undefined|null} answer
@@ -76,9 +69,6 @@ function noBody(reason, uri) {
   const title = make('p', {}, 'The captures of the URI:');
   return make('div', {className: 'note reason'}, why, title, make('ul', {className: 'plain-list'}, ...links));
 }
-
-/** @type {(...children: (Node|string)[]) => HTMLElement} */
-const note = (...children) => make('p', {className: 'note plainly'}, ...children);
 
 /**
  * What is said before a body: where a revisit leads, or why there is none.
@@ -178,35 +168,6 @@ function picture(bytes, media) {
   return make('img', {className: 'picture', src: addressOf(bytes, media, room.urls), alt: 'The captured picture'});
 }
 
-/** @param {string} text */
-function textView(text) {
-  const rest = text.length > MOST_TEXT ? `\n… (the first ${size(MOST_TEXT)} are shown)` : '';
-  return make('pre', {className: 'text', tabIndex: 0, dir: 'auto'}, text.slice(0, MOST_TEXT), rest);
-}
-
-/** @param {string} text */
-const headView = (text) => textView(plainly(text.replace(/\r\n/g, '\n').trimEnd()));
-
-/** @param {Uint8Array} bytes */
-function hexView(bytes) {
-  const lines = [];
-  for (let at = 0; at < Math.min(bytes.length, MOST_BYTES); at += 16) {
-    const part = [...bytes.subarray(at, at + 16)],
-          digits = part.map((it) => it.toString(16).padStart(2, '0')).join(' ');
-    const letters = part.map((it) => (it > 31 && it < 127 ? String.fromCharCode(it) : '·')).join('');
-    lines.push(`${at.toString(16).padStart(6, '0')}  ${digits.padEnd(48)} ${letters}`);
-  }
-  return make('pre', {className: 'text', tabIndex: 0}, lines.join('\n'), bytes.length > MOST_BYTES ? '\n…' : '');
-}
-
-/**
- * Stored bytes as text, if they look like text.
- * @param {Uint8Array} bytes
- */
-function storedView(bytes) {
-  return BINARY.test(latin.decode(bytes.subarray(0, MOST_BYTES))) ? hexView(bytes) : textView(shown(bytes));
-}
-
 /**
  * @param {Subject} it
  * @param {Uint8Array} stored
@@ -220,21 +181,12 @@ function storedBytes({given: {position}}, stored) {
 // ---------------------------------------------------------------- HTML as of a moment
 
 /**
- * The moments as of which a page's pictures and styles may be looked for: as of each of them the page's URI gives this
- * capture. The first is the moment of the capture.
+ * The moments as of which a page's pictures and styles may be looked for.
  * @param {Subject} it
- * @returns {[string, string][]}
  */
 function moments(it) {
   const start = captureTime(it.row.date) ?? 0, next = capturesOf(it.row.target).find((capture) => capture.time > start);
-  /** @type {[string, number][]} */
-  const later = [['an hour later', HOUR], ['a day later', DAY]];
-  const between = later.filter(([, after]) => !next || start + after < next.time);
-  return [
-    ['at its capture', it.row.date],
-    ...between.map(([name, after]) => /** @type {[string, string]} */ ([name, dateText(start + after)])),
-    next ? ['just before the next capture', dateText(next.time - 1)] : ['at any later time', '9999'],
-  ];
+  return momentsFrom(it.row.date, next?.time);
 }
 
 /**
@@ -277,94 +229,23 @@ async function addDecoded(answer, left) {
   }
 }
 
-const ABOUT_VIEWS =
-    'Scripts and network are off, links lead to what is in the archive, and what isn’t there is missing. ' +
-    'The bytes on disk and in the download are never changed.';
-
-// A page as a view, with what is said of it.
-class PageView {
-  /**
-   * @param {Subject} it
-   * @param {Uint8Array} bytes
-   */
-  constructor(it, bytes) {
-    this.html = textOf(bytes, it.type);
-    this.uri = shown(it.row.target);
-    this.visit = room.visit;
-    this.turn = 0;  // how often it was drawn
-    this.place = make('div');
-    this.summary = make('div', {'aria-live': 'polite', className: 'small'});
-    this.below = make('div');
-    const options = moments(it).map(
-        ([name, moment], number) =>
-            make('option', {value: moment, selected: number === 1}, `${name}: ${plainly(moment)}`));
-    const label = 'As of which moment pictures and styles are looked for';
-    this.choice = make('select', {'aria-label': label, on: {change: () => this.draw()}}, ...options);
-  }
-
-  /** @param {Node} saved */
-  nodes(saved) {
-    const label = make('span', {className: 'small'}, 'Pictures and styles as of');
-    const choice = make('div', {className: 'actions'}, label, this.choice);
-    const about = make('p', {}, make('b', {}, 'This is a view. '), ABOUT_VIEWS);
-    return [make('div', {className: 'note plainly'}, about, choice, this.summary), saved, this.place, this.below];
-  }
-
-  // Draws the page with the pictures and styles of the moment that is chosen.
-  async draw() {
-    const moment = this.choice.value, turn = this.turn += 1,
-          isWanted = () => turn === this.turn && this.visit === room.visit;
-    this.summary.textContent = 'Looking for pictures and styles…';
-    const resources = new Resources(answersWithTypes, moment, isWanted);
-    const {root, targets} = await viewOf(this.html, this.uri, resources);
-    if (!isWanted()) {
-      resources.forget();
-      return;
-    }
+// The open archive as what answers a view.
+/** @type {ViewHost} */
+const ARCHIVE = {
+  ask: answersWithTypes,
+  visit: () => room.visit,
+  keep(urls) {
     forgetUrls();
-    room.urls = resources.urls;
-    this.place.replaceChildren(emptyFrame((page) => {
-      hearOf(page, 'click', (event) => this.follow(event, targets, moment));
-      hearOf(page, 'keydown', (event) => event.key === 'Escape' && leaveRecord());
-      moveInto(page, root);
-    }));
-    this.sumUp(resources, moment);
-    this.below.replaceChildren(...listed(resources, [...new Set(targets.map((target) => target.uri))], moment));
-  }
-
-  /**
-   * @param {Resources} resources
-   * @param {string} moment
-   */
-  sumUp({there, missing, budget}, moment) {
-    const byBrowser = there.filter(([, found]) => found.isDecoded).length, left = budget.words;
-    const count = many(there.length, 'picture or style', 'pictures and styles');
-    const how = byBrowser ? `, ${byBrowser} of them decoded by this browser` : '';
-    const words = `${count} from the archive as of ${plainly(moment)}${how}; ${missing.length} missing.`;
-    const leftOut = make('p', {className: 'left-out'}, `Left out of this view: ${left.join('; ')}.`);
-    this.summary.replaceChildren(words, left.length ? leftOut : '');
-  }
-
-  /**
-   * Follows a link: to a place on the same page, or to what the archive gives as of the view’s moment.
-   * @param {any} event
-   * @param {Target[]} targets
-   * @param {string} moment
-   */
-  follow(event, targets, moment) {
-    const link = Element.prototype.closest.call(event.target, 'a[href], area[href]');
-    if (!link) return;
-    event.preventDefault();
-    const target = targets[Number(/^about:srcdoc#(\d+)$/.exec(attributeOf(link, 'href'))?.[1])];
-    if (!target) return;
-    if (target.place && target.uri === resolved(this.uri, this.uri)) {
-      Document.prototype.getElementById.call(ownerOf(link), nameOf(target.place))?.scrollIntoView();
-    } else if (capturesOf(typed(target.uri)).length)
-      openAsOf(typed(target.uri), moment, true);
-    else
-      this.summary.textContent = `The archive has no capture of ${plainly(target.uri)}`;
-  }
-}
+    room.urls = urls;
+  },
+  leave: leaveRecord,
+  has: (uri) => capturesOf(typed(uri)).length > 0,
+  lead: (uri, moment) => openAsOf(typed(uri), moment, true),
+  line(uri, found) {
+    const origin = found.given === found.chosen ? '' : `, from ${found.given}`;
+    return [recordLink(found.chosen, plainly(uri)), ` record ${found.chosen}${origin}`];
+  },
+};
 
 /**
  * @param {Subject} it
@@ -372,56 +253,7 @@ class PageView {
  * @param {Node} saved
  */
 async function htmlView(it, bytes, saved) {
-  const view = new PageView(it, bytes);
+  const view = new PageView(ARCHIVE, textOf(bytes, it.type), shown(it.row.target), moments(it));
   await view.draw();
   return view.nodes(saved);
-}
-
-/**
- * The name of a place, as it is in the page.
- * @param {string} place
- */
-function nameOf(place) {
-  try {
-    return decodeURIComponent(place);
-  } catch {
-    return place;
-  }
-}
-
-/**
- * A list that is folded.
- * @param {string} title
- * @param {Node[]} lines
- */
-function folded(title, lines) {
-  if (!lines.length) return '';
-  const list = make('ul', {className: 'plain-list'}, ...lines.slice(0, MOST_LISTED));
-  return make('details', {}, make('summary', {}, title), list);
-}
-
-/**
- * What is in a view, what is missing, and where its links lead.
- * @param {Resources} resources
- * @param {string[]} links
- * @param {string} moment
- */
-function listed({there, missing}, links, moment) {
-  const present = there.map(([uri, found]) => {
-    const origin = found.given === found.chosen ? '' : `, from ${found.given}`;
-    const how = found.isDecoded ? ', decoded by this browser' : '';
-    return make('li', {}, recordLink(found.chosen, plainly(uri)), ` record ${found.chosen}${origin}${how}`);
-  });
-  const absent = missing.map(
-      ([uri, why]) => make('li', {className: 'absent'}, `${plainly(uri)} `, make('span', {className: 'small'}, why)));
-  const known = new Set(links.filter((uri) => capturesOf(typed(uri)).length));
-  const leading = links.slice(0, MOST_LISTED).map((uri) => {
-    if (!known.has(uri)) return make('li', {className: 'absent'}, plainly(uri));
-    return make('li', {}, button('link', () => openAsOf(typed(uri), moment, true), {}, plainly(uri)));
-  });
-  return [
-    folded(`Pictures and styles in this view (${present.length})`, present),
-    folded(`Missing (${absent.length})`, absent),
-    folded(`Links on this page (${links.length}, ${known.size} of them in this archive)`, leading),
-  ];
 }

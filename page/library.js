@@ -1,27 +1,6 @@
 // What the page knows of an archive: its rows, and the worker that asks the library.
 'use strict';
 
-const latin = new TextDecoder('latin1');
-const utf8 = new TextDecoder('utf-8', {fatal: true});
-
-/**
- * Bytes as text for people: UTF-8 if they are, else byte by byte.
- * @param {Uint8Array} bytes
- */
-function shown(bytes) {
-  try {
-    return utf8.decode(bytes);
-  } catch {
-    return latin.decode(bytes);
-  }
-}
-
-/**
- * A text for people that a reader typed, as the bytes of an archive.
- * @param {string} text
- */
-const typed = (text) => new TextEncoder().encode(text);
-
 const BAD = 1;
 const UNJUDGED = 3;
 const VERDICTS = ['good', 'bad', 'unchecked', '…'];

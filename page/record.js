@@ -10,16 +10,6 @@ function forgetUrls() {
   room.urls = [];
 }
 
-/**
- * @param {Blob} blob
- * @param {string} name
- */
-function download(blob, name) {
-  const url = URL.createObjectURL(blob);
-  make('a', {href: url, download: name.replace(/[^\w.-]+/g, '_').slice(-100) || 'bytes'}).click();
-  setTimeout(() => URL.revokeObjectURL(url), 60e3);
-}
-
 /** @type {(from: number, length: number) => Promise<Uint8Array>} */
 const bytesAt = (from, length) => bytesOfFile(room.file, from, from + length);
 

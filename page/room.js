@@ -3,69 +3,7 @@
 
 const LIMIT = 2 * 1024 ** 3;  // bytes: longer archives are listed, and not kept in memory
 const CAPTURES = new Set(['response', 'resource', 'revisit']);
-const MOST_NAMED = 20;           // files
-const MOST_TEXT = 2 * MEGABYTE;  // characters of a text that are shown
-const HOUR = 3600e3;
-const DAY = 24 * HOUR;
-
-/** @type {(id: string) => any} */
-const byId = (id) => document.getElementById(id);
-
-/**
- * An element with properties, attributes and children. Texts are never read as HTML.
- * @param {string} name
- * @param {Record<string, any>} properties
- * @param {...(Node|string|null|undefined)} children
- * @returns {any}
- */
-function make(name, properties = {}, ...children) {
-  const node = document.createElement(name);
-  for (const [key, value] of Object.entries(properties)) {
-    if (key === 'on')
-      Object.entries(value).forEach(([event, act]) => node.addEventListener(event, act));
-    else if (key === 'style')
-      Object.entries(value).forEach(([rule, it]) => node.style.setProperty(rule, it));
-    else if (key.includes('-') || key === 'role')
-      node.setAttribute(key, value);
-    else /** @type {any} */
-      (node)[key] = value;
-  }
-  node.append(...children.filter((child) => child !== null && child !== undefined));
-  return node;
-}
-
-/**
- * A button that does something.
- * @param {string} className
- * @param {() => void} click
- * @param {Record<string, any>} properties
- * @param {...(Node|string)} children
- */
-function button(className, click, properties, ...children) {
-  return make('button', {className, type: 'button', on: {click}, ...properties}, ...children);
-}
-
-/** @param {string} text */
-const none = (text) => make('p', {className: 'none'}, text);
-
-// Signs that turn the direction of the text around them, or that aren't seen.
-const UNSEEN =
-    /[\u0000-\u0008\u000b\u000c\u000e-\u001f\u007f-\u009f\u061c\u200b-\u200f\u202a-\u202e\u2060-\u2069\ufeff]/g;
-
-/**
- * A text from an archive or a disk as a reader sees it: signs that turn it, or hide in it, are written by their
- * numbers.
- * @param {string} text
- */
-function plainly(text) {
-  return text.replace(UNSEEN, (sign) => `⟨U+${sign.charCodeAt(0).toString(16).toUpperCase().padStart(4, '0')}⟩`);
-}
-
-/**
- * Bytes of an archive for readers.
- * @param {Uint8Array} bytes
- */
-const seen = (bytes) => plainly(shown(bytes));
+const MOST_NAMED = 20;  // files
 
 // ---------------------------------------------------------------- the archive
 
@@ -116,15 +54,6 @@ function emptyRoom(file, names) {
     foundIn: 0,
   });
 }
-
-/** @param {string} date */
-function captureTime(date) {
-  const time = Date.parse(date);
-  return Number.isNaN(time) ? null : time;
-}
-
-/** @param {number} time */
-const dateText = (time) => new Date(time).toISOString().replace(/\.000Z$/, 'Z');
 
 /**
  * The host of a target, for readers.

@@ -77,6 +77,38 @@ interface Answer {
   isLeftOut?: boolean;
 }
 
+// What answers a view, and shows where its links lead.
+interface ViewHost {
+  ask(questions: Question[], left: number): Promise<Answer[]>;
+  visit(): number; // another number once something else is shown
+  keep(urls: string[]): void; // addresses of the view that is shown, in the place of others
+  leave(): void;
+  has(uri: string): boolean;
+  lead(uri: string, moment: string): void;
+  line(uri: string, found: Answer): (Node | string)[];
+}
+
+// What a server says of a capture, and what it has stored of the body.
+interface ServedAnswer extends Omit<Answer, "chosen" | "given"> {
+  words?: string; // all that it says where there is no body
+  instant?: string;
+  chosen?: any;
+  given?: any;
+  joined?: string;
+  coding?: string;
+  location?: string | null;
+  stored?: Uint8Array;
+}
+interface ServedCapture {
+  datetime: string;
+  uri: string;
+  instant: string;
+  kind: string;
+  path: string;
+  position: number;
+  reason: string | null;
+}
+
 interface HttpHead {
   text: string;
   status: string;

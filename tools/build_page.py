@@ -29,6 +29,7 @@ MODULE = "warc_page"
 SCRIPTS = (
     *(
         "shared.js",
+        "elements.js",
         "members.js",
         "words.js",
         "library.js",
@@ -37,6 +38,7 @@ SCRIPTS = (
         "allowed.js",
         "style.js",
         "view.js",
+        "pageview.js",
         "overview.js",
     ),
     *("list.js", "room.js", "damage.js", "body.js", "record.js", "begin.js"),
