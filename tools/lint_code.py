@@ -109,6 +109,7 @@ TRIALS = (
     *("--follow-imports=skip", "--ignore-missing-imports"),
 )
 ROWS = "tests/stress/collection_rows.py"
+SERVER = tuple(f"tests/stress/{name}.py" for name in ("serve", "serve_trial", "memento_client"))
 
 # Debian's programs work with Debian's Python, so each is called by its own name.
 CHECKS = [
@@ -139,6 +140,8 @@ CHECKS = [
     Check("no unsafe in Rust outside of raw.rs", ("python3", "tools/find_unsafe.py")),
     Check("types of collection/", (*TYPES, *COLLECTION)),
     Check("types of tests/stress/collection*.py", (*TYPES, *TRIALS)),
+    Check("types of the trials of the server", (*TYPES, *SERVER, TRIALS[2])),
+    Check("layout of the trials of the server", (*LAYOUT, *SERVER)),
     Check("types of tests/stress/collection_rows.py", (*TYPES, *UNTYPED_CALLS, *COLLECTION, ROWS), ("hypothesis",)),
     Check("types of tools/make_collection.py", (*TYPES, "--follow-imports=silent", "tools/make_collection.py")),
     Check("layout of collection/", (*LAYOUT, "collection", "tools/make_collection.py")),
@@ -151,7 +154,10 @@ CHECKS = [
     Check("layout of tests/compatibility", (*LAYOUT, *COMPATIBILITY)),
     Check("types of the checks of the pages", (*TYPES, "--follow-imports=silent", *UNTYPED_CALLS, *PAGES_PYTHON)),
     Check("layout of the checks of the pages", (*LAYOUT, *PAGES_PYTHON)),
-    Check("types of the page's Python", ("mypy", "--strict", "--follow-imports=silent", *UNTYPED_CALLS, *PAGE_PYTHON)),
+    Check(
+        "types of the page's Python",
+        ("mypy", "--strict", "--follow-imports=silent", *UNTYPED_CALLS, *PAGE_PYTHON),
+    ),
     Check("layout of the page's Python", ("black", "--quiet", "--check", "--line-length=120", *PAGE_PYTHON)),
 ]
 

@@ -2,7 +2,7 @@
 from __future__ import annotations
 
 import dataclasses
-from typing import Any, List, Optional, Sequence
+from typing import Any, Iterator, List, Optional, Sequence, Tuple
 
 from .catalogue import Catalogue, Known
 from .program import instant_of
@@ -14,10 +14,8 @@ CAPTURES = (
     "SELECT captures.file, position, instant, kind, given, status, media, length, reason, path, state, read_on"
     " FROM captures JOIN files USING (file) LEFT JOIN readings USING (file) WHERE state <> 'gone' AND "
 )
-LATEST = (
-    "(SELECT instant FROM captures JOIN files USING (file) WHERE state <> 'gone' AND target = ? AND instant <= ?"
-    " ORDER BY instant DESC LIMIT 1)"
-)
+OF_TARGET = "FROM captures JOIN files USING (file) WHERE state <> 'gone' AND target = ?"
+LATEST = "(SELECT instant %s AND instant <= ? ORDER BY instant DESC LIMIT 1)" % OF_TARGET
 
 
 @dataclasses.dataclass(frozen=True)
@@ -74,14 +72,49 @@ def captures_of(catalogue: Catalogue, target: Stored, instant: Optional[str] = N
 
 def chosen_captures(catalogue: Catalogue, request: Request, warc: Optional[str]) -> List[Capture]:
     """The captures of the latest instant that isn't after the date asked for."""
-    target = request.target()
     instant = instant_of(warc, request.date) if warc is not None and request.date is not None else None
+    return captures_as_of(catalogue, request.target(), instant)
+
+
+def captures_as_of(catalogue: Catalogue, target: Stored, instant: Optional[str]) -> List[Capture]:
+    """The captures of a target of the latest instant that isn't after one; all without one. A Trouble says why there is
+    none."""
     found = captures_of(catalogue, target, instant)
     if found:
         return found
     if captures_where(catalogue, "target = ? LIMIT 1", (target,)):
         raise Trouble("P2 NotYet", 1)
     raise Trouble("P1 NoCapture", 1)
+
+
+def end_instant(catalogue: Catalogue, target: Stored, order: str, condition: str = "", *values: str) -> Optional[str]:
+    """The first or the last instant (order ASC or DESC) of the captures of a target, of those that meet a condition."""
+    query = "SELECT instant %s %s ORDER BY instant %s LIMIT 1" % (OF_TARGET, condition, order)
+    row = catalogue.one(query, (target, *values))
+    return None if row is None else str(row[0])
+
+
+def next_instants(catalogue: Catalogue, target: Stored, after: str, most: int) -> List[str]:
+    """The instants of the captures of a target after one, each once, as many as are asked for."""
+    query = "SELECT DISTINCT instant %s AND instant > ? ORDER BY instant LIMIT ?" % OF_TARGET
+    return [row[0] for row in catalogue.rows(query, (target, after, most))]
+
+
+def captures_between(catalogue: Catalogue, target: Stored, first: str, last: str) -> List[Capture]:
+    """The captures of a target from one instant to another."""
+    condition = "target = ? AND instant BETWEEN ? AND ? ORDER BY instant, path, position"
+    return captures_where(catalogue, condition, (target, first, last))
+
+
+def targets_from(catalogue: Catalogue, front: Stored, most: int) -> List[Tuple[Stored, int, str, str]]:
+    """The targets that begin with a text, with how many captures each has, the first and the last instant; as many as
+    are asked for."""
+    after = front + b"\xff" * 8 if isinstance(front, bytes) else front + "\U0010ffff"
+    query = (
+        "SELECT target, count(*), min(instant), max(instant) FROM captures JOIN files USING (file)"
+        " WHERE state <> 'gone' AND target >= ? AND target < ? GROUP BY target ORDER BY target LIMIT ?"
+    )
+    return [(row[0], row[1], row[2], row[3]) for row in catalogue.rows(query, (front, after, most))]
 
 
 def may_have(catalogue: Catalogue, target: Stored) -> List[Known]:
@@ -99,9 +132,15 @@ def may_have(catalogue: Catalogue, target: Stored) -> List[Known]:
 
 def warn_of_unknown(catalogue: Catalogue, target: Stored) -> None:
     """Names the files that may have captures of a target that can't be given."""
+    for line in unknown_files(catalogue, target):
+        say(line)
+
+
+def unknown_files(catalogue: Catalogue, target: Stored) -> Iterator[str]:
+    """A line for each file that may have captures of a target that can't be given."""
     unknown = may_have(catalogue, target)
     for it in unknown[:MOST_NAMED]:
         read = ", read on %s" % it.read_on if it.read_on else ""
-        say("may have it: %s (%s%s%s)" % (escaped(it.path), it.state, it.detail and ": " + escaped(it.detail), read))
+        yield "may have it: %s (%s%s%s)" % (escaped(it.path), it.state, it.detail and ": " + escaped(it.detail), read)
     if len(unknown) > MOST_NAMED:
-        say("and %d files more that may have it (see warc-collection status)" % (len(unknown) - MOST_NAMED))
+        yield "and %d files more that may have it (see warc-collection status)" % (len(unknown) - MOST_NAMED)

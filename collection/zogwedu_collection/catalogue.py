@@ -7,6 +7,7 @@ import fcntl
 import json
 import os
 import sqlite3
+import urllib.parse
 from typing import Any, Dict, Iterator, List, Optional, Sequence, Tuple
 
 from .disk import Stamp, is_on_local_disk
@@ -19,6 +20,9 @@ CACHE_KIB = 1_000_000
 # How long a question waits for the end of a transaction, and a run for a reader before it says that it waits.
 BUSY_SECONDS = 600.0
 PATIENCE_SECONDS = 10
+# Of a server, which has several connections.
+READER_SECONDS = 5.0
+READER_CACHE_KIB = 8_000
 
 # The tables. PostgreSQL takes the same columns, but other keys. A row of `readings` says when the rows of a file in the
 # tables of OF_A_FILE were read, and from which bytes.
@@ -114,10 +118,26 @@ def is_busy(error: sqlite3.OperationalError) -> bool:
     return "locked" in str(error) or "busy" in str(error)
 
 
+def writable(path: str) -> sqlite3.Connection:
+    base = sqlite3.connect(path, timeout=BUSY_SECONDS, isolation_level=None)
+    base.execute("PRAGMA cache_size = -%d" % CACHE_KIB)
+    base.execute("PRAGMA synchronous = FULL")
+    return base
+
+
+def read_only(path: str) -> sqlite3.Connection:
+    """The database for a server: it can't be written to, and a question doesn't wait long."""
+    uri = "file:%s?mode=ro" % urllib.parse.quote(os.fsencode(path))
+    base = sqlite3.connect(uri, timeout=READER_SECONDS, isolation_level=None, check_same_thread=False, uri=True)
+    base.execute("PRAGMA cache_size = -%d" % READER_CACHE_KIB)
+    return base
+
+
 class Catalogue:
     """A folder with the database, the jobs that are under way, and the last report."""
 
-    def __init__(self, folder: str, is_made: bool = False) -> None:
+    def __init__(self, folder: str, is_made: bool = False, is_read_only: bool = False) -> None:
+        """Opens a catalogue, or makes one. One that is read only may be used by any thread, one at a time."""
         self.folder = os.path.abspath(folder)
         self.path = os.path.join(self.folder, "catalogue.sqlite")
         self.jobs = os.path.join(self.folder, "jobs")
@@ -125,9 +145,7 @@ class Catalogue:
             os.makedirs(self.jobs, exist_ok=True)
         elif not os.path.exists(self.path):
             raise Trouble("no catalogue in %s: make one by warc-collection run" % shown(self.folder))
-        self.base = sqlite3.connect(self.path, timeout=BUSY_SECONDS, isolation_level=None)
-        self.base.execute("PRAGMA cache_size = -%d" % CACHE_KIB)
-        self.base.execute("PRAGMA synchronous = FULL")
+        self.base = read_only(self.path) if is_read_only else writable(self.path)
         version = self.one("PRAGMA user_version")[0]
         if version > VERSION:
             raise Trouble("the catalogue in %s is of a later version of warc-collection" % shown(self.folder))

@@ -13,10 +13,12 @@ from typing import Callable, NoReturn, Union
 
 from . import __doc__ as about_all
 from .jobs import do_jobs
+from .limits import Limits, count_of
 from .texts import Trouble, say, shown
 
 Options = argparse.Namespace
 KEPT_RUNS = 10
+LISTEN = "127.0.0.1:8080"
 
 
 def do(options: Options) -> int:
@@ -110,6 +112,21 @@ def add_questions(command: Command) -> None:
     add_request(made)
     made.add_argument("date", metavar="DATE")
     add_codings(made)
+    add_server(command("serve", "serves the collection to browsers and to Memento clients, for reading alone"))
+
+
+def add_server(parser: argparse.ArgumentParser) -> None:
+    """The options of the server."""
+    add = parser.add_argument
+    where = "where it listens, %s without it; systemd: at the socket that systemd passes" % LISTEN
+    add("--listen", metavar="ADDRESS:PORT", default=LISTEN, help=where)
+    archives = "archives that are open at once, %d without it" % Limits.archives
+    add("--archives", type=count_of, metavar="N", default=Limits.archives, help=archives)
+    unpacked = "bytes that are unpacked or joined at once, 16G without it; K, M, G and T are powers of 1024"
+    add("--unpacked", type=count_of, metavar="BYTES", default=Limits.unpacked, help=unpacked)
+    requests = "requests at work at once, %d without it" % Limits.requests
+    add("--requests", type=count_of, metavar="N", default=Limits.requests, help=requests)
+    add_program_options(parser)
 
 
 def add_codings(parser: argparse.ArgumentParser) -> None:

@@ -10,6 +10,7 @@ from .captures import Request, chosen_captures, warn_of_unknown
 from .catalogue import Catalogue
 from .decode import Decoder
 from .export import export
+from .limits import Limits
 from .listing import all_good, capture_line, put, status_pieces
 from .moves import forget_files, prune
 from .program import usable_program
@@ -132,6 +133,13 @@ def prune_command(options: Options) -> int:
     return 0
 
 
+def serve_command(options: Options) -> int:
+    from .serve import Place, serve  # here, since others do without the standard library's server
+
+    limits = Limits(options.archives, options.unpacked, options.requests)
+    return serve(Place(options.listen, options.catalogue, options.warc, options.temporary, limits))
+
+
 # The commands by their names.
 COMMANDS = {
     "run": run_command,
@@ -140,6 +148,7 @@ COMMANDS = {
     "status": status_command,
     "find": find_command,
     "replay": replay_command,
+    "serve": serve_command,
     "report": report_command,
     "export": export_command,
     "forget": forget_command,

@@ -9,16 +9,22 @@ from .replay import MOST_DECODED, Answer, Replayer
 from .texts import Trouble, counted, escaped
 
 
+def package_for(what: str, names: Tuple[str, ...]) -> Any:
+    """The Python package zogwedu, which has these names. A Trouble where it isn't there."""
+    try:
+        package = importlib.import_module("zogwedu")
+    except ImportError as error:
+        raise Trouble("%s needs the Python package zogwedu: %s" % (what, escaped(str(error)))) from None
+    if not all(hasattr(package, name) for name in names):
+        raise Trouble("%s needs the Python package zogwedu of this version" % what)
+    return package
+
+
 class Decoder:
     """The Python package zogwedu. A Trouble where it isn't there."""
 
     def __init__(self) -> None:
-        try:
-            self.package: Any = importlib.import_module("zogwedu")
-        except ImportError as error:
-            raise Trouble("--decoded needs the Python package zogwedu: %s" % escaped(str(error))) from None
-        if not hasattr(self.package, "Undecodable"):
-            raise Trouble("--decoded needs the Python package zogwedu of this version")
+        self.package = package_for("--decoded", ("Undecodable",))
 
     def undo(self, replayer: Replayer, answer: Answer) -> str:
         """Puts the decoded body of an answer in the place of the stored one. Returns a line that says what was undone,

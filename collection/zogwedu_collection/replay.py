@@ -12,11 +12,11 @@ import re
 import shutil
 import subprocess
 import tempfile
-from typing import Deque, Dict, IO, Iterable, Iterator, List, Optional, Sequence, Set, Tuple
+from typing import Callable, Deque, Dict, IO, Iterable, Iterator, List, Optional, Sequence, Set, Tuple
 
 from .captures import Capture, captures_where
 from .catalogue import Catalogue, Known
-from .disk import open_regular, open_stamp, reason_of, temporary_folder
+from .disk import Stamp, open_regular, open_stamp, reason_of, stamp_of, temporary_folder
 from .program import instant_of, said
 from .texts import Trouble, escaped, say, real_path
 from .unpack import PIECE, Damaged, pieces_of, write_all
@@ -31,6 +31,7 @@ MOST_DECODED = 1 << 30
 # What the program says of a body: the record that it is of, its facts, and the fields that name its codings.
 GIVEN = re.compile(r"chosen \d+ given (\d+) (.*?)( coded .*)?", re.DOTALL)
 CODED = "P10 "
+DISAGREE = "files disagree on this capture"
 
 
 @dataclasses.dataclass(frozen=True)
@@ -69,6 +70,11 @@ class Answer:
         return "given %s %d %s" % (path, self.position, escaped(self.about + self.codings))
 
 
+def bare(value: str) -> str:
+    """The value of a field on one line, without the brackets around it."""
+    return " ".join(value.split()).strip("<> ")
+
+
 def is_unresolved(reason: Optional[str]) -> bool:
     """Whether another file may have what a capture lacks."""
     return reason is not None and reason.startswith(UNRESOLVED)
@@ -82,37 +88,45 @@ def digest_of(file: IO[bytes]) -> str:
     return digest.hexdigest()
 
 
+def check(known: Known, stamp: Stamp) -> None:
+    """Refuses a file that isn't the one that was read."""
+    if known.state == "rotten":
+        raise Trouble("%s doesn't have the bytes that run %s read" % (escaped(known.path), known.read_run))
+    if stamp != known.stamp:
+        run = "" if known.read_run is None else " since run %d read it" % known.read_run
+        raise Trouble("%s changed%s: run again" % (escaped(known.path), run))
+
+
+def check_path(known: Known) -> None:
+    """Refuses a file whose path doesn't lead to the bytes that were read."""
+    path = real_path(known.path)
+    try:
+        check(known, stamp_of(os.stat(path)))
+    except OSError as error:
+        raise Trouble("%s: %s" % (escaped(known.path), reason_of(error, path))) from None
+
+
 class Files:
     """Opens the files of captures, and joins them. Each must be the file that was read, before and afterwards."""
 
-    def __init__(self, catalogue: Catalogue, temporary: Optional[str]) -> None:
-        self.catalogue = catalogue
+    def __init__(self, temporary: Optional[str], taken: Callable[[int], None] = lambda _count: None) -> None:
+        """Before bytes are written to a temporary file, `taken` hears how many."""
         self.temporary = temporary_folder(temporary)
-
-    def known(self, file: int) -> Known:
-        return self.catalogue.files_where("files.file = ?", (file,))[0]
+        self.taken = taken
 
     @contextlib.contextmanager
     def opened(self, known: Known) -> Iterator[IO[bytes]]:
         """A file whose bytes are those of its last reading, while it is open."""
         path = real_path(known.path)
-        if known.state == "rotten":
-            raise Trouble("%s doesn't have the bytes that run %s read" % (escaped(known.path), known.read_run))
         try:
             with open_regular(path) as file:
-                self.check(known, file)
+                check(known, open_stamp(file))
                 yield file
-                self.check(known, file)
+                check(known, open_stamp(file))
         except Damaged as damage:
             raise Trouble("%s: %s" % (escaped(known.path), damage)) from None
         except OSError as error:
             raise Trouble("%s: %s" % (escaped(known.path), reason_of(error, path))) from None
-
-    def check(self, known: Known, file: IO[bytes]) -> None:
-        """Refuses a file that isn't the one that was read."""
-        if open_stamp(file) != known.stamp:
-            run = "" if known.read_run is None else " since run %d read it" % known.read_run
-            raise Trouble("%s changed%s: run again" % (escaped(known.path), run))
 
     @contextlib.contextmanager
     def joined(self, files: Sequence[Known]) -> Iterator[IO[bytes]]:
@@ -124,7 +138,7 @@ class Files:
         with tempfile.TemporaryFile(dir=self.temporary, buffering=0) as joined:
             for known in files:
                 with self.opened(known) as file:
-                    write_pieces(joined, pieces_of(file) or whole_pieces(file))
+                    self.write_pieces(joined, pieces_of(file) or whole_pieces(file))
             yield joined
 
     @contextlib.contextmanager
@@ -132,13 +146,13 @@ class Files:
         """The bytes of a file, unpacked, or the file itself where it isn't compressed."""
         with self.opened(known) as file, tempfile.TemporaryFile(dir=self.temporary, buffering=0) as out:
             pieces = pieces_of(file)
-            write_pieces(out, pieces or ())
+            self.write_pieces(out, pieces or ())
             yield file if pieces is None else out
 
-
-def write_pieces(out: IO[bytes], pieces: Iterable[bytes]) -> None:
-    for piece in pieces:
-        write_all(out, piece)
+    def write_pieces(self, out: IO[bytes], pieces: Iterable[bytes]) -> None:
+        for piece in pieces:
+            self.taken(len(piece))
+            write_all(out, piece)
 
 
 def whole_pieces(file: IO[bytes]) -> Iterator[bytes]:
@@ -152,10 +166,13 @@ class Replayer:
     def __init__(self, catalogue: Catalogue, warc: str, temporary: Optional[str], is_stored: bool = False) -> None:
         self.catalogue = catalogue
         self.warc = warc
-        self.files = Files(catalogue, temporary)
+        self.files = Files(temporary)
         self.temporary = temporary_folder(temporary)
         self.options = ["--stored"] if is_stored else []
         self.asked: Dict[Tuple[int, Optional[int]], List[Capture]] = {}
+
+    def known(self, file: int) -> Known:
+        return self.catalogue.files_where("files.file = ?", (file,))[0]
 
     def program(
         self, command: str, source: IO[bytes], position: int, options: Sequence[str] = ()
@@ -170,7 +187,7 @@ class Replayer:
 
     def body(self, capture: Capture, before: Sequence[int] = ()) -> Answer:
         """What a capture gives, with the files `before` joined in front of its own."""
-        files = tuple(self.files.known(file) for file in (*before, capture.file))
+        files = tuple(self.known(file) for file in (*before, capture.file))
         first = sum(file.records for file in files[:-1])
         with self.files.joined(files) as source:
             out, status, message = self.program("body", source, first + capture.position, self.options)
@@ -201,14 +218,14 @@ class Replayer:
         """What the head of a revisit names: the id, the target and the date of its referent."""
         import email.parser  # here, since it is slow to load
 
-        with self.files.joined([self.files.known(capture.file)]) as source:
+        with self.files.joined([self.known(capture.file)]) as source:
             out, status, message = self.program("head", source, capture.position)
         with out:
             if status != 0:
                 raise Trouble(message)
             fields = out.read().partition(b"\r\n")[2].decode("utf-8", "replace")
         head = email.parser.HeaderParser().parsestr(fields, headersonly=True)
-        return [" ".join(str(head[name]).split()).strip("<> ") if head[name] else None for name in NAMES]
+        return [bare(str(head[name])) if head[name] else None for name in NAMES]
 
     def candidates(self, capture: Capture) -> List[Capture]:
         """Captures of other files that may be what a capture lacks. The program judges whether they are. No capture is
@@ -299,17 +316,22 @@ def place_in(files: Sequence[Known], position: int) -> Tuple[Known, int]:
     raise Trouble("a record is in none of the joined files")
 
 
+def do_agree(answers: Sequence[Answer]) -> bool:
+    """Whether answers give the same. One agrees with itself, and nothing is compared."""
+    return len(answers) == 1 or len({answer.fact() for answer in answers}) == 1
+
+
 def settled(answers: Sequence[Answer]) -> Answer:
     """The first of answers that agree and give a body."""
     first = answers[0]
-    disagree = len({answer.fact() for answer in answers}) > 1
+    disagree = not do_agree(answers)
     if not disagree and not first.reason:
         return first
     for answer in answers:
         say(answer.described())
     if not disagree and (first.reason or "").startswith(CODED):
         say("--stored writes it as it is stored, and names the codings; --decoded undoes them")
-    raise Trouble("files disagree on this capture: nothing was written" if disagree else first.reason or "", 1)
+    raise Trouble(DISAGREE + ": nothing was written" if disagree else first.reason or "", 1)
 
 
 def write_body(answer: Answer, out: IO[bytes]) -> None:

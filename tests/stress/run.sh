@@ -25,4 +25,6 @@ python3 tests/stress/zwarc.py bin/warc || status=1
 python3 tests/stress/collection_faults.py bin/warc || status=1
 python3 tests/stress/collection.py bin/warc "$archives" || status=1
 make -s test-callers || status=1
+# It has the Python package, which `make test-callers` makes.
+python3 tests/stress/serve.py bin/warc || status=1
 exit $status

@@ -1,0 +1,145 @@
+"""What captures give, by the Python package zogwedu, over archives that a server keeps open. Which captures are asked,
+in which files, is decided as for `replay`."""
+from __future__ import annotations
+
+import dataclasses
+import hashlib
+import re
+from typing import Any, Iterator, List, Optional, Sequence, Tuple
+
+from .captures import Capture
+from .catalogue import Catalogue, Known
+from .replay import CODED, DISAGREE, NAMES, Answer, Replayer, bare, check_path, do_agree, place_in
+from .shelf import Shelf
+from .texts import Trouble, escaped
+
+PIECE = 1 << 20
+# The most bytes of a body from which the transfer codings are undone, since that is done in memory.
+MOST_CODED = 64 << 20
+TOKEN = r"[A-Za-z0-9!#$%&'*+.^_`|~-]{1,100}"
+MEDIA = re.compile(r"\s*(%s/%s)(?:\s*;.*?\bcharset\s*=\s*\"?(%s))?" % (TOKEN, TOKEN, TOKEN), re.ASCII | re.IGNORECASE)
+CODINGS = re.compile(r"%s(?: *, *%s){0,7}" % (TOKEN, TOKEN), re.ASCII)
+UNKNOWN_MEDIA = "application/octet-stream"
+
+
+@dataclasses.dataclass(frozen=True)
+class Lent(Answer):
+    """What a capture gives. Its bytes are in an archive on the shelf, in which the capture has the position `at`."""
+
+    at: int = 0
+    reader: Optional[Reader] = None
+
+    def fact(self) -> Tuple[Optional[str], str, str, Optional[str]]:
+        has_bytes = self.reason is None or self.reason.startswith(CODED)
+        digest = self.reader.digest(self) if self.reader is not None and has_bytes else None
+        return digest, self.about, self.codings, self.reason
+
+
+@dataclasses.dataclass(frozen=True)
+class Content:
+    """The bytes that an answer gives, as parts of an archive, and what is said of them."""
+
+    parts: List[memoryview]
+    status: Optional[int]
+    media: str
+    coding: Optional[str]
+    location: Optional[str]
+
+    def length(self) -> int:
+        return sum(len(part) for part in self.parts)
+
+
+class Unfit(Exception):
+    """There are bytes, and they can't be sent as the server sent them: why."""
+
+
+def media_of(value: Optional[str]) -> str:
+    """The media type of a field, with its charset, or the one that says nothing."""
+    found = MEDIA.match(value or "")
+    if found is None:
+        return UNKNOWN_MEDIA
+    return found[1] + ("; charset=" + found[2] if found[2] else "")
+
+
+def coding_of(values: Sequence[str]) -> Optional[str]:
+    """The codings of a content, for the field that names them."""
+    names = ", ".join(value for value in (it.strip(" \t,") for it in values) if value)
+    if not names:
+        return None
+    if not CODINGS.fullmatch(names):
+        raise Unfit("the codings of the content have no names")
+    return names
+
+
+class Reader(Replayer):
+    """Gives what captures give. It serves one request."""
+
+    def __init__(self, catalogue: Catalogue, warc: str, shelf: Shelf) -> None:
+        super().__init__(catalogue, warc, shelf.temporary)
+        self.shelf = shelf
+        self.package = shelf.package
+
+    def body(self, capture: Capture, before: Sequence[int] = ()) -> Answer:
+        files = tuple(self.known(file) for file in (*before, capture.file))
+        at = sum(file.records for file in files[:-1]) + capture.position
+        file: Optional[Known]
+        with self.shelf.lent(files) as archive:
+            try:
+                body = archive[at].body()
+            except self.package.NoBody as reason:
+                file, position = (None, 0) if reason.given is None else place_in(files, reason.given)
+                return Lent(capture, files, None, None, file, position, "", "", reason.text, at, self)
+            except self.package.WarcError as error:
+                raise Trouble("%s: %s" % (escaped(capture.path), escaped(str(error)))) from None
+            file, position = place_in(files, body.given)
+            words = body.status or "-", "yes" if body.truncated else "no", len(body)
+            about = "status %s truncated %s length %d" % words
+            return Lent(capture, files, None, None, file, position, about, "", None, at, self)
+
+    def named(self, capture: Capture) -> List[Optional[str]]:
+        with self.shelf.lent([self.known(capture.file)]) as archive:
+            head = archive[capture.position].headers
+            return [bare(head[name]) or None if name in head else None for name in NAMES]
+
+    def answer(self, captures: Sequence[Capture]) -> Lent:
+        """What captures of one instant give, if they agree."""
+        answers = [answer for capture in captures for answer in self.answers(capture)]
+        if not do_agree(answers):
+            raise Unfit("\n".join([DISAGREE, *(answer.described() for answer in answers)]))
+        first = answers[0]
+        assert isinstance(first, Lent)
+        return first
+
+    def digest(self, answer: Lent) -> str:
+        """The SHA-256 of the bytes of an answer."""
+        digest = hashlib.sha256()
+        with self.shelf.lent(answer.files) as archive:
+            for part in self.content(answer, archive).parts:
+                digest.update(part)
+        return digest.hexdigest()
+
+    def content(self, answer: Lent, archive: Any) -> Content:
+        """The bytes of an answer: of a coded body what is left when the transfer codings are undone."""
+        try:
+            body = archive[answer.at].body(decoded="transfer", decoded_limit=MOST_CODED)
+        except self.package.Undecodable as error:
+            raise Unfit(str(error)) from None
+        except self.package.NoBody as reason:
+            raise Unfit("the body is in segments and coded: %s" % reason) from None
+        if body.undone not in ((), ("chunked",)):
+            raise Unfit("the transfer has a coding other than chunked: %s" % " ".join(body.undone))
+        record = archive[body.given]
+        if body.status is None:
+            return Content(body.parts, None, media_of(record.headers.get("Content-Type")), None, None)
+        head = record.http.headers
+        coding = coding_of(head.get_all("Content-Encoding")) if answer.reason else None
+        return Content(body.parts, body.status, media_of(head.get("Content-Type")), coding, head.get("Location"))
+
+    def pieces(self, answer: Lent, content: Content) -> Iterator[bytes]:
+        """The bytes of an answer. Before each piece is given, its files are those that were read."""
+        for part in content.parts:
+            for at in range(0, len(part), PIECE):
+                piece = bytes(part[at : at + PIECE])
+                for file in answer.files:
+                    check_path(file)
+                yield piece
