@@ -135,8 +135,9 @@ out/python/zogwedu/libwarc.so: out/lib/libwarc.so
 zogwedu.html:
 	@python3 tools/build_page.py
 
-test-page: bin/warc zogwedu.html
+test-page: bin/warc zogwedu.html out/python/zogwedu/libwarc.so
 	@python3 tests/page/test_page.py zogwedu.html bin/warc out/page
+	@python3 tests/page/test_served.py bin/warc out/page
 
 bench: all zogwedu.html
 	@python3 bench/bench.py bin/warc out/bench

@@ -156,7 +156,7 @@ CHECKS = [
     Check("layout of the checks of the pages", (*LAYOUT, *PAGES_PYTHON)),
     Check(
         "types of the page's Python",
-        ("mypy", "--strict", "--follow-imports=silent", *UNTYPED_CALLS, *PAGE_PYTHON),
+        ("mypy", "--strict", "--follow-imports=silent", *UNTYPED_CALLS, *PAGE_PYTHON, *SERVER[1:], TRIALS[2]),
     ),
     Check("layout of the page's Python", ("black", "--quiet", "--check", "--line-length=120", *PAGE_PYTHON)),
 ]

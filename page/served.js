@@ -1,0 +1,365 @@
+// The reading room over a collection. A server answers what the library answers for one archive.
+'use strict';
+
+const TOP = document.body.dataset.top;
+const FIRST_REASON = /^(?:chosen .* )?([PE]\d+ [A-Z]\w*.*)$/m;
+const IN_PATH = /[A-Za-z0-9._~-]/;
+const OF_DATE = /^(\d{4})(?:-(\d\d)(?:-(\d\d)(?:T(\d\d):(\d\d)(?::(\d\d)(?:\.(\d{1,9}))?)?Z)?)?)?$/;
+const LATEST = '99991231235959';
+const LIST_LIMIT = 5000;  // captures that are shown as points
+
+/** @type {{visit: number, urls: string[]}} */
+const served = {
+  visit: 0,
+  urls: []
+};
+
+// ---------------------------------------------------------------- what the server is asked
+
+/**
+ * Bytes in a path of the server, each but letters, digits and a few marks as an escape.
+ * @param {Uint8Array} target
+ */
+function pathOf(target) {
+  return [...target]
+      .map((byte) => {
+        const letter = String.fromCharCode(byte);
+        return IN_PATH.test(letter) ? letter : `%${byte.toString(16).toUpperCase().padStart(2, '0')}`;
+      })
+      .join('');
+}
+
+/**
+ * The bytes that a part of an address means, as the server reads it: escapes count if there is no colon.
+ * @param {string} path
+ */
+function targetIn(path) {
+  if (path.includes(':')) return typed(path);
+  const bytes = path.replace(/%([0-9A-Fa-f]{2})/g, (_, digits) => String.fromCharCode(parseInt(digits, 16)));
+  return Uint8Array.from(bytes, (letter) => letter.charCodeAt(0));
+}
+
+/**
+ * A date as digits with nanoseconds, and a day or a year as its first instant; null for what is no date.
+ * @param {string} date
+ */
+function digitsOf(date) {
+  if (date === '' || date === '9999') return LATEST;
+  const found = OF_DATE.exec(date);
+  if (!found) return null;
+  const [year, month = '01', day = '01', hour = '00', minute = '00', second = '00', part = ''] = found.slice(1);
+  return year + month + day + hour + minute + second + part.padEnd(9, '0');
+}
+
+/**
+ * Digits as a date for readers.
+ * @param {string} digits
+ */
+function dateIn(digits) {
+  const [year, month, day, hour, minute, second] = digits.match(/^\d{4}|\d\d/g);
+  const part = digits.slice(14).replace(/0+$/, '');
+  return `${year}-${month}-${day}T${hour}:${minute}:${second}${part && `.${part}`}Z`;
+}
+
+/** @param {string} instant */
+const dateOf = (instant) => instant.replace(/\.?0+Z$/, 'Z');
+
+/**
+ * What the collection gives of a URI as of a date.
+ * @param {Uint8Array} uri
+ * @param {string} digits
+ * @returns {Promise<ServedAnswer>}
+ */
+async function answerOf(uri, digits) {
+  const reply = await fetch(`${TOP}/room/answer/${digits}/${pathOf(uri)}`, {redirect: 'error'});
+  if (!reply.ok) {
+    const text = await reply.text();
+    return {reason: FIRST_REASON.exec(text)?.[1] ?? text.trim(), words: text.trim()};
+  }
+  const about = JSON.parse(reply.headers.get('X-Archived-About'));
+  return {...about, reason: undefined, stored: new Uint8Array(await reply.arrayBuffer())};
+}
+
+/**
+ * Undoes the codings of the content of an answer.
+ * @param {ServedAnswer} answer
+ * @param {number} most
+ */
+async function undoContent(answer, most) {
+  if (!answer.stored) return;
+  const steps = codingsIn(answer.coding);
+  if (steps.length > MOST_CODINGS) throw new Undecodable(steps[MOST_CODINGS], 'it has too many codings');
+  let body = answer.stored;
+  for (const coding of steps) body = await undone(coding, body, most);
+  Object.assign(answer, {body, steps, isDecoded: steps.length > 0});
+}
+
+/**
+ * Answers for a view. Coded bodies are decoded one after another, and take no more bytes than are left.
+ * @param {Question[]} questions
+ * @param {number} left
+ */
+async function answersFor(questions, left) {
+  const answers = await Promise.all(questions.map(({uri, date}) => answerOf(uri, digitsOf(date))));
+  for (const answer of answers) {
+    try {
+      await undoContent(answer, Math.min(left, MOST_DECODED));
+    } catch (error) {
+      const isLeftOut = error instanceof RangeError;
+      Object.assign(answer, {isLeftOut, reason: isLeftOut ? 'left out of this view' : whyOf(error)});
+    }
+    if (answer.isDecoded) left -= answer.body.length;
+  }
+  return answers;
+}
+
+// ---------------------------------------------------------------- what is shown
+
+/** @param {...Node|string} children */
+function show(...children) {
+  byId('record').replaceChildren(...children);
+  byId('record').hidden = false;
+  byId('status').textContent = '';
+}
+
+/** @param {string[]} urls */
+function keepUrls(urls) {
+  served.urls.forEach((url) => URL.revokeObjectURL(url));
+  served.urls = urls;
+}
+
+/**
+ * The address of a page as of a date in this room.
+ * @param {Uint8Array} uri
+ * @param {string} digits
+ */
+const addressIn = (uri, digits) => `#${digits}/${pathOf(uri)}`;
+
+/**
+ * A link to a page as of a date in this room.
+ * @param {Uint8Array} uri
+ * @param {string} digits
+ * @param {string} text
+ */
+const roomLink = (uri, digits, text) => make('a', {href: addressIn(uri, digits)}, text);
+
+/** @type {ViewHost} */
+const COLLECTION = {
+  ask: answersFor,
+  visit: () => served.visit,
+  keep: keepUrls,
+  leave: () => byId('uri').focus(),
+  has: () => true,  // the answer says where there is none
+  lead(uri, moment) {
+    location.hash = addressIn(typed(uri), digitsOf(moment));
+  },
+  line(uri, found) {
+    const {chosen, given} = /** @type {any} */ (found), file = fileOf(given) === fileOf(chosen) ? '' : ', given by ';
+    const link = roomLink(typed(uri), digitsOf(/** @type {any} */ (found).instant), plainly(uri));
+    return [link, ` ${placeOf(chosen)}`, file && `${file}${placeOf(given)}`];
+  },
+};
+
+/** @param {[string, number]} place */
+const fileOf = (place) => place[0];
+
+/** @param {[string, number]} place */
+const placeOf = ([path, position]) => `record ${position} of ${plainly(path.split('/').pop())}`;
+
+/**
+ * The captures of a URI as points in time.
+ * @param {Uint8Array} uri
+ * @param {ServedCapture[]} list
+ * @param {string} instant of the one that is shown
+ */
+function pointsOf(uri, list, instant) {
+  const times = list.map((it) => Date.parse(it.datetime)), first = times[0], span = times[times.length - 1] - first;
+  const every = Math.ceil(list.length / LIST_LIMIT);
+  const points = list.map((it, number) => {
+    if (number % every && it.instant !== instant) return null;
+    const part = span ? (times[number] - first) / span : list.length > 1 ? number / (list.length - 1) : 0.5;
+    const label =
+        `${dateOf(it.instant)}, ${it.kind}${it.reason ? `, ${it.reason}` : ''}, ${placeOf([it.path, it.position])}`;
+    const properties = {
+      title: label,
+      'aria-label': label,
+      'aria-current': String(it.instant === instant),
+      style: {left: `${part * 100}%`},
+    };
+    return button(it.kind, () => {
+      location.hash = addressIn(uri, it.uri.split('/memento/')[1].split('/')[0]);
+    }, properties);
+  });
+  const ends = list.length > 1 ? [list[0], list[list.length - 1]] : list;
+  const now = list.findIndex((it) => it.instant === instant);
+  const words = list.length === 1 ? 'The only capture of this URI' : `Capture ${now + 1} of ${list.length} of this URI`;
+  const line = make('div', {className: 'line-of', role: 'group', 'aria-label': 'Captures in time'}, ...points);
+  return make(
+      'div', {className: 'timeline'}, make('div', {className: 'small steps'}, words), line,
+      make('div', {className: 'ends'}, ...ends.map((it) => make('span', {}, it.datetime))));
+}
+
+/**
+ * All captures of a URI; none where there are none.
+ * @param {Uint8Array} uri
+ * @returns {Promise<ServedCapture[]>}
+ */
+async function capturesAt(uri) {
+  const reply = await fetch(`${TOP}/timemap/json/${pathOf(uri)}`, {redirect: 'error'});
+  return reply.ok ? (await reply.json()).mementos.list : [];
+}
+
+/**
+ * Why there is no body, in words.
+ * @param {ServedAnswer} answer
+ */
+function noAnswer({reason, words: text}) {
+  const [, meaning, advice] = inWords(reason), why = make('b', {}, `No body: ${plainly(reason)}. `);
+  const lines = text === reason ? [] : text.split('\n').map((line) => make('p', {className: 'small'}, plainly(line)));
+  const more = advice ? [make('p', {}, ...prose(advice))] : [];
+  return make('div', {className: 'note reason'}, make('p', {}, why, ...prose(meaning ?? '')), ...more, ...lines);
+}
+
+/**
+ * Where a capture is, and what it says.
+ * @param {ServedAnswer} it
+ */
+function factsOf(it) {
+  const [chosen, given] = [it.chosen, it.given].map(placeOf), coding = it.coding && `, ${it.coding}`;
+  const from = given === chosen ? '' : `; the body is that of ${given}`;
+  const facts = `${dateOf(it.instant)}, ${chosen}${from}. Status ${it.status ?? '–'}, ${it.type}${coding}`;
+  return make('div', {className: 'sub'}, plainly(facts), it.joined ? ` (${plainly(it.joined)})` : '');
+}
+
+/**
+ * The body of an answer: HTML as a view, a picture, a text, or bytes to be saved.
+ * @param {Uint8Array} uri
+ * @param {ServedAnswer} it
+ * @param {ServedCapture[]} list
+ */
+async function bodyView(uri, it, list) {
+  const {body} = it, media = mediaOf(it.type.replace(/^application\/octet-stream$/, ''), body, shown(uri));
+  const name = shown(uri).split(/[?#]/)[0].split('/').pop() || 'page.html';
+  const saved = make(
+      'div', {className: 'actions'}, saving(name, body, it.isDecoded ? 'Save the decoded bytes' : 'Save the bytes'));
+  if (!body.length) return [make('p', {}, 'The body is empty.')];
+  if (isPicture(media)) {
+    /** @type {string[]} */
+    const urls = [], src = addressOf(body, media, urls);
+    keepUrls(urls);
+    return [saved, make('img', {className: 'picture', src, alt: 'The captured picture'})];
+  }
+  if (isHtml(media)) {
+    const next = list.find((other) => other.instant > it.instant), at = dateOf(it.instant);
+    const moments = momentsFrom(at, next && Date.parse(next.datetime));
+    const view = new PageView(COLLECTION, textOf(body, it.type), shown(uri), moments);
+    await view.draw();
+    return view.nodes(saved);
+  }
+  return isText(media) ? [saved, textView(textOf(body, it.type))] : [saved, hexView(body)];
+}
+
+/**
+ * The body of an answer with its codings undone, or why it can't be shown.
+ * @param {Uint8Array} uri
+ * @param {ServedAnswer} it
+ * @param {ServedCapture[]} list
+ */
+async function contentOf(uri, it, list) {
+  try {
+    await undoContent(it, MOST_DECODED);
+    return await bodyView(uri, it, list);
+  } catch (error) {
+    return [note(`It can’t be shown here: ${plainly(whyOf(error))}.`)];
+  }
+}
+
+/**
+ * Where a captured redirect leads.
+ * @param {Uint8Array} uri
+ * @param {ServedAnswer} it
+ */
+function redirectOf(uri, it) {
+  const isRedirect = it.status >= 300 && it.status < 400 && it.location;
+  const to = isRedirect ? resolved(it.location, shown(uri)) : null;
+  if (!to) return '';
+  return note(
+      `Status ${it.status}: the server sent the reader on to `, roomLink(typed(to), digitsOf(it.instant), plainly(to)),
+      '.');
+}
+
+/**
+ * Shows a URI as of a date.
+ * @param {Uint8Array} uri
+ * @param {string} digits
+ */
+async function showPage(uri, digits) {
+  const visit = served.visit += 1;
+  byId('uri').value = shown(uri);
+  byId('moment').value = digits === LATEST ? '' : dateIn(digits);
+  byId('status').textContent = 'Asking the collection…';
+  const [it, list] = await Promise.all([answerOf(uri, digits), capturesAt(uri)]);
+  const title = make('header', {}, make('h2', {}, make('bdi', {}, seen(uri))), it.stored ? factsOf(it) : '');
+  const points = list.length ? pointsOf(uri, list, it.instant ?? '') : '';
+  const content = it.stored ? await contentOf(uri, it, list) : [noAnswer(it)];
+  if (visit !== served.visit) return;
+  show(title, points, make('div', {className: 'panel'}, redirectOf(uri, it), ...content));
+  document.title = `${seen(uri)} – Zogwedu reading room`;
+}
+
+/**
+ * Shows the targets that begin with a text.
+ * @param {Uint8Array} front
+ */
+async function showFound(front) {
+  const visit = served.visit += 1;
+  byId('uri').value = shown(front);
+  byId('status').textContent = 'Looking for URIs…';
+  const reply = await fetch(`${TOP}/room/found/${pathOf(front)}`, {redirect: 'error'});
+  const text = await reply.text(), {found, most} = reply.ok ? JSON.parse(text) : {found: [], most: 0};
+  if (visit !== served.visit) return;
+  const lines = found.map((/** @type {any} */ it) => {
+    const target = targetIn(it.path), link = roomLink(target, LATEST, seen(target));
+    const about = ` ${many(it.captures, 'capture')}, ${it.first.slice(0, 10)} to ${it.last.slice(0, 10)}`;
+    return make('li', {}, make('bdi', {}, link), make('span', {className: 'small'}, about));
+  });
+  const words = !reply.ok ? text : found.length < most ? many(lines.length, 'URI') : `The first ${most} URIs`;
+  show(
+      make('header', {}, make('h2', {}, make('bdi', {}, `${seen(front)}…`)), make('div', {className: 'sub'}, words)),
+      make('div', {className: 'panel'}, make('ul', {className: 'plain-list found'}, ...lines)));
+}
+
+// ---------------------------------------------------------------- beginning
+
+// Shows what the address says: `#DIGITS/URI` a page, `#?TEXT` a search.
+async function follow() {
+  const hash = location.hash.slice(1), page = /^(\d{14}(?:\d{9})?)\/(.+)$/s.exec(hash);
+  try {
+    if (page)
+      await showPage(targetIn(page[2]), page[1]);
+    else if (hash.startsWith('?') && hash.length > 1)
+      await showFound(targetIn(hash.slice(1)));
+    else
+      byId('record').hidden = true;
+  } catch (error) {
+    byId('status').textContent = `The server doesn’t answer: ${plainly(whyOf(error))}`;
+  }
+}
+
+/** @param {Event} event */
+function askForPage(event) {
+  event.preventDefault();
+  const uri = byId('uri').value.trim(), digits = digitsOf(byId('moment').value.trim());
+  if (uri && digits)
+    location.hash = addressIn(typed(uri), digits);
+  else
+    byId('status').textContent = uri ? DATE_FORMS : 'Which URI?';
+}
+
+byId('ask').addEventListener('submit', askForPage);
+byId('find').addEventListener('click', () => {
+  const front = byId('uri').value.trim();
+  location.hash = `#?${pathOf(typed(front))}`;
+});
+addEventListener('hashchange', follow);
+follow();

@@ -1,0 +1,234 @@
+#!/usr/bin/env python3
+"""Tries the reading room over a collection in Debian's Chromium, headless.
+
+Usage: test_served.py PROGRAM [FOLDER]
+
+PROGRAM is the program `warc`, with which the collection is read. A picture of the room goes to FOLDER, if it is given.
+Needs chromium, and what `make python` makes; where that isn't there, nothing is tried, and a line says so. The last
+line is `N passed, M failed`.
+"""
+
+from __future__ import annotations
+
+import base64
+import contextlib
+import gzip
+import os
+import sys
+import tempfile
+import time
+from typing import Any
+
+HERE = os.path.dirname(os.path.abspath(__file__))
+sys.path[:0] = [HERE, os.path.join(os.path.dirname(HERE), "stress")]
+from browser import Browser
+from collection_trial import Trial, put, record
+from listener import Listener
+from serve_trial import PACKAGE, Served, served
+
+FIRST, SECOND = "2020-01-01T00:00:00Z", "2021-06-01T12:00:00Z"
+TOP = b"http://site.example/"
+PROFILE = "http://netpreserve.org/warc/1.1/revisit/identical-payload-digest"
+PICTURE = base64.b64decode(
+    "iVBORw0KGgoAAAANSUhEUgAAAAEAAAABCAYAAAAfFcSJAAAADUlEQVR42mNk+M9QDwADhgGAWjR9awAAAABJRU5ErkJggg=="
+)
+FRONT = b"""<!doctype html><html><head><title>Front</title><link rel=stylesheet href="style.css"></head><body>
+<h1>%s</h1><p>A page of a site that isn't there any more.</p>
+<img id=picture src="/picture.png" width=80 height=60 alt=""> <a id=more href="more?a=b&amp;c=d">More of it</a>
+<a id=gone href="http://gone.example/">Elsewhere</a></body></html>"""
+STYLE = b"h1 { color: rgb(1, 100, 2); border-bottom: 3px solid } body { background: #f6f1e4; font-family: serif }"
+SHOWN = "document.querySelector('iframe.view')?.dataset.shown === 'yes'"
+IN_VIEW = "document.querySelector('iframe.view').contentDocument"
+
+
+def evil(port: int) -> bytes:
+    """A page that tries to run, to load, to post, to navigate the top, and to read what the room stores."""
+    at = b"http://127.0.0.1:%d/" % port
+    script = b"parent.ran = 1; top.location = '%s'; fetch('%s'); localStorage.evil = 1" % (at, at)
+    return (
+        b'<!doctype html><body onload="%s"><h1>Evil</h1><script>%s</script><script src=%sa.js></script>'
+        b'<img src=%sb.png onerror="%s"><link rel=stylesheet href=%sc.css><link rel=preconnect href=%s>'
+        b"<iframe src=%sd></iframe><object data=%se></object><embed src=%sf><video src=%sg autoplay></video>"
+        b"<form id=f action=%sh method=post target=_top><input name=a value=b><button id=post>x</button></form>"
+        b"<meta http-equiv=refresh content='0;url=%si'><base href=%s>"
+        b"<a id=top href='javascript:%s' target=_top>x</a><svg onload=\"%s\"><use href=%sj#x /></svg>"
+    ) % (script, script, at, at, script, at, at, at, at, at, at, at, at, at, script, script, at)
+
+
+def response(number: int, date: str, path: bytes, media: bytes, body: bytes, more: bytes = b"") -> bytes:
+    head = b"HTTP/1.1 200 OK\r\nContent-Type: %s\r\n%s\r\n" % (media, more)
+    return record("response", number, date, TOP + path, head + body, content_type="application/http;msgtype=response")
+
+
+def revisit(number: int, date: str, path: bytes, of: str) -> bytes:
+    fields = {"WARC_Profile": PROFILE, "WARC_Refers_To": of}
+    return record("revisit", number, date, TOP + path, b"", **fields)
+
+
+def collection(folder: str, port: int) -> None:
+    """Two crawls of a site: the second has its picture in the first, and is compressed."""
+    first = [
+        response(1, FIRST, b"", b"text/html", FRONT % b"Snow"),
+        response(2, FIRST, b"picture.png", b"image/png", PICTURE),
+        response(3, FIRST, b"style.css", b"text/css", STYLE),
+    ]
+    packed = gzip.compress(b"<h1>Packed</h1>")
+    of = "<urn:uuid:00000000-0000-4000-8000-%012d>"
+    second = [
+        response(11, SECOND, b"", b"text/html", FRONT % b"Rain"),
+        revisit(12, SECOND, b"picture.png", of % 2),
+        response(13, SECOND, b"more?a=b&c=d", b"text/html; charset=utf-8", "<h1>Mehr für alle</h1>".encode()),
+        response(14, SECOND, b"packed", b"text/html", packed, b"Content-Encoding: gzip\r\n"),
+        revisit(15, SECOND, b"lost", of % 999),
+        response(16, SECOND, b"evil", b"text/html", evil(port)),
+        record("resource", 17, SECOND, "http://site.example/\u00fc \u202e".encode(), b"odd"),
+    ]
+    put(os.path.join(folder, "first.warc"), b"".join(first))
+    put(os.path.join(folder, "second.warc.gz"), gzip.compress(b"".join(second)))
+
+
+class Tests:
+    """What passed and what failed, in one browser over one server."""
+
+    def __init__(self, browser: Browser, server: Served) -> None:
+        self.browser = browser
+        self.at = f"http://{server.host}:{server.port}/"
+        self.passed = self.failed = 0
+
+    def holds(self, is_so: Any, words: str, more: Any = "") -> None:
+        """Counts a check, and prints one that doesn't hold."""
+        self.passed += bool(is_so)
+        self.failed += not is_so
+        if not is_so:
+            print(f"FAILED {words} {str(more)[:600]}", flush=True)
+
+    def go(self, path: str) -> None:
+        self.browser.ask("Page.navigate", {"url": self.at + path})
+        self.browser.until("document.readyState === 'complete' && typeof served === 'object'")
+
+    def text(self) -> str:
+        return str(self.browser.run("document.body.innerText"))
+
+    def shows(self, words: str, seconds: int = 30) -> bool:
+        """Waits until a view has a heading."""
+        code = f"{SHOWN} && {IN_VIEW}.querySelector('h1')?.textContent === {words!r}"
+        return self.becomes(code, seconds)
+
+    def becomes(self, code: str, seconds: int = 30) -> bool:
+        try:
+            self.browser.until(code, seconds)
+            return True
+        except RuntimeError:
+            return False
+
+    def in_view(self, code: str) -> Any:
+        return self.browser.run(f"{IN_VIEW}.{code}")
+
+
+def search_and_page(tests: Tests, folder: str) -> None:
+    """A search, a page with its picture from another file, a point in time, a link, and back."""
+    browser = tests.browser
+    tests.go("")
+    browser.run("byId('uri').value = 'http://site.example/'; byId('find').click()")
+    tests.holds(tests.becomes("document.querySelectorAll('.found li').length === 8"), "search by prefix", tests.text())
+    tests.holds("U+202E" in tests.text(), "signs that turn a text are shown by their numbers", tests.text())
+    browser.run("byId('moment').value = ''; byId('ask').requestSubmit()")
+    tests.holds(tests.shows("Rain"), "the latest page", tests.text())
+    tests.holds(tests.in_view("getElementById('picture').naturalWidth") == 1, "its picture of another file")
+    color = f"getComputedStyle({IN_VIEW}.querySelector('h1')).color"
+    tests.holds(browser.run(color) == "rgb(1, 100, 2)", "its style of another file", browser.run(color))
+    tests.holds("second.warc.gz" in tests.text(), "which file it is from", tests.text())
+    if folder:
+        os.makedirs(folder, exist_ok=True)
+        browser.picture(f"{folder}/served.png")
+    browser.run("document.querySelector('.line-of button').click()")
+    tests.holds(tests.shows("Snow"), "an earlier point in time", tests.text())
+    tests.holds(browser.run("byId('moment').value").startswith("2020-01-01"), "its date in the form")
+    browser.run("history.back()")
+    tests.holds(tests.shows("Rain"), "back to the later one", tests.text())
+    tests.in_view("getElementById('more').click()")
+    tests.holds(tests.shows("Mehr für alle"), "a link", tests.text())
+    browser.run("history.back()")
+    tests.holds(tests.shows("Rain"), "back to the page", tests.text())
+    tests.in_view("getElementById('gone').click()")
+    tests.holds(tests.becomes("document.body.innerText.includes('P1 NoCapture')"), "a link to what isn't there")
+
+
+def answers(tests: Tests) -> None:
+    """A date, a coded page, a reason, and a page that a browser asks the server for."""
+    browser = tests.browser
+    tests.go("#20200601000000/http://site.example/")
+    tests.holds(tests.shows("Snow"), "a page as of a date", tests.text())
+    tests.go("#99991231235959/http://site.example/packed")
+    tests.holds(tests.shows("Packed"), "a coded page", tests.text())
+    tests.go("#99991231235959/http://site.example/lost")
+    tests.holds(tests.becomes("document.body.innerText.includes('P5 Unresolved')"), "a reason", tests.text())
+    tests.go("#20190101000000/http://site.example/")
+    tests.holds(tests.becomes("document.body.innerText.includes('P2 NotYet')"), "too early", tests.text())
+    browser.run("byId('uri').value = 'x:'; byId('moment').value = 'soon'; byId('ask').requestSubmit()")
+    tests.holds("A date is written" in browser.run("byId('status').textContent"), "what is no date", tests.text())
+    tests.go("memento/20210601120000/http://site.example/")
+    tests.holds(tests.shows("Rain"), "a memento in the browser leads to the room", tests.text())
+    tests.holds(browser.run("location.pathname") == "/", "the room's address", browser.run("location.href"))
+
+
+def hostile(tests: Tests, listener: Listener) -> None:
+    """A page that tries to get out does nothing of it."""
+    browser = tests.browser
+    tests.go("#99991231235959/http://site.example/evil")
+    browser.run("localStorage.secret = 'kept'")
+    tests.holds(tests.shows("Evil"), "the page is shown", tests.text())
+    tests.holds(
+        browser.run(f"{IN_VIEW}.querySelector('script, iframe, object, embed, link, meta[name]')") is None, "parts"
+    )
+    browser.run(f"for (const node of {IN_VIEW}.querySelectorAll('a, button')) node.click()")
+    time.sleep(2)
+    tests.holds(browser.run("typeof ran") == "undefined", "nothing ran")
+    tests.holds(browser.run("localStorage.evil") is None, "nothing was stored")
+    tests.holds(browser.run("location.href").startswith(tests.at), "the top stays", browser.run("location.href"))
+    tests.holds(len(listener.hosts) == 0, "no connection", len(listener.hosts))
+    policy = browser.run("fetch('/').then((it) => it.headers.get('content-security-policy'))")
+    tests.holds("unsafe-inline" not in policy.split("script-src")[1].split(";")[0], "no inline script", policy)
+    for kind in ("iframe", "object", "embed"):
+        address = "/memento/20210601120000/http://site.example/evil"
+        made = f"const it = document.createElement('{kind}'); it.src = it.data = '{address}'; document.body.append(it);"
+        browser.run("(() => { try { %s } catch { /* the policy forbids it */ } })()" % made)
+    time.sleep(1)
+    tests.holds(
+        len(listener.hosts) == 0 and browser.run("typeof ran") == "undefined", "nothing after all", len(listener.hosts)
+    )
+
+
+def as_it_is(tests: Tests, listener: Listener, folder: str) -> None:
+    """The same page without a room, which must be counted."""
+    path = put(os.path.join(folder, "evil.html"), evil(listener.port))
+    tests.browser.ask("Page.navigate", {"url": "file://" + path})
+    time.sleep(3)
+    tests.holds(len(listener.hosts) > 2, "the page as it is gets out", len(listener.hosts))
+
+
+def main() -> int:
+    program, folder = sys.argv[1], (sys.argv[2:] or [""])[0]
+    if not os.path.exists(os.path.join(PACKAGE, "zogwedu", "__init__.py")):
+        print("the room over a collection: left out, since make python wasn't run")
+        return 0
+    with tempfile.TemporaryDirectory(prefix="warc-served-") as made, contextlib.closing(Listener()) as listener:
+        trial = Trial(program, made)
+        collection(trial.path("disk"), listener.port)
+        trial.run("c", "run", "--quiet", trial.path("disk"))
+        with served(trial, "c") as server:
+            browser = Browser()
+            try:
+                tests = Tests(browser, server)
+                search_and_page(tests, folder)
+                answers(tests)
+                hostile(tests, listener)
+                as_it_is(tests, listener, made)
+            finally:
+                browser.close()
+    print(f"{tests.passed} passed, {tests.failed + trial.surprises} failed")
+    return 1 if tests.failed or trial.surprises else 0
+
+
+if __name__ == "__main__":
+    sys.exit(main())
