@@ -228,7 +228,8 @@ function factsOf(it) {
   const [chosen, given] = [it.chosen, it.given].map(placeOf), coding = it.coding && `, ${it.coding}`;
   const from = given === chosen ? '' : `; the body is that of ${given}`;
   const facts = `${dateOf(it.instant)}, ${chosen}${from}. Status ${it.status ?? '–'}, ${it.type}${coding}`;
-  return make('div', {className: 'sub'}, plainly(facts), it.joined ? ` (${plainly(it.joined)})` : '');
+  return make(
+      'div', {className: 'sub'}, plainly(facts), it.joined > 1 ? ` (${it.joined} files were joined for it)` : '');
 }
 
 /**

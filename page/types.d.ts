@@ -94,7 +94,7 @@ interface ServedAnswer extends Omit<Answer, "chosen" | "given"> {
   instant?: string;
   chosen?: any;
   given?: any;
-  joined?: string;
+  joined?: number;
   coding?: string;
   location?: string | null;
   stored?: Uint8Array;

@@ -146,11 +146,19 @@ class Catalogue:
         elif not os.path.exists(self.path):
             raise Trouble("no catalogue in %s: make one by warc-collection run" % shown(self.folder))
         self.base = read_only(self.path) if is_read_only else writable(self.path)
+        self.inode = os.stat(self.path).st_ino
         version = self.one("PRAGMA user_version")[0]
         if version > VERSION:
             raise Trouble("the catalogue in %s is of a later version of warc-collection" % shown(self.folder))
         if version < VERSION and not is_made:
             raise Trouble("the catalogue in %s is of an earlier version: run warc-collection run" % shown(self.folder))
+
+    def is_there(self) -> bool:
+        """Whether the database is still the one at its path."""
+        try:
+            return os.stat(self.path).st_ino == self.inode
+        except OSError:
+            return False
 
     def make_tables(self) -> None:
         """Makes what isn't there, and brings an older catalogue to this version."""

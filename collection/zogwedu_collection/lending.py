@@ -16,6 +16,8 @@ from .texts import Trouble, escaped
 PIECE = 1 << 20
 # The most bytes of a body from which the transfer codings are undone, since that is done in memory.
 MOST_CODED = 64 << 20
+# The longest Location that goes out.
+MOST_LOCATION = 8 << 10
 TOKEN = r"[A-Za-z0-9!#$%&'*+.^_`|~-]{1,100}"
 MEDIA = re.compile(r"\s*(%s/%s)(?:\s*;.*?\bcharset\s*=\s*\"?(%s))?" % (TOKEN, TOKEN, TOKEN), re.ASCII | re.IGNORECASE)
 CODINGS = re.compile(r"%s(?: *, *%s){0,7}" % (TOKEN, TOKEN), re.ASCII)
@@ -133,7 +135,9 @@ class Reader(Replayer):
             return Content(body.parts, None, media_of(record.headers.get("Content-Type")), None, None)
         head = record.http.headers
         coding = coding_of(head.get_all("Content-Encoding")) if answer.reason else None
-        return Content(body.parts, body.status, media_of(head.get("Content-Type")), coding, head.get("Location"))
+        location = head.get("Location")
+        location = None if location is None or len(location) > MOST_LOCATION else location
+        return Content(body.parts, body.status, media_of(head.get("Content-Type")), coding, location)
 
     def pieces(self, answer: Lent, content: Content) -> Iterator[bytes]:
         """The bytes of an answer. Before each piece is given, its files are those that were read."""

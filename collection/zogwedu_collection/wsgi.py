@@ -85,14 +85,13 @@ class Desks:
 
     @contextlib.contextmanager
     def one(self) -> Iterator[Catalogue]:
-        """A connection, with all its answers of one moment. Questions that take long are given up. After an error the
-        catalogue is opened anew."""
+        """A connection, with all its answers of one moment. Questions that take long are given up."""
         try:
             catalogue = self.free.get(timeout=PATIENCE_SECONDS)
         except queue.Empty:
             raise Trouble("too many requests at once: try again") from None
         try:
-            catalogue = catalogue or Catalogue(self.folder, is_read_only=True)
+            catalogue = self.fresh(catalogue)
             parts = itertools.count()
             catalogue.base.set_progress_handler(lambda: int(next(parts) > MOST_PARTS), STEPS)
             catalogue.base.execute("BEGIN")
@@ -100,13 +99,31 @@ class Desks:
                 yield catalogue
             finally:
                 catalogue.base.execute("ROLLBACK")
-        except sqlite3.Error:
-            if catalogue is not None:
+            catalogue = self.kept(catalogue)
+        except BaseException as error:
+            # What isn't about the catalogue leaves the connection as it is.
+            if isinstance(error, sqlite3.Error) and catalogue is not None:
                 catalogue.base.close()
-            catalogue = None
+                catalogue = None
             raise
         finally:
             self.free.put(catalogue)
+
+    def fresh(self, catalogue: Optional[Catalogue]) -> Catalogue:
+        """A connection to the database that is there now."""
+        if catalogue is not None and catalogue.is_there():
+            return catalogue
+        if catalogue is not None:
+            catalogue.base.close()
+        return Catalogue(self.folder, is_read_only=True)
+
+    def kept(self, catalogue: Catalogue) -> Optional[Catalogue]:
+        """A connection for the next request. While a run has its changes in a log, none is kept: it would keep the run
+        from taking the log away, and without the log those who may only read could not open the database."""
+        if catalogue.one("PRAGMA journal_mode")[0] != "wal":
+            return catalogue
+        catalogue.base.close()
+        return None
 
 
 def around(catalogue: Catalogue, target: Stored, chosen: Optional[str] = None) -> Optional[Around]:
@@ -377,7 +394,7 @@ def answer_head(answer: Lent, content: Content) -> Headers:
         "instant": answer.capture.instant,
         "chosen": [escaped(answer.capture.path), answer.capture.position],
         "given": [given_path, answer.position],
-        "joined": answer.joined(),
+        "joined": len(answer.files),
         "reason": answer.reason,
         "status": content.status,
         "type": content.media,

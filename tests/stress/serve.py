@@ -16,7 +16,7 @@ import concurrent.futures
 import contextlib
 import gzip
 import http.server
-import json
+import io
 import os
 import re
 import select
@@ -33,7 +33,7 @@ from typing import Callable, Dict, Iterator, List, Optional, Tuple
 
 from collection_trial import TOP, Trial, put, record
 from memento_client import Client, Reply, Wrong, seconds_of
-from serve_trial import PACKAGE, Served, received, served, status_in, wait_for
+from serve_trial import PACKAGE, Served, received, served, started, status_in, wait_for
 
 PICTURE = base64.b64decode(
     "iVBORw0KGgoAAAANSUhEUgAAAAEAAAABCAYAAAAfFcSJAAAADUlEQVR42mNk+M9QDwADhgGAWjR9awAAAABJRU5ErkJggg=="
@@ -47,6 +47,8 @@ REASONS = {"P1": 404, "P2": 404, "P4": 404, "P5": 404, "P3": 502, "P6": 502, "P7
 # Their codings are none that can be sent.
 UNFIT = ("/transfer", "/evil-coding")
 AS_200 = (204, 205, 206, 304)
+# What `replay` has said.
+REPLAYED: Dict[Tuple[str, str], Tuple[str, bytes, Optional[int]]] = {}
 Script = Optional[str]
 Part = Callable[[Trial, Script], None]
 
@@ -140,14 +142,21 @@ def unchunked(body: bytes) -> bytes:
 
 def replayed(trial: Trial, target: str, instant: str) -> Tuple[str, bytes, Optional[int]]:
     """What `replay` says of a target as of an instant: a reason or none, the body, and the status. A coded body is one
-    without its chunks."""
-    words = "replay", "--stored", "--uri-hex", os.fsencode(target).hex(), instant
-    done = trial.run("c", *words)
-    text = done.stderr.decode("utf-8", "replace")
+    without its chunks. Nothing is asked twice."""
+    key = target, instant
+    if key not in REPLAYED:
+        words = "replay", "--stored", "--uri-hex", os.fsencode(target).hex(), instant
+        done = trial.run("c", *words)
+        REPLAYED[key] = told_of(done.returncode, done.stdout, done.stderr.decode("utf-8", "replace"))
+    return REPLAYED[key]
+
+
+def told_of(status: int, body: bytes, text: str) -> Tuple[str, bytes, Optional[int]]:
+    """What the output of `replay` says."""
     found = re.search(r"^chosen .* given .* status (\d+|-) truncated .*$", text, re.MULTILINE)
-    if done.returncode or found is None:
+    if status or found is None:
         return text.strip().splitlines()[-1].partition(": ")[2], b"", None
-    body = unchunked(done.stdout) if "coded transfer-encoding=chunked" in found[0] else done.stdout
+    body = unchunked(body) if "coded transfer-encoding=chunked" in found[0] else body
     return "", body, None if found[1] == "-" else int(found[1])
 
 
@@ -316,8 +325,11 @@ def odd_answers() -> Iterator[bytes]:
         (b"deflated", head_of(b"200 OK", b"text/plain", b"Content-Encoding: x-odd, gzip\r\n")),
         (b"transfer", head_of(b"200 OK", b"text/plain", b"Transfer-Encoding: gzip, chunked\r\n")),
     )
+    packed = gzip.compress(b"body")
+    chunks = b"%x\r\n%s\r\n0\r\n\r\n" % (len(packed), packed)
     for number, (name, head) in enumerate(lines):
-        yield response(1000 + number, b"http://odd.example/" + name, head, b"body")
+        body = chunks if name == b"transfer" else b"body"
+        yield response(1000 + number, b"http://odd.example/" + name, head, body)
     for status in (100, 199, 204, 205, 206, 304, 299, 401, 418, 599, 600, 999):
         yield response(2000 + status, b"http://odd.example/%d" % status, head_of(b"%d X" % status), b"body")
 
@@ -346,7 +358,7 @@ def by_hand(folder: str) -> None:
     parts += [record("resource", 110, date, b"http://half.example/", body) for date, body in halves[:2]]
     put(os.path.join(folder, "parts.warc"), b"".join(parts))
     same, other = b"http://same.example/", b"http://other.example/"
-    for name, body in (("left", b"left"), ("right", b"right")):
+    for name, body in (("left", b"one"), ("right", b"two")):
         records = [record("resource", 200, DATE, same, b"same"), record("resource", 201, DATE, other, body)]
         put(os.path.join(folder, name + ".warc"), b"".join(records))
     put(os.path.join(folder, "big.warc"), record("resource", 301, DATE, b"http://big.example/", BIG))
@@ -634,6 +646,20 @@ def unpacked_bytes(trial: Trial, script: Script) -> None:
         trial.judge(reply.status == 200 and reply.body == bytes(ZEROS), "with room for it", reply.status)
 
 
+def readers_that_go(trial: Trial, script: Script) -> None:
+    """A reader of a long body that goes away gives its archive back."""
+    catalogued(trial)
+    with served(trial, "c", "--archives", "1", script=script) as server:
+        for _ in range(20):
+            with server.connected() as connection:
+                connection.sendall(b"GET /memento/20200101000000/http://big.example/ HTTP/1.0\r\n\r\n")
+        begun, path = time.monotonic(), "/memento/20200101000000/http://a.example/%C3%BC"
+        trial.judge(server.client.ask(path).status == 200, "the next reader")
+        trial.judge(time.monotonic() - begun < 10, "the next reader doesn't wait", time.monotonic() - begun)
+        whole = server.client.ask("/memento/20200101000000/http://big.example/")
+        trial.judge(whole.body == BIG, "a long body", len(whole.body))
+
+
 def files_of(process: int, folder: str) -> List[str]:
     """The descriptors of a process that lead below a folder."""
     names = []
@@ -708,6 +734,63 @@ def one_that_dies(trial: Trial, script: Script) -> None:
         trial.judge(wait_for(lambda: not os.path.exists("/proc/%d" % worker)), "it ends with its parent")
 
 
+def beside_a_run(trial: Trial, script: Script) -> None:
+    """Runs read new files while the catalogue is asked: each answer is right, new captures are found at once, and the
+    log of a run is gone after it. Another catalogue in the same place is asked from then on."""
+    folder, base = trial.path("growing"), trial.path("f", "catalogue.sqlite")
+    put(os.path.join(folder, "0.warc"), record("resource", 1, DATE, b"urn:x:0", b"0"))
+    trial.run("f", "run", "--quiet", folder)
+    with served(trial, "f", script=script) as server, concurrent.futures.ThreadPoolExecutor(3) as pool:
+        is_over = threading.Event()
+
+        def ask() -> Tuple[int, int]:
+            count = wrong = 0
+            while not is_over.is_set():
+                count, wrong = count + 1, wrong + (server.client.ask("/memento/20200101000000/urn:x:0").body != b"0")
+            return count, wrong
+
+        futures = [pool.submit(ask) for _ in range(3)]
+        for number in range(1, 6):
+            put(os.path.join(folder, "%d.warc" % number), record("resource", 1, DATE, b"urn:x:%d" % number, b"new"))
+            trial.run("f", "run", "--quiet", folder)
+            reply = server.client.ask("/memento/20200101000000/urn:x:%d" % number)
+            trial.judge(reply.body == b"new", "what a run has read", reply)
+        is_over.set()
+        counts = [future.result() for future in futures]
+        trial.judge(all(count and not wrong for count, wrong in counts), "answers beside a run", counts)
+        trial.run("f", "run", "--quiet", folder)
+        trial.judge(not os.path.exists(base + "-wal"), "no log is left", os.listdir(trial.path("f")))
+        shutil.rmtree(trial.path("f"))
+        os.unlink(os.path.join(folder, "0.warc"))
+        trial.run("f", "run", "--quiet", folder)
+        gone = server.client.ask("/memento/20200101000000/urn:x:0")
+        trial.judge(gone.status == 404, "another catalogue", gone)
+
+
+# What systemd does before it starts a service with a socket: descriptor 3, and two variables.
+PASSES_SOCKET = """
+import os, socket, sys
+listener = socket.create_server(("127.0.0.1", 0))
+os.dup2(listener.fileno(), 3)
+os.set_inheritable(3, True)
+os.environ.update(LISTEN_PID=str(os.getpid()), LISTEN_FDS="1")
+os.execv(sys.executable, [sys.executable, *sys.argv[1:]])
+"""
+
+
+def passed_socket(trial: Trial, script: Script) -> None:
+    """The server listens at a socket that systemd passes; without one it says so."""
+    catalogued(trial)
+    whole = [script or trial.script, "-c", trial.path("c"), "serve", "--listen", "systemd", "--warc", trial.warc]
+    env = dict(os.environ, PYTHONPATH=PACKAGE)
+    alone = subprocess.run([sys.executable, *whole], capture_output=True, env=env, timeout=60, check=False)
+    trial.judge(alone.returncode == 3 and b"passes no socket" in alone.stderr, "without a socket", alone)
+    words = [sys.executable, "-c", PASSES_SOCKET, *whole]
+    with started(trial, words) as server:
+        path = "/memento/20200101000000/http://a.example/%C3%BC"
+        trial.judge(server.client.ask(path).status == 200, "at a socket that is passed", server.said())
+
+
 def read_only(trial: Trial, script: Script) -> None:
     """The server writes nothing to the catalogue, and opens nothing by a name that a request has."""
     catalogued(trial)
@@ -739,11 +822,11 @@ BROKEN: Tuple[Tuple[str, str, str, Part], ...] = (
         'value.decode("ascii").lower()\n    return urllib',
         browsers,
     ),
-    ("memento.py", "    if found is None or not", "    if found is None and not", bad_input),
+    ("memento.py", 'r"(%s), (\\d\\d) ', 'r"(%s), (\\d\\d?) ', bad_input),
     ("memento.py", 'raise NotOne("that day isn\'t a %s" % found[1])', "pass", bad_input),
-    ("memento.py", '(around.after, "next")', '(None, "next")', crawl_is_served),
+    ("memento.py", '(around.after, "next")', '(None, "next")', odd_captures),
     ("memento.py", "if nanoseconds.strip", "if not nanoseconds.strip", odd_captures),
-    ("wsgi.py", "html|xml|xsl", "nothing|xsl", crawl_is_served),
+    ("wsgi.py", "html|xml|xsl", "nothing|xsl", odd_captures),
     ("wsgi.py", '"iframe", ', "", browsers),
     ("wsgi.py", "CHANGING = (204, ", "CHANGING = (", odd_captures),
     ("wsgi.py", '"P4", ', "", odd_captures),
@@ -753,12 +836,12 @@ BROKEN: Tuple[Tuple[str, str, str, Part], ...] = (
         '[("Content-Type", content.media), ',
         odd_captures,
     ),
-    ("wsgi.py", '*headers, ("Link", links)', '("Link", links)', crawl_is_served),
+    ("wsgi.py", '*headers, ("Link", links)', '("Link", links)', odd_captures),
     ("lending.py", "return found[1] + ", "return (value or '') + ", odd_captures),
     ("lending.py", 'if body.undone not in ((), ("chunked",)):', "if False:", odd_captures),
     ("lending.py", "if not CODINGS.fullmatch(names):", "if False:", odd_captures),
     ("lending.py", "digest.update(part)", "pass", odd_captures),
-    ("shelf.py", "            check_path(file)", "            pass", changed_files),
+    ("replay.py", "check(known, stamp_of(os.stat(path)))", "os.stat(path)", changed_files),
     ("shelf.py", "or self.drop_idle(False)", "or True", many_archives),
     ("shelf.py", "while self.unpacked + count > self.most_unpacked", "while False", unpacked_bytes),
     ("serve.py", "HEAD_SECONDS = 15.0", "HEAD_SECONDS = 60.0", slow_clients),
@@ -766,6 +849,8 @@ BROKEN: Tuple[Tuple[str, str, str, Part], ...] = (
     ("serve.py", "        if status >= 0:", "        if True:", one_that_dies),
     ("serve.py", "MOST_HEAD = 256 << 10", "MOST_HEAD = 16 << 20", bad_input),
     ("catalogue.py", "?mode=ro", "?mode=rw", read_only),
+    ("wsgi.py", '!= "wal"', '!= "x"', beside_a_run),
+    ("wsgi.py", "and catalogue.is_there()", "", beside_a_run),
 )
 
 
@@ -787,10 +872,10 @@ def is_seen(trial: Trial, part: Part, script: str) -> bool:
     """Whether a part finds something with a program. What it prints is left out."""
     again = Trial.__new__(Trial)
     again.__dict__.update(trial.__dict__, surprises=0, tried=trial.tried.copy(), part=part.__name__)
-    for name in ("d", "e", "changing", "many"):
+    for name in ("d", "e", "f", "changing", "many", "growing"):
         shutil.rmtree(trial.path(name), ignore_errors=True)
     try:
-        with open(os.devnull, "w", encoding="utf-8") as nowhere, contextlib.redirect_stdout(nowhere):
+        with open(os.devnull, "w", encoding="utf-8", errors="replace") as nowhere, contextlib.redirect_stdout(nowhere):
             part(again, script)
     except (RuntimeError, OSError, Wrong) as error:
         print("%s: %r" % (part.__name__, error))
@@ -800,12 +885,14 @@ def is_seen(trial: Trial, part: Part, script: str) -> bool:
 
 PARTS: Tuple[Part, ...] = (
     *(crawl_is_served, odd_captures, bad_input, browsers, changed_files, many_archives, unpacked_bytes),
-    *(slow_clients, one_that_dies, read_only, broken),
+    *(readers_that_go, slow_clients, one_that_dies, beside_a_run, passed_socket, read_only, broken),
 )
 
 
 def main() -> int:
     warc, names = sys.argv[1], sys.argv[2:]
+    if isinstance(sys.stdout, io.TextIOWrapper):
+        sys.stdout.reconfigure(errors="backslashreplace")
     if not os.path.exists(os.path.join(PACKAGE, "zogwedu", "__init__.py")):
         print("serve: left out, since make python wasn't run")
         return 0

@@ -65,7 +65,10 @@ class Served:
 
     def worker(self) -> int:
         """The process that answers."""
-        return children_of(self.child.pid)[0]
+        found = children_of(self.child.pid)
+        if not found:
+            raise RuntimeError("no process answers: %r" % self.said())
+        return found[0]
 
     def connected(self) -> socket.socket:
         return socket.create_connection((self.host, self.port), timeout=60)
@@ -109,12 +112,19 @@ def script_words(trial: Trial, script: Optional[str]) -> List[str]:
 def served(
     trial: Trial, catalogue: str, *words: str, script: Optional[str] = None, before: Sequence[str] = ()
 ) -> Iterator[Served]:
-    """A server over a catalogue. It must end when it is told to, and have no fault of its own."""
+    """A server over a catalogue."""
+    whole = [*before, *script_words(trial, script), "-c", trial.path(catalogue), "serve", "--listen", "127.0.0.1:0"]
+    with started(trial, [*whole, "--warc", trial.warc, *words]) as server:
+        yield server
+
+
+@contextlib.contextmanager
+def started(trial: Trial, words: Sequence[str]) -> Iterator[Served]:
+    """A server that a command starts. It must end when it is told to, and have no fault of its own."""
     log = trial.path("log-%d" % time.monotonic_ns())
     env: Dict[str, str] = dict(os.environ, PYTHONPATH=PACKAGE)
-    whole = [*before, *script_words(trial, script), "-c", trial.path(catalogue), "serve", "--listen", "127.0.0.1:0"]
     with open(log, "wb") as out:
-        child = subprocess.Popen([*whole, "--warc", trial.warc, *words], stderr=out, env=env, start_new_session=True)
+        child = subprocess.Popen(words, stderr=out, env=env, start_new_session=True)
     try:
         server = Served(child, log)
         yield server
