@@ -387,12 +387,15 @@ class Host:
         subprocess.run(["ip", "netns", "exec", self.name, *words], check=True)
 
     def start(self) -> None:
-        config = os.path.join(self.folder, self.name)
+        """Starts its sshd. A login has a home of its own: what this machine's shells run when they begin may wait for
+        one another, and for one that was killed."""
+        config, home = os.path.join(self.folder, self.name), os.path.join(self.folder, self.name + "-home")
+        os.makedirs(home, exist_ok=True)
         with open(config, "w", encoding="ascii") as out:
             out.write(
                 "ListenAddress %s\nPort 2222\nHostKey %s/host\nAuthorizedKeysFile %s/key.pub\nPidFile none\n"
                 "StrictModes no\nUsePAM no\nPasswordAuthentication no\nPermitRootLogin yes\nMaxStartups 100\n"
-                % (self.addresses[1], self.folder, self.folder)
+                "SetEnv HOME=%s\n" % (self.addresses[1], self.folder, self.folder, home)
             )
         words = ["ip", "netns", "exec", self.name, *LESS, "/usr/sbin/sshd", "-D", "-f", config]
         self.server = subprocess.Popen(words)
@@ -419,10 +422,11 @@ def ip(*words: str) -> None:
 
 
 def ssh_config(host: Host, folder: str) -> str:
+    """How to log in to a host. The key exchange is the one that takes the least time: a run has many logins."""
     return (
         "Host %s\nHostName %s\nPort 2222\nUser root\nIdentityFile %s/key\nStrictHostKeyChecking no\n"
         "UserKnownHostsFile /dev/null\nLogLevel ERROR\nBatchMode yes\nConnectTimeout 5\nServerAliveInterval 2\n"
-        % (host.name, host.addresses[1], folder)
+        "KexAlgorithms curve25519-sha256\n" % (host.name, host.addresses[1], folder)
     )
 
 
