@@ -27,7 +27,8 @@
 # make test-package makes the Debian packages, and tries them (as root)
 # make page         proves and builds the library for WebAssembly, and writes zogwedu.html, the reading room
 # make test-page    tries the reading room in headless Chromium (needs chromium and wget); minutes
-# make bench        measures; docs/SPEED.md has the figures
+# make bench        measures, and prints the tables of docs/SPEED.md and docs/PAGE.md for this commit (needs gcc,
+#                   valgrind and chromium); make bench-libraries measures single libraries, as bench/HISTORY.md has them
 # make clean        drops what was built and kept
 
 # One prover at a time works in out/build, so nothing here runs side by side, whatever -j says.
@@ -39,8 +40,8 @@ export PREFIX LIBDIR DESTDIR PYTHONDIR FILE RUN
 JOBS ?= $(shell nproc)
 
 .PHONY: all try test check lint lint-code test-docs lint-docs man install uninstall install-python uninstall-python
-.PHONY: dist verify-dist test-compatibility test-package stress bench clean lib python rust test-callers page test-page
-.PHONY: numbers statuses collection
+.PHONY: dist verify-dist test-compatibility test-package stress bench bench-libraries clean lib python rust test-callers
+.PHONY: page test-page numbers statuses collection
 
 define PAGES
 @python3 tools/make_collection.py out/warc-collection
@@ -141,12 +142,14 @@ test-page: bin/warc zogwedu.html out/python/zogwedu/libwarc.so
 
 bench: all zogwedu.html
 	@python3 bench/bench.py bin/warc out/bench
+	@python3 bench/replay.py . bin/warc out/bench
+	@python3 bench/page.py zogwedu.html bin/warc out/bench
+
+bench-libraries: all
 	@python3 bench/decoder.py . out/bench
 	@python3 bench/order.py . out/bench
 	@python3 bench/segment.py . out/bench
 	@python3 bench/index.py . out/bench
-	@python3 bench/replay.py . bin/warc out/bench
-	@python3 bench/page.py zogwedu.html bin/warc out/bench
 
 clean:
 	rm -rf out bin dist crates/*/out

@@ -3,9 +3,10 @@
 
 Usage: page.py PAGE PROGRAM FOLDER
 
-The archive is made in FOLDER once and kept: 50,000 pages of 10,000 bytes, each with the digest of its block. Printed:
-seconds of the program; seconds until the page shows its first rows, all rows, the findings and the last verdict, and
-until the archive is open for questions; and seconds of one answer then.
+The archive is made in FOLDER once and kept: 50,000 pages of 10,000 bytes, each with the digest of its block. Prints a
+table in Markdown: seconds until the page shows its first rows, all rows, the findings and the last verdict, and until
+the archive is open for questions; seconds of one answer then; and seconds of the program. Each is the least of three
+runs, or of RUNS from the environment.
 """
 from __future__ import annotations
 
@@ -13,7 +14,7 @@ import os
 import sys
 import time
 
-from shared import make, run
+from shared import made_on, make, put_table, run
 
 sys.path.insert(0, os.path.join(os.path.dirname(os.path.abspath(__file__)), "..", "tests", "page"))
 from browser import Browser
@@ -60,13 +61,14 @@ def main() -> None:
     os.makedirs(folder, exist_ok=True)
     archive = os.path.join(folder, "pages.warc")
     make(archive, RECORDS, LENGTH)
-    print(f"{os.path.getsize(archive)} bytes, {RECORDS} records")
-    for command in ("list", "check"):
-        print(f"  warc {command}: {min(run([*program.split(), command, archive]) for _ in range(RUNS))[0]:.2f} s")
+    print(f"{made_on(program.split()[-1])}\n\n{os.path.getsize(archive) / 1e6:.0f} MB, {RECORDS:,} records.\n")
     least = [min(times) for times in zip(*(open_page(page, archive) for _ in range(RUNS)))]
-    names = ("first rows", "all rows", "findings", "all verdicts", "open for questions", "one answer")
-    for name, seconds in zip(names, least):
-        print(f"  page, {name}: {seconds:.3f} s")
+    names = ("the first rows", "all rows", "the findings", "all verdicts", "open for questions", "an answer then")
+    rows = [[f"page, {name}", f"{seconds:.2f}"] for name, seconds in zip(names, least)]
+    for command in ("list", "check"):
+        taken = min(run([*program.split(), command, archive]).seconds for _ in range(RUNS))
+        rows.append([f"`warc {command}`", f"{taken:.2f}"])
+    put_table(["What", "Seconds"], rows)
 
 
 main()

@@ -6,7 +6,8 @@ Usage: replay.py REPOSITORY PROGRAM FOLDER
 It proves and builds bench/crates/bench_archive, and runs it three times over 1,000,000 tiny records: the least of
 each figure counts. Then the program replays a body of 1 GB that has no digest, opening included, and `cat` copies its
 archive, both to where nothing is kept: each five times, by turns, and the least time counts. The most memory of the
-program is what the system reports of it while it runs once more. The archives are made in FOLDER once and kept.
+program is what the system reports of it while it runs once more. The archives are made in FOLDER once and kept. Prints
+a table in Markdown.
 """
 from __future__ import annotations
 
@@ -16,7 +17,7 @@ import sys
 import time
 from collections.abc import Sequence
 
-from shared import build, make, run
+from shared import build, made_on, make, put_table, run
 
 RUNS = 5
 OPENINGS = 3
@@ -49,27 +50,25 @@ def most_memory(words: Sequence[str]) -> int:
     return most
 
 
-def time_openings(program: str, path: str) -> None:
+def opening_rows(program: str, path: str) -> list[list[str]]:
+    """What it takes to list, open, replay and grow, in microseconds each."""
     least = least_figures([program, path, REPLAYS])
-    for verb, by_count in least.items():
-        for count, each in by_count.items():
-            print(f"{count} {verb} in {each} ns each")
-    [listed], [opened] = least["listed"].values(), least["opened"].values()
-    print(f"an archive takes {opened / listed:.2f} of a listing")
-    few, many = (least["grown"][count] for count in sorted(least["grown"]))
-    print(f"growing by a record takes {many / few:.2f} of what it takes at 1,000")
+    return [
+        [f"{verb}, {count:,} records", f"{each / 1000:.2f} microseconds each"]
+        for verb, by_count in least.items()
+        for count, each in sorted(by_count.items())
+    ]
 
 
-def time_replay(program: str, path: str) -> None:
+def replay_row(program: str, path: str) -> list[str]:
+    """What it takes to replay a body of 1 GB, beside a copy of its archive."""
     words = [program, "replay", path, "http://a.example/0", "2021"]
     replays, copies = [], []
     for _ in range(RUNS):
-        replays.append(run(words)[0])
-        copies.append(run(["cat", path])[0])
-    print(
-        f"a body of 1 GB: {min(replays):.2f} s, {min(replays) / min(copies):.1f} of cat, "
-        f"most memory {most_memory(words) / 1024:.1f} MB"
-    )
+        replays.append(run(words).processor)
+        copies.append(run(["cat", path]).processor)
+    taken = f"{min(replays):.2f} s, {min(replays) / min(copies):.1f} times `cat`"
+    return ["`replay`, a body of 1 GB without a digest", f"{taken}; {most_memory(words) / 1024:.1f} MiB of memory"]
 
 
 def main() -> None:
@@ -78,8 +77,9 @@ def main() -> None:
     tiny, whole = os.path.join(folder, "tiny.warc"), os.path.join(folder, "plain.warc")
     make(tiny, 1_000_000, 3)
     make(whole, 1, 1_000_000_000, has_digests=False)
-    time_openings(build(repository, "bench_archive", folder), tiny)
-    time_replay(program, whole)
+    openings = build(repository, "bench_archive", folder)
+    print(f"{made_on(program)}\n")
+    put_table(["What", "Takes"], [*opening_rows(openings, tiny), replay_row(program, whole)])
 
 
 main()

@@ -5,14 +5,17 @@ import base64
 import hashlib
 import os
 import random
+import re
 import shutil
 import subprocess
 import sys
 import tempfile
 import time
-from collections.abc import Sequence
+from collections.abc import Iterable, Sequence
+from typing import NamedTuple
 
-PROGRAMS = os.path.join(os.path.dirname(os.path.abspath(__file__)), "crates")
+TOP = os.path.dirname(os.path.dirname(os.path.abspath(__file__)))
+PROGRAMS = os.path.join(TOP, "bench", "crates")
 # The identifiers of a crawl's requests begin here.
 REQUESTS = 1 << 24
 
@@ -76,8 +79,9 @@ def build(repository: str, name: str, folder: str) -> str:
         return os.path.join(folder, name)
 
 
-def head(number: int, length: int, digest: str | None) -> bytes:
+def head(number: int, length: int, digest: str | None, has_type: bool = True) -> bytes:
     """The head of record `number`, as common crawlers write it; without a digest where that is None."""
+    type_line = "Content-Type: text/plain\r\n" if has_type else ""
     digest_line = f"WARC-Block-Digest: sha1:{digest}\r\n" if digest else ""
     return (
         "WARC/1.1\r\nWARC-Type: resource\r\n"
@@ -85,19 +89,20 @@ def head(number: int, length: int, digest: str | None) -> bytes:
         "WARC-Date: 2020-01-01T00:00:00Z\r\n"
         f"WARC-Target-URI: http://a.example/{number}\r\n"
         f"{digest_line}"
-        f"Content-Type: text/plain\r\nContent-Length: {length}\r\n\r\n"
+        f"{type_line}Content-Length: {length}\r\n\r\n"
     ).encode()
 
 
-def make(path: str, count: int, length: int, has_digests: bool = True) -> None:
-    """Makes an archive of so many records with blocks of one length, unless it is there."""
+def make(path: str, count: int, length: int, has_digests: bool = True, typed_each: int = 1) -> None:
+    """Makes an archive of `count` records with blocks of one length, unless it is there. One in `typed_each` has a
+    Content-Type."""
     if os.path.exists(path):
         return
     block = (b"0123456789abcdef" * (length // 16 + 1))[:length]
     digest = base64.b32encode(hashlib.sha1(block).digest()).decode() if has_digests else None
     with open(path + ".part", "wb", buffering=1 << 20) as out:
         for number in range(count):
-            out.write(head(number, length, digest))
+            out.write(head(number, length, digest, number % typed_each == 0))
             out.write(block)
             out.write(b"\r\n\r\n")
     os.rename(path + ".part", path)
@@ -159,8 +164,16 @@ def make_crawl(path: str, count: int) -> None:
     os.rename(path + ".part", path)
 
 
-def run(words: Sequence[str]) -> tuple[float, int]:
-    """Seconds and peak kilobytes of one run; what it writes and tells is thrown away."""
+class Usage(NamedTuple):
+    """What a run took: seconds of the processor, for the user and by the system; seconds in all; peak kilobytes."""
+
+    processor: float
+    seconds: float
+    peak: int
+
+
+def run(words: Sequence[str], statuses: Sequence[int] = (0,)) -> Usage:
+    """Runs a command; what it writes and says is thrown away. Another status than these ends the measuring."""
     begin = time.perf_counter()
     child = os.fork()
     if child == 0:
@@ -169,6 +182,35 @@ def run(words: Sequence[str]) -> tuple[float, int]:
         os.dup2(null, 2)
         os.execvp(words[0], list(words))
     _, status, usage = os.wait4(child, 0)
-    if status != 0:
-        sys.exit(f"{' '.join(words)}: status {status}")
-    return time.perf_counter() - begin, usage.ru_maxrss
+    seconds = time.perf_counter() - begin
+    if os.waitstatus_to_exitcode(status) not in statuses:
+        sys.exit(f"{' '.join(words)}: status {os.waitstatus_to_exitcode(status)}")
+    return Usage(usage.ru_utime + usage.ru_stime, seconds, usage.ru_maxrss)
+
+
+def put_table(headings: Sequence[str], rows: Iterable[Sequence[str]]) -> None:
+    """Prints a table in Markdown."""
+    print(f"| {' | '.join(headings)} |\n{'|---' * len(headings)}|")
+    for row in rows:
+        print(f"| {' | '.join(row)} |", flush=True)
+
+
+def commit() -> str:
+    """The commit on which a script runs, and whether files differ from it."""
+    words = ["git", "-C", TOP, "describe", "--always", "--dirty= with changes", "--abbrev=8", "--exclude=*"]
+    try:
+        return subprocess.run(words, capture_output=True, text=True, check=True).stdout.strip()
+    except (OSError, subprocess.CalledProcessError):
+        return "unknown"
+
+
+def made_on(program: str) -> str:
+    """Of what, when and where figures are: the commit, the program, the machine and what else it does."""
+    with open(program, "rb") as file:
+        digest = hashlib.sha256(file.read()).hexdigest()
+    with open("/proc/cpuinfo", encoding="utf-8") as text:
+        model = re.search(r"model name\s*: (.*)", text.read())
+    return (
+        f"Commit {commit()}, a program whose SHA-256 begins with {digest[:16]}; {time.strftime('%Y-%m-%d %H:%M %Z')};"
+        f" {os.cpu_count()} cores, {model[1] if model else 'unknown'}; load {os.getloadavg()[0]:.1f}"
+    )

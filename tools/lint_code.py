@@ -133,6 +133,7 @@ CHECKS = [
     Check("layout of the second reading and the trials of the program", (*LAYOUT, *SYSTEM)),
     Check("warnings of c/warc.c", ("gcc", *C_FLAGS, "c/warc.c")),
     Check("warnings of C's programs", ("gcc", *C_FLAGS, *C_PROGRAMS)),
+    Check("warnings of bench/walk.c", ("gcc", *C_FLAGS, "bench/walk.c")),
     Check("warnings of c/compressed.c", ("gcc", *C_FLAGS, "c/compressed.c"), files=("/usr/include/zlib.h",)),
     Check("c/warc.h as C++", ("g++", "-x", "c++", "-std=c++11", *C_FLAGS[1:], "c/warc.h")),
     Check("layout of the Rust crate", ("cargo", "fmt", "--check", "--manifest-path=rust/Cargo.toml")),
