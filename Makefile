@@ -140,10 +140,12 @@ test-page: bin/warc zogwedu.html out/python/zogwedu/libwarc.so
 	@python3 tests/page/test_page.py zogwedu.html bin/warc out/page
 	@python3 tests/page/test_served.py bin/warc out/page
 
-bench: all zogwedu.html
+bench: all zogwedu.html out/python/zogwedu/libwarc.so
 	@python3 bench/bench.py bin/warc out/bench
 	@python3 bench/replay.py . bin/warc out/bench
 	@python3 bench/page.py zogwedu.html bin/warc out/bench
+	@bash tools/need.sh wrk:wrk
+	@PYTHONPATH=out/python python3 bench/serve.py bin/warc
 
 bench-libraries: all
 	@python3 bench/decoder.py . out/bench

@@ -49,7 +49,9 @@ TOOLS = tuple(
         *("shared", "test_docs"),
     )
 )
-BENCHES = tuple(f"bench/{name}.py" for name in ("bench", "decoder", "index", "order", "replay", "segment", "shared"))
+BENCHES = tuple(
+    f"bench/{name}.py" for name in ("bench", "decoder", "index", "order", "replay", "segment", "serve", "shared")
+)
 LINTS = ("tools/lint_code.py", "tools/lint_rust.py", "tools/find_unsafe.py")
 
 # The scripts that install, pack and try the program, and their tests.

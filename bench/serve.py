@@ -1,0 +1,170 @@
+#!/usr/bin/env python3
+"""Measures `warc-collection serve` under load, by Debian's wrk.
+
+Usage: serve.py WARC [REQUESTS]
+
+20 files, one of them compressed, have 500 captures each of 10,000 bytes, in a catalogue of 1,000,000 captures. After a
+pass over all of them, wrk asks for captures that are drawn evenly, 100 a second for a minute; then, as fast as it can,
+until REQUESTS (100,000 if left out) were answered. Prints how long the first answer of each file takes, which opens the
+file, the latencies, and the memory of the server before and after. PYTHONPATH has to hold the package that
+`make python` makes.
+"""
+from __future__ import annotations
+
+import gzip
+import http.client
+import os
+import re
+import sqlite3
+import statistics
+import subprocess
+import sys
+import tempfile
+import time
+from collections.abc import Iterator
+
+from shared import crawl_record
+
+TOP = os.path.dirname(os.path.dirname(os.path.abspath(__file__)))
+FILES, EACH, SIZE = 20, 500, 10_000
+CATALOGUED = 1_000_000
+CONNECTIONS, RATE = 10, 100
+SECONDS = 60
+LIMITS = ["--archives", "32", "--unpacked", "1G"]
+HEAD = b"HTTP/1.1 200 OK\r\nContent-Type: text/plain\r\n\r\n"
+# Captures are one second apart from here on, as `crawl_record` has them.
+BEGINNING = 1_600_000_000
+SCRIPT = """
+local files, each, pause = %d, %d, %d
+function setup(thread) counter = (counter or 0) + 1; thread:set("seed", counter) end
+function init() math.randomseed(seed * 7919 + %d) end
+function request()
+  local number = math.random(0, files * each - 1)
+  return wrk.format("GET", os.date("!/memento/%%Y%%m%%d%%H%%M%%S/http://s.example/", %d + number) .. number)
+end
+if pause > 0 then function delay() return pause end end
+"""
+
+
+def block(number: int) -> bytes:
+    """An HTTP response with a body of the size that all have."""
+    return HEAD + f"{number} ".encode().ljust(SIZE, b"x")
+
+
+def path_of(number: int) -> str:
+    """The path of a capture."""
+    digits = time.strftime("%Y%m%d%H%M%S", time.gmtime(BEGINNING + number))
+    return f"/memento/{digits}/http://s.example/{number}"
+
+
+def write_files(folder: str) -> None:
+    """The files, the last of them compressed."""
+    os.makedirs(folder)
+    for file in range(FILES):
+        numbers = range(file * EACH, (file + 1) * EACH)
+        data = b"".join(crawl_record("response", it, f"http://s.example/{it}", block(it)) for it in numbers)
+        is_packed = file == FILES - 1
+        with open(f"{folder}/{file}.warc" + ".gz" * is_packed, "wb") as out:
+            out.write(gzip.compress(data) if is_packed else data)
+
+
+def other_captures() -> Iterator[tuple[object, ...]]:
+    """Rows of captures in a file that nobody asks for."""
+    date, instant = "2020-01-01T00:00:00Z", "2020-01-01T00:00:00.000000000Z"
+    for number in range(CATALOGUED - FILES * EACH):
+        target = f"http://o{number % 1000}.example/{number}"
+        yield 1000, number, date, instant, "response", number, 200, "text/html", SIZE, None, target
+
+
+def fill(catalogue: str) -> None:
+    """Adds captures up to the number that a catalogue is to have."""
+    base = sqlite3.connect(f"{catalogue}/catalogue.sqlite")
+    base.execute("INSERT INTO files (file, path, state, detail) VALUES (1000, '/nowhere/other.warc', 'good', '')")
+    base.executemany("INSERT INTO captures VALUES (?, ?, ?, ?, ?, ?, ?, ?, ?, ?, ?)", other_captures())
+    base.commit()
+    base.close()
+
+
+def timed(port: int, path: str) -> float:
+    """How many milliseconds an answer takes. It must be a memento."""
+    begun = time.perf_counter()
+    connection = http.client.HTTPConnection("127.0.0.1", port, timeout=60)
+    connection.request("GET", path)
+    reply = connection.getresponse()
+    if reply.status != 200 or len(reply.read()) != SIZE:
+        sys.exit(f"{path}: {reply.status}")
+    connection.close()
+    return (time.perf_counter() - begun) * 1000
+
+
+def load(folder: str, port: int, seconds: int, pause: int) -> tuple[int, str]:
+    """Has wrk ask for some seconds, each connection with a pause between two requests. Returns how many were answered,
+    and what wrk prints."""
+    script = f"{folder}/load.lua"
+    with open(script, "w", encoding="ascii") as out:
+        out.write(SCRIPT % (FILES, EACH, pause, time.time_ns() % 1_000_000, BEGINNING))
+    words = ["wrk", "-t1", f"-c{CONNECTIONS}", f"-d{seconds}s", "--timeout", "30s", "--latency", "-s", script]
+    text = subprocess.run([*words, f"http://127.0.0.1:{port}/"], capture_output=True, text=True, check=True).stdout
+    found = re.search(r"(\d+) requests in", text)
+    if found is None or "Non-2xx" in text or "Socket errors" in text:
+        sys.exit(text)
+    return int(found[1]), text
+
+
+def figures(text: str) -> str:
+    """The latencies and the rate that wrk prints."""
+    parts = re.findall(r"(50|75|90|99)%\s+(\S+)", text)
+    rate = re.search(r"Requests/sec:\s+(\S+)", text)
+    return ", ".join(f"{part}% {value}" for part, value in parts) + f"; {rate[1] if rate else '?'} requests a second"
+
+
+def memory(process: int) -> str:
+    """The memory of the process that answers, by kind."""
+    with open(f"/proc/{process}/task/{process}/children", encoding="ascii") as file:
+        child = file.read().split()[0]
+    with open(f"/proc/{child}/status", encoding="ascii") as file:
+        kinds = re.findall(r"^(RssAnon|RssFile|Threads):\s+(\d+)", file.read(), re.MULTILINE)
+    return ", ".join(
+        f"{name} {int(value) // 1024} MiB" if name != "Threads" else f"{value} threads" for name, value in kinds
+    )
+
+
+def measure(folder: str, server: subprocess.Popen[bytes], port: int, wanted: int) -> None:
+    """All figures."""
+    cold = [timed(port, path_of(file * EACH)) for file in range(FILES)]
+    print(f"first answer of a file: median {statistics.median(cold[:-1]):.1f} ms, compressed {cold[-1]:.1f} ms")
+    warm = [timed(port, path_of(number)) for number in range(FILES * EACH)]
+    print(f"one pass, one after another: median {statistics.median(warm):.1f} ms; {memory(server.pid)}", flush=True)
+    print("100 a second:", figures(load(folder, port, SECONDS, CONNECTIONS * 1000 // RATE)[1]), flush=True)
+    answered, text = 0, ""
+    while answered < wanted:
+        count, text = load(folder, port, 20, 0)
+        answered += count
+    print("as fast as it can:", figures(text))
+    print(f"after {answered} requests more: {memory(server.pid)}")
+
+
+def main() -> None:
+    warc = os.path.abspath(sys.argv[1])
+    wanted = int((sys.argv[2:] or ["100000"])[0])
+    with tempfile.TemporaryDirectory(prefix="warc-bench-") as folder:
+        program, catalogue = f"{folder}/warc-collection", f"{folder}/catalogue"
+        subprocess.run([sys.executable, f"{TOP}/tools/make_collection.py", program], check=True)
+        write_files(f"{folder}/disk")
+        words = [program, "-c", catalogue]
+        subprocess.run([*words, "run", "--quiet", "--warc", warc, f"{folder}/disk"], check=True)
+        fill(catalogue)
+        listen = [*words, "serve", "--warc", warc, "--listen", "127.0.0.1:0", *LIMITS]
+        with subprocess.Popen(listen, stderr=subprocess.PIPE) as server:
+            try:
+                assert server.stderr is not None
+                found = re.search(rb":(\d+)/", server.stderr.readline())
+                if found is None:
+                    sys.exit("the server doesn't begin")
+                measure(folder, server, int(found[1]), wanted)
+            finally:
+                server.terminate()
+
+
+if __name__ == "__main__":
+    main()
