@@ -1,7 +1,9 @@
 -- What goes out of lent bytes that are an archive.
-use Rattle.std.proofs.Common.{◌≡◌, ◌∙◌, ℕ, List, Some, Ok, Err, inr, refl}
+use Rattle.std.proofs.Common.{◌≡◌, ◌∙◌, ◌<◌, ◌↔◌, ℕ, Bool, true, false, List, length, Some, Ok, Err, inr, refl, subst}
+use Rattle.std.specs.Prelude.{All, Contains}
 use Rattle.std.specs.List.{flat_map}
-use Rattle.std.specs.Io.KnownBytes.{append_known}
+use Rattle.std.specs.List.Sorted.{IsStrictlyIncreasing}
+use Rattle.std.proofs.lemmas.List.Elements.{All-contains, All-contains_itself, All-weaker}
 use Rattle.warc_frame.specs.Record.{Record}
 use Rattle.warc_frame.specs.Seen.{Seen, SeenSource}
 use Rattle.warc_frame.specs.Send.{sent_of}
@@ -9,7 +11,8 @@ use Rattle.warc_frame.specs.declared.fault.OutFault.{OutFault}
 use Rattle.warc_reading.specs.Archive.{IsArchiveOf, contents}
 use Rattle.warc_reading.specs.Row.{Row}
 use Rattle.warc.specs.Forms.{WritesEach}
-use Rattle.warc_lent.specs.Writing.{WritesLent, problem_of_sent}
+use Rattle.warc.specs.Selecting.{AreOthers, Selects, selected_text}
+use Rattle.warc_lent.specs.Writing.{AreChosen, AreNamedPositions, Choice, SelectsLent, WritesLent, problem_of_sent}
 use Rattle.warc_lent.specs.declared.problem.Problem.{Problem}
 
 pub known_bytes : (one other : List ℕ) → Some one ≡ Some other → one ≡ other
@@ -37,5 +40,65 @@ part_written text_of len_of bytes rows old new before after fault problem was se
     inr (
       rows,
       is,
+      (fault, why, number, record { count = out.count; within = out.within; told = out.told; number = number ∙ out.number }),
+    )
+
+-- named positions in their order, each once, where all are below the count
+pub named_in_order : (count : ℕ) (named positions : List ℕ) → All (λ p. p < count) named → IsStrictlyIncreasing positions
+    → ((p : ℕ) → Contains positions p ↔ Contains named p) → AreNamedPositions count named positions
+named_in_order count named positions below rises each = record {
+  are = record {
+    ascending = rises;
+    below = All-weaker (Contains positions) (λ p. p < count)
+        (λ p has. All-contains (λ p. p < count) named p below ((each p).0 has)) positions (All-contains_itself positions);
+  };
+  each = each;
+}
+
+-- all others are the same of named positions in any order
+pub others_of_named : (least count : ℕ) (named positions taken others : List ℕ) → taken ≡ positions
+    → AreNamedPositions least named positions → AreOthers count taken others → AreOthers count named others
+others_of_named least count named positions taken others same is rest =
+    let out : (p : ℕ) → Contains others p ↔ ((p < count) × ¬ Contains positions p) =
+    (subst (λ ps. AreOthers count ps others) same rest).each in
+    record {
+      are = rest.are;
+      each = λ p. (
+        λ has. (((out p).0 has).0, λ at. ((out p).0 has).1 ((is.each p).1 at)),
+        λ not. (out p).1 (not.0, λ at. not.1 ((is.each p).0 at)),
+      );
+    }
+
+-- without the named ones, all others are chosen
+pub others_chosen : (except : Bool) (count : ℕ) (named others : List ℕ) → except ≡ true
+    → AreOthers count named others → AreChosen except count named others
+others_chosen true count named others is rest = rest
+others_chosen false count named others is rest = absurd (cc is)
+
+-- the choice of these positions
+abbrev pub choice_of : (except : Bool) (named bytes : List ℕ) (rows : List Row) (positions : List ℕ) → IsArchiveOf bytes rows
+    → All (λ p. p < length rows) named → AreChosen except (length rows) named positions → Choice except named bytes
+choice_of except named bytes rows positions is below are =
+    record { rows = rows; is = is; below = below; positions = positions; are = are }
+
+-- all chosen records
+pub all_selected : (except : Bool) (named bytes taken : List ℕ) (choice : Choice except named bytes) (old new : SeenSource)
+    (before after : Seen) (was : ℕ) → taken ≡ choice.positions → old.holds ≡ Some bytes
+    → Selects choice.rows taken old new before after (Ok tt) → SelectsLent except named bytes before after (Ok tt) was was
+all_selected except named bytes taken choice old new before after was same held selects =
+    let are = subst (λ ps. Selects choice.rows ps old new before after (Ok tt)) same selects in
+    inr (choice, (are.sends.out bytes (selected_text choice.rows choice.positions bytes) held (choice.is, refl), refl))
+
+-- a front of them
+pub part_selected : (except : Bool) (named bytes taken : List ℕ) (choice : Choice except named bytes) (old new : SeenSource)
+    (before after : Seen) (fault : OutFault) (problem : Problem) (was sent : ℕ) → taken ≡ choice.positions
+    → old.holds ≡ Some bytes → Selects choice.rows taken old new before after (Err fault)
+    → problem ≡ problem_of_sent fault → sent ≡ sent_of fault
+    → SelectsLent except named bytes before after (Err problem) was sent
+part_selected except named bytes taken choice old new before after fault problem was sent same held selects why number =
+    let are = subst (λ ps. Selects choice.rows ps old new before after (Err fault)) same selects in
+    let out = are.sends.cut bytes (selected_text choice.rows choice.positions bytes) held (choice.is, refl) in
+    inr (
+      choice,
       (fault, why, number, record { count = out.count; within = out.within; told = out.told; number = number ∙ out.number }),
     )

@@ -1,5 +1,5 @@
 -- What is written of lent bytes, and of a record that is made. This project's own notion.
-use Rattle.std.specs.Prelude.{◌≡◌, ◌⊎◌, ℕ, List, Result, Ok, Err, OnOk, IfErr}
+use Rattle.std.specs.Prelude.{◌≡◌, ◌⊎◌, ◌↔◌, ◌<◌, ℕ, Bool, true, false, List, length, All, Contains, Result, Ok, Err}
 use Rattle.std.specs.List.{flat_map}
 use Rattle.std.specs.Io.KnownBytes.{append_known}
 use Rattle.warc_frame.specs.Record.{Record}
@@ -13,6 +13,7 @@ use Rattle.warc_reading.specs.Row.{Row}
 use Rattle.warc_write.specs.Making.{Plan, made}
 use Rattle.warc_write.specs.declared.making.MakeFault.{MakeFault}
 use Rattle.warc_write.specs.declared.making.MakeFault.TheVariants.{Memory as NoMemory}
+use Rattle.warc.specs.Selecting.{AreOthers, ArePositions, selected_text}
 use Rattle.warc_lent.specs.Texts.{IsRefusedFor}
 use Rattle.warc_lent.specs.declared.problem.Problem.{Problem}
 use Rattle.warc_lent.specs.declared.problem.Problem.TheVariants as problems
@@ -52,3 +53,39 @@ abbrev pub MakesTo : Plan → Seen → Seen → Result (Unit {0}) Problem → �
 MakesTo plan before after answer was sent =
     WritesNone (IsUnmade plan) before after answer was sent
     ⊎ ((r : Record) × (made plan ≡ Ok r) × WritesText (canonical r) before after answer was sent)
+
+-- the positions that are named, which are some of so many, in their order, each once
+pub record AreNamedPositions (count : ℕ) (named positions : List ℕ) : Type 0 where
+  pub are : ArePositions count positions
+  pub each : (p : ℕ) → Contains positions p ↔ Contains named p
+
+-- the positions of all others, or the named ones
+abbrev pub AreChosen : Bool → ℕ → List ℕ → List ℕ → Type 0
+AreChosen true count named positions = AreOthers count named positions
+AreChosen false count named positions = AreNamedPositions count named positions
+
+-- the records of an archive that are named, which are all there, or all others
+pub record Choice (except : Bool) (named bytes : List ℕ) : Type 0 where
+  pub rows : List Row
+  pub is : IsArchiveOf bytes rows
+  pub below : All (λ p. p < length rows) named
+  pub positions : List ℕ
+  pub are : AreChosen except (length rows) named positions
+
+-- one of the named positions is that of no record
+pub record NamesNoRecord (count : ℕ) (named : List ℕ) (problem : Problem) : Type 0 where
+  pub is : problem ≡ problems.NoRecord
+  pub beyond : ¬ All (λ p. p < count) named
+
+-- lent bytes are refused, or an archive without one of the named records
+abbrev pub IsUnselected : List ℕ → List ℕ → Problem → Type 0
+IsUnselected named bytes problem =
+    IsRefusedFor bytes problem
+    ⊎ ((rows : List Row) × IsArchiveOf bytes rows × NamesNoRecord (length rows) named problem)
+
+-- the chosen records of lent bytes were written, byte for byte, or nothing was
+abbrev pub SelectsLent : Bool → List ℕ → List ℕ → Seen → Seen → Result (Unit {0}) Problem → ℕ → ℕ → Type 0
+SelectsLent except named bytes before after answer was sent =
+    WritesNone (IsUnselected named bytes) before after answer was sent
+    ⊎ ((choice : Choice except named bytes)
+    × WritesText (selected_text choice.rows choice.positions bytes) before after answer was sent)

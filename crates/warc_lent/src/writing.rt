@@ -1,5 +1,6 @@
 //! What is written to a sink: the records of lent bytes anew, and a record that is made.
-ghost use Rattle.std.specs.Prelude.{◌≡◌, IfErr, IfOk};
+ghost use Rattle.std.specs.Prelude.{◌≡◌, ◌⊎◌, ◌↔◌, ◌<◌, ℕ, All, Contains, IfErr, IfOk, IsTrue, length};
+ghost use Rattle.std.specs.List.Sorted.{IsStrictlyIncreasing};
 ghost use Rattle.warc.specs.Forms.{split_text, text_as};
 ghost use Rattle.warc_reading.specs.Archive.{IsArchiveOf};
 ghost use Rattle.warc_lent.specs.Texts.{IsRefusedFor};
@@ -7,12 +8,12 @@ ghost use Rattle.warc_record.specs.Kinds.{kind_named};
 ghost use Rattle.warc_write.specs.Making.{planned};
 ghost use Rattle.warc_frame.specs.Send.{sent_of};
 ghost use Rattle.warc_frame.specs.Spelling.{canonical};
-ghost use Rattle.warc_lent.specs.Writing.{MakesTo, WritesLent, WritesText, problem_of_sent};
+ghost use Rattle.warc_lent.specs.Writing.{AreChosen, AreNamedPositions, MakesTo, NamesNoRecord, SelectsLent, WritesLent, WritesText, problem_of_sent};
 
 use crate::problem::Problem;
-use std::alloc::Allocator;
+use std::alloc::{AllocError, Allocator};
 use warc::{Form, Listing, OutFault};
-use warc_frame::{Framed, Sink, SliceSource};
+use warc_frame::{Framed, Sink, SliceSource, Source};
 use warc_record::Kind;
 use warc_write::{make, render_one};
 
@@ -81,6 +82,95 @@ pub fn split_lent<A: Allocator + Copy, W: Sink>(
         Err(problem) => return Err(problem),
     };
     match listing.split(size, out) {
+        Ok(()) => Ok(()),
+        Err(fault) => Err(cut_off(fault, sent)),
+    }
+}
+
+/// Positions in ascending order, each once.
+fn ascending<A: Allocator>(alloc: A, positions: &[usize]) -> Result<Vec<usize, A>, AllocError>
+    ensures rises { IfOk result (λ sorted. IsStrictlyIncreasing sorted.items) }
+    ensures each { IfOk result (λ sorted. (p : ℕ) → Contains sorted.items p ↔ Contains positions.now p) }
+{
+    let mut sorted = Vec::from_slice(alloc, positions)?;
+    sorted.sort_unstable();
+    sorted.dedup();
+    Ok(sorted)
+}
+
+/// Whether all positions are below a count.
+fn are_below(positions: &[usize], count: usize) -> bool
+    ensures { IsTrue result ↔ All (λ p. p < count) positions.now }
+{
+    positions.iter().all(|position| *position < count)
+}
+
+/// The positions that are named, in ascending order, each once.
+fn named<A: Allocator>(
+    alloc: A,
+    count: usize,
+    positions: &[usize],
+) -> Result<Vec<usize, A>, Problem>
+    ensures named { IfOk result (λ named. AreNamedPositions count positions.now named.items) }
+    ensures below { IfOk result (λ named. All (λ p. p < count) positions.now) }
+    ensures refused { IfErr result (λ problem. (problem ≡ Problem.Memory) ⊎ NamesNoRecord count positions.now problem) }
+{
+    if !are_below(positions, count) {
+        return Err(Problem::NoRecord);
+    }
+    match ascending(alloc, positions) {
+        Ok(sorted) => Ok(sorted),
+        Err(_) => Err(Problem::Memory),
+    }
+}
+
+/// The positions of the records that are named, or of all others.
+fn chosen<A: Allocator + Copy, S: Source>(
+    alloc: A,
+    listing: &Listing<S, A>,
+    positions: &[usize],
+    except: bool,
+) -> Result<Vec<usize, A>, Problem>
+    ensures chosen { IfOk result (λ chosen. AreChosen except (length listing.now.rows) positions.now chosen.items) }
+    ensures below { IfOk result (λ chosen. All (λ p. p < length listing.now.rows) positions.now) }
+    ensures refused { IfErr result (λ problem. (problem ≡ Problem.Memory)
+        ⊎ NamesNoRecord (length listing.now.rows) positions.now problem) }
+{
+    let named = match named(alloc, listing.count(), positions) {
+        Ok(named) => named,
+        Err(problem) => return Err(problem),
+    };
+    if !except {
+        return Ok(named);
+    }
+    match listing.others(&named) {
+        Ok(others) => Ok(others),
+        Err(_) => Err(Problem::Memory),
+    }
+}
+
+/// Writes records of lent bytes as they are: those at positions, or with `except` all others. The positions are in any
+/// order, and each record is written once, in the archive's order. `sent` is set where the output ends early: to how
+/// many bytes of it went out. Where the bytes are refused, or a position isn't that of a record, nothing is written.
+pub fn select_lent<A: Allocator + Copy, W: Sink>(
+    alloc: A,
+    bytes: &[u8],
+    positions: &[usize],
+    except: bool,
+    out: &mut W,
+    sent: &mut u64,
+) -> Result<(), Problem>
+    ensures { SelectsLent except positions.now bytes.now (W.seen out.old) (W.seen out.new) result sent.old sent.new }
+{
+    let mut listing = match listing(alloc, bytes) {
+        Ok(listing) => listing,
+        Err(problem) => return Err(problem),
+    };
+    let chosen = match chosen(alloc, &listing, positions, except) {
+        Ok(chosen) => chosen,
+        Err(problem) => return Err(problem),
+    };
+    match listing.select(&chosen, out) {
         Ok(()) => Ok(()),
         Err(fault) => Err(cut_off(fault, sent)),
     }
