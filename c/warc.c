@@ -71,6 +71,8 @@ bool warc_rt_convert(const uint8_t *bytes, size_t length, uint64_t start, uint8_
                      warc_problem *problem);
 bool warc_rt_split(const uint8_t *bytes, size_t length, uint64_t size, uint64_t start, uint8_t *part, size_t room,
                    uint64_t *filled, warc_problem *problem);
+bool warc_rt_select(const uint8_t *bytes, size_t length, const uint64_t *positions, size_t count, bool except,
+                    uint64_t start, uint8_t *part, size_t room, uint64_t *filled, warc_problem *problem);
 bool warc_rt_make(const uint8_t *kind, size_t kind_length, const uint8_t *uri, size_t uri_length, const uint8_t *date,
                   size_t date_length, const uint8_t *uuid, size_t uuid_length, const uint8_t *type, size_t type_length,
                   const uint8_t *block, size_t block_length, uint64_t start, uint8_t *part, size_t room,
@@ -461,12 +463,15 @@ size_t warc_fixity(warc_archive *archive, uint8_t *text, size_t text_length, war
 /* The first part is small, since most outputs are. */
 enum { FIRST_PART = 1 << 20, LATER_PART = 1 << 26 };
 
-/* What is written: an archive in a form, or one record. */
+/* What is written: an archive in a form, some of its records, or one record. */
 typedef struct {
-    enum { REWRITTEN, CONVERTED, SPLIT, MADE } form;
+    enum { REWRITTEN, CONVERTED, SPLIT, SELECTED, MADE } form;
     const uint8_t *bytes;
     size_t length;
     uint64_t size;
+    const uint64_t *positions;
+    size_t count;
+    bool except;
     const warc_draft *draft;
 } output;
 
@@ -480,6 +485,13 @@ static bool put_made(const warc_draft *draft, uint64_t start, uint8_t *part, siz
                         room, filled, problem);
 }
 
+/* Puts the part of some records that begins at an offset. */
+static bool put_selected(const output *what, uint64_t start, uint8_t *part, size_t room, uint64_t *filled,
+                         warc_problem *problem) {
+    return warc_rt_select(what->bytes, what->length, what->positions, what->count, what->except, start, part, room,
+                          filled, problem);
+}
+
 /* Puts the part of an output that begins at an offset. False with a problem, or where the part is full. */
 static bool put_part(const output *what, uint64_t start, uint8_t *part, size_t room, uint64_t *filled,
                      warc_problem *problem) {
@@ -489,6 +501,7 @@ static bool put_part(const output *what, uint64_t start, uint8_t *part, size_t r
     case REWRITTEN: return warc_rt_rewrite(what->bytes, what->length, start, part, room, filled, problem);
     case CONVERTED: return warc_rt_convert(what->bytes, what->length, start, part, room, filled, problem);
     case SPLIT: return warc_rt_split(what->bytes, what->length, what->size, start, part, room, filled, problem);
+    case SELECTED: return put_selected(what, start, part, room, filled, problem);
     default: return put_made(what->draft, start, part, room, filled, problem);
     }
 }
@@ -578,6 +591,14 @@ bool warc_convert(const uint8_t *bytes, size_t length, int file, uint64_t *sent,
 bool warc_split(const uint8_t *bytes, size_t length, uint64_t size, int file, uint64_t *sent, warc_problem *problem) {
     output what = {.form = SPLIT, .bytes = bytes_or_nothing(bytes), .length = length, .size = size};
     return write_if_good(size != 0 && fits(bytes, length, 1), &what, file, sent, problem);
+}
+
+bool warc_select(const uint8_t *bytes, size_t length, const uint64_t *positions, size_t count, bool except, int file,
+                 uint64_t *sent, warc_problem *problem) {
+    output what = {.form = SELECTED, .bytes = bytes_or_nothing(bytes), .length = length, .count = count,
+                   .positions = positions ? positions : (const void *)nothing, .except = except};
+    bool are_good = fits(bytes, length, 1) && fits(positions, count, sizeof *positions);
+    return write_if_good(are_good, &what, file, sent, problem);
 }
 
 /* Whether passed bytes are there. */

@@ -56,12 +56,12 @@
  * becomes numbers. warc_head_at and warc_block_at take theirs from the row. warc_open, warc_open_front, warc_field_at,
  * warc_http_at, warc_http_field_at, warc_fixity, warc_problem_text and warc_abi_version call functions over bytes that
  * state their contracts themselves; warc_open answers true only for bytes that spell good records, and otherwise gives
- * their first fault, or says that memory ran out. warc_rewrite, warc_convert, warc_split and warc_make are one call of
- * write_lent, split_lent or make_lent each, whose contract says what goes to a sink; that a descriptor takes these
- * bytes is write's matter, and warc.c puts the parts together. No contract says that a handle holds the archive that
- * was opened: contracts see no value of a struct that C keeps (docs/PROMISES.md). What this page demands of the caller
- * isn't checked by anybody, and warc.c, which checks pointers, keeps texts and finds fields in what was put, isn't
- * proved.
+ * their first fault, or says that memory ran out. warc_rewrite, warc_convert, warc_split, warc_select and warc_make are
+ * one call of write_lent, split_lent, select_lent or make_lent each, whose contract says what goes to a sink; that a
+ * descriptor takes these bytes is write's matter, and warc.c puts the parts together. No contract says that a handle
+ * holds the archive that was opened: contracts see no value of a struct that C keeps (docs/PROMISES.md). What this page
+ * demands of the caller isn't checked by anybody, and warc.c, which checks pointers, keeps texts and finds fields in
+ * what was put, isn't proved.
  */
 #ifndef WARC_H
 #define WARC_H
@@ -316,6 +316,12 @@ size_t warc_fixity(warc_archive *archive, uint8_t *text, size_t text_length, war
 bool warc_rewrite(const uint8_t *bytes, size_t length, int file, uint64_t *sent, warc_problem *problem);
 bool warc_convert(const uint8_t *bytes, size_t length, int file, uint64_t *sent, warc_problem *problem);
 bool warc_split(const uint8_t *bytes, size_t length, uint64_t size, int file, uint64_t *sent, warc_problem *problem);
+
+/* Writes records of the archive that these bytes are, byte for byte: those at `count` positions, or with `except` all
+ * others. The positions come in any order, and any of them may be there twice: each record is written once, in the
+ * archive's order. Fails with WARC_NO_RECORD where a position isn't that of a record, and as warc_rewrite does. */
+bool warc_select(const uint8_t *bytes, size_t length, const uint64_t *positions, size_t count, bool except, int file,
+                 uint64_t *sent, warc_problem *problem);
 
 /* Bytes that are passed. */
 typedef struct {

@@ -162,6 +162,16 @@ extern "C" {
         sent: *mut u64,
         problem: *mut Problem,
     ) -> bool;
+    fn warc_select(
+        bytes: *const u8,
+        length: usize,
+        positions: *const u64,
+        count: usize,
+        except: bool,
+        file: c_int,
+        sent: *mut u64,
+        problem: *mut Problem,
+    ) -> bool;
     fn warc_make(draft: *const CDraft, file: c_int, sent: *mut u64, problem: *mut Problem) -> bool;
 }
 
@@ -403,6 +413,13 @@ pub fn convert(bytes: &[u8], file: c_int) -> Written {
 pub fn split(bytes: &[u8], size: u64, file: c_int) -> Written {
     // SAFETY: the pointer leads to as many bytes as are said.
     written(|sent, problem| unsafe { warc_split(bytes.as_ptr(), bytes.len(), size, file, sent, problem) })
+}
+
+/// Writes the records at positions, or all others.
+pub fn select(bytes: &[u8], positions: &[u64], except: bool, file: c_int) -> Written {
+    let (at, count) = (positions.as_ptr(), positions.len());
+    // SAFETY: each pointer leads to as many bytes or positions as are said.
+    written(|sent, problem| unsafe { warc_select(bytes.as_ptr(), bytes.len(), at, count, except, file, sent, problem) })
 }
 
 /// Writes a record of its kind, URI, date, UUID, media type and block.

@@ -84,6 +84,29 @@ pub fn split(bytes: &[u8], size: u64, out: &mut impl Write) -> Result<(), WriteE
     write_through(out, |file| raw::split(bytes, size, file))
 }
 
+/// Writes the records at positions, byte for byte. The positions come in any order; each record is written once, in the
+/// archive's order.
+///
+/// # Errors
+/// A position isn't that of a record, and nothing is written; or as [`rewrite`].
+pub fn select(bytes: &[u8], positions: &[usize], out: &mut impl Write) -> Result<(), WriteError> {
+    select_by(bytes, positions, false, out)
+}
+
+/// Writes all other records than those at positions, in the same way.
+///
+/// # Errors
+/// As [`select`].
+pub fn select_others(bytes: &[u8], positions: &[usize], out: &mut impl Write) -> Result<(), WriteError> {
+    select_by(bytes, positions, true, out)
+}
+
+/// Writes the records at positions, or all others.
+fn select_by(bytes: &[u8], positions: &[usize], except: bool, out: &mut impl Write) -> Result<(), WriteError> {
+    let positions: Vec<u64> = positions.iter().map(|position| *position as u64).collect();
+    write_through(out, |file| raw::select(bytes, &positions, except, file))
+}
+
 /// What a record is made of.
 #[derive(Clone, Copy, Debug)]
 pub struct Draft<'d> {

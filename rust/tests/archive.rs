@@ -157,6 +157,29 @@ fn writes_archives() {
 }
 
 #[test]
+fn selects_records() {
+    let archive = Archive::open(CRAWL).unwrap();
+    let record = |position: usize| -> Vec<u8> {
+        let record = archive.record(position).unwrap();
+        [record.head(), record.block(), b"\r\n\r\n"].concat()
+    };
+    let (mut some, mut others, mut none) = (Vec::new(), Vec::new(), Vec::new());
+    zogwedu::select(CRAWL, &[3, 0, 3], &mut some).unwrap();
+    assert_eq!(some, [record(0), record(3)].concat());
+    zogwedu::select_others(CRAWL, &[3, 0, 3], &mut others).unwrap();
+    let rest = (0..archive.len()).filter(|position| ![0, 3].contains(position));
+    assert_eq!(others, rest.flat_map(record).collect::<Vec<u8>>());
+    zogwedu::select_others(CRAWL, &[], &mut none).unwrap();
+    assert_eq!(none, CRAWL);
+
+    let error = zogwedu::select(CRAWL, &[0, archive.len()], &mut none).unwrap_err();
+    assert_eq!(error.library_error().unwrap().kind(), ErrorKind::NoRecord);
+    let error = zogwedu::select(DAMAGED, &[0], &mut none).unwrap_err();
+    assert_eq!(error.library_error().unwrap().kind(), ErrorKind::Refused);
+    assert_eq!(none.len(), CRAWL.len());
+}
+
+#[test]
 fn makes_records() {
     let draft = Draft {
         kind: "resource",

@@ -16,7 +16,7 @@ import tempfile
 import threading
 import unittest
 from datetime import datetime, timedelta, timezone
-from typing import Any, Callable, Dict, List, Optional, Tuple, Union
+from typing import Any, Callable, Dict, Iterable, List, Optional, Tuple, Union
 
 import zogwedu
 
@@ -652,6 +652,60 @@ class Writing(unittest.TestCase):
             self.assertEqual(bytes(whole.replay(FRONT, "9999")), bytes(front))
             self.assertGreater(len(whole), 18)
         self.assertEqual({bytes(record.head[:8]) for record in zogwedu.Archive(converted.getvalue())}, {b"WARC/1.1"})
+
+    def test_select(self) -> None:
+        with open(CRAWL, "rb") as file, zogwedu.Archive.open(CRAWL) as archive:
+            whole = file.read()
+            ends = [record.offset for record in archive] + [len(whole)]
+            records = [whole[ends[i] : ends[i + 1]] for i in range(len(archive))]
+
+            def selected(positions: Iterable[int], except_: bool = False) -> bytes:
+                out = io.BytesIO()
+                archive.select(out, positions, except_=except_)
+                return out.getvalue()
+
+            self.assertEqual(selected([3, 0, 3]), records[0] + records[3])
+            others = b"".join(record for i, record in enumerate(records) if i not in (0, 3))
+            self.assertEqual(selected(iter((3, 0, 3)), except_=True), others)
+            self.assertEqual((selected(range(18)), selected([], except_=True)), (whole, whole))
+            self.assertEqual((selected([]), selected(range(18), except_=True)), (b"", b""))
+            with tempfile.TemporaryDirectory() as folder:
+                with open(f"{folder}/a", "wb") as out:
+                    out.write(b"front")
+                    archive.select(out, [17])
+                with open(f"{folder}/a", "rb") as chosen:
+                    self.assertEqual(chosen.read(), b"front" + records[17])
+
+    def test_a_selection_that_is_made_in_several_parts(self) -> None:
+        records = []
+        for number in range(5):
+            out = io.BytesIO()
+            zogwedu.make(out, "resource", f"http://a.example/{number}", "2020", "text/plain", bytes([number]) * 800_000)
+            records.append(out.getvalue())
+        archive, chosen, others = zogwedu.Archive(b"".join(records)), io.BytesIO(), io.BytesIO()
+        archive.select(chosen, [4, 1, 2])
+        archive.select(others, [3], except_=True)
+        self.assertEqual(chosen.getvalue(), records[1] + records[2] + records[4])
+        self.assertEqual(others.getvalue(), b"".join(records[:3] + records[4:]))
+
+    def test_what_cannot_be_selected(self) -> None:
+        archive, out = zogwedu.Archive.open(CRAWL), io.BytesIO()
+        for positions in ([0, 18], [-1], [1 << 64], [(1 << 64) - 1]):
+            for except_ in (False, True):
+                with self.assertRaises(zogwedu.NoRecord) as raised:
+                    archive.select(out, positions, except_=except_)
+                self.assertEqual((raised.exception.code, raised.exception.text), (201, "E1 NoRecord"))
+        wrong: List[Any] = [["0"], [0.0], [None]]
+        for positions in wrong:
+            with self.assertRaises(TypeError):
+                archive.select(out, positions)
+        self.assertEqual(out.getvalue(), b"")
+        with open("/dev/full", "wb", buffering=0) as full, self.assertRaises(zogwedu.WriteFailed) as failed:
+            archive.select(full, [0])
+        self.assertEqual(failed.exception.sent, 0)
+        archive.close()
+        with self.assertRaises(zogwedu.Closed):
+            archive.select(out, [0])
 
     def test_what_cannot_be_made(self) -> None:
         for place, word, name in (

@@ -3,8 +3,9 @@ import os
 import threading
 from collections.abc import Sequence
 from datetime import datetime
-from typing import Any, Callable, Iterator, List, Literal, NamedTuple, NoReturn, Optional, Tuple, TYPE_CHECKING, Union
-from typing import overload
+from operator import index
+from typing import Any, Callable, Iterable, Iterator, List, Literal, NamedTuple, NoReturn, Optional, Tuple
+from typing import TYPE_CHECKING, Union, overload
 
 from ._decoding import CONTENT, DECODED_LIMIT, TRANSFER, codings_of, decode
 from ._files import Contents, read_object, read_path, unmap
@@ -449,6 +450,19 @@ class Archive(Records):
         if not 0 < size < 1 << 64:
             raise ValueError("a segment has at least one byte")
         self._write(lib.warc_split, out, size)
+
+    def select(self, out: Output, positions: Iterable[int], *, except_: bool = False) -> None:
+        """Writes the records at positions, or with `except_` all others, byte for byte, in the same way.
+
+        The positions come in any order, and any of them may be there twice: each record is written once, in the
+        archive's order. Raises NoRecord if a position isn't that of a record, and then writes nothing. A position
+        below 0 is no record's.
+        """
+        opened = self._use()
+        chosen = [index(position) for position in positions]
+        if any(not 0 <= position < 1 << 64 for position in chosen):
+            raise NoRecord("E1 NoRecord", 201)
+        write_to(out, lambda file: opened.select(file, chosen, except_))
 
     def _write(self, call: Any, out: Output, *size: int) -> None:
         opened = self._use()

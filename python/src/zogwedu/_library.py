@@ -117,6 +117,7 @@ def _calls() -> Any:
         "rewrite": (c.c_bool, write),
         "convert": (c.c_bool, write),
         "split": (c.c_bool, [POINTER, SIZE, U64, *write[2:]]),
+        "select": (c.c_bool, [POINTER, SIZE, c.POINTER(U64), SIZE, c.c_bool, *write[2:]]),
         "make": (c.c_bool, [c.POINTER(Draft), *write[2:]]),
     }
 
@@ -373,11 +374,15 @@ class Opened:
                 return c.string_at(text, length)
             room = length
 
-    def write(self, call: Any, file: int, *size: int) -> None:
+    def write(self, call: Any, file: int, *size: Any) -> None:
         """Writes the archive anew to a file descriptor."""
         with self.lock:
             at = self._open()
             written(lambda *rest: call(self.lent.address, lib.warc_length(at), *size, file, *rest))
+
+    def select(self, file: int, positions: List[int], except_: bool) -> None:
+        """Writes the records at positions, or all others, to a file descriptor."""
+        self.write(lib.warc_select, file, (U64 * len(positions))(*positions), len(positions), except_)
 
 
 def written(ask: Any) -> None:
