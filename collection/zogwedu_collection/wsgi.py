@@ -37,7 +37,8 @@ NAMES = ("Archive", "NoBody", "Undecodable", "WarcError")
 # A body of at most so many bytes is read as a whole, and its archive given back, before any of it is sent.
 SMALL = 1 << 20
 MOST_BODY = 4 << 30
-# How much SQLite may do for one request, in parts of 100,000 of its own steps: some ten seconds.
+# How much SQLite may do for one request, in parts of 100,000 of its own steps: some six seconds of a
+# processor.
 STEPS = 100_000
 MOST_PARTS = 2_000
 # How many instants are asked for together, and how many lines of a list are sent together.
