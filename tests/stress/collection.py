@@ -224,30 +224,29 @@ def grow(archives: str, expected: Dict[bytes, Expected]) -> int:
     return len(paths[::10]) + 1
 
 
-def growing_file(trial: Trial, _archives: str) -> None:
-    """A file that grows while it is read is called so, and nothing of it is kept."""
-    trial.begin("warc-collection, a growing file")
+def growing_files(trial: Trial, _archives: str) -> None:
+    """Files that grow while they are read are called so, and nothing of them is kept. The program that is run appends
+    to them: to one a whole record each time, to the other a half first, and the rest when the file was refused."""
+    trial.begin("warc-collection, growing files")
     folder = trial.path("growing")
     record = warc_reference.read_record(generate.archive(1), 0, 0).canonical()
-    path = put(os.path.join(folder, "a.warc"), record * 20)
-    stop = threading.Event()
-
-    def append() -> None:
-        with open(path, "ab", buffering=0) as out:
-            # Not for ever, and not faster than a slow program reads.
-            for _ in range(600):
-                out.write(record)
-                if stop.wait(0.05):
-                    return
-
-    writer = threading.Thread(target=append)
-    writer.start()
-    done = trial.run("grown", "run", folder)
-    stop.set()
-    writer.join()
-    trial.judge(b"changing\t1\t" in done.stdout and done.returncode == 1, "while it grows", done.stdout + done.stderr)
+    for name in ("whole.warc", "torn.warc"):
+        put(os.path.join(folder, name), record * 20)
+    parts = {"whole": record, "list": record[:-9], "salvage": record[-9:]}
+    paths = {name: put(trial.path("parts", name), data) for name, data in parts.items()}
+    append = (
+        '[ "$1" = --version ] && exec {warc} --version\nfile=$(readlink /proc/self/fd/0)\n'
+        'case $file:$1 in\n*/whole.warc:*) cat {whole} >> "$file" ;;\n*/torn.warc:list) cat {list} >> "$file" ;;\n'
+        '*/torn.warc:salvage) cat {salvage} >> "$file" ;;\nesac\nexec {warc} "$@"\n'
+    )
+    growing = put_script(trial.path("growing-warc"), append.format(warc=trial.warc, **paths))
+    done = trial.run("grown", "run", "--warc", growing, folder)
+    trial.judge(b"changing\t2\t" in done.stdout and done.returncode == 1, "they grow", done.stdout + done.stderr)
+    sizes = {name: os.path.getsize(os.path.join(folder, name)) // len(record) for name in ("whole.warc", "torn.warc")}
+    trial.judge(sizes == {"whole.warc": 25, "torn.warc": 21}, "they have grown", sizes)
+    trial.judge(trial.count("grown", "records") == 0, "nothing of them is kept")
     done = trial.run("grown", "run")
-    trial.judge(to_read(done) == 1, "afterwards", done.stderr)
+    trial.judge(to_read(done) == 2, "afterwards", done.stderr)
     compare(trial, "grown", expected_below(folder))
     trial.end()
 
@@ -657,7 +656,7 @@ def expected_below_others(archives: str) -> List[str]:
 PARTS: Dict[str, Tuple[Callable[[Trial, str], None], bool]] = {
     "this_machine": (on_this_machine, True),
     "across_files": (across_files, True),
-    "growing_file": (growing_file, False),
+    "growing_files": (growing_files, False),
     "killed_run": (killed_run, False),
     "odd_requests": (odd_requests, False),
     "array": (as_an_array, False),
