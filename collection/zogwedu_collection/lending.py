@@ -50,6 +50,11 @@ class Content:
     def length(self) -> int:
         return sum(len(part) for part in self.parts)
 
+    def release(self) -> None:
+        """Ends the use of the archive's bytes, which it keeps from being closed."""
+        for part in self.parts:
+            part.release()
+
 
 class Unfit(Exception):
     """There are bytes, and they can't be sent as the server sent them: why."""
@@ -116,8 +121,10 @@ class Reader(Replayer):
         """The SHA-256 of the bytes of an answer."""
         digest = hashlib.sha256()
         with self.shelf.lent(answer.files) as archive:
-            for part in self.content(answer, archive).parts:
+            content = self.content(answer, archive)
+            for part in content.parts:
                 digest.update(part)
+            content.release()
         return digest.hexdigest()
 
     def content(self, answer: Lent, archive: Any) -> Content:

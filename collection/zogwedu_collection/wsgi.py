@@ -331,12 +331,14 @@ class Application:
         with contextlib.ExitStack() as until_sent:
             archive = until_sent.enter_context(self.shelf.lent(answer.files))
             content = given(lambda: answer.reader.content(answer, archive), *links)  # type: ignore[union-attr]
+            until_sent.callback(content.release)
             if content.length() > MOST_BODY:
                 raise Refusal(502, "the body has more than %d bytes" % MOST_BODY, *links)
             pieces, headers = answer.reader.pieces(answer, content), head(content)
-            headers.append(("Content-Length", str(content.length())))
+            length = content.length()
+            headers.append(("Content-Length", str(length)))
             first = list(itertools.islice(pieces, 1))
-            if content.length() <= SMALL:
+            if length <= SMALL:
                 return Response(status or status_of(content), headers, [*first, *pieces])
             stack = until_sent.pop_all()
         return Response(status or status_of(content), headers, Sending(itertools.chain(first, pieces), stack))

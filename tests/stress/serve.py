@@ -29,7 +29,7 @@ import tempfile
 import threading
 import time
 import urllib.parse
-from typing import Callable, Dict, Iterator, List, Optional, Tuple
+from typing import Callable, Dict, Iterator, List, Optional, Set, Tuple
 
 from collection_trial import TOP, Trial, put, record
 from memento_client import Client, Reply, Wrong, seconds_of
@@ -614,9 +614,13 @@ def judge_changes(trial: Trial, server: Served, path: str, uri: str) -> None:
 
 
 def mapped_archives(server: Served, folder: str) -> int:
-    """How many files below a folder the server has mapped."""
-    with open("/proc/%d/maps" % server.worker(), encoding="utf-8", errors="replace") as file:
-        return len({line.split()[-1] for line in file if folder in line})
+    """How many files below a folder the server has mapped. Those count that are there twice, one reading after another,
+    since a reading isn't of one moment."""
+    found: List[Set[str]] = []
+    for _ in range(2):
+        with open("/proc/%d/maps" % server.worker(), encoding="utf-8", errors="replace") as file:
+            found.append({line.split()[-1] for line in file if folder in line})
+    return len(found[0] & found[1])
 
 
 def many_archives(trial: Trial, script: Script) -> None:
@@ -718,7 +722,7 @@ def is_closed(connection: socket.socket) -> bool:
 def too_many(trial: Trial, server: Served, path: str) -> None:
     """More connections than there may be are refused, and later ones are served."""
     crowd = [server.connected() for _ in range(300)]
-    time.sleep(1)
+    wait_for(lambda: len(select.select(crowd, [], [], 0)[0]) >= 40, HEAD_SECONDS - 3)
     refused = len(select.select(crowd, [], [], 0)[0])
     trial.judge(40 <= refused <= 60, "connections over 256 are refused", refused)
     for connection in crowd:
