@@ -20,7 +20,7 @@ import leaks
 from listener import Listener
 
 PROGRAM = "firefox-esr"
-PATIENCE = 60.0  # seconds
+PATIENCE = 300.0  # seconds
 SECONDS = 0.3  # that a case has to connect
 PORTS = (80, 443)
 PREFERENCES = {
@@ -59,10 +59,14 @@ class Firefox:
         words = [PROGRAM, "--headless", "--marionette", "--profile", self.folder, "--no-remote", "about:blank"]
         quiet, home = subprocess.DEVNULL, {**os.environ, "HOME": self.folder}
         self.process = subprocess.Popen(words, stdout=quiet, stderr=quiet, env=home)
-        self.socket = self.connect()
         self.rest, self.number = b"", 0
-        self.hear()
-        self.ask("WebDriver:NewSession", {})
+        try:
+            self.socket = self.connect()
+            self.hear()
+            self.ask("WebDriver:NewSession", {})
+        except BaseException:
+            self.close()
+            raise
 
     def connect(self) -> socket.socket:
         """A connection, once Firefox has written its port."""
@@ -73,7 +77,6 @@ class Firefox:
                     return socket.create_connection(("127.0.0.1", int(port.read())), timeout=PATIENCE)
             except (OSError, ValueError):
                 time.sleep(0.1)
-        self.close()
         raise RuntimeError("Firefox doesn't start")
 
     def hear(self) -> Any:

@@ -29,6 +29,7 @@ import connections
 import faithful
 import firefox
 import hostile
+import missing
 import robust
 import stations
 from browser import Browser
@@ -40,6 +41,8 @@ MANY = 100_000
 MOST_NODES = 120  # lines of the list that are in the page at once
 MOST_DRAW = 50  # milliseconds for a jump in the list, most of the time
 DATES = ("9999", "2026-11-26T04:49Z", "2000")
+STATUS = "document.getElementById('status')"
+WITHOUT_SECONDS = f"{STATUS}.textContent = {STATUS}.textContent.replace(/ in [0-9.]+ s, findings after [0-9.]+ s$/, '')"
 
 ASKED = """async (questions) => (await room.library.ask(questions.map((it) => (it.uri === undefined ? it : { uri: Uint8Array.from(atob(it.uri), (c) => c.charCodeAt(0)), date: it.date })))).map((it) => {
   let body = null;
@@ -66,9 +69,13 @@ class Tests:
         return run.stdout, run.stderr.decode(errors="replace"), run.returncode
 
     def picture(self, browser: Browser, name: str) -> None:
+        """Takes a picture, if they are wanted. It shows no seconds, which are the machine's."""
         if self.pictures:
             os.makedirs(self.pictures, exist_ok=True)
+            said = browser.run(f"{STATUS}.textContent")
+            browser.run(WITHOUT_SECONDS)
             browser.picture(f"{self.pictures}/{name}.png")
+            browser.run(f"{STATUS}.textContent = {json.dumps(said)}")
 
     def opened(self, *archive: str, page: str | None = None, **how: Any) -> Browser:
         """A browser in which an archive of one or more files is opened, and its findings are there."""
@@ -567,17 +574,6 @@ def saved_bytes(tests: Tests, folder: str, archive: str) -> None:
         browser.close()
 
 
-def without_wide_memory(tests: Tests) -> None:
-    """A browser without 64-bit WebAssembly gets a plain message."""
-    browser = Browser()
-    try:
-        browser.ask("Page.addScriptToEvaluateOnNewDocument", {"source": "WebAssembly.validate = () => false"})
-        browser.go(tests.page)
-        tests.holds("64-bit memory" in browser.run("document.body.innerText"), "no 64-bit memory: a plain message")
-    finally:
-        browser.close()
-
-
 def too_long(tests: Tests, folder: str, archive: str) -> None:
     """An archive over the limit is listed, its records are shown, and the page says that it isn't replayed."""
     page = variant(tests.page, f"{folder}/limited.html", {"const LIMIT = 2 * 1024 ** 3;": "const LIMIT = 5000;"})
@@ -634,7 +630,7 @@ def main() -> None:
         names = os.environ.get(
             "PAGE_TESTS",
             "building,codings,compare,compressed,damaged,hostile,connections,firefox,burdens,robust,faithful,views,keyboard,"
-            "saved,without,long,many,segments",
+            "saved,missing,long,many,segments",
         ).split(",")
         where = stations.crawl(crawled) if {"compare", "views"} & set(names) else ""
         parts = {
@@ -652,7 +648,7 @@ def main() -> None:
             "views": lambda: views(tests, crawled, where),
             "keyboard": lambda: by_keyboard(tests, small),
             "saved": lambda: saved_bytes(tests, folder, small),
-            "without": lambda: without_wide_memory(tests),
+            "missing": lambda: missing.missing(tests),
             "long": lambda: too_long(tests, folder, small),
             "many": lambda: many_rows(tests, folder),
             "segments": lambda: in_segments(tests, folder),
@@ -660,7 +656,7 @@ def main() -> None:
         for name in names:
             try:
                 parts[name]()
-            except RuntimeError as error:
+            except (RuntimeError, OSError) as error:
                 tests.holds(False, name, error)
     print(f"{tests.passed} passed, {tests.failed} failed")
     sys.exit(1 if tests.failed else 0)
