@@ -319,7 +319,10 @@ bool warc_split(const uint8_t *bytes, size_t length, uint64_t size, int file, ui
 
 /* Writes records of the archive that these bytes are, byte for byte: those at `count` positions, or with `except` all
  * others. The positions come in any order, and any of them may be there twice: each record is written once, in the
- * archive's order. Fails with WARC_NO_RECORD where a position isn't that of a record, and as warc_rewrite does. */
+ * archive's order. Fails with WARC_NO_RECORD where a position isn't that of a record, and as warc_rewrite does.
+ * What is written is an archive. A revisit in it may give another reason than before, or the body of another record
+ * that fits (the same id, URI and date, or digest), and a segmented record another gap, or a body, if a record that
+ * it leads to is left out. */
 bool warc_select(const uint8_t *bytes, size_t length, const uint64_t *positions, size_t count, bool except, int file,
                  uint64_t *sent, warc_problem *problem);
 

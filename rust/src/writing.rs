@@ -87,6 +87,10 @@ pub fn split(bytes: &[u8], size: u64, out: &mut impl Write) -> Result<(), WriteE
 /// Writes the records at positions, byte for byte. The positions come in any order; each record is written once, in the
 /// archive's order.
 ///
+/// What is written is an archive. A revisit in it may give another reason than before, or the body of another record
+/// that fits (the same id, URI and date, or digest), and a segmented record another gap, or a body, if a record that
+/// it leads to is left out.
+///
 /// # Errors
 /// A position isn't that of a record, and nothing is written; or as [`rewrite`].
 pub fn select(bytes: &[u8], positions: &[usize], out: &mut impl Write) -> Result<(), WriteError> {

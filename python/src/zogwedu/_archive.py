@@ -457,6 +457,10 @@ class Archive(Records):
         The positions come in any order, and any of them may be there twice: each record is written once, in the
         archive's order. Raises NoRecord if a position isn't that of a record, and then writes nothing. A position
         below 0 is no record's.
+
+        What is written is an archive. A revisit in it may give another reason than before, or the body of
+        another record that fits (the same id, URI and date, or digest), and a segmented record another gap, or
+        a body, if a record that it leads to is left out.
         """
         opened = self._use()
         chosen = [index(position) for position in positions]
