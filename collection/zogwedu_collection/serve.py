@@ -1,6 +1,6 @@
 """The server of `serve`: the standard library's, with threads, and with limits on time, on heads and on connections.
 
-It runs in a process of its own. A read of a mapped file that fails ends that process (SIGBUS); then it is started again.
+It runs in a process of its own. A read of a mapped file that fails ends that process (SIGBUS): it is started again.
 """
 from __future__ import annotations
 
