@@ -1,13 +1,14 @@
 -- The steps of a chain of referents, and its origin.
 use Rattle.std.proofs.Common.{◌≡◌, ℕ, suc, ◌+◌, ◌-◌, ◌<◌, ◌≤◌, Bool, true, false, not, List, length, map, Option, Some, None, Result, Ok, Err, slice_get, refl, sym, ap, ◌∙◌, arith, true≢false, if◌then◌else◌}
 use Rattle.std.specs.Option.{option_map_or}
+use Rattle.std.specs.Result.{result_ok}
 use Rattle.warc_record.specs.declared.types.Kind.{Kind}
 use Rattle.warc_record.specs.declared.types.Kind.TheVariants.{Warcinfo, Response, Resource, Request, Metadata, Revisit, Conversion, Continuation, Other}
 use Rattle.warc_record.specs.Kinds.{is_revisit}
 use Rattle.warc_index.specs.declared.unfound.Unfound.{Unfound}
 use Rattle.warc_index.specs.declared.unfound.Unfound.TheVariants.{Loop}
 use Rattle.warc_index.specs.Captures.{Indexed, is_capture}
-use Rattle.warc_index.specs.Referents.{referent_of, referent_at, is_revisit_at, ok_then, origin_within}
+use Rattle.warc_index.specs.Referents.{next_of, referent_of, referent_at, is_revisit_at, ok_then, origin_within}
 use Rattle.warc_index.specs.Links.{Link, link_at, ends_as}
 use Rattle.warc_index.specs.Linked.{revisit_link, kind_link, link_of}
 use Rattle.warc_index.specs.Orders.{step_of}
@@ -146,3 +147,27 @@ chain_breaks all i p why lt e =
 pub used_up : (all : List Indexed) (n p : ℕ) → length all ≤ n →
     origin_within (length all - n) all p ≡ (if is_revisit_at all p then Err Loop else Ok p)
 used_up all n p le = let z : length all - n ≡ 0 = omega arith in ap (λ k. origin_within k all p) z
+
+-- ---- what a step says of the referent
+
+next_by : (b : Bool) (x : Result ℕ Unfound) (next : Option ℕ) → stepped b x ≡ Ok next
+    → next ≡ (if b then result_ok x else None)
+unfolding stepped
+next_by false x next e = cc
+next_by true (Ok q) next e = cc
+next_by true (Err why) next e = absurd (cc)
+
+none_by : (b : Bool) (x : Result ℕ Unfound) (why : Unfound) → stepped b x ≡ Err why
+    → None ≡ (if b then result_ok x else None)
+unfolding stepped
+none_by false x why e = refl
+none_by true (Ok q) why e = absurd (cc)
+none_by true (Err other) why e = refl
+
+pub next_found : (all : List Indexed) (p : ℕ) (next : Option ℕ) → step_of all p ≡ Ok next → next ≡ next_of all p
+unfolding stepped
+next_found all p next e = next_by (is_revisit_at all p) (referent_at all (slice_get all p)) next e
+
+pub none_found : (all : List Indexed) (p : ℕ) (why : Unfound) → step_of all p ≡ Err why → None ≡ next_of all p
+unfolding stepped
+none_found all p why e = none_by (is_revisit_at all p) (referent_at all (slice_get all p)) why e

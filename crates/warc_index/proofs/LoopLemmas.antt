@@ -14,7 +14,7 @@ use Rattle.warc_index.specs.Walks.{walk, StaysBelow}
 use Rattle.warc_index.proofs.WalkLemmas.{comes_back, goes_on}
 
 -- a walk by its first step
-walk-front : (next : ℕ → Option ℕ) (p k : ℕ)
+pub walk-front : (next : ℕ → Option ℕ) (p k : ℕ)
     → walk next p (suc k) ≡ option_and_then (λ (q : ℕ). walk next q k) (next p)
 walk-front next p zero = by_case (next p)
   where
@@ -99,7 +99,7 @@ ok_from true (Ok p) q e = let z : p ≡ q = (cc) in (refl, ap Ok z)
 ok_from true (Err why) q e = cc
 ok_from false x q e = cc
 
-stays_below : (all : List Indexed) → StaysBelow (length all) (next_of all)
+pub stays_below : (all : List Indexed) → StaysBelow (length all) (next_of all)
 stays_below all p q lt e = referent_at-below all (slice_get all p) q (ok_from (is_revisit_at all p)
     (referent_at all (slice_get all p)) q e).1
 
@@ -164,3 +164,8 @@ chain_loops all p lt = (
   (λ e. comes_back (length all) p (next_of all) lt (stays_below all) (walks (length all) all p e)),
   (λ back. uses_up (length all) all p (goes_on (suc (length all)) p (next_of all) back)),
 )
+
+-- a referent is one of the records
+pub next_within : (all : List Indexed) (p q : ℕ) → next_of all p ≡ Some q → q < length all
+next_within all p q e =
+    referent_at-below all (slice_get all p) q (ok_from (is_revisit_at all p) (referent_at all (slice_get all p)) q e).1

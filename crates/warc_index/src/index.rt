@@ -2,7 +2,7 @@
 
 ghost use Rattle.std.specs.Prelude.{◌≡◌, ◌<◌, [], ◌∷◌, ◌++◌, List, Some, not, length, min, take, ok_or, true};
 ghost use Rattle.std.specs.Prelude.{slice_get};
-ghost use Rattle.std.specs.Prelude.{OnOk, OnErr, IfOk, All};
+ghost use Rattle.std.specs.Prelude.{OnOk, OnErr, IfOk, IfSome, All};
 ghost use Rattle.std.specs.Option.{option_to_list};
 ghost use Rattle.warc_value.specs.Dates.{Instant};
 ghost use Rattle.warc_record.specs.Seen.{said};
@@ -11,7 +11,7 @@ ghost use Rattle.warc_index.specs.Alone.{alone_seen};
 ghost use Rattle.warc_index.specs.Kept.{IsPutOf};
 ghost use Rattle.warc_index.specs.Captures.{AreCapturesOf, Indexed, indexed_of, is_capture, chosen_of};
 ghost use Rattle.warc_index.specs.Referents.{by_key, by_pair, by_payload, first_with, is_revisit_at};
-ghost use Rattle.warc_index.specs.Referents.{referent_of, origin_of};
+ghost use Rattle.warc_index.specs.Referents.{next_of, referent_of, origin_of};
 ghost use Rattle.warc_index.specs.Links.{link_seen};
 ghost use Rattle.warc_index.specs.Linked.{instant_mark, revisit_link};
 ghost use Rattle.warc_index.specs.Orders.{IsIndexOf, IsBelow, id_entry, capture_entry, text_bytes};
@@ -251,7 +251,7 @@ impl<A: Allocator + Copy> RecordIndex<Order<A>, A> {
     }
 
     /// The record that the revisit at a position leads to, by its link.
-    fn referent(&self, position: usize, link: &Link<'_>) -> Result<usize, Unfound>
+    fn led_to(&self, position: usize, link: &Link<'_>) -> Result<usize, Unfound>
         ensures { (all : List Indexed) → IsIndexOf all self.now → (r : Indexed) → slice_get all position ≡ Some r
             → is_capture r.kind ≡ true → link_seen link.now ≡ revisit_link r.reference.known_profile r
             → result ≡ referent_of all r }
@@ -286,9 +286,21 @@ impl<A: Allocator + Copy> RecordIndex<Order<A>, A> {
         if self.ends(position) {
             return Ok(None);
         }
-        match self.referent(position, &self.links.link(position)) {
+        match self.led_to(position, &self.links.link(position)) {
             Ok(next) => Ok(Some(next)),
             Err(unfound) => Err(unfound),
+        }
+    }
+
+    /// The position of the record that the one at a position refers to: one step of the way to its origin. `None` if
+    /// the record isn't a revisit, or if what it refers to isn't found. It takes no memory.
+    pub fn referent(&self, position: usize) -> Option<usize>
+        ensures next { (all : List Indexed) → IsIndexOf all self.now → result ≡ next_of all position }
+        ensures within { (all : List Indexed) → IsIndexOf all self.now → IfSome result (λ next. next < length all) }
+    {
+        match self.next(position) {
+            Ok(next) => next,
+            Err(_) => None,
         }
     }
 

@@ -38,14 +38,14 @@ goes all p es links l result placed on is leads =
 
 pub returns-in-Ok : goal.returns-in-Ok
 returns-in-Ok g c all kept =
-    sym (goes all c.args.position _ c.self.inside.links _ c.referent.result (placed_of all _ _ _ _ c.args.self.now
+    sym (goes all c.args.position _ c.self.inside.links _ c.led_to.result (placed_of all _ _ _ _ c.args.self.now
     c.self.view_is kept) (a_revisit (is_revisit_at all c.args.position) (sym (c.ends.ensures all kept)
-    ∙ c.if-ends.false)) c.link.ensures (λ r at kind is. c.referent.ensures all kept r at kind is)
+    ∙ c.if-ends.false)) c.link.ensures (λ r at kind is. c.led_to.ensures all kept r at kind is)
     ∙ ap (ok_then (λ (q : ℕ). Ok (Some q))) c.in-Ok.is)
 
 pub returns-in-Err : goal.returns-in-Err
 returns-in-Err g c all kept =
-    sym (goes all c.args.position _ c.self.inside.links _ c.referent.result (placed_of all _ _ _ _ c.args.self.now
+    sym (goes all c.args.position _ c.self.inside.links _ c.led_to.result (placed_of all _ _ _ _ c.args.self.now
     c.self.view_is kept) (a_revisit (is_revisit_at all c.args.position) (sym (c.ends.ensures all kept)
-    ∙ c.if-ends.false)) c.link.ensures (λ r at kind is. c.referent.ensures all kept r at kind is)
+    ∙ c.if-ends.false)) c.link.ensures (λ r at kind is. c.led_to.ensures all kept r at kind is)
     ∙ ap (ok_then (λ (q : ℕ). Ok (Some q))) c.in-Err.is)

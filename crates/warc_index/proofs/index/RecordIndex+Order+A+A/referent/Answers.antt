@@ -1,34 +1,24 @@
-use Rattle.std.proofs.Common.{◌≡◌, ◌∙◌, ap, sym, ℕ, Option, None, refl}
-use Rattle.std.specs.Prelude.{ok_or}
-use Rattle.std.specs.Option.{option_or}
-use Rattle.warc_index.specs.declared.link.Role.TheVariants.{NamesPair, NamesBoth}
-use Rattle.warc_index.specs.declared.unfound.Unfound.TheVariants.{Unresolved}
-use Rattle.warc_index.specs.Referents.{by_key, by_pair}
-use Rattle.warc_index.specs.Links.{link_seen}
-use Rattle.warc_index.proofs.KeptLemmas.{timed_at}
-use Rattle.warc_index.proofs.LinkedLemmas.{instant_in, led_to_referent, others}
+use Rattle.std.proofs.Common.{◌≡◌, ◌∙◌, ◌<◌, ℕ, Option, None, Some, length, List, sym}
+use Rattle.std.specs.Prelude.{IfSome}
+use Rattle.warc_index.specs.Captures.{Indexed}
+use Rattle.warc_index.specs.Referents.{next_of}
+use Rattle.warc_index.proofs.ChainLemmas.{next_found, none_found}
+use Rattle.warc_index.proofs.LoopLemmas.{next_within}
 use Rattle.warc_index.proofs.index.RecordIndex+Order+A+A.referent.Goals as goal
 
-pub returns-in-NamesPair : goal.returns-in-NamesPair
-returns-in-NamesPair g c all kept r at kind is =
-    c.named_pair.ensures all kept (instant_in c.args.link.now.mark) refl
-    ∙ led_to_referent all r (link_seen c.args.link.now) NamesPair (timed_at all c.args.position r kept.timed at) is c.in-NamesPair.is
+pub returns-in-Ok-clause-next : goal.returns-in-Ok-clause-next
+returns-in-Ok-clause-next g c all kept =
+    next_found all c.args.position c.in-Ok.next (sym (c.next.ensures all kept) ∙ c.in-Ok.is)
 
-pub returns-in-None-capture_with : goal.returns-in-None-capture_with
-returns-in-None-capture_with g c all kept r at kind is =
-    let none : None ≡ by_key all c.args.link.now.first.now = sym c.in-None-capture_with.is
-    ∙ c.capture_with-in-NamesBoth.ensures all (ap (λ v. v.ids) c.self.view_is ∙ kept.ids) in
-    c.named_pair-in-None-capture_with.ensures all kept (instant_in c.args.link.now.mark) refl
-    ∙ (ap (λ (o : Option ℕ). ok_or (option_or o (by_pair all (
-      c.args.link.now.second.now,
-      instant_in
-          c.args.link.now.mark,
-    ))) Unresolved) none
-    ∙ led_to_referent all r (link_seen c.args.link.now) NamesBoth (timed_at all c.args.position r kept.timed at) is c.in-NamesBoth.is)
+pub returns-in-Err-clause-next : goal.returns-in-Err-clause-next
+returns-in-Err-clause-next g c all kept =
+    none_found all c.args.position c.in-Err.field-0 (sym (c.next.ensures all kept) ∙ c.in-Err.is)
 
-pub returns-in_default : goal.returns-in_default
-returns-in_default g c all kept r at kind is =
-    sym (others all r c.args.link.now.role (link_seen c.args.link.now) c.in_default.not-NamesId
-    c.in_default.not-NamesPair c.in_default.not-NamesBoth c.in_default.not-NamesNothing
-    c.in_default.not-UnknownProfile)
-    ∙ led_to_referent all r (link_seen c.args.link.now) c.args.link.now.role (timed_at all c.args.position r kept.timed at) is refl
+within : (all : List Indexed) (p : ℕ) (next : Option ℕ) → next ≡ next_of all p → IfSome next (λ q. q < length all)
+within all p None e = tt
+within all p (Some q) e = next_within all p q (sym e)
+
+pub returns-in-Ok-clause-within : goal.returns-in-Ok-clause-within
+returns-in-Ok-clause-within g c all kept =
+    within all c.args.position c.in-Ok.next
+    (next_found all c.args.position c.in-Ok.next (sym (c.next.ensures all kept) ∙ c.in-Ok.is))
