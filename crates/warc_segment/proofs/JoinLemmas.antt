@@ -32,7 +32,7 @@ use Rattle.warc_segment.proofs.KeptLemmas.{member_kept, is_of, series_is_kept, p
 use Rattle.warc_segment.proofs.HeldLemmas.{side_at}
 use Rattle.warc_segment.proofs.StepLemmas.{entry_of}
 
-blank : Continuation
+pub blank : Continuation
 blank = record {
   position = 0;
   number = 0;
@@ -42,7 +42,7 @@ blank = record {
 
 -- ---- the numbers of a series
 
-no_facts : TotalAndPlace
+pub no_facts : TotalAndPlace
 no_facts = record { total = None; place = record { start = 0; len = 0; wanted = Unchecked; truncated = false } }
 
 from_two : (p : ℕ) (es : List Entry) (fs : List TotalAndPlace) → AreHeld p es fs → (m : KeptMember)
@@ -137,13 +137,13 @@ distinct_members (c ∷ series) ordered = (
   distinct_members series (λ i j d less within. ordered (suc i) (suc j) d (omega arith) (omega arith)),
 )
 
-of_id : (id origin : List ℕ) → bytes_eq id origin ≡ true → origin ≡ id
+pub of_id : (id origin : List ℕ) → bytes_eq id origin ≡ true → origin ≡ id
 of_id id origin hit = sym ((bytes_eq-Decides id origin).0 hit)
 
-id_of : (id origin : List ℕ) → origin ≡ id → bytes_eq id origin ≡ true
+pub id_of : (id origin : List ℕ) → origin ≡ id → bytes_eq id origin ≡ true
 id_of id origin is = (bytes_eq-Decides id origin).1 (sym is)
 
-same_members : (p : ℕ) (id : List ℕ) (es : List Entry) (fs : List TotalAndPlace) (series : List Continuation)
+pub same_members : (p : ℕ) (id : List ℕ) (es : List Entry) (fs : List TotalAndPlace) (series : List Continuation)
     → AreHeld p es fs
     → IsWholeSeries id (side_by_side es fs) series
     → AreSame (map member_kept (filter (is_of id) (side_by_side es fs))) (members_of series)

@@ -11,5 +11,6 @@ pub mod HeldLemmas
 pub mod StepLemmas
 pub mod KeepLemmas
 pub mod JoinLemmas
+pub mod MemberLemmas
 pub mod LawLemmas
 mod WorkedValues

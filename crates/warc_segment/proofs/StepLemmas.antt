@@ -53,7 +53,7 @@ not_later a b ea eb miss = numbers_not_later a.mark.minor b.mark.minor a.positio
 
 -- ---- the walk begins
 
-nothing_before : (mark : Mark) → mark_lt mark (record { major = 0; minor = 0 }) ≡ false
+pub nothing_before : (mark : Mark) → mark_lt mark (record { major = 0; minor = 0 }) ≡ false
 nothing_before mark = numbers mark.major mark.minor
   where
     numbers : (m n : ℕ) → (nat_lt m 0 || (m == 0 && nat_lt n 0)) ≡ false
@@ -293,7 +293,7 @@ entry_of (e ∷ es) (f ∷ fs) (suc k) m same at =
     (omega (arith, later.0), later.1, later.2)
 
 -- kept ones of one position are one
-one_place : (p : ℕ) (es : List Entry) (fs : List TotalAndPlace) (m n : KeptMember) → AreHeld p es fs
+pub one_place : (p : ℕ) (es : List Entry) (fs : List TotalAndPlace) (m n : KeptMember) → AreHeld p es fs
     → Contains (side_by_side es fs) m → Contains (side_by_side es fs) n → m.position ≡ n.position → m ≡ n
 one_place p es fs m n held at there same =
     let members : List KeptMember = side_by_side es fs in

@@ -1,6 +1,6 @@
 -- The series of a segmented record: the continuations that name its id (ISO 28500:2017, 7, 6.9, and 5.20 to 5.22).
 -- That a continuation without a number, or with a number below 2, is in no series is this project's own reading.
-use Rattle.std.specs.Prelude.{ℕ, ◌&&◌, ◌-◌, ◌==◌, nat_le, List, map, find, count_by, Option, Some, None, if◌then◌else◌}
+use Rattle.std.specs.Prelude.{◌≡◌, ◌≢◌, ◌↔◌, ℕ, ◌&&◌, ◌-◌, ◌==◌, nat_le, List, map, find, count_by, AllPairs, Contains, Option, Some, None, if◌then◌else◌}
 use Rattle.std.specs.List.{filter_map, enumerate_from, range_with_len}
 use Rattle.warc_record.specs.declared.types.Kind.{Kind}
 use Rattle.warc_record.specs.declared.readings.SegmentNumber.{SegmentNumber}
@@ -58,3 +58,14 @@ member_numbered members k = find (λ m. m.number == k) members
 
 abbrev pub in_order : ℕ → List Member → List Member
 in_order n members = filter_map (member_numbered members) (range_with_len 2 (n - 1))
+
+-- a member is at the position
+pub record IsMemberAt (members : List Member) (p : ℕ) : Type 0 where
+  pub it : Member
+  pub listed : Contains members it
+  pub position : it.position ≡ p
+
+-- the positions of all members, each once
+pub record AreMembersAt (members : List Member) (positions : List ℕ) : Type 0 where
+  pub each : (p : ℕ) → Contains positions p ↔ IsMemberAt members p
+  pub once : AllPairs ◌≢◌ positions

@@ -5,7 +5,7 @@ ghost use Rattle.warc_record.specs.Seen.{said};
 ghost use Rattle.warc_order.specs.Entries.{entry_at};
 ghost use Rattle.warc_segment.specs.declared.place.Place.{Place as GhostPlace};
 ghost use Rattle.warc_segment.specs.Kept.{kept_of};
-ghost use Rattle.warc_segment.specs.Held.{side_by_side, AreHeld, IsWholeSeries, continuation_of, kept_from};
+ghost use Rattle.warc_segment.specs.Held.{side_by_side, AreHeld, IsWholeSeries, continuation_of, kept_from, positions_of};
 
 use crate::place::Place;
 use crate::series::Continuation;
@@ -129,4 +129,18 @@ pub(crate) fn series_of<A: Allocator + Copy>(
         next = order.next(found);
     }
     Ok(series)
+}
+
+/// The positions of a series.
+pub(crate) fn positions_of<A: Allocator>(
+    alloc: A,
+    series: &[Continuation],
+) -> Result<Vec<usize, A>, AllocError>
+    ensures { IfOk result (λ positions. positions.items ≡ positions_of series.now) }
+{
+    let mut positions = Vec::new(alloc);
+    for continuation in series {
+        positions.push(continuation.position)?;
+    }
+    Ok(positions)
 }

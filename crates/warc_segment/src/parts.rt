@@ -1,19 +1,20 @@
-ghost use Rattle.std.specs.Prelude.{◌≡◌, ◌⊎◌, ◌+◌, ◌≤◌, ◌^◌, ℕ, ◌++◌, [], ◌∷◌, List, length, take, sum_by, map, OnOk, OnErr, IfOk, IsSome};
+ghost use Rattle.std.specs.Prelude.{◌≡◌, ◌⊎◌, ◌+◌, ◌≤◌, ◌^◌, ℕ, ◌++◌, [], ◌∷◌, List, length, take, sum_by, map, Option, OnOk, OnErr, IfOk, IsSome, MatchOption, false};
 ghost use Rattle.warc_record.specs.Readings.{no_segment};
 ghost use Rattle.warc_record.specs.Seen.{said};
-ghost use Rattle.warc_segment.specs.Joined.{PlacedRecord, joined_places};
+ghost use Rattle.warc_segment.specs.Series.{AreMembersAt, IsMemberAt, series_of};
+ghost use Rattle.warc_segment.specs.Joined.{PlacedRecord, joined_places, piece_placed};
 ghost use Rattle.warc_segment.specs.Kept.{kept_in, kept_of};
 ghost use Rattle.warc_segment.specs.Held.{side_by_side, AreHeld, IsSeries};
 ghost use Rattle.warc_segment.specs.Joining.{IsJoin};
 
 use crate::fault::JoinFault;
 use crate::gap::Gap;
-use crate::held::{TotalAndPlace, put, series_of};
+use crate::held::{TotalAndPlace, positions_of, put, series_of};
 use crate::place::Place;
 use crate::series::{Continuation, find_gap};
 use std::alloc::{AllocError, Allocator, Global};
 use std::marker::Model;
-use warc_order::Order;
+use warc_order::{Mark, Order};
 use warc_record::{SegmentNumber, Typed};
 
 /// What joins the segmented records of an archive. It keeps only the continuations: for each the key of its origin, its
@@ -157,5 +158,39 @@ impl<A: Allocator + Copy> Parts<A> {
             }
             _ => Err(JoinFault::Gap(Gap::Number)),
         }
+    }
+
+    /// Whether any record is a member of a series. If none is, no record has segments.
+    pub fn has_segments(&self) -> bool
+        ensures { (all : List PlacedRecord) → self.now ≡ kept_in all → result ≡ false → (id : Option (List ℕ)) →
+            series_of id (map piece_placed all) ≡ [] }
+    {
+        !self.facts.is_empty()
+    }
+
+    /// The position of one member of the series of a head's id, `None` if the series has none. It takes no memory.
+    pub fn segment_of(&self, typed: &Typed<A>) -> Option<usize>
+        ensures { (all : List PlacedRecord) → self.now ≡ kept_in all → MatchOption result
+            (series_of (said typed.now).id (map piece_placed all) ≡ [])
+            (IsMemberAt (series_of (said typed.now).id (map piece_placed all))) }
+    {
+        match self
+            .order
+            .first_from(typed.id.bytes(), Mark { major: 0, minor: 0 })
+        {
+            Some(found) => Some(self.order.position(found)),
+            None => None,
+        }
+    }
+
+    /// The positions of all members of the series of a head's id, each once: also of those that don't join, and
+    /// whatever number the head has. Time and memory grow only with the number of members.
+    pub fn segments_of(&self, typed: &Typed<A>) -> Result<Vec<usize, A>, AllocError>
+        ensures { (all : List PlacedRecord) → self.now ≡ kept_in all → IfOk result (λ positions.
+            AreMembersAt (series_of (said typed.now).id (map piece_placed all)) positions.items) }
+    {
+        let alloc = *self.facts.allocator();
+        let series = series_of(alloc, &self.order, &self.facts, typed.id.bytes())?;
+        positions_of(alloc, &series)
     }
 }
