@@ -75,6 +75,7 @@ function positionAt(/** @type {number} */ offset) {
 // The list and the plots.
 function hearList() {
   byId('only').addEventListener('click', () => toggle('only', 'captures', 'captures'));
+  byId('save-shown').addEventListener('click', saveShown);
   byId('list').addEventListener('keydown', listKey);
   body().addEventListener('scroll', () => requestAnimationFrame(drawRows), {passive: true});
   body().addEventListener('click', () => byId('list').focus({preventScroll: true}));

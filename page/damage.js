@@ -87,8 +87,7 @@ function faultNodes() {
 
 // A button that saves the good part, which is uncompressed.
 function savingGoodPart() {
-  const {end, file, names} = room;
-  const name = names.length > 1 ? 'archive.warc' : names[0].replace(/\.gz$/i, '');
+  const {end, file} = room, name = nameWhenJoined();
   const save = () => download(file.slice(0, end), `good-part-of-${name}`);
   return make('div', {className: 'actions'}, button('button', save, {}, 'Save the good part'));
 }

@@ -81,6 +81,12 @@ class Rows {
   }
 
   /** @param {number} position */
+  offset(position) {
+    const piece = this.piece(position);
+    return Number(piece.view.getBigUint64((position - piece.first) * ROW_BYTES, true)) + piece.base;
+  }
+
+  /** @param {number} position */
   blockLength(position) {
     const piece = this.piece(position);
     return Number(piece.view.getBigUint64((position - piece.first) * ROW_BYTES + 16, true));

@@ -59,6 +59,7 @@ function filter() {
   byId('filters').replaceChildren(...set.map(([name, {label}]) => filterButton(name, label)));
   drawHead();
   drawRows();
+  drawSaving();
 }
 
 /**

@@ -67,6 +67,9 @@ function hostOf(target) {
 // Whether the archive is more than one file.
 const isOfFiles = () => room.parts.length > 1;
 
+// A name for the uncompressed bytes of the archive.
+const nameWhenJoined = () => (room.names.length > 1 ? 'archive.warc' : room.names[0].replace(/\.gz$/i, ''));
+
 /**
  * The number of the file that has a byte of the archive.
  * @param {number} offset

@@ -40,6 +40,8 @@ type Piece = { first: number; base: number; count: number; view: DataView; words
 type Part = { name: string; size: number; start: number; isPacked: boolean };
 // Why a compressed file isn't read further than it is: the number is the offset of a member, or of what isn't one.
 type PackedDamage = { kind: string; name: string; offset: number; why: string };
+// Some bytes of the archive.
+type ByteRange = { from: number; to: number };
 type Finding = { position: number | null; number: string; field: string };
 type Capture = { position: number; time: number; date: string; kind: string };
 type Target = { uri: string; place: string };

@@ -41,7 +41,7 @@ SCRIPTS = (
         "pageview.js",
         "overview.js",
     ),
-    *("list.js", "room.js", "damage.js", "body.js", "record.js", "begin.js"),
+    *("list.js", "selection.js", "room.js", "damage.js", "body.js", "record.js", "begin.js"),
 )
 WORKER_SCRIPTS = ("shared.js", "members.js", "unpack.js", "worker.js")
 POLICY = (

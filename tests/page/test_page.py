@@ -31,6 +31,7 @@ import firefox
 import hostile
 import missing
 import robust
+import selection
 import stations
 from browser import Browser
 from variant import variant
@@ -630,7 +631,7 @@ def main() -> None:
         names = os.environ.get(
             "PAGE_TESTS",
             "building,codings,compare,compressed,damaged,hostile,connections,firefox,burdens,robust,faithful,views,keyboard,"
-            "saved,missing,long,many,segments",
+            "saved,selection,missing,long,many,segments",
         ).split(",")
         where = stations.crawl(crawled) if {"compare", "views"} & set(names) else ""
         parts = {
@@ -648,6 +649,7 @@ def main() -> None:
             "views": lambda: views(tests, crawled, where),
             "keyboard": lambda: by_keyboard(tests, small),
             "saved": lambda: saved_bytes(tests, folder, small),
+            "selection": lambda: selection.selection(tests, folder),
             "missing": lambda: missing.missing(tests),
             "long": lambda: too_long(tests, folder, small),
             "many": lambda: many_rows(tests, folder),
