@@ -4,13 +4,14 @@
 const TOP = document.body.dataset.top;
 const FIRST_REASON = /^(?:chosen .* )?([PE]\d+ [A-Z]\w*.*)$/m;
 const IN_PATH = /[A-Za-z0-9._~-]/;
-const OF_DATE = /^(\d{4})(?:-(\d\d)(?:-(\d\d)(?:T(\d\d):(\d\d)(?::(\d\d)(?:\.(\d{1,9}))?)?Z)?)?)?$/;
+const LATER = '9999';  // how a view writes a moment after all captures
 const LATEST = '99991231235959';
 const LIST_LIMIT = 5000;  // captures that are shown as points
 
-/** @type {{visit: number, urls: string[]}} */
+/** @type {{visit: number, asked: number, urls: string[]}} */
 const served = {
   visit: 0,
+  asked: 0,  // how often a reader asked for a page
   urls: []
 };
 
@@ -40,15 +41,25 @@ function targetIn(path) {
 }
 
 /**
- * A date as digits with nanoseconds, and a day or a year as its first instant; null for what is no date.
+ * An instant, as the server or a view writes it, as digits with nanoseconds.
+ * @param {string} instant
+ */
+function digitsOf(instant) {
+  if (instant === LATER) return LATEST;
+  const [seconds, part = ''] = instant.replace(/[-:TZ]/g, '').split('.');
+  return seconds + part.padEnd(9, '0');
+}
+
+/**
+ * The digits of a date that a reader typed, which the server reads; null for what is no date. Nothing is the latest.
  * @param {string} date
  */
-function digitsOf(date) {
-  if (date === '' || date === '9999') return LATEST;
-  const found = OF_DATE.exec(date);
-  if (!found) return null;
-  const [year, month = '01', day = '01', hour = '00', minute = '00', second = '00', part = ''] = found.slice(1);
-  return year + month + day + hour + minute + second + part.padEnd(9, '0');
+async function digitsTyped(date) {
+  if (!date) return LATEST;
+  const reply = await fetch(`${TOP}/room/instant/${pathOf(typed(date))}`, {redirect: 'error'});
+  if (reply.status === 400) return null;
+  if (!reply.ok) throw new Error((await reply.text()).trim());
+  return digitsOf((await reply.json()).instant);
 }
 
 /**
@@ -332,6 +343,9 @@ async function showFound(front) {
 
 // ---------------------------------------------------------------- beginning
 
+/** @param {any} error */
+const noReply = (error) => `The server doesn’t answer: ${plainly(whyOf(error))}`;
+
 // Shows what the address says: `#DIGITS/URI` a page, `#?TEXT` a search.
 async function follow() {
   const hash = location.hash.slice(1), page = /^(\d{14}(?:\d{9})?)\/(.+)$/s.exec(hash);
@@ -343,18 +357,28 @@ async function follow() {
     else
       byId('record').hidden = true;
   } catch (error) {
-    byId('status').textContent = `The server doesn’t answer: ${plainly(whyOf(error))}`;
+    byId('status').textContent = noReply(error);
   }
 }
 
 /** @param {Event} event */
-function askForPage(event) {
+async function askForPage(event) {
   event.preventDefault();
-  const uri = byId('uri').value.trim(), digits = digitsOf(byId('moment').value.trim());
-  if (uri && digits)
-    location.hash = addressIn(typed(uri), digits);
-  else
-    byId('status').textContent = uri ? DATE_FORMS : 'Which URI?';
+  const uri = byId('uri').value.trim(), asked = served.asked += 1;
+  if (!uri) {
+    byId('status').textContent = 'Which URI?';
+    return;
+  }
+  try {
+    const digits = await digitsTyped(byId('moment').value.trim());
+    if (asked !== served.asked) return;
+    if (digits)
+      location.hash = addressIn(typed(uri), digits);
+    else
+      byId('status').textContent = DATE_FORMS;
+  } catch (error) {
+    byId('status').textContent = noReply(error);
+  }
 }
 
 byId('ask').addEventListener('submit', askForPage);

@@ -27,6 +27,10 @@ class Settings:
     digest: bool = False
 
 
+class BadDate(Trouble):
+    """A text is in none of the program's forms of a date."""
+
+
 def own_words() -> List[str]:
     """The words by which this program is run again: its one file, or Python with its folder."""
     path = os.path.realpath(sys.argv[0])
@@ -77,7 +81,7 @@ def check_program(settings: Settings) -> None:
 def instant_of(warc: str, date: str) -> str:
     """The instant of a date in one of the program's forms, by the program: it writes a record and reads it."""
     if date.startswith("-") or "\0" in date:
-        raise Trouble("bad date")
+        raise BadDate("bad date")
     words = [warc, "write", "resource", "urn:x:x", "--", date, ANY_UUID, "text/plain", "-"]
     try:
         made = subprocess.run(words, stdin=subprocess.DEVNULL, capture_output=True, check=False)
@@ -85,7 +89,7 @@ def instant_of(warc: str, date: str) -> str:
     except OSError as error:
         raise Trouble("%s doesn't run: %s" % (shown(warc), error.strerror)) from None
     if made.returncode != 0 or read.returncode != 0:
-        raise Trouble("bad date")
+        raise BadDate("bad date")
     return read.stdout.split(b"\t")[2].decode("utf-8")
 
 

@@ -27,7 +27,7 @@ from .limits import Limits, limits_in
 from .listing import capture_values
 from .memento import TIMEMAPS, Around, NotOne, Paths, digits_of, head_links, http_date, instants_of_http_date
 from .memento import json_timemap, instants_of, link_timemap, path_of, referred, target_in
-from .program import usable_program
+from .program import BadDate, instant_of, usable_program
 from .responses import FORBIDS_ALL, SAFE, VISIBLE, Headers, Refusal, Response, Sending, close, moved, phrase, plain
 from .room import Pages
 from .shelf import PATIENCE_SECONDS, Shelf
@@ -46,6 +46,8 @@ AT_ONCE = 5_000
 LINES_AT_ONCE = 500
 # How many targets are found that begin with a text.
 MOST_FOUND = 200
+# A longer text is no date, and the program isn't asked.
+MOST_OF_DATE = 100
 FIRST = "0000"
 LAST = "9999-12-31T23:59:59.999999999Z"
 # What a browser would show or run, and what it says where it would.
@@ -154,6 +156,7 @@ class Application:
             ("/memento/", self.memento),
             ("/room/answer/", self.room_answer),
             ("/room/found/", self.room_found),
+            ("/room/instant/", self.room_instant),
         )
         self.pages = Pages()
 
@@ -314,8 +317,17 @@ class Application:
         with self.desks.one() as catalogue:
             found = targets_from(catalogue, target_in(text), MOST_FOUND)
         rows = [dict(zip(("path", "captures", "first", "last"), (path_of(it[0]), *it[1:]))) for it in found]
-        body = json.dumps({"most": MOST_FOUND, "found": rows}).encode("ascii")
-        return Response(200, [("Content-Type", "application/json"), ("Content-Security-Policy", FORBIDS_ALL)], [body])
+        return as_json({"most": MOST_FOUND, "found": rows})
+
+    def room_instant(self, _environ: Environ, text: str) -> Response:
+        """The instant that a date means. The program reads the date, in each form that it has."""
+        date = target_in(text)
+        try:
+            if not isinstance(date, str) or not date.isascii() or len(date) > MOST_OF_DATE:
+                raise BadDate("bad date")
+            return as_json({"instant": instant_of(self.warc, date)})
+        except BadDate as error:
+            raise NotOne(str(error)) from None
 
     def sent(
         self,
@@ -342,6 +354,12 @@ class Application:
                 return Response(status or status_of(content), headers, [*first, *pieces])
             stack = until_sent.pop_all()
         return Response(status or status_of(content), headers, Sending(itertools.chain(first, pieces), stack))
+
+
+def as_json(value: Dict[str, Any]) -> Response:
+    """An answer to the room's script."""
+    headers = [("Content-Type", "application/json"), ("Content-Security-Policy", FORBIDS_ALL)]
+    return Response(200, headers, [json.dumps(value).encode("ascii")])
 
 
 def packed(lines: Iterator[str]) -> Iterator[bytes]:

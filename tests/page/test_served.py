@@ -165,11 +165,44 @@ def answers(tests: Tests) -> None:
     tests.holds(tests.becomes("document.body.innerText.includes('P5 Unresolved')"), "a reason", tests.text())
     tests.go("#20190101000000/http://site.example/")
     tests.holds(tests.becomes("document.body.innerText.includes('P2 NotYet')"), "too early", tests.text())
-    browser.run("byId('uri').value = 'x:'; byId('moment').value = 'soon'; byId('ask').requestSubmit()")
-    tests.holds("A date is written" in browser.run("byId('status').textContent"), "what is no date", tests.text())
     tests.go("memento/20210601120000/http://site.example/")
     tests.holds(tests.shows("Rain"), "a memento in the browser leads to the room", tests.text())
     tests.holds(browser.run("location.pathname") == "/", "the room's address", browser.run("location.href"))
+
+
+def dates(tests: Tests) -> None:
+    """A reader's date means what it means to the program, in each of its forms; what is no date is named as that."""
+    ask = "byId('uri').value = '%s'; byId('moment').value = '%s'; byId('ask').requestSubmit()"
+    titles = {
+        "2020": "Snow",
+        "2021-06": "Snow",
+        "2021-06-01": "Snow",
+        "2021-06-01T11:59Z": "Snow",
+        "2021-06-01T12:00Z": "Rain",
+        "2021-06-01T12:00:00Z": "Rain",
+        "2021-06-01T11:59:59.999999999Z": "Snow",
+        "9999": "Rain",
+    }
+    for date, title in titles.items():
+        tests.go("")
+        tests.browser.run(ask % ("http://site.example/", date))
+        tests.holds(tests.shows(title), f"a date, {date}", tests.text())
+    said = "byId('status').textContent.startsWith('A date is written') && byId('record').hidden"
+    for words in (
+        "soon",
+        "2021-02-29",
+        "2021-06-01T24:00Z",
+        "2021-06-01 12:00",
+        "20210601",
+        "-",
+        "\u0662" * 4,
+        "1" * 200,
+    ):
+        tests.go("")
+        tests.browser.run(ask % ("http://site.example/", words))
+        tests.holds(tests.becomes(said, 10), f"what is no date, {words}", tests.text())
+    tests.browser.run(ask % ("", "soon"))
+    tests.holds(tests.becomes("byId('status').textContent === 'Which URI?'", 10), "no URI", tests.text())
 
 
 def hostile(tests: Tests, listener: Listener) -> None:
@@ -222,6 +255,7 @@ def main() -> int:
                 tests = Tests(browser, server)
                 search_and_page(tests, folder)
                 answers(tests)
+                dates(tests)
                 hostile(tests, listener)
                 as_it_is(tests, listener, made)
             finally:

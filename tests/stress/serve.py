@@ -17,6 +17,7 @@ import contextlib
 import gzip
 import http.server
 import io
+import json
 import os
 import re
 import select
@@ -422,6 +423,19 @@ TARGETS = {
     "/room/found/%ff": 200,
     "/room/found/http://a.example/": 200,
     "/room/found/" + "%f4%8f%bf%bf" * 5_000: 200,
+    "/room/instant/": 400,
+    "/room/instant/2020": 200,
+    "/room/instant/2020-13": 400,
+    "/room/instant/2021-02-29": 400,
+    "/room/instant/2020?x": 400,
+    "/room/instant/2020/": 400,
+    "/room/instant/-": 400,
+    "/room/instant/--help": 400,
+    "/room/instant/2020%00": 400,
+    "/room/instant/2020%0A": 400,
+    "/room/instant/%ff": 400,
+    "/room/instant/%d9%a2%d9%a0%d9%a2%d9%a0": 400,
+    "/room/instant/" + "2" * 60_000: 400,
     "/room/../room.html": 404,
     "/room/room.html": 404,
     "/room/room.py": 404,
@@ -448,6 +462,16 @@ DATES = {
     "\xff": 400,
     "Wed, 01 Jan 2020 00:00:00 GMT, Wed, 01 Jan 2020 00:00:00 GMT": 400,
     "x" * 60_000: 400,
+}
+# What a reader types into the room, and the instant that it means.
+TYPED = {
+    "2020": "2020-01-01T00:00:00.000000000Z",
+    "2020-06": "2020-06-01T00:00:00.000000000Z",
+    "2020-02-29": "2020-02-29T00:00:00.000000000Z",
+    "2020-06-01T12:30Z": "2020-06-01T12:30:00.000000000Z",
+    "2020-06-01T12%3A30%3A05Z": "2020-06-01T12:30:05.000000000Z",
+    "2020-06-01T12:30:05.25Z": "2020-06-01T12:30:05.250000000Z",
+    "9999": "9999-01-01T00:00:00.000000000Z",
 }
 HEADS = {
     b"GET /timegate/x\r\n\r\n": 400,
@@ -563,6 +587,9 @@ def browsers(trial: Trial, script: Script) -> None:
         trial.judge("sec-fetch-dest" in (reply.get("Vary") or "").lower(), "an answer varies by Sec-Fetch-Dest", reply)
         head = server.client.ask(path, method="HEAD")
         trial.judge((head.status, head.body, head.get("Content-Length")) == (200, b"", "1"), "a head alone", head)
+        for typed, instant in TYPED.items():
+            reply = server.client.ask("/room/instant/" + typed)
+            trial.judge(json.loads(reply.body) == {"instant": instant}, "what %s means" % typed, reply)
 
 
 # Files that change
