@@ -28,24 +28,31 @@ CALLER = (
 FRONT = """\
 # Calling `warc`
 
-`warc` opens a WARC archive over any source of bytes, and lists, checks, replays and rewrites it without a block in memory.
-`Listing` keeps a row for each record, `Archive` an index as well; `Checked`, `Fixity` and `Summarized` judge while they read.
-A `Source` gives bytes at any offset (`FileSource`, `MemSource`, `SliceSource`), and a `Sink` takes them (`OutSink`, `MemSink`).
+`warc` opens a WARC archive over any source of bytes, and lists, checks, replays and rewrites it without a block in \
+memory.
+`Listing` keeps a row for each record, `Archive` an index as well; `Checked`, `Fixity` and `Summarized` judge while \
+they read.
+A `Source` gives bytes at any offset (`FileSource`, `MemSource`, `SliceSource`), and a `Sink` takes them (`OutSink`, \
+`MemSink`).
 Each call says in its contract what it gives, what it reads, what it writes, and what each refusal leaves.
 Everything that these calls take and give is exported here, so one line of `use` is enough.
 
 ## A caller
 
-`page` gives the page that an archive in memory holds of a URI as of a moment. It promises that the page is the one that the
-definition of an answer names, and it proves that from the contracts of the calls that it makes. `page_if_refused` promises
+`page` gives the page that an archive in memory holds of a URI as of a moment. It promises that the page is the one \
+that the
+definition of an answer names, and it proves that from the contracts of the calls that it makes. `page_if_refused` \
+promises
 the same of an archive that refuses to grow: it gives the page that it held before.
 """
 CONTRACTS = """\
 ## Contracts
 
 `self.old` is the value before a call and `self.new` the one after it. `S.seen` is what contracts see of a source, and
-`W.seen` what they see of a sink. The words of clauses are defined in specs/ of the crates that the `ghost use` lines of each
-file name; docs/ARCHITECTURE.md has them in reading order, and docs/PROMISES.md says in plain words what each call promises.
+`W.seen` what they see of a sink. The words of clauses are defined in specs/ of the crates that the `ghost use` lines \
+of each
+file name; docs/ARCHITECTURE.md has them in reading order, and docs/PROMISES.md says in plain words what each call \
+promises.
 """
 
 

@@ -1,8 +1,8 @@
 """Opens each page that tries to connect, and counts what the browser did on the network: it must be nothing.
 
 The browser resolves every name below the cases' zone to a listener on this computer. A page without the protection is
-opened last, and then each case as it is, so that the listener is seen to count. The browser's own log of the network must
-name no host of a case either: it has connections, requests and look-ups.
+opened last, and then each case as it is, so that the listener is seen to count. The browser's own log of the network
+must name no host of a case either: it has connections, requests and look-ups.
 """
 
 from __future__ import annotations
@@ -109,7 +109,8 @@ def control(tests: Any, folder: str, listener: Listener) -> None:
     tests.holds("link-preconnect" in connected, "connections: the control is counted", connected)
     tests.holds(set(connected) <= names_in_log(log), "connections: the control is in the browser's log")
     print(
-        f"connections: {len(connected)} of {len(leaks.CASES)} cases connect by their page alone, none in the reading room"
+        f"connections: {len(connected)} of {len(leaks.CASES)} cases connect by their page alone, none in the reading "
+        "room"
     )
 
 

@@ -1,7 +1,7 @@
 """A headless Firefox that a script drives by Marionette, with Python's standard library alone, and its tests.
 
-Firefox resolves every name to this computer, so the listeners need the ports 80 and 443: without the right to use them, or
-without Firefox, the test is left out, and a line says so.
+Firefox resolves every name to this computer, so the listeners need the ports 80 and 443: without the right to use them,
+or without Firefox, the test is left out, and a line says so.
 """
 
 from __future__ import annotations

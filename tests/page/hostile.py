@@ -7,20 +7,34 @@ import hashlib
 
 HOST = "http://evil.example"
 SCRIPT = "<script>window.top.hacked=1;fetch('%s/fetched')</script>" % HOST
-PAGE = f"""<!doctype html><html manifest="{HOST}/manifest"><head><base href="{HOST}/base/"><meta http-equiv="refresh" content="0;url={HOST}/refreshed">
-<meta http-equiv="Content-Security-Policy" content="default-src *"><link rel="preload" as="image" href="{HOST}/preload"><link rel="dns-prefetch" href="//evil.example">
-<link rel="stylesheet" href="{HOST}/style.css"><style>@import "{HOST}/import.css"; body {{ background: url({HOST}/background.png) }} @font-face {{ font-family: x; src: url({HOST}/font.woff) }} p {{ font-family: x }}</style>
+PAGE = f"""<!doctype html><html manifest="{HOST}/manifest"><head><base href="{HOST}/base/"><meta http-equiv="refresh" \
+content="0;url={HOST}/refreshed">
+<meta http-equiv="Content-Security-Policy" content="default-src *"><link rel="preload" as="image" \
+href="{HOST}/preload"><link rel="dns-prefetch" href="//evil.example">
+<link rel="stylesheet" href="{HOST}/style.css"><style>@import "{HOST}/import.css"; body {{ background: \
+url({HOST}/background.png) }} @font-face {{ font-family: x; src: url({HOST}/font.woff) }} p {{ font-family: x \
+}}</style>
 {SCRIPT}<script src="{HOST}/script.js"></script></head>
-<body onload="window.top.hacked=2" background="{HOST}/body.png"><p style="background-image:url('{HOST}/style.png')">text</p>
-<img src="x" onerror="window.top.hacked=3"><img src="{HOST}/picture.png" srcset="{HOST}/set.png 2x"><svg onload="window.top.hacked=4"><image href="{HOST}/svg.png"/><script>top.hacked=5</script><use href="{HOST}/use.svg#a"/></svg>
-<iframe src="{HOST}/frame"></iframe><iframe srcdoc="{SCRIPT}"></iframe><object data="{HOST}/object"></object><embed src="{HOST}/embed"><video src="{HOST}/video" poster="{HOST}/poster"></video><audio src="{HOST}/audio" autoplay></audio>
-<form action="{HOST}/form"><input type="image" src="{HOST}/button.png"><button formaction="javascript:top.hacked=6">go</button></form>
+<body onload="window.top.hacked=2" background="{HOST}/body.png"><p style="background-image:url('{HOST}/style.png')">\
+text</p>
+<img src="x" onerror="window.top.hacked=3"><img src="{HOST}/picture.png" srcset="{HOST}/set.png 2x"><svg \
+onload="window.top.hacked=4"><image href="{HOST}/svg.png"/><script>top.hacked=5</script><use href="{HOST}/use.svg#a"/>\
+</svg>
+<iframe src="{HOST}/frame"></iframe><iframe srcdoc="{SCRIPT}"></iframe><object data="{HOST}/object"></object><embed \
+src="{HOST}/embed"><video src="{HOST}/video" poster="{HOST}/poster"></video><audio src="{HOST}/audio" autoplay></audio>
+<form action="{HOST}/form"><input type="image" src="{HOST}/button.png"><button formaction="javascript:top.hacked=6">\
+go</button></form>
 <a href="javascript:top.hacked=7" ping="{HOST}/ping">run</a><a href="{HOST}/away" target="_top">away</a>
-<math><mtext><table><mglyph><style><!--</style><img title="--&gt;&lt;img src=1 onerror=top.hacked=8&gt;"></table></mtext></math>
-<noscript><p title="</noscript><img src=x onerror=top.hacked=9>"></noscript><template><img src={HOST}/template onerror=top.hacked=10></template>
+<math><mtext><table><mglyph><style><!--</style><img title="--&gt;&lt;img src=1 onerror=top.hacked=8&gt;"></table>\
+</mtext></math>
+<noscript><p title="</noscript><img src=x onerror=top.hacked=9>"></noscript><template><img src={HOST}/template \
+onerror=top.hacked=10></template>
 <marquee onstart="top.hacked=11">m</marquee><details open ontoggle="top.hacked=12">d</details></body></html>"""
-PICTURE = f"""<svg xmlns="http://www.w3.org/2000/svg" onload="top.hacked=20" width="90" height="40"><script>top.hacked=21;fetch('{HOST}/svg')</script>
-<image href="{HOST}/inner.png" width="9" height="9"/><foreignObject width="9" height="9"><body xmlns="http://www.w3.org/1999/xhtml"><img src="{HOST}/foreign.png"/></body></foreignObject><rect width="80" height="30" fill="teal"/></svg>"""
+PICTURE = f"""<svg xmlns="http://www.w3.org/2000/svg" onload="top.hacked=20" width="90" height="40"><script>\
+top.hacked=21;fetch('{HOST}/svg')</script>
+<image href="{HOST}/inner.png" width="9" height="9"/><foreignObject width="9" height="9"><body \
+xmlns="http://www.w3.org/1999/xhtml"><img src="{HOST}/foreign.png"/></body></foreignObject><rect width="80" \
+height="30" fill="teal"/></svg>"""
 MARK = '"><img src=x onerror=top.hacked=30><script>top.hacked=31</script>'
 BIDI = "\u202e\u2066gnp.exe\u2069\u202c\u200f"
 NAMES = [
@@ -36,12 +50,14 @@ NAMES = [
     (
         "http://a.example/x.xhtml",
         "application/xhtml+xml",
-        f'<html xmlns="http://www.w3.org/1999/xhtml"><body onload="top.hacked=41"><script>top.hacked=42</script></body></html>',
+        '<html xmlns="http://www.w3.org/1999/xhtml"><body onload="top.hacked=41"><script>top.hacked=42</script>'
+        "</body></html>",
     ),
     (
         "http://a.example/frames",
         "text/html",
-        f'<frameset onload="top.hacked=43"><frame src="{HOST}/frame1"><frame src="javascript:top.hacked=44"></frameset>',
+        f'<frameset onload="top.hacked=43"><frame src="{HOST}/frame1"><frame src="javascript:top.hacked=44">'
+        "</frameset>",
     ),
     ("http://a.example/none", "", SCRIPT),
     ("http://a.example/odd", "text/html\u2028" + MARK, SCRIPT),
@@ -78,7 +94,10 @@ def make(path: str) -> None:
     with open(path, "wb") as out:
         for number, (target, kind, body) in enumerate(NAMES):
             field = f"Content-Type: {kind}\r\n" if kind else ""
-            block = f"HTTP/1.1 200 {MARK}\r\n{field}Refresh: 0;url={HOST}/header\r\nLink: <{HOST}/header.css>; rel=stylesheet\r\nX: {MARK}\r\n\r\n{body}".encode()
+            block = (
+                f"HTTP/1.1 200 {MARK}\r\n{field}Refresh: 0;url={HOST}/header\r\nLink: <{HOST}/header.css>; "
+                f"rel=stylesheet\r\nX: {MARK}\r\n\r\n{body}"
+            ).encode()
             out.write(record(number, target, "response", block, f"2026-01-01T00:00:{number:02}Z"))
         out.write(
             record(
