@@ -8,8 +8,8 @@ It reports, a line each, and exits with 1 where there is any:
 - a word of specs/ that two specs files define;
 - a specs file that says "no public clause cites them" where the contract of a public function cites one of its words;
 - a line of over 120 characters: in src/ or specs/, but for imports (`ghost use`, `use`) and tactics, which rt fmt keeps
-  in one line; in a page, but for rows of tables and what a command writes (tools/wrap_pages.py breaks paragraphs); in a
-  script of tools/, bench/, packaging/ and some folders of tests/;
+  in one line; in a page, but for rows of tables and what a command writes (tools/wrap_pages.py breaks paragraphs); in
+  tools/, bench/, packaging/ and shell/, and in Python, shell, C and Rust of tests/, collection/, python/, rust/ and c/;
 - a must-fail edit that doesn't apply (a text that isn't in its file exactly once), or that has no line `why:`;
 - a number of a paper or of a request in place of a plain name.
 """
@@ -26,8 +26,8 @@ WIDTH = 120
 NARROW = (
     (re.compile(r"crates/\w+/(src/.*\.rt|specs/.*\.antt)"), re.compile(r"\s*(ghost use |use |#\[tactic)")),
     (re.compile(r"(?!crates/).*\.md"), re.compile(r"\|")),
-    (re.compile(r"(tools/(?!make_calling)|bench/\w+\.py|packaging/|shell/|\.ci/|Makefile).*"), None),
-    (re.compile(r"tests/(compatibility|reference|tools)/.*"), None),
+    (re.compile(r"(tools/|bench/\w+\.py|packaging/|shell/|\.ci/|Makefile).*"), None),
+    (re.compile(r"(tests|collection|python|rust|c)/.*\.(py|sh|c|h|rs)"), None),
 )
 WORD = re.compile(r"^(?:abbrev|unfoldable|opaque|record|data) pub ([^\s:({]+)|^pub (?:record|data) ([^\s:({]+)")
 IMPORT = re.compile(r"^use Rattle\.(\w+)\.specs\.(\w+)\.\{([^}]*)\}")

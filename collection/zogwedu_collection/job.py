@@ -1,5 +1,5 @@
-"""A job: the commands over one file, with what they wrote in a folder. It runs on any machine that sees the file and the
-folder of the jobs."""
+"""A job: the commands over one file, with what they wrote in a folder. It runs on any machine that sees the file and
+the folder of the jobs."""
 from __future__ import annotations
 
 import contextlib
@@ -56,7 +56,8 @@ def read_outcome(folder: str) -> Outcome:
 
 
 class Source:
-    """What the program reads: the file itself, what it holds unpacked, or a pipe where there is no room to unpack it."""
+    """What the program reads: the file itself, what it holds unpacked, or a pipe where there is no room to unpack
+    it."""
 
     def __init__(self, file: IO[bytes], temporary: Optional[str]) -> None:
         self.file = file

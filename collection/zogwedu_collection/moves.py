@@ -24,8 +24,8 @@ def settle_moves(catalogue: Catalogue, run: int) -> None:
 
 
 def same_files(catalogue: Catalogue, run: int) -> Dict[int, List[int]]:
-    """For each file that is new in a run, those that are gone and have its size, its ids and its digests. Where both have
-    the SHA-256 of the whole file it decides."""
+    """For each file that is new in a run, those that are gone and have its size, its ids and its digests. Where both
+    have the SHA-256 of the whole file it decides."""
     rows = catalogue.rows(
         "SELECT new.file, new.sha256, old.file, old.sha256 FROM changes JOIN files AS new ON new.file = changes.file"
         " JOIN readings AS last ON last.file = new.file"
@@ -63,7 +63,8 @@ def join_files(catalogue: Catalogue, run: int, before: int, file: int) -> None:
 
 
 def forget_files(catalogue: Catalogue, paths: Sequence[str]) -> List[str]:
-    """Forgets the files of these paths, or below them, that are gone or outside of the collection. Returns the others."""
+    """Forgets the files of these paths, or below them, that are gone or outside of the collection. Returns the
+    others."""
     collection = catalogue.setting("paths") or []
     kept = []
     with catalogue.transaction():

@@ -116,8 +116,8 @@ def write_all(out: IO[bytes], piece: bytes) -> None:
 
 
 def unpacked(pieces: Iterator[bytes], folder: str) -> Optional[IO[bytes]]:
-    """What a compressed file holds, in a file without a name, which is gone with its last reader. Where there is no room
-    for it there is none; the compressed file is judged all the same."""
+    """What a compressed file holds, in a file without a name, which is gone with its last reader. Where there is no
+    room for it there is none; the compressed file is judged all the same."""
     out: Optional[IO[bytes]] = None
     try:
         out = tempfile.TemporaryFile(dir=folder, buffering=0)

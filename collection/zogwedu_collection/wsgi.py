@@ -1,4 +1,4 @@
-"""The server over a collection, as a WSGI application: answers of Memento (RFC 7089), and the bodies that were captured.
+"""The server over a collection, as a WSGI application: answers of Memento (RFC 7089), and captured bodies.
 
 `application` takes the catalogue from the environment, as docs/COLLECTIONS.md says. What a capture is, which one is
 chosen and what it gives is decided elsewhere, as for `find` and `replay`. Nothing is opened by a name that comes from a
@@ -336,8 +336,8 @@ class Application:
         status: Optional[int] = None,
         *links: Tuple[str, str],
     ) -> Response:
-        """An answer with its bytes, and the status that was captured, or another one. A long body keeps its archive open
-        until it is sent."""
+        """An answer with its bytes, and the status that was captured, or another one. A long body keeps its archive
+        open until it is sent."""
         assert answer.reader is not None
         stack = contextlib.ExitStack()
         with contextlib.ExitStack() as until_sent:

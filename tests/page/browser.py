@@ -1,4 +1,5 @@
-"""A headless Chromium that a script drives by the DevTools protocol, over a pipe, with Python's standard library alone."""
+"""A headless Chromium that a script drives by the DevTools protocol, over a pipe, with Python's standard library
+alone."""
 
 from __future__ import annotations
 

@@ -1,4 +1,5 @@
-"""Pages that ask for too much: of pictures, styles, elements and decoded bytes. Each is shown, or says what was left out."""
+"""Pages that ask for too much: of pictures, styles, elements and decoded bytes. Each is shown, or says what was left
+out."""
 
 from __future__ import annotations
 
@@ -18,7 +19,8 @@ PICTURE = picture(1, 900, 760) + bytes(2_000_000)  # a PNG with 2 MB after its e
 SHOWN = """(() => {
   const page = document.querySelector('iframe.view')?.contentDocument;
   return document.getElementById('panel')?.dataset.ready === 'yes' && page?.readyState === 'complete' &&
-    Boolean(page.getElementById('last') ?? page.querySelector('body > :last-child')) && [...page.images].every((it) => it.complete);
+    Boolean(page.getElementById('last') ?? page.querySelector('body > :last-child')) &&
+    [...page.images].every((it) => it.complete);
 })()"""
 
 
@@ -149,7 +151,8 @@ def addresses(tests: Any, browser: Any, site: Site) -> None:
     tests.holds(browser.run(f"{page}.images[299].naturalWidth") == 900, "addresses: the picture is drawn")
     show(browser, site.positions["drawings"])
     drawn = browser.run(
-        f"[{page}.images[0].src, getComputedStyle({page}.querySelector('p')).backgroundImage, {page}.images[0].naturalWidth]"
+        f"[{page}.images[0].src, getComputedStyle({page}.querySelector('p')).backgroundImage, "
+        f"{page}.images[0].naturalWidth]"
     )
     tests.holds(
         drawn[0].startswith("data:image/svg+xml") and 'url("data:image/svg+xml' in drawn[1] and drawn[2] == 9,
@@ -157,6 +160,7 @@ def addresses(tests: Any, browser: Any, site: Site) -> None:
         drawn,
     )
     gone = browser.run(
-        f"new Promise((done) => {{ const it = new Image(); it.onload = () => done('there'); it.onerror = () => done('gone'); it.src = '{urls[0]}'; }})"
+        "new Promise((done) => { const it = new Image(); it.onload = () => done('there');"
+        f" it.onerror = () => done('gone'); it.src = '{urls[0]}'; }})"
     )
     tests.holds(gone == "gone", "addresses: they end with the view", gone)

@@ -17,13 +17,16 @@ STYLE = """@charset "utf-8"; @import url("imported.css") screen;
 .escaped { background: \\75 rl(p.png) } #\\31 23 { color: rgb(1, 2, 3) } .a\\:b { color: rgb(4, 5, 6) }
 .open { color: rgb(7, 8, 9)"""
 PAGE = """<!doctype html><html lang=en class=top><head><link rel=stylesheet href=style.css>
-<style>p.own { color: rgb(0, 128, 128) } /* <b> */</style></head><body id=body bgcolor="#eeeeff"><center><font color=navy>x</font></center>
+<style>p.own { color: rgb(0, 128, 128) } /* <b> */</style></head><body id=body bgcolor="#eeeeff"><center>\
+<font color=navy>x</font></center>
 <table bgcolor="#ffffee" cellpadding=6><tr><td width=120 align=right>x</td></tr></table><div class=box data-x=1>x</div>
 <p class=imported>x</p><p class=own>x</p><p class=inner>x</p><div class=cover>x</div><div class=by-variable>x</div>
-<div class=escaped>x</div><p id=123>x</p><p class=a:b>x</p><p class=open>x</p><my-card class=box>x</my-card><noscript><i>x</i></noscript>
+<div class=escaped>x</div><p id=123>x</p><p class=a:b>x</p><p class=open>x</p><my-card class=box>x</my-card><noscript>\
+<i>x</i></noscript>
 <svg width=120 height=50><defs><linearGradient id=g><stop offset=0 stop-color=red /></linearGradient></defs>
 <rect width=120 height=50 fill="url(#g)" /></svg><picture><source srcset=none.webp><img src=p.png width=100></picture>
-<form action=/x><input name=q value=text><select><option>1<option selected>2</select></form><p id=last>x</p></body></html>"""
+<form action=/x><input name=q value=text><select><option>1<option selected>2</select></form><p id=last>x</p></body>\
+</html>"""
 LOOKS = [
     (".box", "borderTopColor", "rgb(204, 51, 51)"),
     (".box", "backgroundColor", "rgb(255, 255, 221)"),

@@ -12,7 +12,8 @@ from hostile import record
 ZONE = "leak.example"
 SITE = "http://a.example"
 RELS = (
-    "alternate apple-touch-icon canonical compression-dictionary dns-prefetch expect help icon import manifest mask-icon"
+    "alternate apple-touch-icon canonical compression-dictionary dns-prefetch expect help icon import manifest "
+    "mask-icon"
     " modulepreload next pingback preconnect prefetch prerender search stylesheet subresource"
 ).split()
 PRELOADED = "audio document embed fetch font image object script style track video worker".split()
@@ -176,7 +177,8 @@ def styles() -> list[Case]:
         ),
         sheet(
             "style-url",
-            f"p {{ background: url({out('style-url')}), url('{out('style-url')}') ; cursor: url({out('style-url')}), auto }}",
+            f"p {{ background: url({out('style-url')}), url('{out('style-url')}') ; "
+            f"cursor: url({out('style-url')}), auto }}",
         ),
         sheet(
             "style-escaped",
@@ -186,28 +188,34 @@ def styles() -> list[Case]:
         sheet("style-string-open", f"p {{ content: \"\n; background: url({out('style-string-open')}) }}"),
         sheet(
             "style-set",
-            f"p {{ background: image-set('{out('style-set')}' 1x); background: -webkit-image-set(url({out('style-set')}) 1x) }}",
+            f"p {{ background: image-set('{out('style-set')}' 1x); background: "
+            f"-webkit-image-set(url({out('style-set')}) 1x) }}",
         ),
         sheet(
             "style-font",
-            f"@font-face {{ font-family: f; src: url({out('style-font')}), url('{out('style-font')}') format('woff') }} p {{ font-family: f }}",
+            f"@font-face {{ font-family: f; src: url({out('style-font')}), "
+            f"url('{out('style-font')}') format('woff') }} p {{ font-family: f }}",
         ),
         sheet(
             "style-variable",
-            f":root {{ --a: url({out('style-variable')}); --b: '{out('style-variable')}' }} p {{ background: var(--a); background: image-set(var(--b) 1x) }}",
+            f":root {{ --a: url({out('style-variable')}); --b: '{out('style-variable')}' }} "
+            f"p {{ background: var(--a); background: image-set(var(--b) 1x) }}",
         ),
         sheet(
             "style-src",
-            f"p {{ background: src('{out('style-src')}'); background: image('{out('style-src')}'); mask: url({out('style-src')}#m) }}",
+            f"p {{ background: src('{out('style-src')}'); background: image('{out('style-src')}'); "
+            f"mask: url({out('style-src')}#m) }}",
         ),
         Case(
             "style-inline",
-            f"<svg><style>@import '{out('style-inline')}'; rect {{ fill: url({out('style-inline')}#a) }}</style><rect width=9 height=9 /></svg>",
+            f"<svg><style>@import '{out('style-inline')}'; rect {{ fill: url({out('style-inline')}#a) }}</style>"
+            "<rect width=9 height=9 /></svg>",
         ),
         Case("style-shapes", f"<svg>{shapes}</svg>"),
         Case(
             "style-shape-escaped",
-            f"<svg><rect fill='u\\72l({out('style-shape-escaped')}#a)' mask='u\\72l({out('style-shape-escaped')}#a)' width=9 height=9 /></svg>",
+            f"<svg><rect fill='u\\72l({out('style-shape-escaped')}#a)' mask='u\\72l({out('style-shape-escaped')}#a)' "
+            "width=9 height=9 /></svg>",
         ),
     ]
 
@@ -216,12 +224,18 @@ def drawings() -> list[Case]:
     """SVG, in the page and as a picture."""
     host = out("drawing")
     inner = (
-        f"<svg xmlns='http://www.w3.org/2000/svg' xmlns:xlink='http://www.w3.org/1999/xlink' width='90' height='40'><style>"
-        f"@import '{host}'; rect {{ fill: url({host}#a) }}</style><image href='{host}' xlink:href='{host}' width='9' height='9'/>"
-        f"<use href='{host}#a' xlink:href='{host}#a'/><filter id='f'><feImage href='{host}' xlink:href='{host}'/></filter><rect filter='url(#f)' width='9'"
-        f" height='9'/><foreignObject width='9' height='9'><body xmlns='http://www.w3.org/1999/xhtml'><img src='{host}'/>"
-        f"<link rel='preconnect' href='{host}'/></body></foreignObject><script href='{host}'/><a href='{host}'><text y='9'>x"
-        f"<animate attributeName='href' to='{host}'/></text></a><image><set attributeName='href' to='{host}'/></image></svg>"
+        "<svg xmlns='http://www.w3.org/2000/svg' xmlns:xlink='http://www.w3.org/1999/xlink' width='90' height='40'>"
+        "<style>"
+        f"@import '{host}'; rect {{ fill: url({host}#a) }}</style><image href='{host}' xlink:href='{host}' width='9' "
+        "height='9'/>"
+        f"<use href='{host}#a' xlink:href='{host}#a'/><filter id='f'><feImage href='{host}' xlink:href='{host}'/>"
+        "</filter><rect filter='url(#f)' width='9'"
+        " height='9'/><foreignObject width='9' height='9'><body xmlns='http://www.w3.org/1999/xhtml'>"
+        f"<img src='{host}'/>"
+        f"<link rel='preconnect' href='{host}'/></body></foreignObject><script href='{host}'/><a href='{host}'>"
+        "<text y='9'>x"
+        f"<animate attributeName='href' to='{host}'/></text></a><image><set attributeName='href' to='{host}'/></image>"
+        "</svg>"
     )
     return [
         Case("drawing", f"<p>x</p>{inner}<p>x</p>"),
@@ -236,7 +250,10 @@ def drawings() -> list[Case]:
 
 def clobbering() -> list[Case]:
     """Names that hide what a script calls."""
-    calls = "addEventListener adoptNode attributes body childNodes contentType createElement documentElement firstChild getElementById"
+    calls = (
+        "addEventListener adoptNode attributes body childNodes contentType createElement documentElement firstChild "
+        "getElementById"
+    )
     images = "".join(f"<img name={it} id={it}>" for it in (calls + " head implementation querySelectorAll").split())
     inputs = "".join(
         f"<input name={it}>"

@@ -17,13 +17,17 @@ from typing import Any
 PAGES = 60
 STYLE = """@import url("more.css");
 /* The river stations. This sheet was once between <style> and </style>. */
-body { font-family: Georgia, serif; max-width: 44em; margin: 2em auto; color: #28303a; background: #fdfcf8 url(paper.png); }
+body { font-family: Georgia, serif; max-width: 44em; margin: 2em auto; color: #28303a; \
+background: #fdfcf8 url(paper.png); }
 h1 { color: #2b5d7e; border-bottom: 2px solid #c9d8e2; padding-bottom: 0.2em; }
 nav { background: #e8eff4; padding: 0.4em 1em; border-radius: 4px; }
 nav a { margin-right: 1em; color: #2b5d7e; }
 figure { margin: 1em 0; } figcaption { color: #777; font-size: 0.9em; }
 """
-MORE = "p { line-height: 1.55; } blockquote { border-left: 4px solid #d9b36c; margin-left: 0; padding-left: 1em; color: #555; }\n"
+MORE = (
+    "p { line-height: 1.55; } blockquote { border-left: 4px solid #d9b36c; margin-left: 0; padding-left: 1em; "
+    "color: #555; }\n"
+)
 WORDS = (
     "The gauge at the bridge was read each morning at seven. In the wet years the river stood above the second mark "
     "for weeks, and the ferry was drawn up on the grass. "
@@ -68,8 +72,10 @@ def page(number: int, title: str = "Station") -> str:
     return f"""<!doctype html><html lang="en"><head><meta charset="utf-8"><title>{title} {number}</title>
 <link rel="stylesheet" href="/style.css"></head><body><nav><a href="/">All stations</a>{links}</nav>
 <h1>River station {number}</h1><p>{WORDS * 3}</p>
-<figure><img src="/picture/{number}.png" alt="The valley at station {number}"><figcaption>The valley at station {number}</figcaption></figure>
-<blockquote>{WORDS}</blockquote><p>{WORDS * (number % 5 + 1)}</p><img src="/gone/{number}.png" alt="lost"></body></html>"""
+<figure><img src="/picture/{number}.png" alt="The valley at station {number}">\
+<figcaption>The valley at station {number}</figcaption></figure>
+<blockquote>{WORDS}</blockquote><p>{WORDS * (number % 5 + 1)}</p><img src="/gone/{number}.png" alt="lost"></body>\
+</html>"""
 
 
 class Server(http.server.BaseHTTPRequestHandler):
@@ -86,10 +92,15 @@ class Server(http.server.BaseHTTPRequestHandler):
         name, _, rest = self.path.lstrip("/").partition("/")
         if name == "":
             items = "".join(f'<li><a href="/page/{it}">Station {it}</a></li>' for it in range(1, PAGES + 1))
-            extra = '<li><a href="/chunked">chunked</a></li><li><a href="/packed">packed</a></li><li><a href="/old">old</a></li><li><a href="/moved">moved</a></li><li><a href="/empty">empty</a></li><li><a href="/notes.txt">notes</a></li>'
+            extra = (
+                '<li><a href="/chunked">chunked</a></li><li><a href="/packed">packed</a></li><li><a href="/old">old</a>'
+                '</li><li><a href="/moved">moved</a></li><li><a href="/empty">empty</a></li><li>'
+                '<a href="/notes.txt">notes</a></li>'
+            )
             self.answer(
                 "text/html; charset=utf-8",
-                f'<!doctype html><title>River stations</title><link rel="stylesheet" href="/style.css"><h1>River stations</h1><ul>{items}{extra}</ul>'.encode(),
+                '<!doctype html><title>River stations</title><link rel="stylesheet" href="/style.css">'
+                f"<h1>River stations</h1><ul>{items}{extra}</ul>".encode(),
             )
         elif name == "page" and rest.isdigit():
             self.answer("text/html", page(int(rest)).encode())

@@ -3,8 +3,9 @@
 
 Usage: test_page.py PAGE PROGRAM [FOLDER]
 
-PAGE is zogwedu.html, and PROGRAM is the program `warc`, with which lists, findings and replays are compared, byte for byte.
-Pictures of the main views go to FOLDER, if it is given. Needs chromium and wget. The last line is `N passed, M failed`.
+PAGE is zogwedu.html, and PROGRAM is the program `warc`, with which lists, findings and replays are compared, byte for
+byte. Pictures of the main views go to FOLDER, if it is given. Needs chromium and wget. The last line is `N passed, M
+failed`.
 """
 
 from __future__ import annotations
@@ -45,11 +46,18 @@ DATES = ("9999", "2026-11-26T04:49Z", "2000")
 STATUS = "document.getElementById('status')"
 WITHOUT_SECONDS = f"{STATUS}.textContent = {STATUS}.textContent.replace(/ in [0-9.]+ s, findings after [0-9.]+ s$/, '')"
 
-ASKED = """async (questions) => (await room.library.ask(questions.map((it) => (it.uri === undefined ? it : { uri: Uint8Array.from(atob(it.uri), (c) => c.charCodeAt(0)), date: it.date })))).map((it) => {
-  let body = null;
-  if (it.body) { let words = ''; for (let at = 0; at < it.body.length; at += 0x8000) words += String.fromCharCode(...it.body.subarray(at, at + 0x8000)); body = btoa(words); }
-  return { ...it, body };
-})"""
+ASKED = """async (questions) => {
+  const bytes = (text) => Uint8Array.from(atob(text), (letter) => letter.charCodeAt(0));
+  const answers = await room.library.ask(
+      questions.map((it) => (it.uri === undefined ? it : {uri: bytes(it.uri), date: it.date})));
+  return answers.map((it) => {
+    if (!it.body) return {...it, body: null};
+    let words = '';
+    for (let at = 0; at < it.body.length; at += 0x8000)
+      words += String.fromCharCode(...it.body.subarray(at, at + 0x8000));
+    return {...it, body: btoa(words)};
+  });
+}"""
 
 
 class Tests:
@@ -95,12 +103,16 @@ def facts_line(answer: dict[str, Any]) -> str:
         return f"warc: {answer['reason']}\n"
     status = "-" if answer["status"] is None else answer["status"]
     truncated = "yes" if answer["truncated"] else "no"
-    return f"chosen {answer['chosen']} given {answer['given']} status {status} truncated {truncated} length {answer['length']}\n"
+    return (
+        f"chosen {answer['chosen']} given {answer['given']} status {status} truncated {truncated} "
+        f"length {answer['length']}\n"
+    )
 
 
 def lines_of(browser: Browser) -> bytes:
     lines = browser.run(
-        "(() => { const lines = []; for (let p = 0; p < room.rows.count; p += 1) lines.push(listLine(room.rows.row(p))); return lines.join(''); })()"
+        "(() => { const lines = []; for (let p = 0; p < room.rows.count; p += 1)"
+        " lines.push(listLine(room.rows.row(p))); return lines.join(''); })()"
     )
     return str(lines).encode("latin-1")
 
@@ -108,7 +120,8 @@ def lines_of(browser: Browser) -> bytes:
 def verdicts_of(browser: Browser) -> list[str]:
     return list(
         browser.run(
-            "(() => { const all = []; for (let p = 0; p < room.rows.count; p += 1) all.push(room.rows.row(p).verdict); return all; })()"
+            "(() => { const all = []; for (let p = 0; p < room.rows.count; p += 1) all.push(room.rows.row(p).verdict); "
+            "return all; })()"
         )
     )
 
@@ -121,8 +134,8 @@ def verdicts_by_program(tests: Tests, archive: str, count: int) -> list[str]:
 
 
 def same_as_program(tests: Tests, name: str, archive: str, given: Any = ()) -> None:
-    """List, findings and every replay of an archive equal the program's bytes. Other files that are the same archive may be
-    given to the page."""
+    """List, findings and every replay of an archive equal the program's bytes. Other files that are the same archive
+    may be given to the page."""
     browser = tests.opened(*(given or [archive]))
     try:
         out, err, status = tests.warc("list", archive)
@@ -254,7 +267,8 @@ def small_record(number: int) -> bytes:
     block = b"number %d" % number
     return (
         b"WARC/1.1\r\nWARC-Type: resource\r\nWARC-Record-ID: <urn:x:%d>\r\nWARC-Date: 20%02d-%02d-01T00:00:00Z\r\n"
-        b"WARC-Target-URI: http://host%d.example/page/%d\r\nContent-Type: text/plain\r\nContent-Length: %d\r\n\r\n%s\r\n\r\n"
+        b"WARC-Target-URI: http://host%d.example/page/%d\r\nContent-Type: text/plain\r\n"
+        b"Content-Length: %d\r\n\r\n%s\r\n\r\n"
         % (number, number % 25, number % 12 + 1, number % 40, number, len(block), block)
     )
 
@@ -269,9 +283,21 @@ def many_rows(tests: Tests, folder: str) -> None:
     try:
         tests.holds(browser.run("room.rows.count") == MANY, "many: records")
         draw = browser.run(
-            """(async () => { const list = document.getElementById('rows'); const times = []; let nodes = 0;
-          for (let turn = 0; turn < 60; turn += 1) { const begun = performance.now(); list.scrollTop = (turn * 7919 % 100) / 100 * list.scrollHeight; drawRows(); list.offsetHeight; times.push(performance.now() - begun);
-            nodes = Math.max(nodes, document.querySelectorAll('.line').length); await new Promise((done) => requestAnimationFrame(done)); } times.sort((a, b) => a - b); return [times[30], nodes]; })()"""
+            """(async () => {
+              const list = document.getElementById('rows'), times = [];
+              let nodes = 0;
+              for (let turn = 0; turn < 60; turn += 1) {
+                const begun = performance.now();
+                list.scrollTop = (turn * 7919 % 100) / 100 * list.scrollHeight;
+                drawRows();
+                list.offsetHeight;
+                times.push(performance.now() - begun);
+                nodes = Math.max(nodes, document.querySelectorAll('.line').length);
+                await new Promise((done) => requestAnimationFrame(done));
+              }
+              times.sort((a, b) => a - b);
+              return [times[30], nodes];
+            })()"""
         )
         tests.holds(draw[1] <= MOST_NODES, "many: only lines that are seen are drawn", draw)
         tests.holds(draw[0] <= MOST_DRAW, "many: a jump in the list is quick", draw)
@@ -289,7 +315,8 @@ def many_rows(tests: Tests, folder: str) -> None:
         browser.run("document.querySelector('#hosts .bar').click()")
         self_time = browser.run("room.listedIn")
         print(
-            f"many: listed in {self_time:.0f} ms, a jump {draw[0]:.1f} ms, {draw[1]} lines drawn, first search {took * 1000:.0f} ms",
+            f"many: listed in {self_time:.0f} ms, a jump {draw[0]:.1f} ms, {draw[1]} lines drawn, "
+            f"first search {took * 1000:.0f} ms",
             flush=True,
         )
         tests.picture(browser, "many")
@@ -299,14 +326,15 @@ def many_rows(tests: Tests, folder: str) -> None:
 
 def resource(number: int, block: bytes) -> bytes:
     return (
-        b"WARC/1.1\r\nWARC-Type: resource\r\nWARC-Record-ID: <urn:x:%d>\r\nWARC-Date: 2026\r\nWARC-Target-URI: http://a.example/%d\r\n"
+        b"WARC/1.1\r\nWARC-Type: resource\r\nWARC-Record-ID: <urn:x:%d>\r\nWARC-Date: 2026\r\n"
+        b"WARC-Target-URI: http://a.example/%d\r\n"
         b"Content-Type: text/plain\r\nContent-Length: %d\r\n\r\n%s\r\n\r\n" % (number, number, len(block), block)
     )
 
 
 def in_segments(tests: Tests, folder: str) -> None:
-    """Archives that are long enough for helpers: with blocks that look like records, with a block longer than a segment, torn,
-    and damaged in the middle. The list is the program's, and the fault too."""
+    """Archives that are long enough for helpers: with blocks that look like records, with a block longer than a
+    segment, torn, and damaged in the middle. The list is the program's, and the fault too."""
     inner, small = b"".join(small_record(number) for number in range(4000)), b"x" * 9000
     plain = b"".join(resource(number, small) for number in range(5000))
     archives = {
@@ -427,17 +455,20 @@ def by_keyboard(tests: Tests, archive: str) -> None:
 
 
 def follows_links(tests: Tests, browser: Browser, site: str) -> None:
-    """From the view of page 12, a link leads to page 13, and Back leads to page 12 again. A link that leads nowhere says so."""
+    """From the view of page 12, a link leads to page 13, and Back leads to page 12 again. A link that leads nowhere
+    says so."""
     title = "document.querySelector('#record h2').textContent"
 
     def click(link: str) -> None:
         browser.until(
-            "document.querySelector('iframe.view')?.contentDocument?.querySelector('a[href]') && document.getElementById('panel').dataset.ready === 'yes'",
+            "document.querySelector('iframe.view')?.contentDocument?.querySelector('a[href]') && "
+            "document.getElementById('panel').dataset.ready === 'yes'",
             30,
         )
         time.sleep(0.3)
         browser.run(
-            f"[...document.querySelector('iframe.view').contentDocument.querySelectorAll('a[href]')].find((it) => it.title.endsWith('{link}')).click()"
+            "[...document.querySelector('iframe.view').contentDocument.querySelectorAll('a[href]')].find((it) => "
+            f"it.title.endsWith('{link}')).click()"
         )
 
     click("/page/13")
@@ -447,7 +478,8 @@ def follows_links(tests: Tests, browser: Browser, site: str) -> None:
     tests.passed += 2
     browser.until("Boolean(document.querySelector('iframe.view')?.contentDocument?.querySelector('a[href]'))", 30)
     browser.run(
-        "capturesOf(typed('x')); room.captures.delete([...room.captures.keys()].find((it) => it.endsWith('/page/11'))); 0"
+        "capturesOf(typed('x')); room.captures.delete([...room.captures.keys()].find((it) => "
+        "it.endsWith('/page/11'))); 0"
     )
     click("/page/11")
     browser.until("document.getElementById('panel').innerText.includes('The archive has no capture of')", 10)
@@ -456,9 +488,13 @@ def follows_links(tests: Tests, browser: Browser, site: str) -> None:
 
 
 def views(tests: Tests, archive: str, site: str) -> None:
-    """The main views over a crawl: pictures and styles of the moment, what is missing, coded pages, reasons in words."""
+    """The main views over a crawl: pictures and styles of the moment, what is missing, coded pages, reasons in
+    words."""
     browser = tests.opened(archive)
-    where = "(() => { for (let p = 0; p < room.rows.count; p += 1) { const row = room.rows.row(p); if (row.kind === '%s' && latin.decode(row.target).endsWith('%s')) return p; } return -1; })()"
+    where = (
+        "(() => { for (let p = 0; p < room.rows.count; p += 1) { const row = room.rows.row(p); "
+        "if (row.kind === '%s' && latin.decode(row.target).endsWith('%s')) return p; } return -1; })()"
+    )
 
     def show(kind: str, end: str) -> str:
         browser.run(f"room.tab = 'Page'; openRecord({browser.run(where % (kind, end))})")
@@ -511,7 +547,8 @@ def views(tests: Tests, archive: str, site: str) -> None:
         words = show("response", "/empty")
         tests.holds("The body is empty" in words, "view: an empty body", words[:300])
         browser.run(
-            "document.getElementById('uri').value = 'http://nowhere.example/'; document.getElementById('as-of').requestSubmit()"
+            "document.getElementById('uri').value = 'http://nowhere.example/'; "
+            "document.getElementById('as-of').requestSubmit()"
         )
         browser.until("document.getElementById('record').innerText.includes('P1 NoCapture')", 30)
         tests.holds(
@@ -519,10 +556,12 @@ def views(tests: Tests, archive: str, site: str) -> None:
             "as of: a reason in words",
         )
         browser.run(
-            f"document.getElementById('uri').value = '{site}page/12'; document.getElementById('moment').value = '9999'; document.getElementById('as-of').requestSubmit()"
+            f"document.getElementById('uri').value = '{site}page/12'; document.getElementById('moment').value = '9999';"
+            " document.getElementById('as-of').requestSubmit()"
         )
         browser.until(
-            "document.getElementById('panel')?.dataset.ready === 'yes' && document.getElementById('panel').innerText.includes('chooses this capture')",
+            "document.getElementById('panel')?.dataset.ready === 'yes' && "
+            "document.getElementById('panel').innerText.includes('chooses this capture')",
             30,
         )
         tests.passed += 1
@@ -561,7 +600,8 @@ def saved_bytes(tests: Tests, folder: str, archive: str) -> None:
         browser.run("room.tab = 'Page'; openRecord(4)")
         browser.until("document.getElementById('panel')?.dataset.ready === 'yes'", 30)
         browser.run(
-            "[...document.querySelectorAll('.actions button')].find((it) => it.textContent === 'Save the exact bytes').click()"
+            "[...document.querySelectorAll('.actions button')].find((it) => "
+            "it.textContent === 'Save the exact bytes').click()"
         )
         path, end, wanted = f"{folder}/sky.png", time.monotonic() + 20, tests.warc("body", archive, "4")[0]
         while not (os.path.exists(path) and os.path.getsize(path) >= len(wanted)) and time.monotonic() < end:
@@ -630,8 +670,8 @@ def main() -> None:
         crawled, small = f"{folder}/stations.warc", f"{TOP}/examples/crawl.warc"
         names = os.environ.get(
             "PAGE_TESTS",
-            "building,codings,compare,compressed,damaged,hostile,connections,firefox,burdens,robust,faithful,views,keyboard,"
-            "saved,selection,missing,long,many,segments",
+            "building,codings,compare,compressed,damaged,hostile,connections,firefox,burdens,robust,faithful,views,"
+            "keyboard,saved,selection,missing,long,many,segments",
         ).split(",")
         where = stations.crawl(crawled) if {"compare", "views"} & set(names) else ""
         parts = {

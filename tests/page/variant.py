@@ -8,7 +8,8 @@ import re
 
 
 def variant(page: str, path: str, changes: dict[str, str]) -> str:
-    """Writes the page with each text of its script changed, and with the digest of the script that its policy then wants."""
+    """Writes the page with each text of its script changed, and with the digest of the script that its policy then
+    wants."""
     with open(page, encoding="utf-8", newline="") as text:
         whole = text.read()
     start, end = whole.rindex("<script>") + 8, whole.rindex("</script>")

@@ -495,7 +495,8 @@ HEADS = {
 
 
 def judge_reply(trial: Trial, server: Served, request: bytes, expected: Optional[int]) -> None:
-    """An answer to bad input: the status that is expected (any that is no 500, where none is), and a head that is one."""
+    """An answer to bad input: the status that is expected (any that is no 500, where none is), and a head that is
+    one."""
     reply = server.raw(request)
     status = status_in(reply)
     is_right = status == expected if expected is not None else status not in (None, 500)
@@ -572,7 +573,8 @@ def judge_coded(trial: Trial, server: Served) -> None:
 
 
 def browsers(trial: Trial, script: Script) -> None:
-    """A browser never shows a memento: it is led to the room. It may have it as a picture or by a script of the room."""
+    """A browser never shows a memento: it is led to the room. It may have it as a picture or by a script of the
+    room."""
     catalogued(trial)
     uri = "http://a.example/%C3%BC"
     path = "/memento/20200101000000/" + uri
