@@ -42,28 +42,17 @@ class Check:
         return run.returncode == 0
 
 
-TOOLS = tuple(
-    f"tools/{name}.py"
-    for name in (
-        *("build", "build_lib", "lint", "make_calling", "make_crawl", "make_man", "make_numbers", "make_picture"),
-        *("shared", "test_docs"),
-    )
-)
+def scripts(folder: str) -> tuple[str, ...]:
+    """The Python files of a folder."""
+    return tuple(path[len(TOP) + 1 :] for path in sorted(glob.glob(f"{TOP}/{folder}/*.py")))
+
+
 BENCHES = tuple(
     f"bench/{name}.py" for name in ("bench", "decoder", "index", "order", "replay", "segment", "serve", "shared")
 )
-LINTS = ("tools/lint_code.py", "tools/lint_rust.py", "tools/find_unsafe.py")
 
-# The scripts that install, pack and try the program, and their tests.
-MACHINE = (
-    "tools/install.py",
-    "tools/dist.py",
-    "tools/make_completions.py",
-    "tools/make_copyright.py",
-    "tools/try_program.py",
-    "tests/tools/test_install.py",
-    "tests/stress/zwarc.py",
-)
+# Tests of scripts for the machine.
+MACHINE = ("tests/tools/test_install.py", "tests/stress/zwarc.py")
 
 # The shell scripts of the packages.
 PACKAGING = (
@@ -91,14 +80,7 @@ SYSTEM = (
     *(f"tests/stress/{name}.py" for name in ("differential", "generate", "memory", "system", "terminal")),
 )
 PAGE_SCRIPTS = tuple(sorted(path[len(TOP) + 1 :] for path in glob.glob(f"{TOP}/page/*.js")))
-PAGE_PYTHON = (
-    *("tools/build_page.py", "tools/lint_page.py"),
-    *sorted(path[len(TOP) + 1 :] for path in glob.glob(f"{TOP}/tests/page/*.py")),
-)
-PAGES_PYTHON = (
-    *("tools/lint.py", "tools/wrap_pages.py"),
-    *(f"tools/lint_{name}.py" for name in ("docs", "trust", "architecture", "changes")),
-)
+PAGE_PYTHON = scripts("tests/page")
 COMPATIBILITY = ("tests/compatibility/compare.py", "tests/compatibility/shapes.py")
 UNTYPED_CALLS = ("--allow-untyped-calls",)  # they use scripts that have no types yet
 
@@ -115,15 +97,13 @@ SERVER = tuple(f"tests/stress/{name}.py" for name in ("serve", "serve_trial", "m
 
 # Debian's programs work with Debian's Python, so each is called by its own name.
 CHECKS = [
-    Check("types of the lint's scripts", ("mypy", "--strict", "--follow-imports=silent", *LINTS)),
-    Check("layout of the lint's scripts", ("black", "--quiet", "--check", "--line-length=120", *LINTS)),
-    Check("types of other scripts of tools/", ("mypy", "--strict", *TOOLS)),
-    Check("layout of other scripts of tools/", ("black", "--quiet", "--check", "--line-length=120", *TOOLS)),
+    Check("types of tools/", (*TYPES, *scripts("tools"))),
+    Check("layout of tools/", (*LAYOUT, "tools")),
     Check("types of bench/", ("mypy", "--strict", *BENCHES)),
     Check("layout of bench/", ("black", "--quiet", "--check", "--line-length=120", *BENCHES)),
     Check("shell scripts", ("shellcheck", "shell/zwarc", *PACKAGING)),
-    Check("types of scripts for the machine", ("mypy", "--strict", "--follow-imports=silent", *MACHINE)),
-    Check("layout of scripts for the machine", ("black", "--quiet", "--check", "--line-length=120", *MACHINE)),
+    Check("types of the tests of the machine", ("mypy", "--strict", "--follow-imports=silent", *MACHINE)),
+    Check("layout of the tests of the machine", (*LAYOUT, *MACHINE)),
     Check("tools/install.py, tried", ("python3", "tests/tools/test_install.py")),
     Check("types of the Python package", ("mypy", "--strict", "python/src/zogwedu")),
     Check(
@@ -146,8 +126,7 @@ CHECKS = [
     Check("types of the trials of the server", (*TYPES, *SERVER, TRIALS[2])),
     Check("layout of the trials of the server", (*LAYOUT, *SERVER)),
     Check("types of tests/stress/collection_rows.py", (*TYPES, *UNTYPED_CALLS, *COLLECTION, ROWS), ("hypothesis",)),
-    Check("types of tools/make_collection.py", (*TYPES, "--follow-imports=silent", "tools/make_collection.py")),
-    Check("layout of collection/", (*LAYOUT, "collection", "tools/make_collection.py")),
+    Check("layout of collection/", (*LAYOUT, "collection")),
     Check("layout of tests/stress/collection*.py", (*LAYOUT, *TRIALS[:3], ROWS)),
     Check("types of the page", ("tsc", "-p", "page")),
     Check("types of the page's workers", ("tsc", "-p", "page/tsconfig.worker.json")),
@@ -155,13 +134,11 @@ CHECKS = [
     Check("widths and functions of the page", ("python3", "tools/lint_page.py")),
     Check("types of tests/compatibility", (*TYPES, *COMPATIBILITY)),
     Check("layout of tests/compatibility", (*LAYOUT, *COMPATIBILITY)),
-    Check("types of the checks of the pages", (*TYPES, "--follow-imports=silent", *UNTYPED_CALLS, *PAGES_PYTHON)),
-    Check("layout of the checks of the pages", (*LAYOUT, *PAGES_PYTHON)),
     Check(
-        "types of the page's Python",
+        "types of the tests of the page",
         ("mypy", "--strict", "--follow-imports=silent", *UNTYPED_CALLS, *PAGE_PYTHON, *SERVER[1:], TRIALS[2]),
     ),
-    Check("layout of the page's Python", ("black", "--quiet", "--check", "--line-length=120", *PAGE_PYTHON)),
+    Check("layout of the tests of the page", (*LAYOUT, *PAGE_PYTHON)),
 ]
 
 

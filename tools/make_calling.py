@@ -90,7 +90,7 @@ def types(text: str) -> list[str]:
     for line in text.splitlines():
         if re.match(r"impl|pub struct|    (?:ghost \w+ =|type) ", line):
             lines += ["", *comment] if not line.startswith(" ") else []
-            lines.append(line.removesuffix(" {"))
+            lines.append(re.sub(r" \{$", "", line))
             comment = []
         elif line.startswith("///"):
             comment.append(line)

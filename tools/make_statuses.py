@@ -74,9 +74,9 @@ def plain(text: str) -> str:
 
 def cell(means: str) -> str:
     """What a status means, in the matrix. What commands share is said below it."""
-    means = re.sub(rf",? ?(?:or )?{HELP}", ", or failed", means).removeprefix(", or ")
+    means = re.sub("^, or ", "", re.sub(rf",? ?(?:or )?{HELP}", ", or failed", means))
     means = means.replace("the archive is refused, and nothing was written", "refused")
-    return plain(means.replace(", and nothing was written", "").removeprefix("nothing was written: "))
+    return plain(re.sub("^nothing was written: ", "", means.replace(", and nothing was written", "")))
 
 
 def matrix() -> str:
@@ -102,7 +102,8 @@ def page() -> str:
     text = table.sub(lambda found: found[1] + matrix(), text, count=1)
     for it in commands():
         own = re.compile(rf"(^## warc {it.name}\n(?:(?!## ).*\n)*?### Exit status\n\n)(?:(?!##).*\n)*", re.MULTILINE)
-        text, count = own.subn(lambda found, it=it: f"{found[1]}{section(it)}\n\n", text)
+        made = section(it)
+        text, count = own.subn(lambda found: f"{found[1]}{made}\n\n", text)
         if count != 1:
             raise ValueError(f"{PAGE}: no exit statuses of {it.name}")
     return text
