@@ -47,10 +47,6 @@ def scripts(folder: str) -> tuple[str, ...]:
     return tuple(path[len(TOP) + 1 :] for path in sorted(glob.glob(f"{TOP}/{folder}/*.py")))
 
 
-BENCHES = tuple(
-    f"bench/{name}.py" for name in ("bench", "decoder", "index", "order", "replay", "segment", "serve", "shared")
-)
-
 # Tests of scripts for the machine.
 MACHINE = ("tests/tools/test_install.py", "tests/stress/zwarc.py")
 
@@ -99,8 +95,8 @@ SERVER = tuple(f"tests/stress/{name}.py" for name in ("serve", "serve_trial", "m
 CHECKS = [
     Check("types of tools/", (*TYPES, *scripts("tools"))),
     Check("layout of tools/", (*LAYOUT, "tools")),
-    Check("types of bench/", ("mypy", "--strict", *BENCHES)),
-    Check("layout of bench/", ("black", "--quiet", "--check", "--line-length=120", *BENCHES)),
+    Check("types of bench/", ("mypy", "--strict", *scripts("bench"), "tests/page/browser.py")),
+    Check("layout of bench/", (*LAYOUT, "bench")),
     Check("shell scripts", ("shellcheck", "shell/zwarc", *PACKAGING)),
     Check("types of the tests of the machine", ("mypy", "--strict", "--follow-imports=silent", *MACHINE)),
     Check("layout of the tests of the machine", (*LAYOUT, *MACHINE)),
