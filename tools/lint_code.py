@@ -50,13 +50,10 @@ def scripts(folder: str) -> tuple[str, ...]:
 # Tests of scripts for the machine.
 MACHINE = ("tests/tools/test_install.py", "tests/stress/zwarc.py")
 
-# The shell scripts of the packages.
-PACKAGING = (
-    "packaging/build.sh",
-    "packaging/test.sh",
-    "packaging/debian/tests/library",
-    "packaging/debian/tests/program",
-    "packaging/debian/tests/python",
+SHELL = (
+    *(".ci/run", "shell/zwarc", "tools/need.sh", "packaging/build.sh", "packaging/test.sh"),
+    *(f"packaging/debian/tests/{name}" for name in ("library", "program", "python")),
+    *("tests/callers/python.sh", "tests/callers/run.sh", "tests/stress/run.sh"),
 )
 
 C_FLAGS = ("-std=c11", "-fsyntax-only", "-Wall", "-Wextra", "-Wconversion", "-Wpedantic", "-Werror", "-Ic")
@@ -97,7 +94,7 @@ CHECKS = [
     Check("layout of tools/", (*LAYOUT, "tools")),
     Check("types of bench/", ("mypy", "--strict", *scripts("bench"), "tests/page/browser.py")),
     Check("layout of bench/", (*LAYOUT, "bench")),
-    Check("shell scripts", ("shellcheck", "shell/zwarc", *PACKAGING)),
+    Check("shell scripts", ("shellcheck", *SHELL)),
     Check("types of the tests of the machine", ("mypy", "--strict", "--follow-imports=silent", *MACHINE)),
     Check("layout of the tests of the machine", (*LAYOUT, *MACHINE)),
     Check("tools/install.py, tried", ("python3", "tests/tools/test_install.py")),

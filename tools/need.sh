@@ -7,6 +7,8 @@ for pair in "$@"; do
     command -v "${pair%%:*}" > /dev/null || wanted+=("${pair##*:}")
 done
 if [ ${#wanted[@]} -gt 0 ]; then
-    apt-get update -q > /dev/null && apt-get install -y -q --no-install-recommends "${wanted[@]}" > /dev/null ||
-        { echo "not installed: ${wanted[*]}"; exit 1; }
+    if ! { apt-get update -q && apt-get install -y -q --no-install-recommends "${wanted[@]}"; } > /dev/null; then
+        echo "not installed: ${wanted[*]}"
+        exit 1
+    fi
 fi

@@ -13,10 +13,10 @@ mkdir -p $out
 export PYTHONPATH=$PWD/out/python:tests/callers PYTHONDONTWRITEBYTECODE=1
 unset ZOGWEDU_LIBRARY
 
-flags="-std=c11 -Wall -Wextra -Wconversion -Werror -O1 -g -Iout/lib"
-${CC:-cc} $flags tests/callers/report.c out/lib/libwarc.a -o $out/report
-${CC:-cc} $flags tests/callers/mutated.c out/lib/libwarc.a -o $out/mutated
-${CC:-cc} $flags -fsanitize=thread tests/callers/threads.c out/lib/libwarc.a -o $out/threads
+flags=(-std=c11 -Wall -Wextra -Wconversion -Werror -O1 -g -Iout/lib)
+${CC:-cc} "${flags[@]}" tests/callers/report.c out/lib/libwarc.a -o $out/report
+${CC:-cc} "${flags[@]}" tests/callers/mutated.c out/lib/libwarc.a -o $out/mutated
+${CC:-cc} "${flags[@]}" -fsanitize=thread tests/callers/threads.c out/lib/libwarc.a -o $out/threads
 $out/threads examples/crawl.warc
 rust=-
 if command -v cargo > /dev/null; then

@@ -7,7 +7,7 @@
 # STRESS_COUNT is the number of generated archives, over each of which twelve command lines are run; STRESS_ARCHIVES the
 # number of archives of the collection. As root on Debian it installs what it needs and isn't there.
 set -u
-cd "$(dirname "$0")/../.."
+cd "$(dirname "$0")/../.." || exit 1
 count=${STRESS_COUNT:-10000}
 seed=${STRESS_SEED:-1}
 archives=${STRESS_ARCHIVES:-2000}
