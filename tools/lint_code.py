@@ -2,7 +2,8 @@
 """Checks the code that isn't proved: its types, its layout, and the tools' own warnings.
 
 Each check names the programs, Python modules and files that it needs. Where one isn't installed, the check is left out,
-and a line says so. A check that runs and fails ends this script with 1, after all others have run.
+and a line says so. A check that runs and fails ends this script with 1, after all others have run. So does a Python
+file whose types or whose layout no check looks at.
 """
 from __future__ import annotations
 
@@ -64,18 +65,19 @@ C_PROGRAMS = (
     "tests/callers/mutated.c",
     "tests/callers/threads.c",
 )
-CALLERS = tuple(
-    path[len(TOP) + 1 :] for path in sorted(glob.glob(f"{TOP}/tests/callers/*.py")) if "generated" not in path
-)
 GENERATED = "tests/callers/generated.py"
+CALLERS = tuple(path for path in scripts("tests/callers") if path != GENERATED)
 SYSTEM = (
     "tests/reference/warc_reference.py",
     *(f"tests/stress/{name}.py" for name in ("differential", "generate", "memory", "system", "terminal")),
 )
 PAGE_SCRIPTS = tuple(sorted(path[len(TOP) + 1 :] for path in glob.glob(f"{TOP}/page/*.js")))
 PAGE_PYTHON = scripts("tests/page")
-COMPATIBILITY = ("tests/compatibility/compare.py", "tests/compatibility/shapes.py")
+COMPATIBILITY = scripts("tests/compatibility")
 UNTYPED_CALLS = ("--allow-untyped-calls",)  # they use scripts that have no types yet
+
+EXAMPLES = ("python/crawler.py", "python/example.py")
+WITHOUT_STUBS = ("--ignore-missing-imports", "--allow-subclassing-any")  # setuptools has none
 
 TYPES = ("mypy", "--strict", "--python-version=3.8")
 LAYOUT = ("black", "--quiet", "--check", "--line-length=120")
@@ -96,16 +98,15 @@ CHECKS = [
     Check("layout of bench/", (*LAYOUT, "bench")),
     Check("shell scripts", ("shellcheck", *SHELL)),
     Check("types of the tests of the machine", ("mypy", "--strict", "--follow-imports=silent", *MACHINE)),
-    Check("layout of the tests of the machine", (*LAYOUT, *MACHINE)),
     Check("tools/install.py, tried", ("python3", "tests/tools/test_install.py")),
     Check("types of the Python package", ("mypy", "--strict", "python/src/zogwedu")),
-    Check(
-        "layout of the Python package", ("black", "--quiet", "--check", "--line-length=120", "python", "tests/callers")
-    ),
+    Check("types of the examples in Python", (*TYPES, "python/src/zogwedu", *EXAMPLES)),
+    Check("types of python/setup.py", ("mypy", "--strict", *WITHOUT_STUBS, "python/setup.py")),
+    Check("layout of python/", (*LAYOUT, "python")),
+    Check("layout of tests/", (*LAYOUT, "tests")),
     Check("types of tests/callers", (*TYPES, "python/src/zogwedu", *CALLERS)),
     Check("types of tests/callers/generated.py", (*TYPES, "python/src/zogwedu", *CALLERS, GENERATED), ("hypothesis",)),
     Check("types of the second reading and the trials of the program", ("mypy", "--strict", *SYSTEM)),
-    Check("layout of the second reading and the trials of the program", (*LAYOUT, *SYSTEM)),
     Check("warnings of c/warc.c", ("gcc", *C_FLAGS, "c/warc.c")),
     Check("warnings of C's programs", ("gcc", *C_FLAGS, *C_PROGRAMS)),
     Check("warnings of bench/walk.c", ("gcc", *C_FLAGS, "bench/walk.c")),
@@ -117,27 +118,41 @@ CHECKS = [
     Check("types of collection/", (*TYPES, *COLLECTION)),
     Check("types of tests/stress/collection*.py", (*TYPES, *TRIALS)),
     Check("types of the trials of the server", (*TYPES, *SERVER, TRIALS[2])),
-    Check("layout of the trials of the server", (*LAYOUT, *SERVER)),
     Check("types of tests/stress/collection_rows.py", (*TYPES, *UNTYPED_CALLS, *COLLECTION, ROWS), ("hypothesis",)),
     Check("layout of collection/", (*LAYOUT, "collection")),
-    Check("layout of tests/stress/collection*.py", (*LAYOUT, *TRIALS[:3], ROWS)),
     Check("types of the page", ("tsc", "-p", "page")),
     Check("types of the page's workers", ("tsc", "-p", "page/tsconfig.worker.json")),
     Check("layout of the page", ("clang-format", "--dry-run", "--Werror", *PAGE_SCRIPTS)),
     Check("widths and functions of the page", ("python3", "tools/lint_page.py")),
     Check("types of tests/compatibility", (*TYPES, *COMPATIBILITY)),
-    Check("layout of tests/compatibility", (*LAYOUT, *COMPATIBILITY)),
     Check(
         "types of the tests of the page",
-        ("mypy", "--strict", "--follow-imports=silent", *UNTYPED_CALLS, *PAGE_PYTHON, *SERVER[1:], TRIALS[2]),
+        ("mypy", "--strict", "--follow-imports=silent", *PAGE_PYTHON, *SERVER[1:], TRIALS[2]),
     ),
-    Check("layout of the tests of the page", (*LAYOUT, *PAGE_PYTHON)),
 ]
+
+
+def unchecked(program: str) -> list[str]:
+    """The Python files of the tree that no check by a program names, nor a folder above them."""
+    run = subprocess.run(
+        ["git", "ls-files", "-co", "--exclude-standard", "*.py"], cwd=TOP, check=True, capture_output=True, text=True
+    )
+    named = [word for check in CHECKS if check.words[0] == program for word in check.words[1:]]
+    return [path for path in run.stdout.split("\n") if path and not any(is_below(path, word) for word in named)]
+
+
+def is_below(path: str, word: str) -> bool:
+    """Whether a path is that of a file, or of one in a folder."""
+    return path == word or path.startswith(f"{word}/")
 
 
 def main() -> int:
     """Runs all checks."""
     failed = 0
+    for program in ("mypy", "black"):
+        for path in unchecked(program):
+            print(f"{path}: no check by {program} names it", flush=True)
+            failed += 1
     for check in CHECKS:
         lacking = check.lacks()
         if lacking:

@@ -18,6 +18,7 @@ import subprocess
 import sys
 import tempfile
 import time
+from collections.abc import Callable
 from concurrent.futures import ThreadPoolExecutor
 from typing import Any
 
@@ -674,7 +675,7 @@ def main() -> None:
             "keyboard,saved,selection,missing,long,many,segments",
         ).split(",")
         where = stations.crawl(crawled) if {"compare", "views"} & set(names) else ""
-        parts = {
+        parts: dict[str, Callable[[], None]] = {
             "building": lambda: building.building(tests, folder),
             "codings": lambda: codings.codings(tests),
             "compare": lambda: compare_all(tests, folder, crawled),
