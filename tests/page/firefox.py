@@ -9,6 +9,7 @@ from __future__ import annotations
 import gzip
 import json
 import os
+import re
 import shutil
 import socket
 import subprocess
@@ -17,18 +18,21 @@ import time
 from typing import Any
 
 import leaks
+from compressed import records_of
 from listener import Listener
 
 PROGRAM = "firefox-esr"
 PATIENCE = 300.0  # seconds
 SECONDS = 0.3  # that a case has to connect
+MOST_SAVING = 30  # seconds
 PORTS = (80, 443)
-PREFERENCES = {
+PREFERENCES: dict[str, Any] = {
     "network.dns.forceResolve": "127.0.0.1",
     "marionette.port": 0,
     "browser.shell.checkDefaultBrowser": False,
     "datareporting.policy.dataSubmissionEnabled": False,
     "network.captive-portal-service.enabled": False,
+    "browser.download.folderList": 2,  # the one that is named
 }
 SHOW = """const [name] = arguments;
 document.getElementById('uri').value = name;
@@ -46,6 +50,8 @@ for (const it of page ? Document.prototype.querySelectorAll.call(page, '[id=clic
 TOP = os.path.dirname(os.path.dirname(os.path.dirname(os.path.abspath(__file__))))
 FILES = """return [...document.querySelectorAll('.line .file')].map((it) => it.textContent);"""
 ENDED = "return /findings after|stopped/.test(document.getElementById('status').textContent)"
+SAVE = """document.getElementById('only').click();
+document.getElementById('save-shown').click();"""
 
 
 class Firefox:
@@ -54,7 +60,7 @@ class Firefox:
     def __init__(self) -> None:
         self.folder = tempfile.mkdtemp(prefix="zogwedu-firefox-")
         with open(f"{self.folder}/user.js", "w", encoding="utf-8") as out:
-            for name, value in PREFERENCES.items():
+            for name, value in {**PREFERENCES, "browser.download.dir": f"{self.folder}/saved"}.items():
                 out.write(f"user_pref({json.dumps(name)}, {json.dumps(value)});\n")
         words = [PROGRAM, "--headless", "--marionette", "--profile", self.folder, "--no-remote", "about:blank"]
         quiet, home = subprocess.DEVNULL, {**os.environ, "HOME": self.folder}
@@ -117,6 +123,15 @@ class Firefox:
         found = self.ask("WebDriver:FindElement", {"using": "css selector", "value": selector})["value"]
         self.ask("WebDriver:ElementSendKeys", {"id": next(iter(found.values())), "text": "\n".join(paths)})
 
+    def saved(self, script: str, name: str, length: int) -> bytes:
+        """The bytes of a file that a script saves, once it is as long as it must be."""
+        self.run(script)
+        path, end = f"{self.folder}/saved/{name}", time.monotonic() + MOST_SAVING
+        while time.monotonic() < end and not (os.path.exists(path) and os.path.getsize(path) >= length):
+            time.sleep(0.1)
+        with open(path, "rb") as file:
+            return file.read()
+
     def close(self) -> None:
         """Ends this Firefox, and no other."""
         self.process.terminate()
@@ -176,6 +191,10 @@ def opens_files(tests: Any, folder: str) -> None:
         status = firefox.run("return document.getElementById('status').textContent")
         tests.holds(status.startswith("36 records"), "Firefox: compressed files", status)
         tests.holds(set(firefox.run(FILES)) == {"first.warc.gz"}, "Firefox: the list names the file")
+        is_capture = re.compile(rb"\r\nWARC-Type: *(response|resource|revisit)\r\n", re.IGNORECASE)
+        wanted = b"".join(it for it in records_of(tests, f"{TOP}/examples/crawl.warc") if is_capture.search(it))
+        saved = firefox.saved(SAVE, "records-of-archive.warc", 2 * len(wanted))
+        tests.holds(saved == 2 * wanted, "Firefox: what the list shows is saved", (len(saved), 2 * len(wanted)))
     finally:
         firefox.close()
 
