@@ -26,3 +26,9 @@ pub mod OtherLemmas
 pub mod SelectLemmas
 pub mod SelectionLaws
 pub mod RestLemmas
+pub mod PartLemmas
+pub mod JoinedPartLemmas
+pub mod WayLemmas
+pub mod NeedLemmas
+pub mod ClosedLemmas
+pub mod ClosedLawLemmas

@@ -2,6 +2,8 @@ pub mod Bodies
 pub mod Bounds
 pub mod Capturing
 pub mod Captures
+pub mod ClosedLaws
+pub mod Closing
 pub mod Fixity
 pub mod Forms
 pub mod Copied
