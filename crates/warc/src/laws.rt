@@ -1,4 +1,6 @@
 //! Laws over the definitions: each function does nothing, and its contract is the law.
+ghost use Rattle.warc.specs.ClosedLaws.{AnswersAreKept, BodiesAreKept, LinesAreKept, NeededAreClosed};
+ghost use Rattle.warc.specs.ClosedLaws.{OthersAreClosed, OutcomesAreKept, StoredBodiesAreKept};
 ghost use Rattle.warc.specs.Laws.{ArchivesSpell, FaultsAreStable, FullDatesAreInstants, NoFaultWhereSpelled, OneFault};
 ghost use Rattle.warc.specs.Laws.{MigrationKeepsAnswers, MigrationKeepsReplays, OutputsAreCounted, SomeFaultElse};
 ghost use Rattle.warc.specs.Laws.{RecordsAreSpelled, RecordsAreTheSame, RefusedForFault};
@@ -9,6 +11,7 @@ ghost use Rattle.warc.specs.Laws.{WrittenOpensAsSame, WrittenSpells};
 use warc_answer::laws::conversion_keeps_answers;
 pub use warc_checking::laws::findings_are_counted;
 use warc_frame::laws::spelling_is_unambiguous;
+use warc_index::laws::{chain_loops, latest_is_last};
 use warc_record::laws::{bare_texts_of_values, findings_are_few, findings_are_short};
 use warc_write::laws::{converted_stays_good, rendered_opens_as_same};
 
@@ -93,6 +96,27 @@ pub fn all_give_the_archive()
 /// of the others has each record once between them.
 pub fn others_are_the_rest()
     ensures { OthersAreTheRest }
+{}
+
+/// In a selection of records that need no other each gives what it gives in the whole archive, positions aside: its
+/// outcome, its body or the reason why it has none, what is stored of its origin, and its line of `captures`.
+pub fn closed_selections_keep_answers()
+    ensures outcomes { OutcomesAreKept }
+    ensures answers { AnswersAreKept }
+    ensures bodies { BodiesAreKept }
+    ensures stored { StoredBodiesAreKept }
+    ensures lines { LinesAreKept }
+{
+    latest_is_last();
+    chain_loops();
+    selection_is_an_archive();
+}
+
+/// Records that are selected with all that they need are such a selection, and so are all records that need none of
+/// some.
+pub fn closed_selections_are_closed()
+    ensures needed { NeededAreClosed }
+    ensures others { OthersAreClosed }
 {}
 
 /// The date that `captures` writes in full is of the same instant as the one that the record states.
