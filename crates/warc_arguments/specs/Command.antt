@@ -1,5 +1,5 @@
 -- A command of the program.
-use Rattle.std.specs.Prelude.{Bool, true, false, List, [], ◌∷◌, ◌++◌, codes, option_map}
+use Rattle.std.specs.Prelude.{Bool, true, false, List, [], ◌∷◌, ◌++◌, codes, Option, Some, None, option_map}
 use Rattle.std.specs.Option.{option_to_list}
 use Rattle.clap.specs.Walk.{Text}
 use Rattle.warc_arguments.specs.declared.words.Command.{Command}
@@ -23,6 +23,7 @@ view_of (command.Captures archive uri hex) =
 view_of (command.Rewrite archive) = (codes "rewrite", archive.now ∷ [])
 view_of (command.Convert archive) = (codes "convert", archive.now ∷ [])
 view_of (command.Split archive size) = (codes "split", archive.now ∷ size.now ∷ [])
+view_of (command.Select archive positions except) = (codes "select", archive.now ∷ positions.now ∷ [])
 view_of (command.Write draft file) = (codes "write", draft_texts draft ++ file.now ∷ [])
 view_of (command.Head archive position) = (codes "head", archive.now ∷ position.now ∷ [])
 view_of (command.Block archive position) = (codes "block", archive.now ∷ position.now ∷ [])
@@ -36,6 +37,7 @@ abbrev pub flags_of : Command → List Bool
 flags_of (command.Replay archive uri date hex stored) = hex ∷ stored ∷ []
 flags_of (command.Body archive position stored) = stored ∷ []
 flags_of (command.Captures archive uri hex) = hex ∷ []
+flags_of (command.Select archive positions except) = except ∷ []
 flags_of _ = []
 
 -- what words ask for
@@ -59,6 +61,7 @@ path_word (command.Captures archive uri hex) = archive.now
 path_word (command.Rewrite archive) = archive.now
 path_word (command.Convert archive) = archive.now
 path_word (command.Split archive size) = archive.now
+path_word (command.Select archive positions except) = archive.now
 path_word (command.Write draft file) = file.now
 path_word (command.Head archive position) = archive.now
 path_word (command.Block archive position) = archive.now
@@ -66,6 +69,11 @@ path_word (command.Fixity archive) = archive.now
 path_word (command.Salvage archive) = archive.now
 path_word (command.Summary archive) = archive.now
 path_word (command.Explain number) = []
+
+-- the path of the file that it reads before its archive, if it reads two
+abbrev pub list_word : Command → Option Text
+list_word (command.Select archive positions except) = Some positions.now
+list_word _ = None
 
 -- whether it can ask for each offset once, in order
 abbrev pub reads_once : Command → Bool

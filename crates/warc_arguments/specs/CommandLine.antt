@@ -54,6 +54,14 @@ captures_layout = record {
   flags = codes "uri-hex" ∷ [];
 }
 
+abbrev pub select_layout : Layout
+select_layout = record {
+  name = codes "select";
+  words = codes "archive" ∷ codes "positions" ∷ [];
+  optional = [];
+  flags = codes "except" ∷ [];
+}
+
 -- the words of `write` before the path of its file
 abbrev pub draft_words : List Text
 draft_words = codes "kind" ∷ codes "uri" ∷ codes "date" ∷ codes "uuid" ∷ codes "type" ∷ []
@@ -74,6 +82,7 @@ other_layouts =
     layout (codes "rewrite") (codes "archive" ∷ [])
     ∷ layout (codes "convert") (codes "archive" ∷ [])
     ∷ layout (codes "split") (codes "archive" ∷ codes "size" ∷ [])
+    ∷ select_layout
     ∷ layout (codes "write") (draft_words ++ codes "file" ∷ [])
     ∷ layout (codes "head") (codes "archive" ∷ codes "position" ∷ [])
     ∷ layout (codes "block") (codes "archive" ∷ codes "position" ∷ [])

@@ -7,7 +7,7 @@ ghost use Rattle.clap.specs.Takes.{takes};
 ghost use Rattle.clap.specs.Values.{kind_of};
 ghost use Rattle.clap.specs.Walk.{first_of, rows_of, rule_of};
 ghost use Rattle.clap.specs.declared.builder.command.Command.TheViews.{out-Command};
-ghost use Rattle.warc_arguments.specs.Command.{asked_by, draft_texts, flags_of, gives_bytes, opens_nothing, path_word, reads_once, view_of};
+ghost use Rattle.warc_arguments.specs.Command.{asked_by, draft_texts, flags_of, gives_bytes, list_word, opens_nothing, path_word, reads_once, view_of};
 ghost use Rattle.warc_arguments.specs.CommandLine.{IsToldBy, asked_in, bare_app, first_app, asked_of, command_fault_text, draft_words, flags_in, is_flagged};
 ghost use Rattle.warc_arguments.specs.CommandLine.{layout_seen, named, rule_as, text_of, warc_app, with_layout, with_rules};
 
@@ -66,6 +66,12 @@ pub enum Command<'a> {
     Split {
         archive: &'a str,
         size: &'a str,
+    },
+    /// The records whose positions the lines of a file name, or all others.
+    Select {
+        archive: &'a str,
+        positions: &'a str,
+        except: bool,
     },
     /// One record, whose block is the bytes of a file.
     Write {
@@ -144,6 +150,11 @@ impl<'a> Command<'a> {
             Command::Rewrite { archive } => archive,
             Command::Convert { archive } => archive,
             Command::Split { archive, size: _ } => archive,
+            Command::Select {
+                archive,
+                positions: _,
+                except: _,
+            } => archive,
             Command::Write { draft: _, file } => file,
             Command::Head {
                 archive,
@@ -157,6 +168,20 @@ impl<'a> Command<'a> {
             Command::Salvage { archive } => archive,
             Command::Summary { archive } => archive,
             Command::Explain { number: _ } => "",
+        }
+    }
+
+    /// The path of the file that the command reads before its archive, if it reads two.
+    pub fn list_path(&self) -> Option<&'a str>
+        ensures { option_map (λ t. t.now) result ≡ list_word self.now }
+    {
+        match self {
+            Command::Select {
+                archive: _,
+                positions,
+                except: _,
+            } => Some(positions),
+            _ => None,
         }
     }
 
@@ -397,6 +422,25 @@ Exit status: 0 written; 2 the archive is refused, and nothing was written;
 
 Example: warc split examples/abc.warc 2";
 
+const SELECT_NOTES: &str =
+    "The records are written byte for byte as the archive has them, in its order,
+each once. What is written is an archive. A line of POSITIONS, which may be
+'-', begins with a position from 0, before a tab, a space or its end, so that
+lines of 'warc list' and 'warc captures' serve as they are; an empty line is
+passed over. Standard error has how much was written:
+'warc: selected 12 records, 3456 bytes'.
+
+What a record needs isn't written with it. So a revisit may give another
+reason than in the whole archive, or the body of another record that fits (one
+of the same id, pair or digest), and a segmented record another gap, or a
+body.
+
+Exit status: 0 written; 1 no record is at a position (E1), and nothing was
+written; 2 the archive is refused, and nothing was written; 3 a line doesn't
+begin with a number from 0 to 281474976710656, or see 'warc --help'.
+
+Example: warc list examples/abc.warc | warc select examples/abc.warc -";
+
 const WRITE_NOTES: &str =
     "The record is one of WARC/1.1 with the digest of its block, which is all of
 the file. A record that can't be made is refused for one of the reasons M1 to
@@ -525,6 +569,16 @@ const SIZE: Word = Word {
     help: "The most bytes of a block that a segment has, from 1 on",
 };
 
+const POSITIONS: Word = Word {
+    name: "positions",
+    help: "The path of the positions, one a line; '-' is standard input",
+};
+
+const EXCEPT: Word = Word {
+    name: "except",
+    help: "Writes all other records",
+};
+
 /// What `write` wants, in its order.
 const DRAFT: [Word; 6] = [
     Word {
@@ -617,7 +671,7 @@ const FIRST_COMMANDS: [Entry; 6] = [
 ];
 
 /// The other commands, in that order. Two tables are cheaper to prove than one.
-const OTHER_COMMANDS: [Entry; 10] = [
+const OTHER_COMMANDS: [Entry; 11] = [
     Entry {
         name: "rewrite",
         about: "Writes the archive in canonical form",
@@ -641,6 +695,14 @@ const OTHER_COMMANDS: [Entry; 10] = [
         words: &[ARCHIVE, SIZE],
         optional: &[],
         flags: &[],
+    },
+    Entry {
+        name: "select",
+        about: "Writes the records at positions, or all others",
+        notes: SELECT_NOTES,
+        words: &[ARCHIVE, POSITIONS],
+        optional: &[],
+        flags: &[EXCEPT],
     },
     Entry {
         name: "write",
@@ -885,6 +947,11 @@ fn read_command<'a>(name: &str, texts: &ArgMatches<'a>) -> Command<'a>
         "split" => Command::Split {
             archive,
             size: text_at(texts, "size"),
+        },
+        "select" => Command::Select {
+            archive,
+            positions: text_at(texts, "positions"),
+            except: is_given(texts, "except"),
         },
         "write" => Command::Write {
             draft: read_draft(texts),
