@@ -1,3 +1,4 @@
+pub mod ListLemmas
 pub mod MakingLemmas
 pub mod ProgramLemmas
 pub mod ReadLemmas

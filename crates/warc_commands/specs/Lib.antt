@@ -5,6 +5,7 @@ pub mod Devices
 pub mod Ends
 pub mod Explaining
 pub mod Fixity
+pub mod Named
 pub mod Parts
 pub mod Program
 pub mod Reads

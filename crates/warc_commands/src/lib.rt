@@ -7,6 +7,7 @@ mod checking;
 mod explaining;
 mod extracting;
 mod fixity;
+mod lists;
 mod making;
 mod parts;
 mod program;
