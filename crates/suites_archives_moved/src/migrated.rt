@@ -110,7 +110,7 @@ fn converted(alloc: Global, source: MemSource) -> Option<Vec<u8>> {
     let mut out = MemSink::new(Vec::new(alloc));
     let mut err = MemSink::new(Vec::new(alloc));
     let command = Command::Convert { archive: "a.warc" };
-    let (status, _source) = perform(alloc, &command, source, &mut out, &mut err);
+    let (status, _source) = perform(alloc, &command, b"", source, &mut out, &mut err);
     if status == 0 && err.bytes().is_empty() {
         Some(out.into_inner())
     } else {

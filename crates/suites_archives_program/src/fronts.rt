@@ -13,6 +13,7 @@ pub(crate) const SALVAGE: Command<'static> = Command::Salvage { archive: "a.warc
 fn is_salvaged(alloc: Global, bytes: &[u8]) -> Result<bool, AllocError> {
     let asked = Asked {
         command: &SALVAGE,
+        list: b"",
         archive: bytes,
     };
     let ended = run_in_pieces(alloc, asked, usize::MAX)?;

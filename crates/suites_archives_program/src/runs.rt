@@ -26,10 +26,11 @@ impl Ended {
     }
 }
 
-/// A command, and the archive that it is run over.
+/// A command, the list that it reads, and the archive that it is run over.
 #[derive(Clone, Copy)]
 pub(crate) struct Asked<'a> {
     pub(crate) command: &'a Command<'a>,
+    pub(crate) list: &'a [u8],
     pub(crate) archive: &'a [u8],
 }
 
@@ -43,7 +44,7 @@ fn told<S: Source + Drop, A: Allocator + Copy, W: Sink>(
     out: &mut W,
 ) -> (Vec<u8>, u8, S) {
     let mut err = MemSink::new(Vec::new(alloc));
-    let (status, source) = perform(heap, asked.command, source, out, &mut err);
+    let (status, source) = perform(heap, asked.command, asked.list, source, out, &mut err);
     (err.into_inner(), status, source)
 }
 

@@ -80,6 +80,7 @@ pub(crate) fn answer_salvaging(
 ) -> Result<bool, AllocError> {
     let asked = Asked {
         command: &SALVAGE,
+        list: b"",
         archive,
     };
     match case.text(0) {

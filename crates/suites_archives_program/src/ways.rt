@@ -12,6 +12,7 @@ use crate::usage::answer_usage;
 use crate::words::{command_of, is_command, words_from};
 use std::alloc::{AllocError, Global};
 use suites_script::Case;
+use warc_commands::Command;
 use warc_vectors::Break;
 
 /// How many words of a case stand before those of its command.
@@ -55,12 +56,21 @@ pub fn answer(
         Some(command) => {
             let asked = Asked {
                 command: &command,
+                list: list_of(&command, case),
                 archive,
             };
             answer_run(alloc, case, asked, answer)?;
             Ok(true)
         }
         None => Ok(false),
+    }
+}
+
+/// The list that a command reads: the text that is given with the case.
+fn list_of<'a>(command: &Command<'_>, case: &'a Case<'_>) -> &'a [u8] {
+    match command.list_path() {
+        Some(_) => case.given(),
+        None => b"",
     }
 }
 

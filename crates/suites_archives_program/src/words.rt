@@ -7,6 +7,9 @@ use warc_commands::{Command, Draft};
 /// What commands call their archive.
 const PATH: &str = "a.warc";
 
+/// What they call the list that they read beside it.
+const LIST: &str = "positions.txt";
+
 /// The text that a word stands for: `""` is one of no bytes.
 fn text_of(word: &[u8]) -> &str {
     match word {
@@ -72,6 +75,7 @@ fn counts_of(command: &str, gives: bool) -> Option<(usize, usize)> {
         "list" | "check" | "rewrite" | "convert" | "fixity" | "salvage" | "summary" => Some((1, 1)),
         "extract" | "split" | "head" | "block" | "explain" => Some((2, 2)),
         "body" => Some((2, 3)),
+        "select" => Some((1, 2)),
         "captures" => Some((1, 3)),
         "replay" => Some((3, 4)),
         "write" if gives => Some((5, 5)),
@@ -91,6 +95,7 @@ fn ends_in_option(words: &[String]) -> bool {
         ("replay", 4) => matches!(word(words, 3), "--uri-hex" | "--stored"),
         ("captures", 3) => word(words, 2) == "--uri-hex",
         ("body", 3) => word(words, 2) == "--stored",
+        ("select", 2) => word(words, 1) == "--except",
         _ => true,
     }
 }
@@ -105,7 +110,7 @@ fn are_words(words: &[String], gives: bool) -> bool {
     }
 }
 
-/// The command that the words of a case name, as on the command line but for the archive; nothing where there is a word
+/// The command that the words of a case name, as on the command line but for the paths; nothing where there is a word
 /// too many or too few.
 pub(crate) fn command_of<'a>(words: &'a [String], case: &'a Case<'_>) -> Option<Command<'a>> {
     if !are_words(words, case.gives()) {
@@ -141,6 +146,11 @@ pub(crate) fn command_of<'a>(words: &'a [String], case: &'a Case<'_>) -> Option<
         "split" => Command::Split {
             archive,
             size: word(words, 1),
+        },
+        "select" => Command::Select {
+            archive,
+            positions: LIST,
+            except: word(words, 1) == "--except",
         },
         "write" => Command::Write {
             draft: draft_of(words, content_type_of(words, case)),

@@ -2,7 +2,9 @@ pub mod ListLemmas
 pub mod MakingLemmas
 pub mod ProgramLemmas
 pub mod ReadLemmas
+mod RunLemmas
 pub mod SalvageLemmas
 mod StoredLemmas
 mod WorkedValues
 pub mod CaptureLemmas
+pub mod ChoiceLemmas

@@ -1,6 +1,7 @@
 -- What a command reads of its source.
 use Rattle.std.proofs.Common.{◌≡◌, ℕ, ◌+◌, ◌*◌, ◌<◌, ◌≤◌, Bool, List, [], ◌∷◌, length, map, Option, None, Some, Result, Ok, length-append, length-take, take, refl, sym, ap, subst, ◌∙◌, arith}
-use Rattle.std.specs.List.{slice_get, sum_by}
+use Rattle.std.specs.List.{All, AllByRecursion, Contains, slice_get, sum_by}
+use Rattle.std.proofs.lemmas.List.Elements.{All-cons, All-contains, All-nil}
 use Rattle.std.proofs.lemmas.List.Sums.{sum_by-cons}
 use Rattle.warc_frame.specs.Count.{raised}
 use Rattle.warc_frame.specs.Ranges.{IsReadAt}
@@ -23,6 +24,10 @@ use Rattle.warc_reading.specs.Placing.{IsInAnyRow}
 use Rattle.warc.specs.Front.{CopiesFront, Fronted, OpensFront}
 use Rattle.warc.specs.Parts.{IsInPart, ReadsPart, found_len}
 use Rattle.warc.specs.Replaying.{AsksInside, ReadsPath}
+use Rattle.warc.specs.Selected.{HasBytesOf}
+use Rattle.warc.specs.Selecting.{IsInAnyRecord, at_positions}
+use Rattle.warc.proofs.SelectLemmas.{all_at, has_bytes}
+use Rattle.warc.proofs.SelectionLaws.{selection_short}
 use Rattle.warc.specs.declared.copying.Form.{Form}
 use Rattle.warc.specs.declared.part.Part.{Part}
 use Rattle.warc.specs.declared.part.Part.TheVariants.{Head, Block}
@@ -31,6 +36,7 @@ use Rattle.warc.proofs.JoinedLemmas.{path_short}
 use Rattle.warc_reading.proofs.StandLemmas.{written}
 use Rattle.warc_commands.specs.Asking.{AsksFar, HasAsked, HasReadFront, ReadsFront}
 use Rattle.warc_commands.specs.Reads.{AsksNear, ReadsForRecord, ReadsTimes}
+use Rattle.warc_commands.specs.Selected.{ReadsSome}
 
 -- one more read, of these bytes alone
 asks_more : (These : ℕ → Type 0) (old mid new : SeenSource) (at len : ℕ) → mid.watches ≡ old.watches → AsksOnly These old mid → AsksOnly (IsInRange at len) mid new → ((q : ℕ) → IsInRange at len q → These q)
@@ -184,6 +190,14 @@ split_short q [] text is = omega arith
 split_short q (p ∷ ps) text (front, rest, one, at, behind, whole, more) =
     omega (arith, split_short (q + length front) ps rest more, sum_by-cons split_len (row_of p) (map row_of ps), front_size q q p front one at behind, at, behind, ap length whole, length-append front rest)
 
+-- what holds of each holds of one of them
+all_by : {X : Type 0} (P : X → Type 0) (xs : List X) → AllByRecursion P xs → All P xs
+all_by {X} P [] all = All-nil P
+all_by {X} P (x ∷ xs) all = All-cons P x xs all.0 (all_by P xs all.1)
+
+each_of : {X : Type 0} (P : X → Type 0) (xs : List X) (x : X) → AllByRecursion P xs → Contains xs x → P x
+each_of {X} P xs x all in_ = All-contains P xs x (all_by P xs all) in_
+
 module _ {X : Type 0} {Is : List ℕ → X → Type 0} {old mid last new : SeenSource} {x : X} (rows : List Row) (of : (bytes : List ℕ) → Is bytes x → IsArchiveOf bytes rows) (opens : Opens Is old mid (Ok x)) (same : new ≡ last) where
   left : (times : ℕ) → ReadsTimes times old last → ReadsTimes times old new
   left times is = let P : SeenSource → Type 0 = λ t. ReadsTimes times old t in subst P (sym same) is
@@ -213,6 +227,20 @@ module _ {X : Type 0} {Is : List ℕ → X → Type 0} {old mid last new : SeenS
   each_split reads = left 4 (record {
     near = each_near _ reads;
     cost = λ bytes held. let is = of bytes (opens.accepted bytes held) in omega (arith, opens.cost bytes held, reads.bound, ap (sum_by split_len) is.are.rows_are, split_short 0 is.are.records bytes is.are.spelled);
+  })
+
+  -- some records are read
+  in_some : (positions : List ℕ) (q : ℕ) → IsInAnyRecord (at_positions rows positions) q → q ≤ max_archive
+  in_some positions q in_ =
+      let bytes = opens.some.0 in
+      let is = of bytes opens.some.1 in
+      let has = each_of (HasBytesOf bytes) (at_positions rows positions) in_.row (all_at (HasBytesOf bytes) rows positions (has_bytes bytes rows is)) in_.is in
+      omega (arith, in_.inside.1, has.0, is.short)
+
+  pub some_read : ReadsSome rows mid last → ReadsTimes 2 old new
+  some_read some = left 2 (record {
+    near = near_then (IsInAnyRecord (at_positions rows some.positions)) old mid last opens.reads.watched opens.reads.near (in_some some.positions) some.reads.near;
+    cost = λ bytes held. omega (arith, opens.cost bytes held, some.reads.bound, selection_short bytes rows some.positions (of bytes (opens.accepted bytes held)) some.ascending);
   })
 
 -- what a replay asks for lies in the archive

@@ -1,5 +1,5 @@
 -- How each command ends, and its exit statuses.
-use Rattle.std.specs.Prelude.{◌≡◌, ℕ, ◌⊎◌, Bool, true, false, option_map}
+use Rattle.std.specs.Prelude.{◌≡◌, ℕ, ◌⊎◌, Bool, true, false, List, option_map}
 use Rattle.warc.specs.Forms.{texts_as}
 use Rattle.warc.specs.declared.copying.Form.TheVariants.{Canonical, Converted}
 use Rattle.warc.specs.declared.part.Part.TheVariants.{Head, Block}
@@ -13,33 +13,37 @@ use Rattle.warc_commands.specs.Parts.{PartEnds, position_of}
 use Rattle.warc_commands.specs.Program.{CheckEnds, ExtractEnds, ListEnds, MakeEnds, SplitEnds, WriteEnds, size_of}
 use Rattle.warc_commands.specs.Captures.{CapturesEnds}
 use Rattle.warc_commands.specs.Salvage.{SalvageEnds}
+use Rattle.warc_commands.specs.Named.{bad_line, positions_in}
+use Rattle.warc_commands.specs.Selected.{SelectEnds}
 use Rattle.warc_commands.specs.Stored.{ReplayedAs, StoredEnds}
 use Rattle.warc_commands.specs.Summaries.{SummaryEnds}
 use Rattle.warc_commands.specs.Uris.{UriEnds, uri_listed}
 use Rattle.warc_arguments.specs.declared.words.Command.{Command}
 use Rattle.warc_arguments.specs.declared.words.Command.TheVariants as command
 
--- how a run of the command ends, by how its source may be read
-abbrev pub Ends : Command → Devices → Devices → ℕ → Type 0
-Ends (command.List archive) old new status = ListEnds old new status
-Ends (command.Check archive) old new status = CheckEnds old new status
-Ends (command.Extract archive id) old new status = ExtractEnds id.now old new status
-Ends (command.Replay archive uri date hex stored) old new status =
+-- how a run of the command ends, by the list that it reads beside its source, if it reads one
+abbrev pub Ends : Command → List ℕ → Devices → Devices → ℕ → Type 0
+Ends (command.List archive) list old new status = ListEnds old new status
+Ends (command.Check archive) list old new status = CheckEnds old new status
+Ends (command.Extract archive id) list old new status = ExtractEnds id.now old new status
+Ends (command.Replay archive uri date hex stored) list old new status =
     UriEnds (ReplayedAs stored date.now) hex (uri_named hex uri.now) old new status
-Ends (command.Body archive position false) old new status = BodyEnds (position_of position.now) old new status
-Ends (command.Body archive position true) old new status = StoredEnds (position_of position.now) old new status
-Ends (command.Captures archive uri hex) old new status =
+Ends (command.Body archive position false) list old new status = BodyEnds (position_of position.now) old new status
+Ends (command.Body archive position true) list old new status = StoredEnds (position_of position.now) old new status
+Ends (command.Captures archive uri hex) list old new status =
     UriEnds CapturesEnds hex (uri_listed hex (option_map (λ u. u.now) uri)) old new status
-Ends (command.Rewrite archive) old new status = WriteEnds (texts_as Canonical) old new status
-Ends (command.Convert archive) old new status = WriteEnds (texts_as Converted) old new status
-Ends (command.Split archive size) old new status = SplitEnds (size_of size.now) old new status
-Ends (command.Write draft file) old new status = MakeEnds draft old new status
-Ends (command.Head archive position) old new status = PartEnds Head (position_of position.now) old new status
-Ends (command.Block archive position) old new status = PartEnds Block (position_of position.now) old new status
-Ends (command.Fixity archive) old new status = FixityEnds old new status
-Ends (command.Salvage archive) old new status = SalvageEnds old new status
-Ends (command.Summary archive) old new status = SummaryEnds old new status
-Ends (command.Explain number) old new status = ExplainEnds (explained number.now) old new status
+Ends (command.Rewrite archive) list old new status = WriteEnds (texts_as Canonical) old new status
+Ends (command.Convert archive) list old new status = WriteEnds (texts_as Converted) old new status
+Ends (command.Split archive size) list old new status = SplitEnds (size_of size.now) old new status
+Ends (command.Select archive positions except) list old new status =
+    SelectEnds except (bad_line list) (positions_in list) old new status
+Ends (command.Write draft file) list old new status = MakeEnds draft old new status
+Ends (command.Head archive position) list old new status = PartEnds Head (position_of position.now) old new status
+Ends (command.Block archive position) list old new status = PartEnds Block (position_of position.now) old new status
+Ends (command.Fixity archive) list old new status = FixityEnds old new status
+Ends (command.Salvage archive) list old new status = SalvageEnds old new status
+Ends (command.Summary archive) list old new status = SummaryEnds old new status
+Ends (command.Explain number) list old new status = ExplainEnds (explained number.now) old new status
 
 -- the exit statuses of a command
 abbrev pub IsStatusOf : Command → ℕ → Type 0
@@ -53,6 +57,8 @@ IsStatusOf (command.Captures archive uri hex) status = (status ≡ 0) ⊎ ((stat
 IsStatusOf (command.Rewrite archive) status = (status ≡ 0) ⊎ ((status ≡ 2) ⊎ (status ≡ 3))
 IsStatusOf (command.Convert archive) status = (status ≡ 0) ⊎ ((status ≡ 2) ⊎ (status ≡ 3))
 IsStatusOf (command.Split archive size) status = (status ≡ 0) ⊎ ((status ≡ 2) ⊎ (status ≡ 3))
+IsStatusOf (command.Select archive positions except) status =
+    (status ≡ 0) ⊎ ((status ≡ 1) ⊎ ((status ≡ 2) ⊎ (status ≡ 3)))
 IsStatusOf (command.Write draft file) status = (status ≡ 0) ⊎ (status ≡ 3)
 IsStatusOf (command.Head archive position) status = (status ≡ 0) ⊎ ((status ≡ 1) ⊎ ((status ≡ 2) ⊎ (status ≡ 3)))
 IsStatusOf (command.Block archive position) status = (status ≡ 0) ⊎ ((status ≡ 1) ⊎ ((status ≡ 2) ⊎ (status ≡ 3)))

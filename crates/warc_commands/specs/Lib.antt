@@ -11,6 +11,7 @@ pub mod Program
 pub mod Reads
 pub mod Running
 pub mod Salvage
+pub mod Selected
 pub mod Stored
 pub mod Summaries
 pub mod Uris

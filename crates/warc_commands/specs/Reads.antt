@@ -41,6 +41,7 @@ CommandReads (command.Convert archive) old new = ReadsTimes 2 old new
 CommandReads (command.Split archive size) old new = ReadsTimes 4 old new
 CommandReads (command.Replay archive uri date hex stored) old new = ReadsTimes 3 old new
 CommandReads (command.Body archive position stored) old new = ReadsTimes 3 old new
+CommandReads (command.Select archive positions except) old new = ReadsTimes 2 old new
 CommandReads (command.Write draft file) old new = ReadsForRecord old new
 CommandReads (command.Captures archive uri hex) old new = AsksNear old new
 CommandReads (command.Salvage archive) old new = ReadsTimes 2 old new

@@ -1,5 +1,5 @@
 -- How a run of the program ends, by its words and by what the system gives it.
-use Rattle.std.specs.Prelude.{◌≡◌, ℕ, ◌+◌, Bool, true, false, List, [], map, length, nat_le, take, Option, Some, None, Result, Ok, Err, MatchOption, MatchResult, Vec, String, codes, string_bytes, ◌⊎◌, if◌then◌else◌}
+use Rattle.std.specs.Prelude.{◌≡◌, ℕ, ◌+◌, ◌<◌, ◌≤◌, ◌&&◌, ◌||◌, unwrap_or, Bool, true, false, List, [], map, length, nat_le, take, Option, Some, None, Result, Ok, Err, MatchOption, MatchResult, Vec, String, codes, string_bytes, ◌⊎◌, if◌then◌else◌}
 use Rattle.std.specs.Str.{bytes_eq}
 use Rattle.std.specs.IoError.{error_kind}
 use Rattle.std.specs.declared.io.Error.{Error}
@@ -8,7 +8,7 @@ use Rattle.std.specs.declared.io.ErrorKind.TheVariants.{OutOfMemory}
 use Rattle.warc_frame.specs.FaultText.{out_fault_text}
 use Rattle.warc_frame.specs.Seen.{IfHeld, Seen, SeenSource}
 use Rattle.warc_frame.specs.declared.fault.OutFault.TheVariants.{Memory}
-use Rattle.warc_arguments.specs.Command.{opens_nothing, path_word, reads_once}
+use Rattle.warc_arguments.specs.Command.{list_word, opens_nothing, path_word, reads_once}
 use Rattle.warc_arguments.specs.Parsed.{IsParsed}
 use Rattle.warc_commands.specs.Devices.{devices}
 use Rattle.warc_commands.specs.Ends.{Ends, IsStatusOf, writes_front}
@@ -46,10 +46,6 @@ place_at path =
 abbrev pub command_place : Command → Place
 command_place command = if opens_nothing command then Nowhere else place_at (path_word command)
 
--- the most bytes of standard input that are kept in memory
-abbrev pub max_input : ℕ
-max_input = 1073741824
-
 -- why a run can't begin, by the kind of an error
 abbrev pub stop_text : List ℕ → ErrorKind → List ℕ
 stop_text why OutOfMemory = out_fault_text (Memory 0)
@@ -61,10 +57,11 @@ pub record IsStopped (why : List ℕ) (old new : Outputs) (status : ℕ) : Type 
   pub told : Tells (told_line why) old.err new.err
   pub status_is : status ≡ 3
 
--- a command was done over a source, which it left in a last state
-pub record IsRunOver (command : Command) (source last : SeenSource) (old new : Outputs) (status : ℕ) : Type 0 where
+-- a command was done over a list and a source, which it left in a last state
+pub record IsRunOver (command : Command) (list : List ℕ) (source last : SeenSource) (old new : Outputs) (status : ℕ)
+    : Type 0 where
   pub kept : last.holds ≡ source.holds
-  pub ends : Ends command (devices source old.out old.err) (devices last new.out new.err) status
+  pub ends : Ends command list (devices source old.out old.err) (devices last new.out new.err) status
   pub reads : CommandReads command source last
   pub silent : writes_front command ≡ false → status ≡ 2
       → (new.out.tells ≡ old.out.tells) × (new.out.faults ≡ old.out.faults)
@@ -77,16 +74,88 @@ run_left file stream (sources.Stream s) = Some (stream s)
 run_left file stream sources.Nothing = None
 
 -- a command was done over a source of the system's, which was given back
-abbrev pub IsRunOnLeft : Command → SeenSource → Option SeenSource → Outputs → Outputs → ℕ → Type 0
-IsRunOnLeft command source None old new status = ⊥
-IsRunOnLeft command source (Some last) old new status = IsRunOver command source last old new status
+abbrev pub IsRunOnLeft : Command → List ℕ → SeenSource → Option SeenSource → Outputs → Outputs → ℕ → Type 0
+IsRunOnLeft command list source None old new status = ⊥
+IsRunOnLeft command list source (Some last) old new status = IsRunOver command list source last old new status
+
+-- the most bytes of standard input that are kept in memory, and of a list
+abbrev pub max_input : ℕ
+max_input = 1073741824
+
+-- a path of standard input
+abbrev pub is_input : List ℕ → Bool
+is_input path = bytes_eq path (codes "-") || bytes_eq path (codes "/dev/stdin")
+
+-- the system gave this source at the path of a list: standard input as it comes, or a file
+abbrev pub GivesList : Bool → (Offer → Type 0) → List ℕ → SeenSource → Type 0
+GivesList true gives path source = gives (streamed source)
+GivesList false gives path source = gives (opened path (Ok source))
+
+-- a list is all bytes at a path
+pub record IsListAt (gives : Offer → Type 0) (path list : List ℕ) : Type 0 where
+  pub source : SeenSource
+  pub given : GivesList (is_input path) gives path source
+  pub few : length list ≤ max_input
+  pub are : IfHeld source.holds (λ all. list ≡ all)
+
+-- the list of a command, by its path; a command that has no such path reads no list
+abbrev pub IsListOf : (Offer → Type 0) → Option (List ℕ) → List ℕ → Type 0
+IsListOf gives None list = list ≡ []
+IsListOf gives (Some path) list = IsListAt gives path list
+
+-- a list has too many bytes
+pub record IsListTooLong (source last : SeenSource) (old new : Outputs) (status : ℕ) : Type 0 where
+  pub long : IfHeld source.holds (λ all. max_input < length all)
+  pub sound : last.faults ≡ source.faults
+  pub stopped : IsStopped (codes "the positions are too long") old new status
+
+-- the bytes of a list weren't read, or they are too many
+abbrev pub IsListCut : SeenSource → SeenSource → Outputs → Outputs → ℕ → Type 0
+IsListCut source last old new status =
+    IsListTooLong source last old new status
+    ⊎ IsNotRead (devices source old.out old.err) (devices last new.out new.err) status
+
+-- the file of a list didn't open
+pub record IsListUnopened (gives : Offer → Type 0) (left : Option SeenSource) (path : List ℕ) (old new : Outputs)
+    (status : ℕ) : Type 0 where
+  pub error : Error
+  pub given : gives (opened path (Err error))
+  pub none : left ≡ None
+  pub stopped : IsStopped (stop_text (codes "open failed") (error_kind error)) old new status
+
+-- the source of a list was read, and is given back
+pub record IsListUnread (gives : Offer → Type 0) (left : Option SeenSource) (path : List ℕ) (old new : Outputs)
+    (status : ℕ) : Type 0 where
+  pub source : SeenSource
+  pub given : GivesList (is_input path) gives path source
+  pub last : SeenSource
+  pub given_back : left ≡ Some last
+  pub ends : IsListCut source last old new status
+
+-- a run stops since it has no list
+abbrev pub LacksList : (Offer → Type 0) → Option SeenSource → Option (List ℕ) → Outputs → Outputs → ℕ → Type 0
+LacksList gives left None old new status = ⊥
+LacksList gives left (Some path) old new status =
+    IsListUnopened gives left path old new status ⊎ IsListUnread gives left path old new status
+
+-- a command was done over its list and a source of the system's
+pub record IsRunWithList (gives : Offer → Type 0) (left : Option SeenSource) (command : Command) (source : SeenSource)
+    (old new : Outputs) (status : ℕ) : Type 0 where
+  pub list : List ℕ
+  pub is : IsListOf gives (list_word command) list
+  pub over : IsRunOnLeft command list source left old new status
+
+-- a command reads its list, after its source was opened
+abbrev pub RunsOver : (Offer → Type 0) → Option SeenSource → Command → SeenSource → Outputs → Outputs → ℕ → Type 0
+RunsOver gives left command source old new status =
+    IsRunWithList gives left command source old new status ⊎ LacksList gives left (list_word command) old new status
 
 -- a command reads the file at its path
 pub record ReadsFile (gives : Offer → Type 0) (left : Option SeenSource) (command : Command) (old new : Outputs)
     (status : ℕ) : Type 0 where
   pub file : Result SeenSource Error
   pub given : gives (opened (path_word command) file)
-  pub ends : MatchResult file (λ source. IsRunOnLeft command source left old new status)
+  pub ends : MatchResult file (λ source. RunsOver gives left command source old new status)
       (λ error. IsStopped (stop_text (codes "open failed") (error_kind error)) old new status)
 
 -- a source of bytes in memory, which nobody has read
@@ -103,40 +172,54 @@ in_memory bytes = record {
 }
 
 -- a command was done over bytes in memory: no read of them failed
-pub record IsRunInMemory (command : Command) (bytes : List ℕ) (old new : Outputs) (status : ℕ) : Type 0 where
+pub record IsRunInMemory (command : Command) (list bytes : List ℕ) (old new : Outputs) (status : ℕ) : Type 0 where
   pub last : SeenSource
   pub sound : last.faults ≡ 0
-  pub over : IsRunOver command (in_memory bytes) last old new status
+  pub over : IsRunOver command list (in_memory bytes) last old new status
 
 -- a command over bytes in memory, if they are few enough
-abbrev pub MemoryEnds : Bool → List ℕ → Command → List ℕ → Outputs → Outputs → ℕ → Type 0
-MemoryEnds true long command bytes old new status = IsRunInMemory command bytes old new status
-MemoryEnds false long command bytes old new status = IsStopped long old new status
+abbrev pub MemoryEnds : Bool → List ℕ → Command → List ℕ → List ℕ → Outputs → Outputs → ℕ → Type 0
+MemoryEnds true long command list bytes old new status = IsRunInMemory command list bytes old new status
+MemoryEnds false long command list bytes old new status = IsStopped long old new status
 
 -- a command was done over all bytes of a source, which were read into memory, or stopped since they are too long
-pub record IsDoneInMemory (long : List ℕ) (command : Command) (source last : SeenSource) (old new : Outputs)
-    (status : ℕ) : Type 0 where
+pub record IsDoneInMemory (long : List ℕ) (command : Command) (list : List ℕ) (source last : SeenSource)
+    (old new : Outputs) (status : ℕ) : Type 0 where
   pub bytes : List ℕ
   pub are : IfHeld source.holds (λ all. bytes ≡ take (max_input + 1) all)
   pub sound : last.faults ≡ source.faults
-  pub ends : MemoryEnds (nat_le (length bytes) max_input) long command bytes old new status
+  pub ends : MemoryEnds (nat_le (length bytes) max_input) long command list bytes old new status
 
--- a command reads standard input into memory first, and gives it back; where reading fails the run stops
-pub record ReadsMemory (gives : Offer → Type 0) (left : Option SeenSource) (long : List ℕ) (command : Command)
-    (old new : Outputs) (status : ℕ) : Type 0 where
+-- a command reads standard input into memory, and gives it back; where reading fails the run stops
+pub record ReadsInto (gives : Offer → Type 0) (left : Option SeenSource) (long : List ℕ) (command : Command)
+    (list : List ℕ) (old new : Outputs) (status : ℕ) : Type 0 where
   pub source : SeenSource
   pub given : gives (streamed source)
   pub last : SeenSource
   pub given_back : left ≡ Some last
-  pub ends : IsDoneInMemory long command source last old new status
+  pub ends : IsDoneInMemory long command list source last old new status
       ⊎ IsNotRead (devices source old.out old.err) (devices last new.out new.err) status
 
--- a command reads standard input as it comes
+-- it reads its list before that
+pub record IsReadWithList (gives : Offer → Type 0) (left : Option SeenSource) (long : List ℕ) (command : Command)
+    (old new : Outputs) (status : ℕ) : Type 0 where
+  pub list : List ℕ
+  pub is : IsListOf gives (list_word command) list
+  pub over : ReadsInto gives left long command list old new status
+
+abbrev pub ReadsMemory : (Offer → Type 0) → Option SeenSource → List ℕ → Command → Outputs → Outputs → ℕ → Type 0
+ReadsMemory gives left long command old new status =
+    IsReadWithList gives left long command old new status ⊎ LacksList gives left (list_word command) old new status
+
+-- a command reads standard input as it comes, and no list
 pub record ReadsStream (gives : Offer → Type 0) (left : Option SeenSource) (command : Command) (old new : Outputs)
     (status : ℕ) : Type 0 where
   pub source : SeenSource
   pub given : gives (streamed source)
-  pub ends : IsRunOnLeft command source left old new status
+  pub ends : IsRunOnLeft command [] source left old new status
+
+abbrev pub two_inputs : List ℕ
+two_inputs = codes "the archive and the positions can't both be standard input"
 
 abbrev pub too_long : List ℕ
 too_long = codes "standard input is too long for this command; write it to a file first"
@@ -152,7 +235,7 @@ pub record ReadsInput (gives : Offer → Type 0) (left : Option SeenSource) (com
   pub file : Option SeenSource
   pub given : gives (redirected file)
   pub ends : MatchOption file (PipeEnds (reads_once command) gives left command old new status)
-      (λ source. IsRunOnLeft command source left old new status)
+      (λ source. RunsOver gives left command source old new status)
 
 -- how a command ends, by where its bytes are
 abbrev pub PlaceEnds : Place → (Offer → Type 0) → Option SeenSource → Command → Outputs → Outputs → ℕ → Type 0
@@ -160,7 +243,17 @@ PlaceEnds File gives left command old new status = ReadsFile gives left command 
 PlaceEnds InMemory gives left command old new status =
     ReadsMemory gives left (codes "read failed after 0") command old new status
 PlaceEnds Input gives left command old new status = ReadsInput gives left command old new status
-PlaceEnds Nowhere gives left command old new status = IsRunInMemory command [] old new status
+PlaceEnds Nowhere gives left command old new status = IsRunInMemory command [] [] old new status
+
+-- a command names standard input twice
+abbrev pub names_input_twice : Command → Bool
+names_input_twice command = is_input (path_word command) && is_input (unwrap_or (list_word command) [])
+
+-- how a command ends: without a read, if it names standard input twice
+abbrev pub CommandEnds : Bool → (Offer → Type 0) → Option SeenSource → Command → Outputs → Outputs → ℕ → Type 0
+CommandEnds true gives left command old new status = IsStopped two_inputs old new status
+CommandEnds false gives left command old new status =
+    PlaceEnds (command_place command) gives left command old new status
 
 -- how a run ends whose words are texts
 pub record WordsEnd (gives : Offer → Type 0) (left : Option SeenSource) (words : List (List ℕ)) (old new : Outputs)
@@ -168,7 +261,7 @@ pub record WordsEnd (gives : Offer → Type 0) (left : Option SeenSource) (words
   pub parsed : Result Request CommandFault
   pub is : IsParsed words parsed
   pub ends : MatchResult parsed
-      (λ request. PlaceEnds (command_place request.command) gives left request.command old new status)
+      (λ request. CommandEnds (names_input_twice request.command) gives left request.command old new status)
       (λ fault. FaultEnds fault old.out new.out old.err new.err status)
 
 -- How a run ends, by what the system gives and by what is seen of the source that it gives back: a failed read is

@@ -13,6 +13,7 @@ mod parts;
 mod program;
 mod running;
 mod salvage;
+mod selecting;
 mod splitting;
 mod stored;
 mod summary;

@@ -17,6 +17,7 @@ use crate::fixity::fixity;
 use crate::making::write;
 use crate::parts::give;
 use crate::salvage::salvage;
+use crate::selecting::{Wanted, select};
 use crate::splitting::split;
 use crate::stored::stored;
 use crate::summary::summary;
@@ -46,14 +47,17 @@ pub(crate) const LINE: usize = 128;
 /// Does what a command says. The output goes to `out`, and a line on what went wrong to `err`, where failed writes are
 /// ignored. Returns the source and the exit status: 0 done; 1 checked and something was found, or what was asked for
 /// isn't there; 2 the archive is refused; 3 a bad date, size, position or number, a record that isn't made, or a read,
-/// a write or a growth of the memory failed; 4 some block can't be checked. A date, a size and a position are judged
-/// before the source is read, and a number is explained without it.
+/// a write or a growth of the memory failed; 4 some block can't be checked. A date, a size, a position and a list are
+/// judged before the source is read, and a number is explained without it.
+///
+/// `listed` holds the bytes of the list that a command reads beside its source (`Command::list_path`).
 ///
 /// Where `Command::reads_once` is false, the source must let any offset be read, as often as wanted. Else each byte is
 /// read once, in order.
 pub fn perform<A, S, W, E>(
     alloc: A,
     command: &Command<'_>,
+    listed: &[u8],
     source: S,
     out: &mut W,
     err: &mut E,
@@ -63,7 +67,7 @@ where
     S: Source + Drop,
     W: Sink,
     E: Sink,
-    ensures ends { Ends command.now (devices (S.seen source) (W.seen out.old) (E.seen err.old)) (devices
+    ensures ends { Ends command.now listed.now (devices (S.seen source) (W.seen out.old) (E.seen err.old)) (devices
         (S.seen result.1) (W.seen out.new) (E.seen err.new)) result.0 }
 
     // The source still holds what it held.
@@ -112,6 +116,17 @@ where
         Command::Rewrite { archive: _ } => write_anew(alloc, Form::Canonical, source, out, err),
         Command::Convert { archive: _ } => write_anew(alloc, Form::Converted, source, out, err),
         Command::Split { archive: _, size } => split(alloc, size, source, out, err),
+        Command::Select {
+            archive: _,
+            positions: _,
+            except,
+        } => {
+            let wanted = Wanted {
+                list: listed,
+                except: *except,
+            };
+            select(alloc, wanted, source, out, err)
+        }
         Command::Write { draft, file: _ } => write(alloc, draft, source, out, err),
         Command::Head {
             archive: _,

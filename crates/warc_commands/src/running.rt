@@ -1,12 +1,13 @@
 //! A run of the program: its words, what the system gives it, and how it ends.
 ghost use Rattle.std.specs.Option.{option_map};
-ghost use Rattle.std.specs.Prelude.{◌≡◌, ◌≤◌, [], length, map, nat_le, string_bytes};
+ghost use Rattle.std.specs.Prelude.{◌≡◌, ◌≤◌, [], IfErr, IfOk, Some, length, map, nat_le, string_bytes};
 ghost use Rattle.std.specs.Result.{result_map_both};
 ghost use Rattle.std.specs.IoError.{error_kind};
 ghost use Rattle.warc_commands.specs.Program.{Tells, told_line};
-ghost use Rattle.warc_commands.specs.Running.{Offer, IsRunInMemory, IsRunOver, MemoryEnds, PipeEnds, PlaceEnds, ReadsFile, ReadsInput, ReadsMemory, RunEnds, WordsEnd};
-ghost use Rattle.warc_commands.specs.Running.{command_place, max_input, opened, outputs, place_at, redirected, run_left, stop_text, streamed};
-ghost use Rattle.warc_arguments.specs.Command.{reads_once};
+ghost use Rattle.warc_commands.specs.Running.{Offer, CommandEnds, IsListAt, IsListCut, IsListOf, IsRunInMemory, IsRunOver, LacksList, MemoryEnds, RunsOver, PipeEnds, PlaceEnds, ReadsFile, ReadsInput, ReadsInto, ReadsMemory, RunEnds, WordsEnd};
+ghost use Rattle.warc_commands.specs.Running.{command_place, is_input, max_input, names_input_twice, opened, outputs, place_at, redirected, run_left, stop_text, streamed};
+ghost use Rattle.warc_arguments.specs.Command.{list_word, reads_once};
+ghost use Rattle.warc_frame.specs.Seen.{IfHeld, Seen};
 
 use crate::making::read_front;
 use crate::program::{FAILED, line_of, perform, refuse, tell, tell_cut};
@@ -20,6 +21,11 @@ const MOST_INPUT: u64 = 1 << 30;
 
 /// What is reported where standard input is too long for memory, of the path `/dev/stdin` and of `-`.
 const READ_FAILED: &str = "read failed after 0";
+
+/// What is reported where a list is too long for memory, and where a command names standard input twice.
+const LIST_TOO_LONG: &str = "the positions are too long";
+
+const TWO_INPUTS: &str = "the archive and the positions can't both be standard input";
 
 const TOO_LONG: &str = "standard input is too long for this command; write it to a file first";
 
@@ -69,7 +75,9 @@ enum Place {
 /// status, and what was read: a failed read is reported only if a read of that source failed. Words that aren't text
 /// and a file that doesn't open are reported on `err`, with status 3. The path `-` is standard input: at any offset if
 /// it is a file, as it comes if the command can ask for each offset once, in order, and else read into memory, at most
-/// 2^30 bytes of it. The path `/dev/stdin` is always read into memory. A command that reads nothing opens nothing.
+/// 2^30 bytes of it. The path `/dev/stdin` is always read into memory. A command that reads nothing opens nothing. A
+/// list that a command reads beside its archive is read into memory, at most 2^30 bytes of it, after the archive was
+/// opened; it can't be standard input if the archive is.
 pub fn run<Y, W, E>(
     alloc: Global,
     system: &Y,
@@ -127,6 +135,45 @@ where
     Y: System,
     W: Sink,
     E: Sink,
+    ensures { CommandEnds (names_input_twice command.now) (Y.gives system.now)
+        (run_left Y.File.seen Y.Stream.seen result.1) command.now
+        (outputs (W.seen out.old) (E.seen err.old)) (outputs (W.seen out.new) (E.seen err.new)) result.0 }
+{
+    if names_input_twice(command) {
+        return (tell_stop(TWO_INPUTS, err), RunSource::Nothing);
+    }
+    run_at_place(alloc, system, command, out, err)
+}
+
+/// Whether a command names standard input for its archive and for its list.
+fn names_input_twice(command: &Command<'_>) -> bool
+    ensures { result ≡ names_input_twice command.now }
+{
+    match command.list_path() {
+        Some(list) => is_input(command.path()) && is_input(list),
+        None => false,
+    }
+}
+
+/// Whether a path is one of standard input.
+fn is_input(path: &str) -> bool
+    ensures { result ≡ is_input path.now }
+{
+    path == "-" || path == "/dev/stdin"
+}
+
+/// Does what a command says, over the bytes at its path, which isn't the path of its list.
+fn run_at_place<Y, W, E>(
+    alloc: Global,
+    system: &Y,
+    command: &Command<'_>,
+    out: &mut W,
+    err: &mut E,
+) -> (u8, RunSource<Y::File, Y::Stream>)
+where
+    Y: System,
+    W: Sink,
+    E: Sink,
     ensures { PlaceEnds (command_place command.now) (Y.gives system.now)
         (run_left Y.File.seen Y.Stream.seen result.1) command.now
         (outputs (W.seen out.old) (E.seen err.old)) (outputs (W.seen out.new) (E.seen err.new)) result.0 }
@@ -160,10 +207,10 @@ fn run_over_nothing<W: Sink, E: Sink>(
     out: &mut W,
     err: &mut E,
 ) -> u8
-    ensures { IsRunInMemory command.now [] (outputs (W.seen out.old) (E.seen err.old)) (outputs
+    ensures { IsRunInMemory command.now [] [] (outputs (W.seen out.old) (E.seen err.old)) (outputs
         (W.seen out.new) (E.seen err.new)) result }
 {
-    run_in_memory(alloc, command, Vec::new(alloc), out, err)
+    run_in_memory(alloc, command, &[], Vec::new(alloc), out, err)
 }
 
 /// Where the bytes at a path are.
@@ -193,12 +240,111 @@ where
         (outputs (W.seen out.old) (E.seen err.old)) (outputs (W.seen out.new) (E.seen err.new)) result.0 }
 {
     match system.open(command.path()) {
-        Ok(file) => {
-            let (status, file) = run_over(alloc, command, file, out, err);
-            (status, RunSource::File(file))
-        }
+        Ok(file) => run_on_file(alloc, system, command, file, out, err),
         Err(error) => (stop(&error, "open failed", err), RunSource::Nothing),
     }
+}
+
+/// Does what a command says, over its list and a file.
+fn run_on_file<Y, W, E>(
+    alloc: Global,
+    system: &Y,
+    command: &Command<'_>,
+    file: Y::File,
+    out: &mut W,
+    err: &mut E,
+) -> (u8, RunSource<Y::File, Y::Stream>)
+where
+    Y: System,
+    W: Sink,
+    E: Sink,
+    ensures { RunsOver (Y.gives system.now) (run_left Y.File.seen Y.Stream.seen result.1) command.now
+        (Y.File.seen file) (outputs (W.seen out.old) (E.seen err.old)) (outputs (W.seen out.new) (E.seen err.new))
+        result.0 }
+{
+    match list_of(alloc, system, command, err) {
+        Ok(list) => {
+            let (status, file) = run_over(alloc, command, &list, file, out, err);
+            (status, RunSource::File(file))
+        }
+        Err(stopped) => stopped,
+    }
+}
+
+/// The bytes of the list of a command, if it reads one; else what the run ends with.
+fn list_of<Y, E>(
+    alloc: Global,
+    system: &Y,
+    command: &Command<'_>,
+    err: &mut E,
+) -> Result<Vec<u8>, (u8, RunSource<Y::File, Y::Stream>)>
+where
+    Y: System,
+    E: Sink,
+    ensures read { IfOk result (λ list. IsListOf (Y.gives system.now) (list_word command.now) list.items) }
+    ensures silent { IfOk result (λ list. E.seen err.new ≡ E.seen err.old) }
+    ensures unread { IfErr result (λ stopped. (out : Seen) → LacksList (Y.gives system.now)
+        (run_left Y.File.seen Y.Stream.seen stopped.1) (list_word command.now) (outputs out (E.seen err.old))
+        (outputs out (E.seen err.new)) stopped.0) }
+{
+    match command.list_path() {
+        Some(path) => list_at(alloc, system, path, err),
+        None => Ok(Vec::new(alloc)),
+    }
+}
+
+/// The bytes of the list at a path.
+fn list_at<Y, E>(
+    alloc: Global,
+    system: &Y,
+    path: &str,
+    err: &mut E,
+) -> Result<Vec<u8>, (u8, RunSource<Y::File, Y::Stream>)>
+where
+    Y: System,
+    E: Sink,
+    ensures read { IfOk result (λ list. IsListAt (Y.gives system.now) path.now list.items) }
+    ensures silent { IfOk result (λ list. E.seen err.new ≡ E.seen err.old) }
+    ensures unread { IfErr result (λ stopped. (out : Seen) → LacksList (Y.gives system.now)
+        (run_left Y.File.seen Y.Stream.seen stopped.1) (Some path.now) (outputs out (E.seen err.old))
+        (outputs out (E.seen err.new)) stopped.0) }
+{
+    if is_input(path) {
+        let mut source = system.stream();
+        return match read_list(alloc, &mut source, err) {
+            Ok(list) => Ok(list),
+            Err(status) => Err((status, RunSource::Stream(source))),
+        };
+    }
+    let mut file = match system.open(path) {
+        Ok(file) => file,
+        Err(error) => {
+            let status = stop(&error, "open failed", err);
+            return Err((status, RunSource::Nothing));
+        }
+    };
+    match read_list(alloc, &mut file, err) {
+        Ok(list) => Ok(list),
+        Err(status) => Err((status, RunSource::File(file))),
+    }
+}
+
+/// All bytes of a source, if they are few enough; else the exit status.
+fn read_list<S: Source, E: Sink>(alloc: Global, source: &mut S, err: &mut E) -> Result<Vec<u8>, u8>
+    ensures few { IfOk result (λ list. length list.items ≤ max_input) }
+    ensures are { IfOk result (λ list. IfHeld (S.seen source.old).holds (λ all. list.items ≡ all)) }
+    ensures silent { IfOk result (λ list. E.seen err.new ≡ E.seen err.old) }
+    ensures cut { IfErr result (λ status. (out : Seen) → IsListCut (S.seen source.old) (S.seen source.new)
+        (outputs out (E.seen err.old)) (outputs out (E.seen err.new)) status) }
+{
+    let list = match read_front(alloc, source, MOST_INPUT + 1) {
+        Ok(list) => list,
+        Err(fault) => return Err(tell_cut(fault, err)),
+    };
+    if list.len() as u64 > MOST_INPUT {
+        return Err(tell_stop(LIST_TOO_LONG, err));
+    }
+    Ok(list)
 }
 
 /// Does what a command says, over standard input.
@@ -217,10 +363,7 @@ where
         (outputs (W.seen out.old) (E.seen err.old)) (outputs (W.seen out.new) (E.seen err.new)) result.0 }
 {
     match system.redirected() {
-        Some(file) => {
-            let (status, file) = run_over(alloc, command, file, out, err);
-            (status, RunSource::File(file))
-        }
+        Some(file) => run_on_file(alloc, system, command, file, out, err),
         None => run_pipe(alloc, system, command, out, err),
     }
 }
@@ -242,15 +385,15 @@ where
         (outputs (W.seen out.old) (E.seen err.old)) (outputs (W.seen out.new) (E.seen err.new)) result.0 }
 {
     if command.reads_once() {
-        let (status, stream) = run_over(alloc, command, system.stream(), out, err);
+        let (status, stream) = run_over(alloc, command, &[], system.stream(), out, err);
         (status, RunSource::Stream(stream))
     } else {
         run_memory(alloc, system, command, TOO_LONG, out, err)
     }
 }
 
-/// Does what a command says, over standard input, which is read into memory first. The line is written where it is too
-/// long for that.
+/// Does what a command says, over its list and standard input, which is read into memory after the list. The line is
+/// written where it is too long for that.
 fn run_memory<Y, W, E>(
     alloc: Global,
     system: &Y,
@@ -267,10 +410,34 @@ where
     ensures { ReadsMemory (Y.gives system.now) (run_left Y.File.seen Y.Stream.seen result.1) long.now command.now
         (outputs (W.seen out.old) (E.seen err.old)) (outputs (W.seen out.new) (E.seen err.new)) result.0 }
 {
+    match list_of(alloc, system, command, err) {
+        Ok(list) => run_read(alloc, system, command, &list, long, out, err),
+        Err(stopped) => stopped,
+    }
+}
+
+/// Does what a command says, over a list and standard input, which is read into memory.
+fn run_read<Y, W, E>(
+    alloc: Global,
+    system: &Y,
+    command: &Command<'_>,
+    list: &[u8],
+    long: &str,
+    out: &mut W,
+    err: &mut E,
+) -> (u8, RunSource<Y::File, Y::Stream>)
+where
+    Y: System,
+    W: Sink,
+    E: Sink,
+    requires { length long.now ≤ 100 }
+    ensures { ReadsInto (Y.gives system.now) (run_left Y.File.seen Y.Stream.seen result.1) long.now command.now
+        list.now (outputs (W.seen out.old) (E.seen err.old)) (outputs (W.seen out.new) (E.seen err.new)) result.0 }
+{
     let mut source = system.stream();
     match read_front(alloc, &mut source, MOST_INPUT + 1) {
         Ok(bytes) => {
-            let status = run_bytes(alloc, command, bytes, long, out, err);
+            let status = run_bytes(alloc, command, list, bytes, long, out, err);
             (status, RunSource::Stream(source))
         }
         Err(fault) => (tell_cut(fault, err), RunSource::Stream(source)),
@@ -281,17 +448,18 @@ where
 fn run_bytes<W: Sink, E: Sink>(
     alloc: Global,
     command: &Command<'_>,
+    list: &[u8],
     bytes: Vec<u8>,
     long: &str,
     out: &mut W,
     err: &mut E,
 ) -> u8
     requires { length long.now ≤ 100 }
-    ensures { MemoryEnds (nat_le (length bytes.items) max_input) long.now command.now bytes.items (outputs
+    ensures { MemoryEnds (nat_le (length bytes.items) max_input) long.now command.now list.now bytes.items (outputs
         (W.seen out.old) (E.seen err.old)) (outputs (W.seen out.new) (E.seen err.new)) result }
 {
     if bytes.len() as u64 <= MOST_INPUT {
-        run_in_memory(alloc, command, bytes, out, err)
+        run_in_memory(alloc, command, list, bytes, out, err)
     } else {
         tell_stop(long, err)
     }
@@ -301,21 +469,24 @@ fn run_bytes<W: Sink, E: Sink>(
 fn run_in_memory<W: Sink, E: Sink>(
     alloc: Global,
     command: &Command<'_>,
+    list: &[u8],
     bytes: Vec<u8>,
     out: &mut W,
     err: &mut E,
 ) -> u8
-    ensures { IsRunInMemory command.now bytes.items (outputs (W.seen out.old) (E.seen err.old)) (outputs
+    ensures { IsRunInMemory command.now list.now bytes.items (outputs (W.seen out.old) (E.seen err.old)) (outputs
         (W.seen out.new) (E.seen err.new)) result }
 {
-    let (status, _) = run_over(alloc, command, MemSource::new(bytes, usize::MAX), out, err);
+    let source = MemSource::new(bytes, usize::MAX);
+    let (status, _) = run_over(alloc, command, list, source, out, err);
     status
 }
 
-/// Does what a command says, over a source, and gives it back.
+/// Does what a command says, over a list and a source, and gives the source back.
 fn run_over<S, W, E>(
     alloc: Global,
     command: &Command<'_>,
+    list: &[u8],
     source: S,
     out: &mut W,
     err: &mut E,
@@ -324,10 +495,10 @@ where
     S: Source + Drop,
     W: Sink,
     E: Sink,
-    ensures { IsRunOver command.now (S.seen source) (S.seen result.1) (outputs (W.seen out.old) (E.seen err.old))
-        (outputs (W.seen out.new) (E.seen err.new)) result.0 }
+    ensures { IsRunOver command.now list.now (S.seen source) (S.seen result.1) (outputs (W.seen out.old)
+        (E.seen err.old)) (outputs (W.seen out.new) (E.seen err.new)) result.0 }
 {
-    perform(alloc, command, source, out, err)
+    perform(alloc, command, list, source, out, err)
 }
 
 /// Reports why a run can't begin: the text, or that memory was refused; and answers the exit status.

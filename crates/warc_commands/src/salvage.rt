@@ -31,7 +31,7 @@ fn line_of_amount(word: &str, records: usize, bytes: u64) -> ArrayString<LINE>
 }
 
 /// Reports how many records and bytes went out.
-fn tell_line<E: Sink>(word: &str, records: usize, bytes: u64, err: &mut E)
+pub(crate) fn tell_line<E: Sink>(word: &str, records: usize, bytes: u64, err: &mut E)
     requires { length word.now ≤ 8 }
     ensures { Tells (amount_line word.now records bytes) (E.seen err.old) (E.seen err.new) }
 {

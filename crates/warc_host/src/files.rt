@@ -17,17 +17,25 @@ pub type HostStream<'a> = WatchedSource<'a, StreamSource<Noted<'a, Stdin>>, Prog
 /// The path of standard input.
 const STANDARD_INPUT: &str = "/dev/stdin";
 
-/// A reader whose last error is noted by its number.
+/// The system's last error: its number, and whether it is of the list that a command reads beside its archive.
+#[derive(Clone, Copy)]
+pub struct Failure {
+    pub code: i32,
+    pub of_list: bool,
+}
+
+/// A reader whose last error is noted.
 #[derive(Drop)]
 pub struct Noted<'a, F> {
     reader: F,
-    reason: &'a Cell<Option<i32>>,
+    of_list: bool,
+    reason: &'a Cell<Option<Failure>>,
 }
 
 impl<'a, F: Read> Read for Noted<'a, F> {
     fn read(&mut self, buf: &mut [u8]) -> io::Result<usize> {
         let answer = self.reader.read(buf);
-        note(self.reason, &answer);
+        note(self.reason, self.of_list, &answer);
         answer
     }
 }
@@ -35,14 +43,15 @@ impl<'a, F: Read> Read for Noted<'a, F> {
 impl<'a, F: Seek> Seek for Noted<'a, F> {
     fn seek(&mut self, to: SeekFrom) -> io::Result<u64> {
         let answer = self.reader.seek(to);
-        note(self.reason, &answer);
+        note(self.reason, self.of_list, &answer);
         answer
     }
 }
 
-fn note<T>(reason: &Cell<Option<i32>>, answer: &io::Result<T>) {
+fn note<T>(reason: &Cell<Option<Failure>>, of_list: bool, answer: &io::Result<T>) {
     if let Err(error) = answer {
-        reason.set(error.raw_os_error());
+        let code = error.raw_os_error();
+        reason.set(code.map(|code| Failure { code, of_list }));
     }
 }
 
@@ -51,7 +60,9 @@ fn note<T>(reason: &Cell<Option<i32>>, answer: &io::Result<T>) {
 pub struct Host<'a> {
     pub rt: &'a HostRuntime,
     pub progress: &'a Progress<'a>,
-    pub reason: &'a Cell<Option<i32>>,
+    pub reason: &'a Cell<Option<Failure>>,
+    /// The path of the list that a command reads beside its archive, if it reads one.
+    pub list: Option<&'a str>,
 }
 
 impl<'a> Host<'a> {
@@ -60,14 +71,18 @@ impl<'a> Host<'a> {
         ensures unread { IfOk result (λ file. file.reads ≡ 0) }
         ensures sound { IfOk result (λ file. file.source.source.faults ≡ 0) }
     {
+        let of_list = self.list == Some(path);
         let opened = File::open(self.rt, path);
-        note(self.reason, &opened);
+        note(self.reason, of_list, &opened);
         let file = opened?;
-        if let Ok(metadata) = file.metadata() {
+        if let Ok(metadata) = file.metadata()
+            && !of_list
+        {
             self.progress.expect(metadata.len());
         }
         let reader = Noted {
             reader: file,
+            of_list,
             reason: self.reason,
         };
         let source = WatchedSource::new(FileSource::new(reader), self.progress);
@@ -93,6 +108,7 @@ impl<'a> Host<'a> {
     {
         let reader = Noted {
             reader: self.rt.stdin(),
+            of_list: matches!(self.list, Some("-" | STANDARD_INPUT)),
             reason: self.reason,
         };
         WatchedSource::new(StreamSource::new(reader), self.progress)

@@ -3,6 +3,7 @@ ghost use Rattle.std.specs.Prelude.{◌≡◌, map, string_bytes, IfErr, IfOk, I
 ghost use Rattle.warc_arguments.specs.Command.{asked_by};
 ghost use Rattle.warc_arguments.specs.CommandLine.{asked_of};
 
+use crate::files::Failure;
 use crate::shown::is_escaped;
 use std::{env, fmt, io};
 use warc_arguments::{Request, parse};
@@ -33,12 +34,12 @@ pub fn request<'a>(rt: &HostRuntime, words: &'a io::Result<Vec<String>>) -> Opti
     None
 }
 
-/// How a run ended: its status, the compression that its input looks like, and the number of the system's last error.
+/// How a run ended: its status, the compression that its input looks like, and the system's last error.
 #[derive(Clone, Copy)]
 pub struct Ended {
     pub status: u8,
     pub packing: Option<&'static str>,
-    pub reason: Option<i32>,
+    pub reason: Option<Failure>,
 }
 
 /// Writes a line for people on standard error, if there is more to say: how a compressed archive is read, or the path
@@ -55,13 +56,21 @@ pub fn hint(
         return hint_packing(rt, words, packing);
     }
     if ended.status == FAILED
-        && let Some(code) = ended.reason
+        && let Some(failure) = ended.reason
     {
-        let path = Quoted(request.command.path());
-        let error = io::Error::from_raw_os_error(code);
+        let path = Quoted(path_of(request, failure));
+        let error = io::Error::from_raw_os_error(failure.code);
         return eprintln!(rt; "{path}: {error}");
     }
     Ok(())
+}
+
+/// The path of what failed.
+fn path_of<'a>(request: &Request<'a>, failure: Failure) -> &'a str {
+    match request.command.list_path() {
+        Some(list) if failure.of_list => list,
+        _ => request.command.path(),
+    }
 }
 
 /// Writes how an archive is read that looks compressed: by the same words after another name.

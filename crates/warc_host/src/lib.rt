@@ -7,7 +7,7 @@ mod hints;
 mod progress;
 mod shown;
 
-pub use files::{Host, HostFile, HostStream, Noted};
+pub use files::{Failure, Host, HostFile, HostStream, Noted};
 pub use hints::{Ended, hint, request, words};
 pub use progress::{ErasingSink, Progress};
 pub use shown::ShownSink;

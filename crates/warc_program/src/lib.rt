@@ -30,6 +30,7 @@ pub fn run_program(rt: &HostRuntime) -> ExitCode {
             rt,
             progress: &progress,
             reason: &reason,
+            list: request.and_then(|it| it.command.list_path()),
         },
     };
     let (status, _) = run(rt.alloc(), &files, &words, &mut out, &mut err);

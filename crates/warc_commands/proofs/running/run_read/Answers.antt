@@ -1,5 +1,5 @@
 use Rattle.std.proofs.Common.{inl, inr, refl}
-use Rattle.warc_commands.proofs.running.run_memory.Goals as goal
+use Rattle.warc_commands.proofs.running.run_read.Goals as goal
 
 pub returns-in-Ok : goal.returns-in-Ok
 returns-in-Ok g c = record {

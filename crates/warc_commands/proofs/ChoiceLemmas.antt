@@ -1,0 +1,112 @@
+-- Which positions are written.
+use Rattle.std.proofs.Common.{◌≡◌, ◌↔◌, ℕ, ◌<◌, Bool, true, false, List, [], ◌∷◌, find, get_or, nat_le, cond, Option, Some, None, Ok, Err, inl, inr, refl, sym, subst, ◌∙◌}
+use Rattle.std.specs.Prelude.{All, Contains}
+use Rattle.std.specs.List.Sorted.{IsStrictlyIncreasing}
+use Rattle.std.proofs.lemmas.Bool.{leb-false}
+use Rattle.std.proofs.lemmas.List.Elements.{All-cons, All-contains, All-from_get_or, All-nil, Contains-get_or}
+use Rattle.warc_reading.specs.Opening.{Opens}
+use Rattle.warc_reading.specs.Archive.{IsArchiveOf}
+use Rattle.warc_reading.specs.Row.{Row}
+use Rattle.warc_frame.specs.Effects.{FailsBy}
+use Rattle.warc_frame.specs.Seen.{Seen, SeenSource}
+use Rattle.warc_frame.specs.declared.fault.OutFault.{OutFault}
+use Rattle.warc_frame.proofs.EffectLemmas.{fails_as, fails_more}
+use Rattle.warc.specs.Selecting.{AreOthers, ArePositions, IsSelection, selected_text}
+use Rattle.warc_commands.specs.Devices.{Devices, devices}
+use Rattle.warc_commands.specs.Selected.{AreTheNamed, AreWanted, ChosenEnds, SelectEnds, SendEnds}
+use Rattle.warc_commands.proofs.ProgramLemmas.{has_failed, may_have_failed}
+
+-- ---- positions that have records
+
+none_first : (n x : ℕ) (b : Bool) (rest : Option ℕ) → nat_le n x ≡ b → cond b (Some x) rest ≡ None → (x < n) × (rest ≡ None)
+none_first n x true rest test none = absurd (cc none)
+none_first n x false rest test none = (leb-false n x test, none)
+
+pub none_absent : (n : ℕ) (ps : List ℕ) → find (λ p. nat_le n p) ps ≡ None → All (λ p. p < n) ps
+none_absent n [] none = All-nil (λ p. p < n)
+none_absent n (p ∷ ps) none =
+    let (first, rest) = none_first n p (nat_le n p) (find (λ p. nat_le n p) ps) refl none in
+    All-cons (λ p. p < n) p ps first (none_absent n ps rest)
+
+-- positions in order, each once
+pub below_all : (n : ℕ) (ps qs : List ℕ) → ((p : ℕ) → Contains qs p ↔ Contains ps p) → All (λ p. p < n) ps → All (λ p. p < n) qs
+below_all n ps qs same all =
+    All-from_get_or (λ p. p < n) qs 0 (λ k lt. All-contains (λ p. p < n) ps (get_or qs k 0) all ((same (get_or qs k 0)).0 (Contains-get_or qs k 0 lt)))
+
+pub in_order : (n : ℕ) (ps qs : List ℕ) → IsStrictlyIncreasing qs → ((p : ℕ) → Contains qs p ↔ Contains ps p) → All (λ p. p < n) ps → ArePositions n qs
+in_order n ps qs up same all = record { ascending = up; below = below_all n ps qs same all }
+
+pub the_named : (n : ℕ) (ps qs : List ℕ) → IsStrictlyIncreasing qs → ((p : ℕ) → Contains qs p ↔ Contains ps p) → All (λ p. p < n) ps → AreTheNamed n ps qs
+the_named n ps qs up same all = record { are = in_order n ps qs up same all; each = same }
+
+pub the_others : (n : ℕ) (ps qs others : List ℕ) → ((p : ℕ) → Contains qs p ↔ Contains ps p) → AreOthers n qs others → AreOthers n ps others
+the_others n ps qs others same is = record {
+  are = is.are;
+  each = λ p. (
+    λ in_. (let (less, off) = (is.each p).0 in_ in (less, λ has. off ((same p).1 has))),
+    λ (less, off). (is.each p).1 (less, λ has. off ((same p).0 has)),
+  );
+}
+
+pub wants_others : (b : Bool) (n : ℕ) (ps qs seen others : List ℕ) → b ≡ true → ((p : ℕ) → Contains qs p ↔ Contains ps p) → seen ≡ qs → AreOthers n seen others → AreWanted b n ps others
+wants_others true n ps qs seen others is same seen_is are = let P : List ℕ → Type 0 = λ l. AreOthers n l others in the_others n ps qs others same (subst P seen_is are)
+wants_others false n ps qs seen others is same seen_is are = absurd (cc is)
+
+pub wants_the_named : (b : Bool) (n : ℕ) (ps qs : List ℕ) → b ≡ false → IsStrictlyIncreasing qs → ((p : ℕ) → Contains qs p ↔ Contains ps p) → All (λ p. p < n) ps → AreWanted b n ps qs
+wants_the_named true n ps qs is up same all = absurd (cc is)
+wants_the_named false n ps qs is up same all = the_named n ps qs up same all
+
+pub there_by : (ps seen : List ℕ) (count n : ℕ) (found : Option ℕ) → seen ≡ ps → count ≡ n → found ≡ find (λ p. nat_le count p) seen → found ≡ None → All (λ p. p < n) ps
+there_by ps seen count n found seen_is count_is found_is none =
+    let P : List ℕ → Type 0 = λ l. All (λ p. p < n) l in
+    let Q : ℕ → Type 0 = λ m. All (λ p. p < m) seen in
+    subst P seen_is (subst Q count_is (none_absent count seen (sym found_is ∙ none)))
+
+-- ---- what went out
+
+pub fails_over : (rows : List Row) (ps : List ℕ) {e : OutFault} {old new : SeenSource} → FailsBy {X = Unit {0}} (λ bytes. (text : List ℕ) × IsSelection rows ps bytes text) (Err e) old new
+    → FailsBy {X = ℕ} (λ bytes. IsArchiveOf bytes rows) (Err e) old new
+fails_over rows ps {e} {old} {new} fails = fails_as (Unit {0}) ℕ (fails_more (λ bytes held is. (selected_text rows ps bytes, (is, refl))) fails)
+
+-- the same, from what the source was before the archive was opened
+module _ {rows : List Row} {old mid : SeenSource} (opens : Opens IsArchiveOf old mid (Ok rows)) (out err : Seen) (new : Devices) (status : ℕ) where
+  sent_before : (ps : List ℕ) → SendEnds rows ps (devices mid out err) new status → SendEnds rows ps (devices old out err) new status
+  sent_before ps (inl sent) = inl (record {
+    size = sent.size;
+    told = λ bytes held is. sent.told bytes (opens.reads.kept ∙ held) is;
+    size_is = λ bytes held is. sent.size_is bytes (opens.reads.kept ∙ held) is;
+    unfailed = sent.unfailed;
+    sound = sent.sound ∙ opens.reads.cause;
+    reported = sent.reported;
+    status_is = sent.status_is;
+  })
+  sent_before ps (inr cut) = inr (record {
+    fault = cut.fault;
+    device = cut.device;
+    front = λ bytes held is. cut.front bytes (opens.reads.kept ∙ held) is;
+    fails = record {
+      may = may_have_failed cut.fault _ _ _ _ opens.reads.cause refl cut.fails.may;
+      failed = λ bytes held is. has_failed cut.fault _ _ _ _ opens.reads.cause refl (cut.fails.failed bytes (opens.reads.kept ∙ held) is);
+    };
+    failed = cut.failed;
+    told = cut.told;
+    status_is = cut.status_is;
+  })
+
+  chosen_before : (except : Bool) (named : List ℕ) → ChosenEnds except named rows (devices mid out err) new status → ChosenEnds except named rows (devices old out err) new status
+  chosen_before except named (inl is) = inl (record { there = is.there; chosen = is.chosen; are = is.are; ends = sent_before is.chosen is.ends })
+  chosen_before except named (inr (inl is)) = inr (inl (record { absent = is.absent; first = is.first; sound = is.sound ∙ opens.reads.cause; untouched = is.untouched; told = is.told; status_is = is.status_is }))
+  chosen_before except named (inr (inr is)) = inr (inr (record { sound = is.sound ∙ opens.reads.cause; untouched = is.untouched; told = is.told; status_is = is.status_is }))
+
+  pub selected_by : (except : Bool) (bad : Option ℕ) (named wanted : List ℕ) → (bad ≡ None) × (named ≡ wanted) → ChosenEnds except named rows (devices mid out err) new status
+      → SelectEnds except bad wanted (devices old out err) new status
+  selected_by except bad named wanted (none, same) ends =
+      let P : Option ℕ → Type 0 = λ o. SelectEnds except o wanted (devices old out err) new status in
+      let Q : List ℕ → Type 0 = λ l. SelectEnds except None l (devices old out err) new status in
+      subst P (sym none) (subst Q same (inl (record { rows = rows; are = opens.accepted; ends = chosen_before except named ends })))
+
+pub select_by : {except : Bool} {bad : Option ℕ} {named wanted : List ℕ} {rows : List Row} {old mid last new : SeenSource} {out out' err err' : Seen} {status : ℕ} → (bad ≡ None) × (named ≡ wanted)
+    → Opens IsArchiveOf old mid (Ok rows) → new ≡ last → ChosenEnds except named rows (devices mid out err) (devices last out' err') status → SelectEnds except bad wanted (devices old out err) (devices new out' err') status
+select_by {except} {bad} {named} {wanted} {rows} {old} {mid} {last} {new} {out} {out'} {err} {err'} {status} is opens same ends =
+    let P : SeenSource → Type 0 = λ t. SelectEnds except bad wanted (devices old out err) (devices t out' err') status in
+    subst P (sym same) (selected_by opens out err (devices last out' err') status except bad named wanted is ends)
