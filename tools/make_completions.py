@@ -4,7 +4,7 @@ which has the commands of warc, and for warc-collection.
 
 Usage: make_completions.py PROGRAM FOLDER
 
-Completed are the commands, their options, and each argument: an archive or a file by the names of files, a record's
+Completed are the commands, their options, and each argument: a path by the names of files, a record's
 kind by the three kinds, a number that is explained by all numbers, and any other argument by nothing. The arguments
 of warc-collection are completed by the names of files.
 """
@@ -23,7 +23,7 @@ from make_numbers import entries
 from shared import TOP
 
 KINDS = ["resource", "metadata", "conversion"]
-FILES = {"archive", "file"}
+FILES = {"archive", "file", "positions"}
 ONCE = {"list", "check", "fixity", "summary"}
 Row = typing.Tuple[str, str]
 

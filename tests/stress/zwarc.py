@@ -41,6 +41,7 @@ OTHERS: tuple[tuple[str, ...], ...] = (
     ("rewrite",),
     ("convert",),
     ("split", "9999"),
+    ("select", "--except", "/dev/null"),
     ("extract", f"urn:uuid:{UUID}"),
     ("head", "1"),
     ("block", "1"),
