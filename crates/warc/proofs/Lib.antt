@@ -32,3 +32,11 @@ pub mod WayLemmas
 pub mod NeedLemmas
 pub mod ClosedLemmas
 pub mod ClosedLawLemmas
+pub mod MarkedWayLemmas
+pub mod MarkLemmas
+pub mod TakenLemmas
+pub mod WhereLemmas
+pub mod NeededLemmas
+pub mod StandingLemmas
+pub mod SettledLemmas
+pub mod LeftLemmas

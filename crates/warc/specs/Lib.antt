@@ -4,6 +4,7 @@ pub mod Capturing
 pub mod Captures
 pub mod ClosedLaws
 pub mod Closing
+pub mod Closure
 pub mod Fixity
 pub mod Forms
 pub mod Copied
@@ -19,12 +20,14 @@ pub mod Looking
 pub mod Origins
 pub mod Outcomes
 pub mod Locating
+pub mod Marks
 pub mod Parts
 pub mod Replaying
 pub mod Segments
 pub mod Selected
 pub mod Selecting
 pub mod Standing
+pub mod Standings
 pub mod Summary
 pub mod TakeText
 pub mod Taking

@@ -11,6 +11,7 @@ ghost use Rattle.warc_reading.specs.Archive.{IsArchiveOf};
 ghost use Rattle.warc_reading.specs.Indexed.{AreOf, IsIndexed, archive_of, indexed_record, source_left};
 ghost use Rattle.warc.specs.Capturing.{JudgesAll};
 ghost use Rattle.warc.specs.Captures.{capture_positions, captures_text};
+ghost use Rattle.warc.specs.Closure.{GivesNeeded, GivesOthers};
 ghost use Rattle.warc.specs.Listing.{listing};
 ghost use Rattle.warc.specs.Outcomes.{GivesStoredAt, JudgesAt, answer_seen, outcome_seen};
 ghost use Rattle.warc_answer.specs.Answers.{path_from, path_of};
@@ -391,6 +392,46 @@ impl<S: Source, A: Allocator + Copy> Archive<S, A> {
         ensures { IfOk result (λ others. AreOthers (length self.now.listing.rows) positions.now others.items) }
     {
         self.listing.others(positions)
+    }
+
+    /// The positions of the records at positions and of all that they need, ascending, each once: with each record
+    /// those on the way from referent to referent, to the origin or as far as the way goes, and with each of these
+    /// whose segment number is 1 its whole series, also what doesn't join. `select` takes them. Then the outcome of
+    /// each capture that is written is the same among the records that are written, positions aside. Without it a
+    /// revisit may give another reason, or the body of another record that fits, by the same id, pair or digest; and
+    /// a segmented record another gap, or a body. Not kept either way: what `replay` chooses among captures, and
+    /// warcinfo and request records.
+    ///
+    /// It takes one step for each record on the ways and for each segment. If there are segments, heads of the records
+    /// that it gives are read again, each at most once; no block is read. `Memory` and `Read` come without a position.
+    pub fn closed(&mut self, positions: &[usize]) -> Result<Vec<usize, A>, OutFault>
+        requires ascending { ArePositions (length self.old.listing.rows) positions.now }
+        ensures closes { GivesNeeded self.old.listing.rows self.old.index self.old.parts positions.now
+            (S.seen self.old.listing.source) (S.seen self.new.listing.source) result }
+        ensures rows { self.new.listing.rows ≡ self.old.listing.rows }
+        ensures index { self.new.index ≡ self.old.index }
+        ensures parts { self.new.parts ≡ self.old.parts }
+    {
+        self.listing.closed(&self.lookup, positions)
+    }
+
+    /// The positions of all records but those at positions and those that need one of them, ascending: a record is left
+    /// out if `closed`, of it alone, would give one of these positions. So it is left out too if it is a revisit whose
+    /// way comes to one of these, or to a resource one of whose segments is one of these. `select` takes what is given,
+    /// and keeps what is answered of it as it does for `closed`.
+    ///
+    /// It takes one step for each record and for each segment. If there are segments, the heads of all records but
+    /// those at these positions are read again, each once; no block is read. `Memory` and `Read` come without a
+    /// position.
+    pub fn closed_others(&mut self, positions: &[usize]) -> Result<Vec<usize, A>, OutFault>
+        requires ascending { ArePositions (length self.old.listing.rows) positions.now }
+        ensures closes { GivesOthers self.old.listing.rows self.old.index self.old.parts positions.now
+            (S.seen self.old.listing.source) (S.seen self.new.listing.source) result }
+        ensures rows { self.new.listing.rows ≡ self.old.listing.rows }
+        ensures index { self.new.index ≡ self.old.index }
+        ensures parts { self.new.parts ≡ self.old.parts }
+    {
+        self.listing.closed_others(&self.lookup, positions)
     }
 
     /// Writes a line for each finding, as a listing does, and answers how many there are. A read that fails does so

@@ -7,6 +7,7 @@ ghost use Rattle.warc.specs.Bodies.{GivesBodyAt};
 ghost use Rattle.warc.specs.Forms.{Writes, WritesEach, WritesSplit};
 ghost use Rattle.warc.specs.Copied.{len_by, text_by};
 ghost use Rattle.warc.specs.Capturing.{JudgesAll};
+ghost use Rattle.warc.specs.Closure.{GivesNeeded, GivesOthers};
 ghost use Rattle.warc.specs.Listing.{listing};
 ghost use Rattle.warc.specs.Outcomes.{GivesStoredAt, JudgesAt, answer_seen};
 ghost use Rattle.warc.specs.Locating.{LocatesAt, LocatesFor};
@@ -23,6 +24,7 @@ ghost use Rattle.warc.specs.Taking.{GivesRecord};
 use crate::blocks::send_range;
 use crate::bodies::give_body;
 use crate::capturing::judge_all;
+use crate::closing::{closed_positions, standing_positions};
 use crate::copying::Form;
 use crate::fault::{BodyFault, ExtractFault, TakeFault};
 use crate::heading::take_head;
@@ -324,6 +326,34 @@ impl<S: Source, A: Allocator + Copy> Listing<S, A> {
         ensures rows { self.new.rows ≡ self.old.rows }
     {
         judge_all(&mut self.source, &self.rows, lookup, positions)
+    }
+
+    /// The positions of records and of all that they need.
+    pub(crate) fn closed(
+        &mut self,
+        lookup: &Lookup<A>,
+        positions: &[usize],
+    ) -> Result<Vec<usize, A>, OutFault>
+        requires ascending { ArePositions (length self.old.rows) positions.now }
+        ensures closes { GivesNeeded self.old.rows lookup.now.index lookup.now.parts positions.now
+            (S.seen self.old.source) (S.seen self.new.source) result }
+        ensures rows { self.new.rows ≡ self.old.rows }
+    {
+        closed_positions(&mut self.source, &self.rows, lookup, positions)
+    }
+
+    /// The positions of the records that need none of those at these positions.
+    pub(crate) fn closed_others(
+        &mut self,
+        lookup: &Lookup<A>,
+        positions: &[usize],
+    ) -> Result<Vec<usize, A>, OutFault>
+        requires ascending { ArePositions (length self.old.rows) positions.now }
+        ensures closes { GivesOthers self.old.rows lookup.now.index lookup.now.parts positions.now
+            (S.seen self.old.source) (S.seen self.new.source) result }
+        ensures rows { self.new.rows ≡ self.old.rows }
+    {
+        standing_positions(&mut self.source, &self.rows, lookup, positions)
     }
 
     /// Writes what is stored of the origin of the capture at a position.
