@@ -72,7 +72,7 @@ bool warc_rt_convert(const uint8_t *bytes, size_t length, uint64_t start, uint8_
 bool warc_rt_split(const uint8_t *bytes, size_t length, uint64_t size, uint64_t start, uint8_t *part, size_t room,
                    uint64_t *filled, warc_problem *problem);
 bool warc_rt_select(const uint8_t *bytes, size_t length, const uint64_t *positions, size_t count, bool except,
-                    uint64_t start, uint8_t *part, size_t room, uint64_t *filled, warc_problem *problem);
+                    bool closed, uint64_t start, uint8_t *part, size_t room, uint64_t *filled, warc_problem *problem);
 bool warc_rt_make(const uint8_t *kind, size_t kind_length, const uint8_t *uri, size_t uri_length, const uint8_t *date,
                   size_t date_length, const uint8_t *uuid, size_t uuid_length, const uint8_t *type, size_t type_length,
                   const uint8_t *block, size_t block_length, uint64_t start, uint8_t *part, size_t room,
@@ -472,6 +472,7 @@ typedef struct {
     const uint64_t *positions;
     size_t count;
     bool except;
+    bool closed;
     const warc_draft *draft;
 } output;
 
@@ -488,8 +489,8 @@ static bool put_made(const warc_draft *draft, uint64_t start, uint8_t *part, siz
 /* Puts the part of some records that begins at an offset. */
 static bool put_selected(const output *what, uint64_t start, uint8_t *part, size_t room, uint64_t *filled,
                          warc_problem *problem) {
-    return warc_rt_select(what->bytes, what->length, what->positions, what->count, what->except, start, part, room,
-                          filled, problem);
+    return warc_rt_select(what->bytes, what->length, what->positions, what->count, what->except, what->closed, start,
+                          part, room, filled, problem);
 }
 
 /* Puts the part of an output that begins at an offset. False with a problem, or where the part is full. */
@@ -593,10 +594,10 @@ bool warc_split(const uint8_t *bytes, size_t length, uint64_t size, int file, ui
     return write_if_good(size != 0 && fits(bytes, length, 1), &what, file, sent, problem);
 }
 
-bool warc_select(const uint8_t *bytes, size_t length, const uint64_t *positions, size_t count, bool except, int file,
-                 uint64_t *sent, warc_problem *problem) {
+bool warc_select(const uint8_t *bytes, size_t length, const uint64_t *positions, size_t count, bool except, bool closed,
+                 int file, uint64_t *sent, warc_problem *problem) {
     output what = {.form = SELECTED, .bytes = bytes_or_nothing(bytes), .length = length, .count = count,
-                   .positions = positions ? positions : (const void *)nothing, .except = except};
+                   .positions = positions ? positions : (const void *)nothing, .except = except, .closed = closed};
     bool are_good = fits(bytes, length, 1) && fits(positions, count, sizeof *positions);
     return write_if_good(are_good, &what, file, sent, problem);
 }

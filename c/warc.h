@@ -320,11 +320,15 @@ bool warc_split(const uint8_t *bytes, size_t length, uint64_t size, int file, ui
 /* Writes records of the archive that these bytes are, byte for byte: those at `count` positions, or with `except` all
  * others. The positions come in any order, and any of them may be there twice: each record is written once, in the
  * archive's order. Fails with WARC_NO_RECORD where a position isn't that of a record, and as warc_rewrite does.
- * What is written is an archive. A revisit in it may give another reason than before, or the body of another record
- * that fits (the same id, URI and date, or digest), and a segmented record another gap, or a body, if a record that
- * it leads to is left out. */
-bool warc_select(const uint8_t *bytes, size_t length, const uint64_t *positions, size_t count, bool except, int file,
-                 uint64_t *sent, warc_problem *problem);
+ * With `closed` answers stay: with each record all that it needs is written, the records on the way to its origin and
+ * the segments of all these; or with `except` no record that needs one of those at the positions. Then each capture
+ * that is written gives what it gives among all records.
+ * What is written is an archive. Without `closed` a revisit in it may give another reason than before, or the body of
+ * another record that fits (the same id, URI and date, or digest), and a segmented record another gap, or a body, if a
+ * record that it leads to is left out. Neither keeps what a replay chooses among captures of a URI, nor warcinfo and
+ * request records. */
+bool warc_select(const uint8_t *bytes, size_t length, const uint64_t *positions, size_t count, bool except, bool closed,
+                 int file, uint64_t *sent, warc_problem *problem);
 
 /* Bytes that are passed. */
 typedef struct {

@@ -36,4 +36,5 @@ mod writing;
 pub use archive::{Archive, Body, Record, Records, Verdict};
 pub use error::{Error, ErrorKind};
 pub use heads::{Fields, Headers, Http};
-pub use writing::{convert, make, rewrite, select, select_others, split, Draft, WriteError};
+pub use writing::{convert, make, rewrite, split, Draft, WriteError};
+pub use writing::{select, select_closed, select_others, select_others_closed};

@@ -168,6 +168,7 @@ extern "C" {
         positions: *const u64,
         count: usize,
         except: bool,
+        closed: bool,
         file: c_int,
         sent: *mut u64,
         problem: *mut Problem,
@@ -415,11 +416,11 @@ pub fn split(bytes: &[u8], size: u64, file: c_int) -> Written {
     written(|sent, problem| unsafe { warc_split(bytes.as_ptr(), bytes.len(), size, file, sent, problem) })
 }
 
-/// Writes the records at positions, or all others.
-pub fn select(bytes: &[u8], positions: &[u64], except: bool, file: c_int) -> Written {
-    let (at, count) = (positions.as_ptr(), positions.len());
+/// Writes the records at positions, or all others; with what they need, if `closed`.
+pub fn select(bytes: &[u8], positions: &[u64], except: bool, closed: bool, file: c_int) -> Written {
+    let (start, length, at, count) = (bytes.as_ptr(), bytes.len(), positions.as_ptr(), positions.len());
     // SAFETY: each pointer leads to as many bytes or positions as are said.
-    written(|sent, problem| unsafe { warc_select(bytes.as_ptr(), bytes.len(), at, count, except, file, sent, problem) })
+    written(|sent, problem| unsafe { warc_select(start, length, at, count, except, closed, file, sent, problem) })
 }
 
 /// Writes a record of its kind, URI, date, UUID, media type and block.

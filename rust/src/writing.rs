@@ -89,12 +89,12 @@ pub fn split(bytes: &[u8], size: u64, out: &mut impl Write) -> Result<(), WriteE
 ///
 /// What is written is an archive. A revisit in it may give another reason than before, or the body of another record
 /// that fits (the same id, URI and date, or digest), and a segmented record another gap, or a body, if a record that
-/// it leads to is left out.
+/// it leads to is left out: [`select_closed`] writes that too.
 ///
 /// # Errors
 /// A position isn't that of a record, and nothing is written; or as [`rewrite`].
 pub fn select(bytes: &[u8], positions: &[usize], out: &mut impl Write) -> Result<(), WriteError> {
-    select_by(bytes, positions, false, out)
+    select_by(bytes, positions, (false, false), out)
 }
 
 /// Writes all other records than those at positions, in the same way.
@@ -102,13 +102,37 @@ pub fn select(bytes: &[u8], positions: &[usize], out: &mut impl Write) -> Result
 /// # Errors
 /// As [`select`].
 pub fn select_others(bytes: &[u8], positions: &[usize], out: &mut impl Write) -> Result<(), WriteError> {
-    select_by(bytes, positions, true, out)
+    select_by(bytes, positions, (true, false), out)
 }
 
-/// Writes the records at positions, or all others.
-fn select_by(bytes: &[u8], positions: &[usize], except: bool, out: &mut impl Write) -> Result<(), WriteError> {
+/// Writes the records at positions with all that they need: the records on the way to the origin of each, and the
+/// segments of all these. Each capture that is written gives what it gives among all records. What a replay chooses
+/// among captures of a URI may be another, and warcinfo and request records are left out unless they are named.
+///
+/// # Errors
+/// As [`select`].
+pub fn select_closed(bytes: &[u8], positions: &[usize], out: &mut impl Write) -> Result<(), WriteError> {
+    select_by(bytes, positions, (false, true), out)
+}
+
+/// Writes all records that need none of those at positions, so that nothing is left that leads to them. Each capture
+/// that is written gives what it gives among all records.
+///
+/// # Errors
+/// As [`select`].
+pub fn select_others_closed(bytes: &[u8], positions: &[usize], out: &mut impl Write) -> Result<(), WriteError> {
+    select_by(bytes, positions, (true, true), out)
+}
+
+/// Writes the records at positions, or all others, and keeps what they give if that is asked for.
+fn select_by(
+    bytes: &[u8],
+    positions: &[usize],
+    (except, closed): (bool, bool),
+    out: &mut impl Write,
+) -> Result<(), WriteError> {
     let positions: Vec<u64> = positions.iter().map(|position| *position as u64).collect();
-    write_through(out, |file| raw::select(bytes, &positions, except, file))
+    write_through(out, |file| raw::select(bytes, &positions, except, closed, file))
 }
 
 /// What a record is made of.

@@ -172,6 +172,15 @@ fn selects_records() {
     zogwedu::select_others(CRAWL, &[], &mut none).unwrap();
     assert_eq!(none, CRAWL);
 
+    let revisit = (0..archive.len()).find(|position| archive.record(*position).unwrap().kind() == b"revisit").unwrap();
+    let (mut closed, mut apart) = (Vec::new(), Vec::new());
+    zogwedu::select_closed(CRAWL, &[revisit], &mut closed).unwrap();
+    let chosen = Archive::open(&closed).unwrap();
+    assert_eq!(chosen.len(), 2);
+    assert_eq!(chosen.body(1).unwrap().to_vec(), archive.body(revisit).unwrap().to_vec());
+    zogwedu::select_others_closed(CRAWL, &[0], &mut apart).unwrap();
+    assert!(apart.len() < CRAWL.len() && Archive::open(&apart).is_ok());
+
     let error = zogwedu::select(CRAWL, &[0, archive.len()], &mut none).unwrap_err();
     assert_eq!(error.library_error().unwrap().kind(), ErrorKind::NoRecord);
     let error = zogwedu::select(DAMAGED, &[0], &mut none).unwrap_err();

@@ -171,9 +171,11 @@ static void ask_wrongly(void) {
     if (warc_list(NULL, NULL, 0, &problem) || problem.code != WARC_BAD_ARGUMENT) abort();
     if (warc_rewrite(NULL, 1, 1, &sent, &problem) || problem.code != WARC_BAD_ARGUMENT || sent) abort();
     if (warc_split(NULL, 0, 0, 1, NULL, &problem) || problem.code != WARC_BAD_ARGUMENT) abort();
-    if (warc_select(NULL, 0, NULL, 1, false, 1, &sent, &problem) || problem.code != WARC_BAD_ARGUMENT || sent) abort();
-    if (warc_select(NULL, 0, &sent, SIZE_MAX, true, 1, NULL, &problem) || problem.code != WARC_BAD_ARGUMENT) abort();
-    if (warc_select(NULL, 0, &sent, 1, false, 1, NULL, &problem) || problem.code != WARC_NO_RECORD) abort();
+    if (warc_select(NULL, 0, NULL, 1, false, false, 1, &sent, &problem)) abort();
+    if (problem.code != WARC_BAD_ARGUMENT || sent) abort();
+    if (warc_select(NULL, 0, &sent, SIZE_MAX, true, true, 1, NULL, &problem)) abort();
+    if (problem.code != WARC_BAD_ARGUMENT) abort();
+    if (warc_select(NULL, 0, &sent, 1, false, true, 1, NULL, &problem) || problem.code != WARC_NO_RECORD) abort();
     if (warc_make(NULL, 1, NULL, &problem) || problem.code != WARC_BAD_ARGUMENT) abort();
     if (warc_make(&draft, 1, NULL, &problem) || problem.code != WARC_MADE_KIND) abort();
     if (warc_rewrite(&byte, 1, 1, NULL, &problem) || problem.code != WARC_FAULT_VERSION) abort();
@@ -245,9 +247,9 @@ static void write_anew(const text *it, int file) {
     uint64_t some[3] = {below(count + 1), below(count + 1), 0};
     bool are_there = some[0] < count && some[1] < count && count != 0;
     warc_close(archive);
-    if (warc_select(it->bytes, it->length, some, 3, below(2), file, NULL, &problem) != are_there) abort();
+    if (warc_select(it->bytes, it->length, some, 3, below(2), below(2), file, NULL, &problem) != are_there) abort();
     if (!are_there && problem.code != WARC_NO_RECORD && is_whole) abort();
-    if (warc_select(it->bytes, it->length, NULL, 0, below(2), file, NULL, &problem) != is_whole) abort();
+    if (warc_select(it->bytes, it->length, NULL, 0, below(2), below(2), file, NULL, &problem) != is_whole) abort();
     if (warc_rewrite(it->bytes, it->length, file, NULL, &problem) != is_whole) abort();
     if (warc_convert(it->bytes, it->length, file, NULL, &problem) != is_whole) abort();
     if (warc_split(it->bytes, it->length, 1 + below(100), file, NULL, &problem) != is_whole) abort();

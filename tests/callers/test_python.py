@@ -6,6 +6,7 @@ import gzip
 import importlib
 import importlib.util
 import io
+import itertools
 import json
 import mmap
 import os
@@ -16,7 +17,7 @@ import tempfile
 import threading
 import unittest
 from datetime import datetime, timedelta, timezone
-from typing import Any, Callable, Dict, Iterable, List, Optional, Tuple, Union
+from typing import Any, Callable, Dict, Iterable, List, Optional, Set, Tuple, Union
 
 import zogwedu
 
@@ -676,6 +677,33 @@ class Writing(unittest.TestCase):
                 with open(f"{folder}/a", "rb") as chosen:
                     self.assertEqual(chosen.read(), b"front" + records[17])
 
+    def test_a_closed_selection_gives_what_all_records_give(self) -> None:
+        def given(record: zogwedu.Record) -> Tuple[bytes, str]:
+            try:
+                return bytes(record.body()), ""
+            except zogwedu.NoBody as reason:
+                return b"", reason.name
+
+        def selected(position: int, except_: bool = False) -> Dict[str, Tuple[bytes, str]]:
+            out = io.BytesIO()
+            archive.select(out, [position, position], except_=except_, closed=True)
+            return {record.id: given(record) for record in zogwedu.Archive(out.getvalue())}
+
+        with zogwedu.Archive.open(CRAWL) as archive:
+            whole = {record.id: given(record) for record in archive}
+            self.assertEqual(len(whole), 18)
+            needs: Dict[str, Set[str]] = {}
+            for record in archive:
+                some = selected(record.position)
+                needs[record.id] = set(some)
+                self.assertIn(record.id, some)
+                self.assertEqual(some, {name: whole[name] for name in some})
+            self.assertIn(2, {len(some) for some in needs.values()})
+            for record in archive:
+                others = selected(record.position, except_=True)
+                self.assertEqual(set(others), {name for name in whole if record.id not in needs[name]})
+                self.assertEqual(others, {name: whole[name] for name in others})
+
     def test_a_selection_that_is_made_in_several_parts(self) -> None:
         records = []
         for number in range(5):
@@ -691,9 +719,9 @@ class Writing(unittest.TestCase):
     def test_what_cannot_be_selected(self) -> None:
         archive, out = zogwedu.Archive.open(CRAWL), io.BytesIO()
         for positions in ([0, 18], [-1], [1 << 64], [(1 << 64) - 1]):
-            for except_ in (False, True):
+            for except_, closed in itertools.product((False, True), repeat=2):
                 with self.assertRaises(zogwedu.NoRecord) as raised:
-                    archive.select(out, positions, except_=except_)
+                    archive.select(out, positions, except_=except_, closed=closed)
                 self.assertEqual((raised.exception.code, raised.exception.text), (201, "E1 NoRecord"))
         wrong: List[Any] = [["0"], [0.0], [None]]
         for positions in wrong:

@@ -5,7 +5,9 @@ use crate::problems::done_or_report;
 use std::alloc::Global;
 use warc::Form;
 use warc_frame::{Sink, WriteFault, is_failed, raise};
-use warc_lent::{Numbers, Problem, make_lent, put_text, select_lent, split_lent, write_lent};
+use warc_lent::{
+    Numbers, Problem, make_lent, put_text, select_closed_lent, select_lent, split_lent, write_lent,
+};
 
 /// The part of an output that begins at an offset, in a buffer that is lent. It passes over what comes before, and
 /// fails once the buffer is full. It reports nothing of the bytes.
@@ -118,20 +120,26 @@ pub extern "C" fn warc_rt_split(
     end_part(written, &part, filled, problem)
 }
 
-/// Puts the part that begins at an offset of the records at positions of these bytes, or of all others, as they are.
+/// Puts the part that begins at an offset of the records at positions of these bytes, or of all others, as they are;
+/// if it is to be closed, with all that they need, or without what needs one of them.
 #[unsafe(no_mangle)]
 pub extern "C" fn warc_rt_select(
     alloc: Global,
     bytes: &[u8],
     positions: &[usize],
     except: bool,
+    closed: bool,
     start: u64,
     buffer: &mut [u8],
     filled: &mut u64,
     problem: &mut Numbers,
 ) -> bool {
     let mut part = Window::new(start, buffer);
-    let written = select_lent(alloc, bytes, positions, except, &mut part, &mut 0);
+    let written = if closed {
+        select_closed_lent(alloc, bytes, positions, except, &mut part, &mut 0)
+    } else {
+        select_lent(alloc, bytes, positions, except, &mut part, &mut 0)
+    };
     end_part(written, &part, filled, problem)
 }
 

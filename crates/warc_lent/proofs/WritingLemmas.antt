@@ -8,11 +8,14 @@ use Rattle.warc_frame.specs.Record.{Record}
 use Rattle.warc_frame.specs.Seen.{Seen, SeenSource}
 use Rattle.warc_frame.specs.Send.{sent_of}
 use Rattle.warc_frame.specs.declared.fault.OutFault.{OutFault}
+use Rattle.warc_segment.specs.Joined.{ReadRecord}
 use Rattle.warc_reading.specs.Archive.{IsArchiveOf, contents}
 use Rattle.warc_reading.specs.Row.{Row}
+use Rattle.warc.specs.Closing.{AreWithNeeded, AreWithout, IsNeeded, NeedsOneOf}
+use Rattle.warc.specs.Closure.{records_read}
 use Rattle.warc.specs.Forms.{WritesEach}
 use Rattle.warc.specs.Selecting.{AreOthers, Selects, selected_text}
-use Rattle.warc_lent.specs.Writing.{AreChosen, AreNamedPositions, Choice, SelectsLent, WritesLent, problem_of_sent}
+use Rattle.warc_lent.specs.Writing.{AreChosen, AreClosedChoice, AreNamedPositions, Choice, ClosedChoice, SelectsClosed, SelectsLent, WritesLent, problem_of_sent}
 use Rattle.warc_lent.specs.declared.problem.Problem.{Problem}
 
 pub known_bytes : (one other : List ℕ) → Some one ≡ Some other → one ≡ other
@@ -102,3 +105,73 @@ part_selected except named bytes taken choice old new before after fault problem
       choice,
       (fault, why, number, record { count = out.count; within = out.within; told = out.told; number = number ∙ out.number }),
     )
+
+-- whatever is needed by named positions is needed by the same in their order, and the other way round
+needed_by : (all : List ReadRecord) (these those : List ℕ) (q : ℕ) → ((p : ℕ) → Contains these p → Contains those p)
+    → IsNeeded all these q → IsNeeded all those q
+needed_by all these those q same is = record { by = is.by; named = same is.by is.named; needs = is.needs }
+
+needs_one : (all : List ReadRecord) (these those : List ℕ) (p : ℕ) → ((p : ℕ) → Contains these p → Contains those p)
+    → NeedsOneOf all these p → NeedsOneOf all those p
+needs_one all these those p same is = record { named = is.named; is = same is.named is.is; needs = is.needs }
+
+-- a closed choice is the same of named positions in any order
+pub closed_of_named : (except : Bool) (count : ℕ) (all : List ReadRecord) (named positions taken closed : List ℕ)
+    → taken ≡ positions → AreNamedPositions count named positions → AreClosedChoice except all taken closed
+    → AreClosedChoice except all named closed
+closed_of_named true count all named positions taken closed same is given =
+    let rest : AreWithout all positions closed = subst (λ ps. AreWithout all ps closed) same given in
+    record {
+      are = rest.are;
+      each = λ p. (
+        λ has. (
+          ((rest.each p).0 has).0,
+          λ one. ((rest.each p).0 has).1 (needs_one all named positions p (λ q. (is.each q).1) one),
+        ),
+        λ not. (rest.each p).1 (not.0, λ one. not.1 (needs_one all positions named p (λ q. (is.each q).0) one)),
+      );
+    }
+closed_of_named false count all named positions taken closed same is given =
+    let some : AreWithNeeded all positions closed = subst (λ ps. AreWithNeeded all ps closed) same given in
+    record {
+      are = some.are;
+      each = λ q. (
+        λ has. needed_by all positions named q (λ p. (is.each p).0) ((some.each q).0 has),
+        λ need. (some.each q).1 (needed_by all named positions q (λ p. (is.each p).1) need),
+      );
+    }
+
+-- the choice of these positions and of what goes with them
+abbrev pub closed_choice_of : (except : Bool) (named bytes : List ℕ) (rows : List Row) (positions : List ℕ)
+    (is : IsArchiveOf bytes rows) → All (λ p. p < length rows) named
+    → AreClosedChoice except (records_read is.are.records) named positions → ClosedChoice except named bytes
+closed_choice_of except named bytes rows positions is below are =
+    record { rows = rows; is = is; below = below; positions = positions; are = are }
+
+-- all of it
+pub all_closed : (except : Bool) (named held bytes taken : List ℕ) (choice : ClosedChoice except named held)
+    (rows : List Row) (old new : SeenSource) (before after : Seen) (was : ℕ) → held ≡ bytes → taken ≡ choice.positions
+    → rows ≡ choice.rows → old.holds ≡ Some held → Selects rows taken old new before after (Ok tt)
+    → SelectsClosed except named bytes before after (Ok tt) was was
+all_closed except named held bytes taken choice rows old new before after was are_bytes same kept holds selects =
+    let of_rows = subst (λ rs. Selects rs taken old new before after (Ok tt)) kept selects in
+    let are = subst (λ ps. Selects choice.rows ps old new before after (Ok tt)) same of_rows in
+    subst (λ b. SelectsClosed except named b before after (Ok tt) was was) are_bytes
+    (inr (choice, (are.sends.out held (selected_text choice.rows choice.positions held) holds (choice.is, refl), refl)))
+
+-- a front of it
+pub part_closed : (except : Bool) (named held bytes taken : List ℕ) (choice : ClosedChoice except named held)
+    (rows : List Row) (old new : SeenSource) (before after : Seen) (fault : OutFault) (problem : Problem) (was sent : ℕ)
+    → held ≡ bytes → taken ≡ choice.positions → rows ≡ choice.rows → old.holds ≡ Some held
+    → Selects rows taken old new before after (Err fault) → problem ≡ problem_of_sent fault → sent ≡ sent_of fault
+    → SelectsClosed except named bytes before after (Err problem) was sent
+part_closed except named held bytes taken choice rows old new before after fault problem was sent are_bytes same kept
+    holds selects why number =
+    let of_rows = subst (λ rs. Selects rs taken old new before after (Err fault)) kept selects in
+    let are = subst (λ ps. Selects choice.rows ps old new before after (Err fault)) same of_rows in
+    let out = are.sends.cut held (selected_text choice.rows choice.positions held) holds (choice.is, refl) in
+    subst (λ b. SelectsClosed except named b before after (Err problem) was sent) are_bytes
+    (inr (
+      choice,
+      (fault, why, number, record { count = out.count; within = out.within; told = out.told; number = number ∙ out.number }),
+    ))

@@ -10,9 +10,12 @@ use Rattle.warc_frame.specs.declared.fault.OutFault.{OutFault}
 use Rattle.warc_frame.specs.declared.fault.OutFault.TheVariants as outs
 use Rattle.warc_reading.specs.Archive.{IsArchiveOf, contents}
 use Rattle.warc_reading.specs.Row.{Row}
+use Rattle.warc_segment.specs.Joined.{ReadRecord}
 use Rattle.warc_write.specs.Making.{Plan, made}
 use Rattle.warc_write.specs.declared.making.MakeFault.{MakeFault}
 use Rattle.warc_write.specs.declared.making.MakeFault.TheVariants.{Memory as NoMemory}
+use Rattle.warc.specs.Closing.{AreWithNeeded, AreWithout}
+use Rattle.warc.specs.Closure.{records_read}
 use Rattle.warc.specs.Selecting.{AreOthers, ArePositions, selected_text}
 use Rattle.warc_lent.specs.Texts.{IsRefusedFor}
 use Rattle.warc_lent.specs.declared.problem.Problem.{Problem}
@@ -88,4 +91,24 @@ abbrev pub SelectsLent : Bool → List ℕ → List ℕ → Seen → Seen → Re
 SelectsLent except named bytes before after answer was sent =
     WritesNone (IsUnselected named bytes) before after answer was sent
     ⊎ ((choice : Choice except named bytes)
+    × WritesText (selected_text choice.rows choice.positions bytes) before after answer was sent)
+
+-- the positions of named records and of all that they need, or of all records that need none of them
+abbrev pub AreClosedChoice : Bool → List ReadRecord → List ℕ → List ℕ → Type 0
+AreClosedChoice true all named positions = AreWithout all named positions
+AreClosedChoice false all named positions = AreWithNeeded all named positions
+
+-- the records of an archive that are named, which are all there, with all that they need, or all that need none of them
+pub record ClosedChoice (except : Bool) (named bytes : List ℕ) : Type 0 where
+  pub rows : List Row
+  pub is : IsArchiveOf bytes rows
+  pub below : All (λ p. p < length rows) named
+  pub positions : List ℕ
+  pub are : AreClosedChoice except (records_read is.are.records) named positions
+
+-- these records of lent bytes were written, byte for byte, or nothing was
+abbrev pub SelectsClosed : Bool → List ℕ → List ℕ → Seen → Seen → Result (Unit {0}) Problem → ℕ → ℕ → Type 0
+SelectsClosed except named bytes before after answer was sent =
+    WritesNone (IsUnselected named bytes) before after answer was sent
+    ⊎ ((choice : ClosedChoice except named bytes)
     × WritesText (selected_text choice.rows choice.positions bytes) before after answer was sent)

@@ -27,4 +27,4 @@ pub use texts::{
     check_text, findings_text, fixity_text, list_text, problem_text, put_check, put_findings,
     put_fixity, put_list, put_problem,
 };
-pub use writing::{make_lent, select_lent, split_lent, write_lent};
+pub use writing::{make_lent, select_closed_lent, select_lent, split_lent, write_lent};

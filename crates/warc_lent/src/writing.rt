@@ -2,17 +2,20 @@
 ghost use Rattle.std.specs.Prelude.{◌≡◌, ◌⊎◌, ◌↔◌, ◌<◌, ℕ, All, Contains, IfErr, IfOk, IsTrue, length};
 ghost use Rattle.std.specs.List.Sorted.{IsStrictlyIncreasing};
 ghost use Rattle.warc.specs.Forms.{split_text, text_as};
+ghost use Rattle.warc.specs.Closure.{records_read};
+ghost use Rattle.warc.specs.Selecting.{ArePositions};
 ghost use Rattle.warc_reading.specs.Archive.{IsArchiveOf};
+ghost use Rattle.warc_reading.specs.Indexed.{IsIndexed};
 ghost use Rattle.warc_lent.specs.Texts.{IsRefusedFor};
 ghost use Rattle.warc_record.specs.Kinds.{kind_named};
 ghost use Rattle.warc_write.specs.Making.{planned};
 ghost use Rattle.warc_frame.specs.Send.{sent_of};
 ghost use Rattle.warc_frame.specs.Spelling.{canonical};
-ghost use Rattle.warc_lent.specs.Writing.{AreChosen, AreNamedPositions, MakesTo, NamesNoRecord, SelectsLent, WritesLent, WritesText, problem_of_sent};
+ghost use Rattle.warc_lent.specs.Writing.{AreChosen, AreClosedChoice, AreNamedPositions, MakesTo, NamesNoRecord, SelectsClosed, SelectsLent, WritesLent, WritesText, problem_of_sent};
 
 use crate::problem::Problem;
 use std::alloc::{AllocError, Allocator};
-use warc::{Form, Listing, OutFault};
+use warc::{Archive, Form, Listing, OutFault};
 use warc_frame::{Framed, Sink, SliceSource, Source};
 use warc_record::Kind;
 use warc_write::{make, render_one};
@@ -171,6 +174,78 @@ pub fn select_lent<A: Allocator + Copy, W: Sink>(
         Err(problem) => return Err(problem),
     };
     match listing.select(&chosen, out) {
+        Ok(()) => Ok(()),
+        Err(fault) => Err(cut_off(fault, sent)),
+    }
+}
+
+/// Opens lent bytes as an archive.
+fn archive<'a, A: Allocator + Copy>(
+    alloc: A,
+    bytes: &'a [u8],
+) -> Result<Archive<SliceSource<'a>, A>, Problem>
+    ensures source { IfOk result (λ archive. archive.listing.source.bytes ≡ bytes.now) }
+    ensures opened { IfOk result (λ archive. IsIndexed bytes.now archive) }
+    ensures refused { IfErr result (IsRefusedFor bytes.now) }
+{
+    match Archive::open(alloc, SliceSource::new(bytes)) {
+        Ok(archive) => Ok(archive),
+        Err((fault, _source)) => Err(Problem::Fault(fault)),
+    }
+}
+
+/// The positions of what is needed by records at these positions, or of all records that need none of them.
+fn closure<A: Allocator + Copy>(
+    archive: &mut Archive<SliceSource<'_>, A>,
+    positions: &[usize],
+    except: bool,
+) -> Result<Vec<usize, A>, Problem>
+    requires ascending { ArePositions (length archive.old.listing.rows) positions.now }
+    requires opened { IsIndexed archive.old.listing.source.bytes archive.old }
+    ensures closed { (is : IsIndexed archive.old.listing.source.bytes archive.old) → IfOk result (λ closed.
+        AreClosedChoice except (records_read is.listed.are.records) positions.now closed.items) }
+    ensures are { IfOk result (λ closed. ArePositions (length archive.old.listing.rows) closed.items) }
+    ensures memory { IfErr result (λ problem. problem ≡ Problem.Memory) }
+    ensures rows { archive.new.listing.rows ≡ archive.old.listing.rows }
+    ensures bytes { archive.new.listing.source.bytes ≡ archive.old.listing.source.bytes }
+{
+    if except {
+        return match archive.closed_others(positions) {
+            Ok(others) => Ok(others),
+            Err(_) => Err(Problem::Memory),
+        };
+    }
+    match archive.closed(positions) {
+        Ok(closed) => Ok(closed),
+        Err(_) => Err(Problem::Memory),
+    }
+}
+
+/// Writes records of lent bytes as they are, and keeps what they give: those at positions with all that they need, or
+/// with `except` all that need none of them. Else it is as `select_lent`.
+pub fn select_closed_lent<A: Allocator + Copy, W: Sink>(
+    alloc: A,
+    bytes: &[u8],
+    positions: &[usize],
+    except: bool,
+    out: &mut W,
+    sent: &mut u64,
+) -> Result<(), Problem>
+    ensures { SelectsClosed except positions.now bytes.now (W.seen out.old) (W.seen out.new) result sent.old sent.new }
+{
+    let mut archive = match archive(alloc, bytes) {
+        Ok(archive) => archive,
+        Err(problem) => return Err(problem),
+    };
+    let named = match named(alloc, archive.count(), positions) {
+        Ok(named) => named,
+        Err(problem) => return Err(problem),
+    };
+    let closed = match closure(&mut archive, &named, except) {
+        Ok(closed) => closed,
+        Err(problem) => return Err(problem),
+    };
+    match archive.select(&closed, out) {
         Ok(()) => Ok(()),
         Err(fault) => Err(cut_off(fault, sent)),
     }

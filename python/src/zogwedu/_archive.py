@@ -451,22 +451,27 @@ class Archive(Records):
             raise ValueError("a segment has at least one byte")
         self._write(lib.warc_split, out, size)
 
-    def select(self, out: Output, positions: Iterable[int], *, except_: bool = False) -> None:
+    def select(self, out: Output, positions: Iterable[int], *, except_: bool = False, closed: bool = False) -> None:
         """Writes the records at positions, or with `except_` all others, byte for byte, in the same way.
 
         The positions come in any order, and any of them may be there twice: each record is written once, in the
         archive's order. Raises NoRecord if a position isn't that of a record, and then writes nothing. A position
         below 0 is no record's.
 
-        What is written is an archive. A revisit in it may give another reason than before, or the body of
-        another record that fits (the same id, URI and date, or digest), and a segmented record another gap, or
-        a body, if a record that it leads to is left out.
+        With `closed` answers stay. With each record all that it needs is written: the records on the way to its
+        origin, and the segments of all these. With `except_` as well, no record is written that needs one of those
+        at the positions. Then each capture that is written gives what it gives among all records.
+
+        What is written is an archive. Without `closed` a revisit in it may give another reason than before, or the
+        body of another record that fits (the same id, URI and date, or digest), and a segmented record another gap,
+        or a body, if a record that it leads to is left out. Neither keeps what a replay chooses among captures of a
+        URI, nor warcinfo and request records.
         """
         opened = self._use()
         chosen = [index(position) for position in positions]
         if any(not 0 <= position < 1 << 64 for position in chosen):
             raise NoRecord("E1 NoRecord", 201)
-        write_to(out, lambda file: opened.select(file, chosen, except_))
+        write_to(out, lambda file: opened.select(file, chosen, except_, closed))
 
     def _write(self, call: Any, out: Output, *size: int) -> None:
         opened = self._use()

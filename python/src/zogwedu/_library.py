@@ -117,7 +117,7 @@ def _calls() -> Any:
         "rewrite": (c.c_bool, write),
         "convert": (c.c_bool, write),
         "split": (c.c_bool, [POINTER, SIZE, U64, *write[2:]]),
-        "select": (c.c_bool, [POINTER, SIZE, c.POINTER(U64), SIZE, c.c_bool, *write[2:]]),
+        "select": (c.c_bool, [POINTER, SIZE, c.POINTER(U64), SIZE, c.c_bool, c.c_bool, *write[2:]]),
         "make": (c.c_bool, [c.POINTER(Draft), *write[2:]]),
     }
 
@@ -380,9 +380,9 @@ class Opened:
             at = self._open()
             written(lambda *rest: call(self.lent.address, lib.warc_length(at), *size, file, *rest))
 
-    def select(self, file: int, positions: List[int], except_: bool) -> None:
-        """Writes the records at positions, or all others, to a file descriptor."""
-        self.write(lib.warc_select, file, (U64 * len(positions))(*positions), len(positions), except_)
+    def select(self, file: int, positions: List[int], except_: bool, closed: bool) -> None:
+        """Writes the records at positions, or all others, to a file descriptor; with what they need, if `closed`."""
+        self.write(lib.warc_select, file, (U64 * len(positions))(*positions), len(positions), except_, closed)
 
 
 def written(ask: Any) -> None:
