@@ -37,6 +37,16 @@ fn converted<S: Source>(alloc: Global, listing: &mut Listing<S>) -> Result<Vec<u
     }
 }
 
+/// The same of a listing that is let go then.
+fn conversion<S: Source + Drop>(alloc: Global, mut listing: Listing<S>) -> Result<Vec<u8>, OutFault>
+    ensures { IfHeld (S.seen listing.source).holds (λ bytes. (is : IsArchiveOf bytes listing.rows) → IfOk result
+        (λ text. text.items ≡ texts_as Converted (contents is.are.records))) }
+{
+    let text = converted(alloc, &mut listing);
+    listing.into_source();
+    text
+}
+
 /// Opens an archive, writes it to memory as records of WARC 1.1, and opens that. Each replay of what it gives gives
 /// what one of the archive does. What was written doesn't open only for want of memory, or where it is longer than 2^48
 /// bytes.
@@ -47,11 +57,11 @@ pub fn migrate<S: Source + Drop>(alloc: Global, source: S) -> Result<Archive<Mem
     written_opens_as_same();
     migration_keeps_answers();
     no_fault_where_spelled();
-    let mut listing = match Listing::open(alloc, source) {
+    let listing = match Listing::open(alloc, source) {
         Ok(listing) => listing,
         Err((fault, _source)) => return Err(MoveFault::Refused(fault)),
     };
-    let text = match converted(alloc, &mut listing) {
+    let text = match conversion(alloc, listing) {
         Ok(text) => text,
         Err(fault) => return Err(MoveFault::Unwritten(fault)),
     };

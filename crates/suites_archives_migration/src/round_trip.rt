@@ -99,6 +99,16 @@ fn read_all(alloc: Global, archive: &mut Archive<MemSource>) -> Result<Vec<Frame
     Ok(records)
 }
 
+/// The records of an archive that is let go then.
+fn records_of(alloc: Global, mut archive: Archive<MemSource>) -> Result<Vec<Framed>, TakeFault>
+    ensures { (is : IsArchiveOf archive.listing.source.bytes archive.listing.rows)
+        → IfOk result (λ records. records.items ≡ contents is.are.records) }
+{
+    let records = read_all(alloc, &mut archive);
+    archive.into_source();
+    records
+}
+
 /// What is written of records.
 fn rendered(alloc: Global, records: &[Framed]) -> Result<Vec<u8>, OutFault>
     ensures { IfOk result (λ text. text.items ≡ canonical_texts records.now) }
@@ -122,11 +132,11 @@ pub fn read_back(alloc: Global, records: &[Framed]) -> Result<Vec<Framed>, Round
         Ok(text) => text,
         Err(fault) => return Err(RoundFault::Unwritten(fault)),
     };
-    let mut archive = match opened(alloc, text) {
+    let archive = match opened(alloc, text) {
         Ok(archive) => archive,
         Err(fault) => return Err(RoundFault::Unopened(fault)),
     };
-    match read_all(alloc, &mut archive) {
+    match records_of(alloc, archive) {
         Ok(back) => Ok(back),
         Err(fault) => Err(RoundFault::Unread(fault)),
     }

@@ -6,17 +6,17 @@ pub returns-in-Err-clause-refused : goal.returns-in-Err-clause-refused
 returns-in-Err-clause-refused g c =
     λ bytes held. first_refused c.in-Err.fault.kind bytes _ _ c.in-Err.fault (c.in-Err.ensures.refused bytes held)
 
-pub returns-in-Err-converted-clause-refused : goal.returns-in-Err-converted-clause-refused
-returns-in-Err-converted-clause-refused g c = λ bytes held. (c.in-Ok.listing.rows, c.in-Ok.ensures.accepted bytes held)
+pub returns-in-Err-conversion-clause-refused : goal.returns-in-Err-conversion-clause-refused
+returns-in-Err-conversion-clause-refused g c = λ bytes held. (c.in-Ok.listing.rows, c.in-Ok.ensures.accepted bytes held)
 
 pub returns-in-Ok-opened-clause-moved : goal.returns-in-Ok-opened-clause-moved
 returns-in-Ok-opened-clause-moved g c = λ bytes held.
     let first = c.in-Ok.ensures.accepted bytes held in
-    is_moved c.migration_keeps_answers.ensures.answers bytes c.in-Ok-converted.text.items c.in-Ok.listing.rows c.in-Ok-opened.archive first
-    (c.in-Ok-converted.ensures bytes (c.in-Ok.ensures.reads.kept ∙ held) first) c.in-Ok-opened.ensures.bytes c.in-Ok-opened.ensures.opened
+    is_moved c.migration_keeps_answers.ensures.answers bytes c.in-Ok-conversion.text.items c.in-Ok.listing.rows c.in-Ok-opened.archive first
+    (c.in-Ok-conversion.ensures bytes (c.in-Ok.ensures.reads.kept ∙ held) first) c.in-Ok-opened.ensures.bytes c.in-Ok-opened.ensures.opened
 
-pub returns-clause-refused : goal.returns-clause-refused
-returns-clause-refused g c = λ bytes held.
+pub returns-in-Err-opened-clause-refused : goal.returns-in-Err-opened-clause-refused
+returns-in-Err-opened-clause-refused g c = λ bytes held.
     let first = c.in-Ok.ensures.accepted bytes held in
-    converted_unopened c.no_fault_where_spelled.ensures.not_both c.written_opens_as_same.ensures.spells bytes c.in-Ok-converted.text.items c.in-Ok.listing.rows
-    c.in-Err-opened.fault first (c.in-Ok-converted.ensures bytes (c.in-Ok.ensures.reads.kept ∙ held) first) c.in-Err-opened.ensures.refused
+    converted_unopened c.no_fault_where_spelled.ensures.not_both c.written_opens_as_same.ensures.spells bytes c.in-Ok-conversion.text.items c.in-Ok.listing.rows
+    c.in-Err-opened.fault first (c.in-Ok-conversion.ensures bytes (c.in-Ok.ensures.reads.kept ∙ held) first) c.in-Err-opened.ensures.refused
