@@ -17,6 +17,11 @@ pub fn opened<S: Source + Drop, A: Allocator + Copy>(
     }
 }
 
+/// Lets an archive go, and its source. To let one go at the end of its block would be proved there anew, part by part.
+pub fn close<S: Source + Drop, A: Allocator + Copy>(archive: Archive<S, A>) {
+    archive.into_source();
+}
+
 /// What an archive lists.
 pub fn listed<S: Source, A: Allocator + Copy>(
     alloc: Global,

@@ -1,6 +1,6 @@
 //! Cases that check.
 
-use crate::calls::{checked, opened};
+use crate::calls::{checked, close, opened};
 use crate::sources::{broken, changing};
 use crate::telling::{add_check, add_line, add_number, add_text};
 use std::alloc::{AllocError, Global};
@@ -27,7 +27,11 @@ pub(crate) fn add_check_of<S: Source + Drop>(
     answer: &mut Vec<u8>,
 ) -> Result<(), AllocError> {
     match opened(alloc, source) {
-        Ok(mut archive) => add_checked(alloc, &mut archive, answer),
+        Ok(mut archive) => {
+            let told = add_checked(alloc, &mut archive, answer);
+            close(archive);
+            told
+        }
         Err(fault) => add_text(alloc, answer, &fault),
     }
 }
@@ -52,7 +56,11 @@ pub(crate) fn add_check_thrice(
     answer: &mut Vec<u8>,
 ) -> Result<(), AllocError> {
     match opened(alloc, broken(alloc, archive, usize::MAX, number)?) {
-        Ok(mut archive) => add_thrice(alloc, &mut archive, answer),
+        Ok(mut archive) => {
+            let told = add_thrice(alloc, &mut archive, answer);
+            close(archive);
+            told
+        }
         Err(fault) => add_text(alloc, answer, &fault),
     }
 }

@@ -390,5 +390,7 @@ pub(crate) fn add_front(
     let requests = turn_requests(alloc, archive, &whole)?;
     add_requests(alloc, requests, case.number(1), answer)?;
     let mut front = open_front(alloc, source_of(alloc, archive, usize::MAX)?);
-    add_writes(alloc, &mut front, &whole, answer)
+    let told = add_writes(alloc, &mut front, &whole, answer);
+    front.into_source();
+    told
 }

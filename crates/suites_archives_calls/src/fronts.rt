@@ -1,6 +1,6 @@
 //! What a check writes before a read fails.
 
-use crate::calls::{checked, opened};
+use crate::calls::{checked, close, opened};
 use crate::sources::broken;
 use std::alloc::{AllocError, Global};
 use suites_script::Case;
@@ -17,7 +17,11 @@ fn check_broken(
     out: &mut MemSink,
 ) -> Result<Option<Result<usize, OutFault>>, AllocError> {
     match opened(alloc, broken(alloc, bytes, usize::MAX, number)?) {
-        Ok(mut archive) => Ok(Some(checked(&mut archive, out))),
+        Ok(mut archive) => {
+            let told = checked(&mut archive, out);
+            close(archive);
+            Ok(Some(told))
+        }
         Err(_) => Ok(None),
     }
 }

@@ -20,7 +20,10 @@ fn refused_without(alloc: Global, bytes: &[u8], number: u64) -> Result<Option<Fa
 /// Why an archive isn't opened and judged with this memory, if it isn't.
 fn judged(heap: &RefusingAllocator<Global>, source: MemSource) -> Option<Fault> {
     match Checked::open(heap, source) {
-        Ok(_) => None,
+        Ok(checked) => {
+            checked.into_source();
+            None
+        }
         Err((fault, _source)) => Some(fault),
     }
 }

@@ -1,6 +1,6 @@
 //! How many bytes of texts archives keep.
 
-use crate::calls::opened;
+use crate::calls::{close, opened};
 use crate::sources::source_of;
 use crate::telling::{add_number, add_text};
 use std::alloc::{AllocError, Global};
@@ -10,7 +10,11 @@ use warc_frame::{Fault, MemSource};
 /// How many bytes of texts the archive of a source keeps, or why it doesn't open.
 fn kept_of(alloc: Global, source: MemSource) -> Result<u64, Fault> {
     match opened(alloc, source) {
-        Ok(archive) => Ok(archive.kept()),
+        Ok(archive) => {
+            let kept = archive.kept();
+            close(archive);
+            Ok(kept)
+        }
         Err(fault) => Err(fault),
     }
 }

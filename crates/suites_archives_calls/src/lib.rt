@@ -19,7 +19,7 @@ mod turns;
 mod verbs;
 
 pub use all::all_of;
-pub use calls::{opened, refused, replayed};
+pub use calls::{close, opened, refused, replayed};
 pub use replays::{Asked, add_replayed};
 pub use sources::{broken, source_of};
 pub use subjects::Subject;

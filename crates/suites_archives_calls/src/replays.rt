@@ -1,6 +1,6 @@
 //! Cases that replay, extract and take records.
 
-use crate::calls::{extracted, listed, opened, replayed};
+use crate::calls::{close, extracted, listed, opened, replayed};
 use crate::sources::changing;
 use crate::telling::{add_extract, add_line, add_record, add_replay, add_text};
 use std::alloc::{AllocError, Global};
@@ -82,7 +82,11 @@ fn add_opened<S: Source + Drop, W: Sink>(
     answer: &mut Vec<u8>,
 ) -> Result<(), AllocError> {
     match opened(alloc, source) {
-        Ok(mut archive) => add_between(alloc, &mut archive, asked, out, answer),
+        Ok(mut archive) => {
+            let told = add_between(alloc, &mut archive, asked, out, answer);
+            close(archive);
+            told
+        }
         Err(fault) => add_text(alloc, answer, &fault),
     }
 }
@@ -197,7 +201,11 @@ pub(crate) fn add_given_case(
     answer: &mut Vec<u8>,
 ) -> Result<(), AllocError> {
     match opened(alloc, source) {
-        Ok(mut archive) => add_given(alloc, &mut archive, case, answer),
+        Ok(mut archive) => {
+            let told = add_given(alloc, &mut archive, case, answer);
+            close(archive);
+            told
+        }
         Err(fault) => add_text(alloc, answer, &fault),
     }
 }

@@ -2,14 +2,13 @@
 
 use crate::all::{all_of, all_of_listing};
 use crate::asking::{ask_archive, ask_listing};
-use crate::calls::opened;
+use crate::calls::{close, opened};
 use std::alloc::{AllocError, Allocator, Global};
 use suites_script::Case;
 use warc::{Archive, Listing};
 use warc_frame::{Fault, Sink, Source};
 
-/// An archive or a listing.
-#[derive(Drop)]
+/// An archive or a listing, which has to be closed.
 pub enum Subject<S: Source, A: Allocator> {
     OfArchive(Archive<S, A>),
     OfListing(Listing<S, A>),
@@ -73,6 +72,16 @@ impl<S: Source + Drop, A: Allocator + Copy> Subject<S, A> {
         match self.grow(source) {
             Ok(()) => None,
             Err((fault, _source)) => Some(fault),
+        }
+    }
+
+    /// Lets it go, and its source.
+    pub fn close(self) {
+        match self {
+            Subject::OfArchive(archive) => close(archive),
+            Subject::OfListing(listing) => {
+                listing.into_source();
+            }
         }
     }
 

@@ -98,7 +98,11 @@ fn turn_opened<S: Source + Drop, A: Allocator + Copy>(
     whole: (&Told, &str),
 ) -> Result<Turn, AllocError> {
     match Subject::open(case.text(1), heap, source) {
-        Ok(mut subject) => turn_once(alloc, &mut subject, case, whole),
+        Ok(mut subject) => {
+            let told = turn_once(alloc, &mut subject, case, whole);
+            subject.close();
+            told
+        }
         Err(fault) => Ok(Turn::Unopened(fault)),
     }
 }
@@ -331,7 +335,11 @@ pub(crate) fn add_turns(
 ) -> Result<(), AllocError> {
     let source = source_of(alloc, archive, usize::MAX)?;
     match Subject::open(case.text(1), alloc, source) {
-        Ok(mut subject) => add_all_turns(alloc, &mut subject, case, archive, answer),
+        Ok(mut subject) => {
+            let told = add_all_turns(alloc, &mut subject, case, archive, answer);
+            subject.close();
+            told
+        }
         Err(fault) => add_text(alloc, answer, &fault),
     }
 }

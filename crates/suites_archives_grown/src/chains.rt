@@ -3,7 +3,7 @@
 use crate::wanted::all_of_bytes;
 use std::alloc::{AllocError, Global};
 use suites_archives_calls::{
-    Asked, add_line, add_number, add_replayed, add_text, all_of, opened, refused, source_of,
+    Asked, add_line, add_number, add_replayed, add_text, all_of, close, opened, refused, source_of,
 };
 use suites_script::{Case, add_link};
 use warc::Archive;
@@ -67,7 +67,11 @@ pub(crate) fn add_chain_case(
     answer: &mut Vec<u8>,
 ) -> Result<(), AllocError> {
     match opened(alloc, source_of(alloc, b"", 1)?) {
-        Ok(mut archive) => add_chained(alloc, &mut archive, case, (bytes, most), answer),
+        Ok(mut archive) => {
+            let told = add_chained(alloc, &mut archive, case, (bytes, most), answer);
+            close(archive);
+            told
+        }
         Err(fault) => add_text(alloc, answer, &fault),
     }
 }
@@ -86,7 +90,11 @@ fn all_grown(
 /// The same of an archive of no bytes.
 fn all_from_nothing(alloc: Global, case: &Case<'_>, bytes: &[u8]) -> Result<Vec<u8>, AllocError> {
     match opened(alloc, source_of(alloc, b"", 1)?) {
-        Ok(mut archive) => all_grown(alloc, &mut archive, case, bytes),
+        Ok(mut archive) => {
+            let told = all_grown(alloc, &mut archive, case, bytes);
+            close(archive);
+            told
+        }
         Err(_) => Ok(Vec::new(alloc)),
     }
 }

@@ -91,8 +91,9 @@ fn unread(
 ) -> Result<Option<Outcome>, AllocError> {
     match Subject::open(growth.name, alloc, broken(alloc, growth.bytes, 1, 0)?) {
         Ok(mut subject) => {
-            let outcome = grown_unread(alloc, &mut subject, growth.longer, number, wanted)?;
-            Ok(Some(outcome))
+            let outcome = grown_unread(alloc, &mut subject, growth.longer, number, wanted);
+            subject.close();
+            Ok(Some(outcome?))
         }
         Err(_) => Ok(None),
     }
@@ -193,7 +194,11 @@ fn unkept(
     let heap = RefusingAllocator::new(alloc, number);
     let source = source_of(alloc, growth.bytes, usize::MAX)?;
     match Subject::open(growth.name, &heap, source) {
-        Ok(mut subject) => grown_unkept(alloc, &heap, &mut subject, growth, wanted),
+        Ok(mut subject) => {
+            let told = grown_unkept(alloc, &heap, &mut subject, growth, wanted);
+            subject.close();
+            told
+        }
         Err(fault) if fault.kind == FaultKind::Memory => Ok(Request::Opening),
         Err(_) => Ok(Request::Otherwise),
     }

@@ -2,7 +2,7 @@
 
 use std::alloc::{AllocError, Allocator, Global};
 use suites_archives_calls::{
-    Asked, add_line, add_replayed, add_text, all_of, opened, refused, source_of,
+    Asked, add_line, add_replayed, add_text, all_of, close, opened, refused, source_of,
 };
 use suites_script::Case;
 use warc::Archive;
@@ -180,7 +180,11 @@ pub(crate) fn add_growth_case(
     answer: &mut Vec<u8>,
 ) -> Result<(), AllocError> {
     match opened(alloc, source_of(alloc, bytes, most)?) {
-        Ok(mut archive) => add_growth(alloc, &mut archive, case, (bytes, most), answer),
+        Ok(mut archive) => {
+            let told = add_growth(alloc, &mut archive, case, (bytes, most), answer);
+            close(archive);
+            told
+        }
         Err(fault) => add_text(alloc, answer, &fault),
     }
 }

@@ -17,7 +17,11 @@ fn listing_grown(listing: &mut Listing<MemSource>, source: MemSource) -> (Option
 /// The same of a listing of no bytes.
 fn listing_from_nothing(alloc: Global, source: MemSource) -> (Option<Fault>, usize) {
     match Listing::open(alloc, MemSource::new(Vec::new(alloc), 1)) {
-        Ok(mut listing) => listing_grown(&mut listing, source),
+        Ok(mut listing) => {
+            let told = listing_grown(&mut listing, source);
+            listing.into_source();
+            told
+        }
         Err((fault, _source)) => (Some(fault), 0),
     }
 }

@@ -57,7 +57,11 @@ fn recovers_once_open(
     wanted: &Wanted,
 ) -> Result<bool, AllocError> {
     match Subject::open(name, alloc, source_of(alloc, bytes, most)?) {
-        Ok(mut subject) => recovers(alloc, &mut subject, (bytes, most), (record, len), wanted),
+        Ok(mut subject) => {
+            let told = recovers(alloc, &mut subject, (bytes, most), (record, len), wanted);
+            subject.close();
+            told
+        }
         Err(_) => Ok(false),
     }
 }

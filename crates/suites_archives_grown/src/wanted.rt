@@ -14,7 +14,11 @@ pub(crate) struct Wanted {
 /// All that is answered by what a word names, opened of these bytes; nothing where it doesn't open.
 pub(crate) fn all_of_bytes(alloc: Global, name: &str, bytes: &[u8]) -> Result<Vec<u8>, AllocError> {
     match Subject::open(name, alloc, source_of(alloc, bytes, usize::MAX)?) {
-        Ok(mut subject) => subject.all(alloc),
+        Ok(mut subject) => {
+            let told = subject.all(alloc);
+            subject.close();
+            told
+        }
         Err(_) => Ok(Vec::new(alloc)),
     }
 }

@@ -2,7 +2,7 @@
 
 use crate::questions::{Answers, Questions};
 use std::alloc::{AllocError, Global};
-use suites_archives_calls::{opened, source_of};
+use suites_archives_calls::{close, opened, source_of};
 use suites_archives_migration::migration::migrate;
 use warc::Archive;
 use warc_commands::{Command, perform};
@@ -22,7 +22,11 @@ pub(crate) fn questions_of(
     bytes: &[u8],
 ) -> Result<Result<Questions, Fault>, AllocError> {
     match opened(alloc, source_of(alloc, bytes, usize::MAX)?) {
-        Ok(archive) => questions_in(alloc, &archive),
+        Ok(archive) => {
+            let told = questions_in(alloc, &archive);
+            close(archive);
+            told
+        }
         Err(fault) => Ok(Err(fault)),
     }
 }
@@ -57,7 +61,11 @@ pub(crate) fn offsets_of(
     most: usize,
 ) -> Result<Vec<usize>, AllocError> {
     match opened(alloc, source_of(alloc, bytes, usize::MAX)?) {
-        Ok(archive) => offsets_in(alloc, &archive, most),
+        Ok(archive) => {
+            let told = offsets_in(alloc, &archive, most);
+            close(archive);
+            told
+        }
         Err(_) => Ok(Vec::new(alloc)),
     }
 }
@@ -79,7 +87,11 @@ pub(crate) fn answers_of(
     questions: &Questions,
 ) -> Result<Option<Answers>, AllocError> {
     match opened(alloc, source_of(alloc, bytes, most)?) {
-        Ok(mut archive) => answers_in(alloc, &mut archive, questions),
+        Ok(mut archive) => {
+            let told = answers_in(alloc, &mut archive, questions);
+            close(archive);
+            told
+        }
         Err(_) => Ok(None),
     }
 }
@@ -100,7 +112,11 @@ pub(crate) fn answers_migrated(
     questions: &Questions,
 ) -> Result<Option<Answers>, AllocError> {
     match migrated(alloc, source_of(alloc, bytes, most)?) {
-        Some(mut archive) => answers_in(alloc, &mut archive, questions),
+        Some(mut archive) => {
+            let told = answers_in(alloc, &mut archive, questions);
+            close(archive);
+            told
+        }
         None => Ok(None),
     }
 }
