@@ -23,7 +23,7 @@ view_of (command.Captures archive uri hex) =
 view_of (command.Rewrite archive) = (codes "rewrite", archive.now ∷ [])
 view_of (command.Convert archive) = (codes "convert", archive.now ∷ [])
 view_of (command.Split archive size) = (codes "split", archive.now ∷ size.now ∷ [])
-view_of (command.Select archive positions except) = (codes "select", archive.now ∷ positions.now ∷ [])
+view_of (command.Select archive positions except closed) = (codes "select", archive.now ∷ positions.now ∷ [])
 view_of (command.Write draft file) = (codes "write", draft_texts draft ++ file.now ∷ [])
 view_of (command.Head archive position) = (codes "head", archive.now ∷ position.now ∷ [])
 view_of (command.Block archive position) = (codes "block", archive.now ∷ position.now ∷ [])
@@ -37,7 +37,7 @@ abbrev pub flags_of : Command → List Bool
 flags_of (command.Replay archive uri date hex stored) = hex ∷ stored ∷ []
 flags_of (command.Body archive position stored) = stored ∷ []
 flags_of (command.Captures archive uri hex) = hex ∷ []
-flags_of (command.Select archive positions except) = except ∷ []
+flags_of (command.Select archive positions except closed) = except ∷ closed ∷ []
 flags_of _ = []
 
 -- what words ask for
@@ -61,7 +61,7 @@ path_word (command.Captures archive uri hex) = archive.now
 path_word (command.Rewrite archive) = archive.now
 path_word (command.Convert archive) = archive.now
 path_word (command.Split archive size) = archive.now
-path_word (command.Select archive positions except) = archive.now
+path_word (command.Select archive positions except closed) = archive.now
 path_word (command.Write draft file) = file.now
 path_word (command.Head archive position) = archive.now
 path_word (command.Block archive position) = archive.now
@@ -72,7 +72,7 @@ path_word (command.Explain number) = []
 
 -- the path of the file that it reads before its archive, if it reads two
 abbrev pub list_word : Command → Option Text
-list_word (command.Select archive positions except) = Some positions.now
+list_word (command.Select archive positions except closed) = Some positions.now
 list_word _ = None
 
 -- whether it can ask for each offset once, in order

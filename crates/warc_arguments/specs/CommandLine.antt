@@ -59,7 +59,7 @@ select_layout = record {
   name = codes "select";
   words = codes "archive" ∷ codes "positions" ∷ [];
   optional = [];
-  flags = codes "except" ∷ [];
+  flags = codes "except" ∷ codes "closed" ∷ [];
 }
 
 -- the words of `write` before the path of its file

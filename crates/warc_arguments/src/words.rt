@@ -72,6 +72,7 @@ pub enum Command<'a> {
         archive: &'a str,
         positions: &'a str,
         except: bool,
+        closed: bool,
     },
     /// One record, whose block is the bytes of a file.
     Write {
@@ -154,6 +155,7 @@ impl<'a> Command<'a> {
                 archive,
                 positions: _,
                 except: _,
+                closed: _,
             } => archive,
             Command::Write { draft: _, file } => file,
             Command::Head {
@@ -180,6 +182,7 @@ impl<'a> Command<'a> {
                 archive: _,
                 positions,
                 except: _,
+                closed: _,
             } => Some(positions),
             _ => None,
         }
@@ -433,7 +436,11 @@ passed over. Standard error has how much was written:
 What a record needs isn't written with it. So a revisit may give another
 reason than in the whole archive, or the body of another record that fits (one
 of the same id, pair or digest), and a segmented record another gap, or a
-body.
+body. With --closed each record that is written brings all that it needs: the
+records on the way to the origin of a revisit, and the segments of all these;
+with --except a record is left out too if it needs one that is named. Then
+each capture that is written gives what it gives in the archive. The line ends
+with ', 2 of them needed', or with --except with ', 2 left out besides'.
 
 Exit status: 0 written; 1 no record is at a position (E1), and nothing was
 written; 2 the archive is refused, and nothing was written; 3 a line doesn't
@@ -579,6 +586,11 @@ const EXCEPT: Word = Word {
     help: "Writes all other records",
 };
 
+const CLOSED: Word = Word {
+    name: "closed",
+    help: "Writes also what they need; with --except leaves out what needs them",
+};
+
 /// What `write` wants, in its order.
 const DRAFT: [Word; 6] = [
     Word {
@@ -702,7 +714,7 @@ const OTHER_COMMANDS: [Entry; 11] = [
         notes: SELECT_NOTES,
         words: &[ARCHIVE, POSITIONS],
         optional: &[],
-        flags: &[EXCEPT],
+        flags: &[EXCEPT, CLOSED],
     },
     Entry {
         name: "write",
@@ -952,6 +964,7 @@ fn read_command<'a>(name: &str, texts: &ArgMatches<'a>) -> Command<'a>
             archive,
             positions: text_at(texts, "positions"),
             except: is_given(texts, "except"),
+            closed: is_given(texts, "closed"),
         },
         "write" => Command::Write {
             draft: read_draft(texts),
