@@ -75,7 +75,7 @@ fn counts_of(command: &str, gives: bool) -> Option<(usize, usize)> {
         "list" | "check" | "rewrite" | "convert" | "fixity" | "salvage" | "summary" => Some((1, 1)),
         "extract" | "split" | "head" | "block" | "explain" => Some((2, 2)),
         "body" => Some((2, 3)),
-        "select" => Some((1, 2)),
+        "select" => Some((1, 3)),
         "captures" => Some((1, 3)),
         "replay" => Some((3, 4)),
         "write" if gives => Some((5, 5)),
@@ -95,9 +95,15 @@ fn ends_in_option(words: &[String]) -> bool {
         ("replay", 4) => matches!(word(words, 3), "--uri-hex" | "--stored"),
         ("captures", 3) => word(words, 2) == "--uri-hex",
         ("body", 3) => word(words, 2) == "--stored",
-        ("select", 2) => word(words, 1) == "--except",
+        ("select", 2) => matches!(word(words, 1), "--except" | "--closed"),
+        ("select", 3) => word(words, 1) == "--except" && word(words, 2) == "--closed",
         _ => true,
     }
+}
+
+/// Whether `select` is to write what the records need, too.
+fn is_closed(words: &[String]) -> bool {
+    word(words, 1) == "--closed" || word(words, 2) == "--closed"
 }
 
 /// Whether words are as many as their command takes.
@@ -151,6 +157,7 @@ pub(crate) fn command_of<'a>(words: &'a [String], case: &'a Case<'_>) -> Option<
             archive,
             positions: LIST,
             except: word(words, 1) == "--except",
+            closed: is_closed(words),
         },
         "write" => Command::Write {
             draft: draft_of(words, content_type_of(words, case)),

@@ -1,8 +1,9 @@
 -- Which positions are written.
-use Rattle.std.proofs.Common.{◌≡◌, ◌↔◌, ℕ, ◌<◌, Bool, true, false, List, [], ◌∷◌, find, get_or, nat_le, cond, Option, Some, None, Ok, Err, inl, inr, refl, sym, subst, ◌∙◌}
-use Rattle.std.specs.Prelude.{All, Contains}
+use Rattle.std.proofs.Common.{◌≡◌, ◌↔◌, ℕ, ◌<◌, Bool, true, false, List, [], ◌∷◌, find, get_or, nat_le, cond, Option, Some, None, Ok, Err, inl, inr, refl, sym, ap, subst, ◌∙◌}
+use Rattle.std.specs.Prelude.{◌++◌, All, Contains, codes, decimal}
 use Rattle.std.specs.List.Sorted.{IsStrictlyIncreasing}
 use Rattle.std.proofs.lemmas.Bool.{leb-false}
+use Rattle.std.proofs.lemmas.List.{append-nil}
 use Rattle.std.proofs.lemmas.List.Elements.{All-cons, All-contains, All-from_get_or, All-nil, Contains-get_or}
 use Rattle.warc_reading.specs.Opening.{Opens}
 use Rattle.warc_reading.specs.Archive.{IsArchiveOf}
@@ -13,7 +14,9 @@ use Rattle.warc_frame.specs.declared.fault.OutFault.{OutFault}
 use Rattle.warc_frame.proofs.EffectLemmas.{fails_as, fails_more}
 use Rattle.warc.specs.Selecting.{AreOthers, ArePositions, IsSelection, selected_text}
 use Rattle.warc_commands.specs.Devices.{Devices, devices}
-use Rattle.warc_commands.specs.Selected.{AreTheNamed, AreWanted, ChosenEnds, SelectEnds, SendEnds}
+use Rattle.warc_commands.specs.Selected.{AreTheNamed, AreWanted, ChosenEnds, SelectEnds, SendEnds, selected_line}
+use Rattle.warc_commands.specs.Program.{told_line}
+use Rattle.warc_commands.specs.Salvage.{amount_line}
 use Rattle.warc_commands.proofs.ProgramLemmas.{has_failed, may_have_failed}
 
 -- ---- positions that have records
@@ -64,37 +67,42 @@ there_by ps seen count n found seen_is count_is found_is none =
 
 -- ---- what went out
 
+-- a line after which there is no more
+pub nothing_after : (n size : ℕ) → amount_line (codes "selected") n size ≡ selected_line n size []
+nothing_after n size = ap (λ l. told_line l) (sym (append-nil (codes "selected " ++ decimal n ++ codes " records, " ++ decimal size ++ codes " bytes")))
+
 pub fails_over : (rows : List Row) (ps : List ℕ) {e : OutFault} {old new : SeenSource} → FailsBy {X = Unit {0}} (λ bytes. (text : List ℕ) × IsSelection rows ps bytes text) (Err e) old new
     → FailsBy {X = ℕ} (λ bytes. IsArchiveOf bytes rows) (Err e) old new
 fails_over rows ps {e} {old} {new} fails = fails_as (Unit {0}) ℕ (fails_more (λ bytes held is. (selected_text rows ps bytes, (is, refl))) fails)
 
 -- the same, from what the source was before the archive was opened
-module _ {rows : List Row} {old mid : SeenSource} (opens : Opens IsArchiveOf old mid (Ok rows)) (out err : Seen) (new : Devices) (status : ℕ) where
-  sent_before : (ps : List ℕ) → SendEnds rows ps (devices mid out err) new status → SendEnds rows ps (devices old out err) new status
-  sent_before ps (inl sent) = inl (record {
+module _ {rows : List Row} {old mid : SeenSource} (kept : mid.holds ≡ old.holds) (cause : mid.faults ≡ old.faults) (out err : Seen) (new : Devices) (status : ℕ) where
+  pub sent_before : (more ps : List ℕ) → SendEnds more rows ps (devices mid out err) new status → SendEnds more rows ps (devices old out err) new status
+  sent_before more ps (inl sent) = inl (record {
     size = sent.size;
-    told = λ bytes held is. sent.told bytes (opens.reads.kept ∙ held) is;
-    size_is = λ bytes held is. sent.size_is bytes (opens.reads.kept ∙ held) is;
+    told = λ bytes held is. sent.told bytes (kept ∙ held) is;
+    size_is = λ bytes held is. sent.size_is bytes (kept ∙ held) is;
     unfailed = sent.unfailed;
-    sound = sent.sound ∙ opens.reads.cause;
+    sound = sent.sound ∙ cause;
     reported = sent.reported;
     status_is = sent.status_is;
   })
-  sent_before ps (inr cut) = inr (record {
+  sent_before more ps (inr cut) = inr (record {
     fault = cut.fault;
     device = cut.device;
-    front = λ bytes held is. cut.front bytes (opens.reads.kept ∙ held) is;
+    front = λ bytes held is. cut.front bytes (kept ∙ held) is;
     fails = record {
-      may = may_have_failed cut.fault _ _ _ _ opens.reads.cause refl cut.fails.may;
-      failed = λ bytes held is. has_failed cut.fault _ _ _ _ opens.reads.cause refl (cut.fails.failed bytes (opens.reads.kept ∙ held) is);
+      may = may_have_failed cut.fault _ _ _ _ cause refl cut.fails.may;
+      failed = λ bytes held is. has_failed cut.fault _ _ _ _ cause refl (cut.fails.failed bytes (kept ∙ held) is);
     };
     failed = cut.failed;
     told = cut.told;
     status_is = cut.status_is;
   })
 
+module _ {rows : List Row} {old mid : SeenSource} (opens : Opens IsArchiveOf old mid (Ok rows)) (out err : Seen) (new : Devices) (status : ℕ) where
   chosen_before : (except : Bool) (named : List ℕ) → ChosenEnds except named rows (devices mid out err) new status → ChosenEnds except named rows (devices old out err) new status
-  chosen_before except named (inl is) = inl (record { there = is.there; chosen = is.chosen; are = is.are; ends = sent_before is.chosen is.ends })
+  chosen_before except named (inl is) = inl (record { there = is.there; chosen = is.chosen; are = is.are; ends = sent_before opens.reads.kept opens.reads.cause out err new status [] is.chosen is.ends })
   chosen_before except named (inr (inl is)) = inr (inl (record { absent = is.absent; first = is.first; sound = is.sound ∙ opens.reads.cause; untouched = is.untouched; told = is.told; status_is = is.status_is }))
   chosen_before except named (inr (inr is)) = inr (inr (record { sound = is.sound ∙ opens.reads.cause; untouched = is.untouched; told = is.told; status_is = is.status_is }))
 

@@ -8,3 +8,4 @@ mod StoredLemmas
 mod WorkedValues
 pub mod CaptureLemmas
 pub mod ChoiceLemmas
+mod ClosedLemmas

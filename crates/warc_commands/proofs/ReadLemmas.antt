@@ -1,5 +1,5 @@
 -- What a command reads of its source.
-use Rattle.std.proofs.Common.{◌≡◌, ℕ, ◌+◌, ◌*◌, ◌<◌, ◌≤◌, Bool, List, [], ◌∷◌, length, map, Option, None, Some, Result, Ok, length-append, length-take, take, refl, sym, ap, subst, ◌∙◌, arith}
+use Rattle.std.proofs.Common.{◌≡◌, ℕ, ◌+◌, ◌*◌, ◌-◌, ◌<◌, ◌≤◌, Bool, List, [], ◌∷◌, length, map, Option, None, Some, Result, Ok, length-append, length-take, take, refl, sym, ap, subst, ◌∙◌, arith}
 use Rattle.std.specs.List.{All, AllByRecursion, Contains, slice_get, sum_by}
 use Rattle.std.proofs.lemmas.List.Elements.{All-cons, All-contains, All-nil}
 use Rattle.std.proofs.lemmas.List.Sums.{sum_by-cons}
@@ -34,6 +34,8 @@ use Rattle.warc.specs.declared.part.Part.TheVariants.{Head, Block}
 use Rattle.warc.proofs.FrontLemmas.{front_begins}
 use Rattle.warc.proofs.JoinedLemmas.{path_short}
 use Rattle.warc_reading.proofs.StandLemmas.{written}
+use Rattle.warc_reading.specs.Rereading.{IsInHead, heads_len}
+use Rattle.warc_commands.specs.Closed.{ReadsClosed}
 use Rattle.warc_commands.specs.Asking.{AsksFar, HasAsked, HasReadFront, ReadsFront}
 use Rattle.warc_commands.specs.Reads.{AsksNear, ReadsForRecord, ReadsTimes}
 use Rattle.warc_commands.specs.Selected.{ReadsSome}
@@ -185,6 +187,11 @@ rows_short form q [] text is = omega arith
 rows_short form q (p ∷ ps) text (front, rest, one, at, behind, whole, more) =
     omega (arith, rows_short form (q + length front) ps rest more, sum_by-cons (read_len form) (row_of p) (map row_of ps), front_size q q p front one at behind, at, behind, ap length whole, length-append front rest)
 
+heads_short : (q : ℕ) (ps : List Placed) (text : List ℕ) → SpellsFrom q ps text → heads_len (map row_of ps) ≤ length text
+heads_short q [] text is = omega arith
+heads_short q (p ∷ ps) text (front, rest, one, at, behind, whole, more) =
+    omega (arith, heads_short (q + length front) ps rest more, sum_by-cons (λ (r : Row). r.block_start - r.offset) (row_of p) (map row_of ps), front_size q q p front one at behind, at, behind, ap length whole, length-append front rest)
+
 split_short : (q : ℕ) (ps : List Placed) (text : List ℕ) → SpellsFrom q ps text → sum_by split_len (map row_of ps) ≤ 3 * length text
 split_short q [] text is = omega arith
 split_short q (p ∷ ps) text (front, rest, one, at, behind, whole, more) =
@@ -242,6 +249,24 @@ module _ {X : Type 0} {Is : List ℕ → X → Type 0} {old mid last new : SeenS
     near = near_then (IsInAnyRecord (at_positions rows some.positions)) old mid last opens.reads.watched opens.reads.near (in_some some.positions) some.reads.near;
     cost = λ bytes held. omega (arith, opens.cost bytes held, some.reads.bound, selection_short bytes rows some.positions (of bytes (opens.accepted bytes held)) some.ascending);
   })
+
+  -- heads are read, and then some records
+  in_heads : (q : ℕ) → IsInHead rows q → q ≤ max_archive
+  in_heads q in_ =
+      let is = of opens.some.0 opens.some.1 in
+      let lies = row_lies opens.some.0 rows is in_.place in_.row in_.is in
+      omega (arith, in_.to, lies.end, is.short)
+
+  pub closed_read : ReadsClosed rows mid last → ReadsTimes 3 old new
+  closed_read closed =
+      let some = closed.some in
+      let heads = near_then (IsInHead rows) old mid closed.mid opens.reads.watched opens.reads.near in_heads closed.heads.near in
+      left 3 (record {
+        near = near_then (IsInAnyRecord (at_positions rows some.positions)) old closed.mid last (closed.heads.watched ∙ opens.reads.watched) heads (in_some some.positions) some.reads.near;
+        cost = λ bytes held.
+            let is = of bytes (opens.accepted bytes held) in
+            omega (arith, opens.cost bytes held, closed.heads.bound, ap (λ l. heads_len l) is.are.rows_are, heads_short 0 is.are.records bytes is.are.spelled, some.reads.bound, selection_short bytes rows some.positions is some.ascending);
+      })
 
 -- what a replay asks for lies in the archive
 inside_near : {S : Type 0} {old mid : SeenSource} {archive : Archived S} (last : SeenSource) → Opens IsIndexed old mid (Ok archive)

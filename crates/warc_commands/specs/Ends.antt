@@ -7,6 +7,7 @@ use Rattle.warc_arguments.specs.Digits.{uri_named}
 use Rattle.warc_arguments.specs.Explanations.{explained}
 use Rattle.warc_commands.specs.Bodies.{BodyEnds}
 use Rattle.warc_commands.specs.Devices.{Devices}
+use Rattle.warc_commands.specs.Closed.{ClosedEnds}
 use Rattle.warc_commands.specs.Explaining.{ExplainEnds}
 use Rattle.warc_commands.specs.Fixity.{FixityEnds}
 use Rattle.warc_commands.specs.Parts.{PartEnds, position_of}
@@ -35,8 +36,10 @@ Ends (command.Captures archive uri hex) list old new status =
 Ends (command.Rewrite archive) list old new status = WriteEnds (texts_as Canonical) old new status
 Ends (command.Convert archive) list old new status = WriteEnds (texts_as Converted) old new status
 Ends (command.Split archive size) list old new status = SplitEnds (size_of size.now) old new status
-Ends (command.Select archive positions except) list old new status =
+Ends (command.Select archive positions except false) list old new status =
     SelectEnds except (bad_line list) (positions_in list) old new status
+Ends (command.Select archive positions except true) list old new status =
+    ClosedEnds except (bad_line list) (positions_in list) old new status
 Ends (command.Write draft file) list old new status = MakeEnds draft old new status
 Ends (command.Head archive position) list old new status = PartEnds Head (position_of position.now) old new status
 Ends (command.Block archive position) list old new status = PartEnds Block (position_of position.now) old new status
@@ -57,7 +60,7 @@ IsStatusOf (command.Captures archive uri hex) status = (status ≡ 0) ⊎ ((stat
 IsStatusOf (command.Rewrite archive) status = (status ≡ 0) ⊎ ((status ≡ 2) ⊎ (status ≡ 3))
 IsStatusOf (command.Convert archive) status = (status ≡ 0) ⊎ ((status ≡ 2) ⊎ (status ≡ 3))
 IsStatusOf (command.Split archive size) status = (status ≡ 0) ⊎ ((status ≡ 2) ⊎ (status ≡ 3))
-IsStatusOf (command.Select archive positions except) status =
+IsStatusOf (command.Select archive positions except closed) status =
     (status ≡ 0) ⊎ ((status ≡ 1) ⊎ ((status ≡ 2) ⊎ (status ≡ 3)))
 IsStatusOf (command.Write draft file) status = (status ≡ 0) ⊎ (status ≡ 3)
 IsStatusOf (command.Head archive position) status = (status ≡ 0) ⊎ ((status ≡ 1) ⊎ ((status ≡ 2) ⊎ (status ≡ 3)))

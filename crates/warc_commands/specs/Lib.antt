@@ -1,6 +1,7 @@
 pub mod Asking
 pub mod Bodies
 pub mod Captures
+pub mod Closed
 pub mod Devices
 pub mod Ends
 pub mod Explaining

@@ -1,5 +1,5 @@
 -- Which bytes of its source a command asks for, and in how many reads at most.
-use Rattle.std.specs.Prelude.{◌≡◌, ℕ, ◌+◌, ◌*◌, ◌≤◌, length}
+use Rattle.std.specs.Prelude.{◌≡◌, ℕ, ◌+◌, ◌*◌, ◌≤◌, false, true, length}
 use Rattle.warc_frame.specs.Record.{max_archive, max_block}
 use Rattle.warc_frame.specs.Seen.{AsksOnly, IfHeld, SeenSource}
 use Rattle.warc_arguments.specs.declared.words.Command.{Command}
@@ -27,7 +27,8 @@ pub record ReadsForRecord (old new : SeenSource) : Type 0 where
 
 -- what a run of the command reads: an archive is opened in one read for each byte, and one; what is written of it is
 -- read again, once, and twice the joined blocks of a body, of which the first time to judge them. A block that is split
--- is read three times: to judge it, for the digests of its segments, and to be copied
+-- is read three times: to judge it, for the digests of its segments, and to be copied. For a closed selection heads are
+-- read again before what is written
 abbrev pub CommandReads : Command → SeenSource → SeenSource → Type 0
 CommandReads (command.List archive) old new = ReadsTimes 1 old new
 CommandReads (command.Check archive) old new = ReadsTimes 1 old new
@@ -41,7 +42,8 @@ CommandReads (command.Convert archive) old new = ReadsTimes 2 old new
 CommandReads (command.Split archive size) old new = ReadsTimes 4 old new
 CommandReads (command.Replay archive uri date hex stored) old new = ReadsTimes 3 old new
 CommandReads (command.Body archive position stored) old new = ReadsTimes 3 old new
-CommandReads (command.Select archive positions except) old new = ReadsTimes 2 old new
+CommandReads (command.Select archive positions except false) old new = ReadsTimes 2 old new
+CommandReads (command.Select archive positions except true) old new = ReadsTimes 3 old new
 CommandReads (command.Write draft file) old new = ReadsForRecord old new
 CommandReads (command.Captures archive uri hex) old new = AsksNear old new
 CommandReads (command.Salvage archive) old new = ReadsTimes 2 old new

@@ -1,5 +1,5 @@
 -- How `select` ends.
-use Rattle.std.specs.Prelude.{◌≡◌, ◌↔◌, ℕ, ◌<◌, ◌⊎◌, Bool, true, false, List, ◌++◌, find, length, codes, decimal, nat_le, Option, Some, None, Err, All, Contains}
+use Rattle.std.specs.Prelude.{◌≡◌, ◌↔◌, ℕ, ◌<◌, ◌⊎◌, Bool, true, false, List, [], ◌++◌, find, length, codes, decimal, nat_le, Option, Some, None, Err, All, Contains}
 use Rattle.std.specs.Io.KnownBytes.{append_known}
 use Rattle.std.specs.List.Sorted.{IsStrictlyIncreasing}
 use Rattle.warc_frame.specs.Effects.{FailsBy, IsOfDevice}
@@ -14,7 +14,6 @@ use Rattle.warc_reading.specs.Row.{Row}
 use Rattle.warc.specs.Selecting.{AreOthers, ArePositions, ReadsRecords, at_positions, selected_text}
 use Rattle.warc_commands.specs.Devices.{Devices}
 use Rattle.warc_commands.specs.Program.{IsBadWord, IsNotOpened, Tells, told_line}
-use Rattle.warc_commands.specs.Salvage.{amount_line}
 use Rattle.warc_commands.specs.Uris.{IsStarved}
 use Rattle.warc_commands.specs.declared.lists.ListFault.{ListFault}
 use Rattle.warc_commands.specs.declared.lists.ListFault.TheVariants.{Line, Memory as NoMemory}
@@ -29,8 +28,14 @@ abbrev pub AreWanted : Bool → ℕ → List ℕ → List ℕ → Type 0
 AreWanted false count named chosen = AreTheNamed count named chosen
 AreWanted true count named chosen = AreOthers count named chosen
 
--- the records at these positions of an archive of these rows went out, and how much is reported
-pub record IsSelectionSent (rows : List Row) (positions : List ℕ) (old new : Devices) (status : ℕ) : Type 0 where
+-- the line of how many records and bytes went out, with a text after these
+abbrev pub selected_line : ℕ → ℕ → List ℕ → List ℕ
+selected_line records bytes more =
+    told_line (codes "selected " ++ decimal records ++ codes " records, " ++ decimal bytes ++ codes " bytes" ++ more)
+
+-- the records at these positions of an archive of these rows went out, and how much is reported, with a text after it
+pub record IsSelectionSent (more : List ℕ) (rows : List Row) (positions : List ℕ) (old new : Devices) (status : ℕ)
+    : Type 0 where
   pub size : ℕ
   pub told : IfHeld old.source.holds (λ bytes. IsArchiveOf bytes rows
       → new.out.tells ≡ append_known old.out.tells (selected_text rows positions bytes))
@@ -38,7 +43,7 @@ pub record IsSelectionSent (rows : List Row) (positions : List ℕ) (old new : D
       → size ≡ length (selected_text rows positions bytes))
   pub unfailed : new.out.faults ≡ old.out.faults
   pub sound : new.source.faults ≡ old.source.faults
-  pub reported : Tells (amount_line (codes "selected") (length positions) size) old.err new.err
+  pub reported : Tells (selected_line (length positions) size more) old.err new.err
   pub status_is : status ≡ 0
 
 -- a read or a write failed, and a front of them went out
@@ -52,16 +57,16 @@ pub record IsSelectionCut (rows : List Row) (positions : List ℕ) (old new : De
   pub told : Tells (told_line (out_fault_text fault)) old.err new.err
   pub status_is : status ≡ 3
 
-abbrev pub SendEnds : List Row → List ℕ → Devices → Devices → ℕ → Type 0
-SendEnds rows positions old new status =
-    IsSelectionSent rows positions old new status ⊎ IsSelectionCut rows positions old new status
+abbrev pub SendEnds : List ℕ → List Row → List ℕ → Devices → Devices → ℕ → Type 0
+SendEnds more rows positions old new status =
+    IsSelectionSent more rows positions old new status ⊎ IsSelectionCut rows positions old new status
 
 -- each named position has a record, and those that are to be written were
 pub record IsSelected (except : Bool) (named : List ℕ) (rows : List Row) (old new : Devices) (status : ℕ) : Type 0 where
   pub there : All (λ p. p < length rows) named
   pub chosen : List ℕ
   pub are : AreWanted except (length rows) named chosen
-  pub ends : SendEnds rows chosen old new status
+  pub ends : SendEnds [] rows chosen old new status
 
 -- there is no record at a named position, of which the first is reported: nothing was written
 pub record IsAbsent (named : List ℕ) (rows : List Row) (old new : Devices) (status : ℕ) : Type 0 where

@@ -4,6 +4,7 @@
 mod bodies;
 mod captures;
 mod checking;
+mod closed;
 mod explaining;
 mod extracting;
 mod fixity;

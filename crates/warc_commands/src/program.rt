@@ -11,6 +11,7 @@ ghost use Rattle.warc.specs.Forms.{texts_as};
 use crate::bodies::body;
 use crate::captures::captures;
 use crate::checking::check;
+use crate::closed::select_closed;
 use crate::explaining::explain;
 use crate::extracting::{AsOf, extract};
 use crate::fixity::fixity;
@@ -120,12 +121,25 @@ where
             archive: _,
             positions: _,
             except,
+            closed: false,
         } => {
             let wanted = Wanted {
                 list: listed,
                 except: *except,
             };
             select(alloc, wanted, source, out, err)
+        }
+        Command::Select {
+            archive: _,
+            positions: _,
+            except,
+            closed: true,
+        } => {
+            let wanted = Wanted {
+                list: listed,
+                except: *except,
+            };
+            select_closed(alloc, wanted, source, out, err)
         }
         Command::Write { draft, file: _ } => write(alloc, draft, source, out, err),
         Command::Head {

@@ -1,5 +1,5 @@
 //! The command that writes some records byte for byte.
-ghost use Rattle.std.specs.Prelude.{◌≡◌, ◌<◌, ◌≤◌, ◌++◌, All, IfOk, decimal, length};
+ghost use Rattle.std.specs.Prelude.{◌≡◌, ◌<◌, ◌≤◌, ◌++◌, All, IfOk, [], decimal, length};
 ghost use Rattle.warc.specs.Selecting.{ArePositions, ReadsRecords, at_positions};
 ghost use Rattle.warc_commands.specs.Devices.{devices};
 ghost use Rattle.warc_commands.specs.Named.{bad_line, positions_in};
@@ -115,7 +115,7 @@ where
     W: Sink,
     E: Sink,
     requires { ArePositions (length archive.old.rows) positions.now }
-    ensures ends { SendEnds archive.old.rows positions.now (devices (S.seen archive.old.source) (W.seen out.old)
+    ensures ends { SendEnds [] archive.old.rows positions.now (devices (S.seen archive.old.source) (W.seen out.old)
         (E.seen err.old)) (devices (S.seen archive.new.source) (W.seen out.new) (E.seen err.new)) result }
     ensures reads { ReadsRecords (at_positions archive.old.rows positions.now) (S.seen archive.old.source)
         (S.seen archive.new.source) }
@@ -131,7 +131,7 @@ where
 }
 
 /// Reports why a list names no positions, and answers the exit status.
-fn tell_list<E: Sink>(fault: ListFault, err: &mut E) -> u8
+pub(crate) fn tell_list<E: Sink>(fault: ListFault, err: &mut E) -> u8
     ensures told { Tells (told_line (list_fault_text fault)) (E.seen err.old) (E.seen err.new) }
     ensures status { result ≡ 3 }
 {
@@ -145,7 +145,7 @@ fn tell_list<E: Sink>(fault: ListFault, err: &mut E) -> u8
 }
 
 /// Reports a short text and a number.
-fn tell_number<E: Sink>(text: &str, number: usize, err: &mut E)
+pub(crate) fn tell_number<E: Sink>(text: &str, number: usize, err: &mut E)
     requires { length text.now ≤ 80 }
     ensures { Tells (told_line (text.now ++ decimal number)) (E.seen err.old) (E.seen err.new) }
 {

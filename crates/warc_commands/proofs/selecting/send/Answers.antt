@@ -1,5 +1,6 @@
-use Rattle.std.proofs.Common.{inl, inr, refl}
-use Rattle.warc_commands.proofs.ChoiceLemmas.{fails_over}
+use Rattle.std.proofs.Common.{length, inl, inr, refl}
+use Rattle.warc_commands.proofs.ChoiceLemmas.{fails_over, nothing_after}
+use Rattle.warc_commands.proofs.ProgramLemmas.{told_as}
 use Rattle.warc_commands.proofs.selecting.send.Goals as goal
 
 pub returns-in-Ok-clause-ends : goal.returns-in-Ok-clause-ends
@@ -9,7 +10,7 @@ returns-in-Ok-clause-ends g c = inl (record {
   size_is = λ bytes held is. c.selected_len-size.ensures bytes is;
   unfailed = c.in-Ok.ensures.selects.sends.cause;
   sound = c.in-Ok.ensures.selects.sends.fails.may;
-  reported = c.tell_line.ensures;
+  reported = told_as (nothing_after (length c.args.positions.now) c.selected_len-size.result) c.tell_line.ensures;
   status_is = refl;
 })
 

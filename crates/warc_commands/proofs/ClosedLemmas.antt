@@ -1,0 +1,146 @@
+-- How a closed selection ends.
+use Rattle.std.proofs.Common.{◌≡◌, ℕ, Bool, true, false, List, [], length, Option, None, Result, Ok, Err, inl, inr, refl, sym, ap, subst, ◌∙◌, arith}
+use Rattle.std.specs.declared.vec.Vec.{Vec}
+use Rattle.warc_frame.specs.Seen.{IfHeld, Seen, SeenSource}
+use Rattle.warc_frame.specs.FaultText.{out_fault_text}
+use Rattle.warc_frame.specs.declared.fault.OutFault.{OutFault}
+use Rattle.warc_frame.proofs.EffectLemmas.{fails_as, fails_more}
+use Rattle.warc_index.specs.Orders.{Indexes}
+use Rattle.warc_segment.specs.Kept.{Kept as Parts}
+use Rattle.warc_reading.specs.Indexed.{Archived, IsIndexed}
+use Rattle.warc_reading.specs.Opening.{Opens}
+use Rattle.warc_reading.specs.Row.{Row}
+use Rattle.warc.specs.Closure.{GivesNeeded, GivesOthers}
+use Rattle.warc.specs.Selecting.{ReadsRecords, at_positions}
+use Rattle.warc_commands.specs.Closed.{ClosedEnds, ClosureEnds, GivesClosed, NamedEnds, ReadsClosed, beside, beside_text}
+use Rattle.warc_commands.specs.Devices.{Devices, devices}
+use Rattle.warc_commands.specs.Program.{Tells, told_line}
+use Rattle.warc_commands.specs.Selected.{ReadsSome, SendEnds}
+use Rattle.warc_commands.proofs.ChoiceLemmas.{sent_before}
+use Rattle.warc_commands.proofs.ProgramLemmas.{has_failed, may_have_failed}
+
+-- ---- the closure
+
+pub closes_others : {A : Type 0} (b : Bool) {rows : List Row} {index : Indexes} {parts : Parts} {ps : List ℕ} {old new : SeenSource} {answer : Result (Vec ℕ A) OutFault} → b ≡ true
+    → GivesOthers rows index parts ps old new answer → GivesClosed b rows index parts ps old new answer
+closes_others true is gives = gives
+closes_others false is gives = absurd (cc is)
+
+pub closes_needed : {A : Type 0} (b : Bool) {rows : List Row} {index : Indexes} {parts : Parts} {ps : List ℕ} {old new : SeenSource} {answer : Result (Vec ℕ A) OutFault} → b ≡ false
+    → GivesNeeded rows index parts ps old new answer → GivesClosed b rows index parts ps old new answer
+closes_needed true is gives = absurd (cc is)
+closes_needed false is gives = gives
+
+-- ---- what is read
+
+pub reads_no_record : (rows : List Row) (s : SeenSource) → ReadsSome rows s s
+reads_no_record rows s = record {
+  positions = [];
+  ascending = λ k lt. omega (arith, lt);
+  reads = record { kept = refl; watched = refl; near = λ off. refl; bound = omega arith };
+}
+
+pub reads_nothing : (rows : List Row) (s : SeenSource) → ReadsClosed rows s s
+reads_nothing rows s = record {
+  mid = s;
+  heads = record { kept = refl; watched = refl; near = λ off. refl; bound = omega arith };
+  some = reads_no_record rows s;
+}
+
+-- ---- what went out
+
+module _ {A : Type 0} {S : Type 0} (archive : Archived S) (except : Bool) (once : List ℕ) {old mid : SeenSource} {answer : Result (Vec ℕ A) OutFault}
+    (gives : GivesClosed except archive.listing.rows archive.index archive.parts once old mid answer) where
+  pub heads_then : {v : Vec ℕ A} → answer ≡ Ok v → (rows : List Row) (seen : List ℕ) (new : SeenSource) → rows ≡ archive.listing.rows → seen ≡ v.items → ReadsRecords (at_positions rows seen) mid new
+      → ReadsClosed archive.listing.rows old new
+  heads_then {v} is rows seen new rows_are seen_is reads =
+      let P : Result (Vec ℕ A) OutFault → Type 0 = λ r. GivesClosed except archive.listing.rows archive.index archive.parts once old mid r in
+      let given = subst P is gives in
+      let Q : List Row → Type 0 = λ l. ReadsRecords (at_positions l v.items) mid new in
+      let R : List ℕ → Type 0 = λ l. ReadsRecords (at_positions rows l) mid new in
+      record {
+        mid = mid;
+        heads = given.reads;
+        some = record { positions = v.items; ascending = given.are.ascending; reads = subst Q rows_are (subst R seen_is reads) };
+      }
+
+  module _ (indexed : IfHeld old.holds (λ bytes. IsIndexed bytes archive)) (out err : Seen) (new : Devices) (status : ℕ) where
+    pub closure_sent : {v : Vec ℕ A} → answer ≡ Ok v → (rows : List Row) (seen : List ℕ) (n count named written : ℕ) → rows ≡ archive.listing.rows → seen ≡ v.items
+        → n ≡ beside except count named written → count ≡ length rows → named ≡ length once → written ≡ length v.items → SendEnds (beside_text except n) rows seen (devices mid out err) new status
+        → ClosureEnds except once archive.listing.rows (devices old out err) new status
+    closure_sent {v} is rows seen n count named written rows_are seen_is n_is count_is named_is written_is ends =
+        let P : Result (Vec ℕ A) OutFault → Type 0 = λ r. GivesClosed except archive.listing.rows archive.index archive.parts once old mid r in
+        let given = subst P is gives in
+        let whole = archive.listing.rows in
+        let same : n ≡ beside except (length whole) (length once) (length v.items) =
+        n_is ∙ ap (λ k. beside except k named written) (count_is ∙ ap (λ l. length l) rows_are) ∙ ap (λ k. beside except (length whole) k written) named_is ∙ ap (λ k. beside except (length whole) (length once) k) written_is in
+        let Q : List Row → Type 0 = λ l. SendEnds (beside_text except n) l v.items (devices mid out err) new status in
+        let R : List ℕ → Type 0 = λ l. SendEnds (beside_text except n) rows l (devices mid out err) new status in
+        let T : ℕ → Type 0 = λ k. SendEnds (beside_text except k) whole v.items (devices mid out err) new status in
+        inl (record {
+          chosen = v.items;
+          positions = given.are;
+          are = λ bytes held. let it = indexed bytes held in record { is = it.listed; are = given.told bytes held it.listed it.kept };
+          ends = sent_before given.reads.kept given.fails.may out err new status _ v.items (subst T same (subst Q rows_are (subst R seen_is ends)));
+        })
+
+  pub unclosed : (indexed : IfHeld old.holds (λ bytes. IsIndexed bytes archive)) {e : OutFault} (out : Seen) {err err' : Seen} {status : ℕ} → answer ≡ Err e → Tells (told_line (out_fault_text e)) err err' → status ≡ 3
+      → ClosureEnds except once archive.listing.rows (devices old out err) (devices mid out err') status
+  unclosed indexed {e} out is told three =
+      let P : Result (Vec ℕ A) OutFault → Type 0 = λ r. GivesClosed except archive.listing.rows archive.index archive.parts once old mid r in
+      let given = subst P is gives in
+      inr (record {
+        fault = e;
+        early = given.early;
+        fails = fails_as (Vec ℕ A) ℕ (fails_more (λ bytes held is. let it = indexed bytes held in (it.listed, it.kept)) given.fails);
+        untouched = refl;
+        told = told;
+        status_is = three;
+      })
+
+-- the same, from what the source was before the archive was opened
+module _ {rows : List Row} {old mid : SeenSource} (kept : mid.holds ≡ old.holds) (cause : mid.faults ≡ old.faults) (out err : Seen) (new : Devices) (status : ℕ) where
+  closure_before : (except : Bool) (once : List ℕ) → ClosureEnds except once rows (devices mid out err) new status → ClosureEnds except once rows (devices old out err) new status
+  closure_before except once (inl is) = inl (record {
+    chosen = is.chosen;
+    positions = is.positions;
+    are = λ bytes held. is.are bytes (kept ∙ held);
+    ends = sent_before kept cause out err new status _ is.chosen is.ends;
+  })
+  closure_before except once (inr is) = inr (record {
+    fault = is.fault;
+    early = is.early;
+    fails = record {
+      may = may_have_failed is.fault _ _ _ _ cause refl is.fails.may;
+      failed = λ bytes held archive. has_failed is.fault _ _ _ _ cause refl (is.fails.failed bytes (kept ∙ held) archive);
+    };
+    untouched = is.untouched;
+    told = is.told;
+    status_is = is.status_is;
+  })
+
+  named_before : (except : Bool) (named : List ℕ) → NamedEnds except named rows (devices mid out err) new status → NamedEnds except named rows (devices old out err) new status
+  named_before except named (inl is) = inl (record { there = is.there; once = is.once; once_are = is.once_are; ends = closure_before except is.once is.ends })
+  named_before except named (inr is) = inr (record { absent = is.absent; first = is.first; sound = is.sound ∙ cause; untouched = is.untouched; told = is.told; status_is = is.status_is })
+
+pub holds_indexed : {S : Type 0} {archive : Archived S} {old mid : SeenSource} → Opens IsIndexed old mid (Ok archive) → IfHeld mid.holds (λ bytes. IsIndexed bytes archive)
+holds_indexed opens bytes held = opens.accepted bytes (sym opens.reads.kept ∙ held)
+
+module _ {S : Type 0} {archive : Archived S} {old mid : SeenSource} (opens : Opens IsIndexed old mid (Ok archive)) (out err : Seen) (new : Devices) (status : ℕ) where
+  closed_as : (except : Bool) (bad : Option ℕ) (named wanted : List ℕ) → (bad ≡ None) × (named ≡ wanted) → NamedEnds except named archive.listing.rows (devices mid out err) new status
+      → ClosedEnds except bad wanted (devices old out err) new status
+  closed_as except bad named wanted (none, same) ends =
+      let P : Option ℕ → Type 0 = λ o. ClosedEnds except o wanted (devices old out err) new status in
+      let Q : List ℕ → Type 0 = λ l. ClosedEnds except None l (devices old out err) new status in
+      subst P (sym none) (subst Q same (inl (record {
+        rows = archive.listing.rows;
+        are = λ bytes held. (opens.accepted bytes held).listed;
+        ends = named_before opens.reads.kept opens.reads.cause out err new status except named ends;
+      })))
+
+pub closed_by : {S : Type 0} {archive : Archived S} {except : Bool} {bad : Option ℕ} {named wanted : List ℕ} {old mid last new : SeenSource} {out out' err err' : Seen} {status : ℕ} → (bad ≡ None) × (named ≡ wanted)
+    → Opens IsIndexed old mid (Ok archive) → new ≡ last → NamedEnds except named archive.listing.rows (devices mid out err) (devices last out' err') status
+    → ClosedEnds except bad wanted (devices old out err) (devices new out' err') status
+closed_by {S} {archive} {except} {bad} {named} {wanted} {old} {mid} {last} {new} {out} {out'} {err} {err'} {status} is opens same ends =
+    let P : SeenSource → Type 0 = λ t. ClosedEnds except bad wanted (devices old out err) (devices t out' err') status in
+    subst P (sym same) (closed_as opens out err (devices last out' err') status except bad named wanted is ends)
