@@ -123,10 +123,10 @@ class Trial:
             self.closes(["--closed"], b"%d\n" % position, [position], parts)
             self.closes(["--except", "--closed"], b"%d\n" % position, [position], parts)
         absent = len(parts) + chance.randrange(3)
-        told = Ended(b"", b"warc: E1 NoRecord %d\n" % absent, 1)
-        self.wants([], lines + b"00%d" % absent, told)
-        self.wants(["--except"], lines + b"%d\n" % absent, told)
-        self.wants(["--closed"], lines + b"%d\n" % absent, told)
+        refusal = Ended(b"", b"warc: E1 NoRecord %d\n" % absent, 1)
+        self.wants([], lines + b"00%d" % absent, refusal)
+        self.wants(["--except"], lines + b"%d\n" % absent, refusal)
+        self.wants(["--closed"], lines + b"%d\n" % absent, refusal)
 
 
 def parts_of(data: bytes, listed: bytes) -> List[bytes]:
