@@ -1,0 +1,15 @@
+pub mod CloseLemmas
+pub mod CutLemmas
+pub mod ExistLemmas
+pub mod HalvingLemmas
+pub mod LawLemmas
+pub mod MergeLemmas
+pub mod PieceLemmas
+pub mod ReaderLemmas
+pub mod ReadsLemmas
+pub mod RecordLemmas
+pub mod RunLemmas
+pub mod SalvageLemmas
+pub mod SearchLemmas
+pub mod UniqueLemmas
+pub mod WindowLemmas

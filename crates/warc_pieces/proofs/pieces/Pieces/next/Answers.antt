@@ -1,0 +1,27 @@
+use Rattle.std.proofs.Common.{◌≡◌, List, Some, sym, ap, subst, ◌∙◌}
+use Rattle.warc_pieces.specs.Reader.{GivesMore, AreGiven, Reader}
+use Rattle.warc_pieces.specs.declared.piece.Piece.{Piece}
+use Rattle.warc_pieces.specs.declared.pieces.Walk.{Walk}
+use Rattle.warc_pieces.proofs.ReaderLemmas.{next_gives}
+use Rattle.warc_pieces.proofs.pieces.Pieces.next.Goals as goal
+
+pub invariant_of-self : goal.invariant_of-self
+invariant_of-self g c = (
+  c.step.ensures.may,
+  λ bytes held.
+      let was = sym c.step.ensures.kept ∙ held in
+      c.step.ensures.stands bytes was (c.self.invariant.1 bytes was),
+)
+
+pub returns-clause-gives : goal.returns-clause-gives
+returns-clause-gives g c = λ bytes.
+    let P : Reader g.row.S.Denot → Type 0 = λ was. (g.S.Source.seen was.source).holds ≡ Some bytes → (pieces : List Piece) → AreGiven bytes was.at was.failure pieces
+    → GivesMore bytes c.step.new.walk.at c.step.new.walk.failure pieces c.step.result in
+    subst P c.self.view_is (λ held pieces given.
+    let stands = c.self.invariant.1 bytes held in
+    next_gives bytes c.self.inside.walk.at c.step.new.walk.at c.self.inside.walk.failure c.step.new.walk.failure pieces c.step.result
+    (λ none. c.step.ensures.gives none bytes held stands)
+    (λ f is.
+    let again = c.step.ensures.failed f is in
+    (again.0, ap (λ (w : Walk g.row.A.Denot). w.at) again.1))
+    stands.stopped given)

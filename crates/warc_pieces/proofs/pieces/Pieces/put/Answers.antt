@@ -1,0 +1,7 @@
+use Rattle.std.proofs.Common.{sym, ◌∙◌}
+use Rattle.warc_pieces.proofs.pieces.Pieces.put.Goals as goal
+
+pub invariant_of-self : goal.invariant_of-self
+invariant_of-self g c =
+    let (may, stands) = c.self.invariant in
+    (may, λ bytes held. stands bytes (sym c.put_range.ensures.reads.kept ∙ held))

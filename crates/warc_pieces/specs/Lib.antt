@@ -1,0 +1,9 @@
+pub mod Ends
+pub mod Judging
+pub mod Laws
+pub mod Pieces
+pub mod Reader
+pub mod Reads
+pub mod Run
+pub mod Search
+pub mod Window

@@ -1,0 +1,120 @@
+-- Reading the pieces of a source one after another.
+use Rattle.std.specs.Prelude.{◌≡◌, ◌≢◌, ℕ, ◌+◌, ◌<◌, ◌≤◌, ◌⊎◌, List, [], ◌∷◌, ◌++◌, length, take, drop, Bool, true, false, Option, None, Some, Result, Ok, Err}
+use Rattle.warc_frame.specs.Faults.{ReadsAs}
+use Rattle.warc_frame.specs.Record.{max_archive}
+use Rattle.warc_frame.specs.Seen.{AsksOnly, SeenSource}
+use Rattle.warc_frame.specs.declared.fault.Fault.{Fault}
+use Rattle.warc_frame.specs.declared.fault.FaultKind.{FaultKind}
+use Rattle.warc_frame.specs.declared.fault.FaultKind.TheVariants.{Memory, Read, TooLong}
+use Rattle.warc_record.specs.Heads.{head_fault}
+use Rattle.warc_reading.specs.Fronts.{reach_of}
+use Rattle.warc_pieces.specs.Laws.{count_in, offset_of}
+use Rattle.warc_pieces.specs.Pieces.{AreFirst, ArePieces, IsPiece, piece_len, near}
+use Rattle.warc_pieces.specs.Window.{Shown, Shows, faults_by}
+use Rattle.warc_pieces.specs.declared.piece.Piece.{Piece}
+use Rattle.warc_pieces.specs.declared.pieces.Walk.{Walk}
+use Rattle.warc_pieces.specs.declared.piece.Piece.TheVariants.{Records, Damage}
+
+-- a source, the offset at which its next piece begins, and why it can't be read on, if it can't
+pub record Reader (S : Type 0) : Type 0 where
+  pub source : S
+  pub at : ℕ
+  pub failure : Option Fault
+
+-- this is the fault of what begins at an offset, where damage was found there
+abbrev pub IsDamagedAt : ℕ → List ℕ → Option Fault → Type 0
+IsDamagedAt at bytes None = Unit {0}
+IsDamagedAt at bytes (Some f) = ReadsAs head_fault at (drop at (near bytes)) [] (Some f)
+
+-- why no piece is given: a read failed or memory ran out before the end; or the bytes go on at offset 2^48
+abbrev pub StopsBy : FaultKind → List ℕ → ℕ → Fault → Type 0
+StopsBy Read bytes at f = f.offset ≤ length (near bytes)
+StopsBy Memory bytes at f = f.offset < length (near bytes)
+StopsBy TooLong bytes at f = (f.offset ≡ max_archive) × (at ≡ max_archive) × (max_archive < length bytes)
+StopsBy kind bytes at f = ⊥
+
+abbrev pub IsStoppedBy : List ℕ → ℕ → Option Fault → Type 0
+IsStoppedBy bytes at None = Unit {0}
+IsStoppedBy bytes at (Some f) = StopsBy f.kind bytes at f
+
+-- a reader stands before a piece of these bytes. A state of the code
+pub record StandsBefore (bytes : List ℕ) (w : Shown) (at : ℕ) (damage failure : Option Fault) : Type 0 where
+  pub shows : Shows bytes w
+  pub within : at ≤ length (near bytes)
+  pub found : IsDamagedAt at bytes damage
+  pub stopped : IsStoppedBy bytes at failure
+
+-- a walk along a source stands before a piece of these bytes
+abbrev pub StandsAt : {A : Type 0} → List ℕ → Walk A → Type 0
+StandsAt bytes walk = StandsBefore bytes walk.window walk.at walk.damage walk.failure
+
+-- it may go on by its window, unless a failure ended it
+pub record MayGoOn {A : Type 0} (walk : Walk A) : Type 0 where
+  pub limit : walk.at ≤ max_archive
+  pub begin : walk.failure ≡ None → walk.window.begin ≤ walk.at
+
+abbrev pub is_run : Piece → Bool
+is_run (Records offset len count) = true
+is_run (Damage offset len fault) = false
+
+-- how far bytes are read: to where a failure is
+abbrev pub read_reach : Option Fault → ℕ
+read_reach None = max_archive
+read_reach (Some f) = reach_of f
+
+-- the next piece of bytes; if reading fails after it, it is the run of good records before the failure
+pub record IsPieceAt (bytes : List ℕ) (at after : ℕ) (failure : Option Fault) (piece : Piece) : Type 0 where
+  pub is : IsPiece at (drop at (take (read_reach failure) (near bytes))) piece
+  pub after_is : after ≡ at + piece_len piece
+  pub before : failure ≢ None → is_run piece ≡ true
+
+-- what a reader gives of bytes at an offset: a piece; or none, at their end; or a failure
+abbrev pub GivesOf : List ℕ → ℕ → ℕ → Option Fault → Result (Option Piece) Fault → Type 0
+GivesOf bytes at after failure (Ok (Some piece)) = IsPieceAt bytes at after failure piece
+GivesOf bytes at after failure (Ok None) = (at ≡ length bytes) × (failure ≡ None)
+GivesOf bytes at after failure (Err f) = StopsBy f.kind bytes at f × (after ≡ at)
+
+-- how often a source has failed after a call: once more exactly if a read failed
+abbrev pub faults_after_stop : Option Fault → ℕ → ℕ
+faults_after_stop None n = n
+faults_after_stop (Some f) n = faults_by f.kind n
+
+-- how a reader goes on by an answer: by the piece that it gives, which begins where it was; at the end it keeps no
+-- failure
+abbrev pub GoesBy : ℕ → ℕ → Option Fault → Result (Option Piece) Fault → Type 0
+GoesBy at after failure (Ok (Some piece)) = (offset_of piece ≡ at) × (after ≡ at + piece_len piece)
+    × (0 < piece_len piece) × (count_in piece ≤ piece_len piece)
+GoesBy at after failure (Ok None) = failure ≡ None
+GoesBy at after failure (Err f) = failure ≡ Some f
+
+-- A reader goes on by a piece, or finds the end of its source or a failure, which it keeps. The source holds and
+-- watches what it did, has failed once more exactly if the failure is a failed read, and was asked for no byte above
+-- offset 2^48.
+pub record Advances (old new : SeenSource) (at after : ℕ) (failure : Option Fault)
+    (answer : Result (Option Piece) Fault) : Type 0 where
+  pub kept : new.holds ≡ old.holds
+  pub watched : new.watches ≡ old.watches
+  pub cause : new.faults ≡ faults_after_stop failure old.faults
+  pub near : AsksOnly (λ q. q ≤ max_archive) old new
+  pub goes : GoesBy at after failure answer
+  pub limit : after ≤ max_archive
+
+-- The pieces before a failure: those that end before it, and then the run of good records before it, if there is one.
+pub record AreBefore (bytes : List ℕ) (f : Fault) (pieces : List Piece) : Type 0 where
+  pub first : List Piece
+  pub at : ℕ
+  pub are : AreFirst 0 (near bytes) first at
+  pub last : (pieces ≡ first) ⊎ ((run : Piece) × (pieces ≡ first ++ run ∷ []) × (is_run run ≡ true)
+      × IsPiece at (drop at (take (reach_of f) (near bytes))) run)
+
+-- these are the pieces that a reader has given, to where it is or to a failure
+abbrev pub AreGiven : List ℕ → ℕ → Option Fault → List Piece → Type 0
+AreGiven bytes at None pieces = AreFirst 0 (near bytes) pieces at
+AreGiven bytes at (Some f) pieces = AreBefore bytes f pieces
+
+-- what a reader has given after one more answer: the next piece too; or all pieces, at the end; or those before a
+-- failure
+abbrev pub GivesMore : List ℕ → ℕ → Option Fault → List Piece → Result (Option Piece) Fault → Type 0
+GivesMore bytes after failure pieces (Ok (Some piece)) = AreGiven bytes after failure (pieces ++ piece ∷ [])
+GivesMore bytes after failure pieces (Ok None) = ArePieces bytes pieces × (length bytes ≤ max_archive)
+GivesMore bytes after failure pieces (Err f) = AreBefore bytes f pieces × StopsBy f.kind bytes after f
