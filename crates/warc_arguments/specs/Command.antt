@@ -28,7 +28,8 @@ view_of (command.Write draft file) = (codes "write", draft_texts draft ++ file.n
 view_of (command.Head archive position) = (codes "head", archive.now ∷ position.now ∷ [])
 view_of (command.Block archive position) = (codes "block", archive.now ∷ position.now ∷ [])
 view_of (command.Fixity archive) = (codes "fixity", archive.now ∷ [])
-view_of (command.Salvage archive) = (codes "salvage", archive.now ∷ [])
+view_of (command.Pieces archive) = (codes "pieces", archive.now ∷ [])
+view_of (command.Salvage archive all) = (codes "salvage", archive.now ∷ [])
 view_of (command.Summary archive) = (codes "summary", archive.now ∷ [])
 view_of (command.Explain number) = (codes "explain", number.now ∷ [])
 
@@ -38,6 +39,7 @@ flags_of (command.Replay archive uri date hex stored) = hex ∷ stored ∷ []
 flags_of (command.Body archive position stored) = stored ∷ []
 flags_of (command.Captures archive uri hex) = hex ∷ []
 flags_of (command.Select archive positions except closed) = except ∷ closed ∷ []
+flags_of (command.Salvage archive all) = all ∷ []
 flags_of _ = []
 
 -- what words ask for
@@ -66,7 +68,8 @@ path_word (command.Write draft file) = file.now
 path_word (command.Head archive position) = archive.now
 path_word (command.Block archive position) = archive.now
 path_word (command.Fixity archive) = archive.now
-path_word (command.Salvage archive) = archive.now
+path_word (command.Pieces archive) = archive.now
+path_word (command.Salvage archive all) = archive.now
 path_word (command.Summary archive) = archive.now
 path_word (command.Explain number) = []
 

@@ -62,6 +62,14 @@ select_layout = record {
   flags = codes "except" ∷ codes "closed" ∷ [];
 }
 
+abbrev pub salvage_layout : Layout
+salvage_layout = record {
+  name = codes "salvage";
+  words = codes "archive" ∷ [];
+  optional = [];
+  flags = codes "all" ∷ [];
+}
+
 -- the words of `write` before the path of its file
 abbrev pub draft_words : List Text
 draft_words = codes "kind" ∷ codes "uri" ∷ codes "date" ∷ codes "uuid" ∷ codes "type" ∷ []
@@ -87,7 +95,8 @@ other_layouts =
     ∷ layout (codes "head") (codes "archive" ∷ codes "position" ∷ [])
     ∷ layout (codes "block") (codes "archive" ∷ codes "position" ∷ [])
     ∷ layout (codes "fixity") (codes "archive" ∷ [])
-    ∷ layout (codes "salvage") (codes "archive" ∷ [])
+    ∷ layout (codes "pieces") (codes "archive" ∷ [])
+    ∷ salvage_layout
     ∷ layout (codes "summary") (codes "archive" ∷ [])
     ∷ layout (codes "explain") (codes "number" ∷ [])
     ∷ []

@@ -9,30 +9,30 @@ pub const EXPLANATIONS: [(&str, &str); 56] = [
 A record begins at the offset, and the bytes there are no version line, WARC/1.0 or WARC/1.1.
 At 0 the file is compressed, an ARC file or WARC 0.x, or has LF where CRLF belongs. Later there is an empty line
 after a record, or the file is filled up with zero bytes.
-What to do: read a compressed file as by 'zwarc list a.warc.gz', or remove those bytes. 'warc salvage'
-writes the records before them.
+What to do: read a compressed file as by 'zwarc list a.warc.gz', or remove those bytes. 'warc salvage --all'
+writes all good records.
 ",
     ),
     (
         "F2",
         "F2 HeadTooLong
 The record at the offset has a head of more than 65,536 bytes, as it is or as it would be written canonically.
-What to do: fix the tool that wrote it. 'warc salvage' writes the records before it.
+What to do: fix the tool that wrote it. 'warc salvage --all' writes all good records.
 ",
     ),
     (
         "F3",
         "F3 Field
 The line at the offset is in a head and is no field: a name, a colon, and a value without control characters.
-What to do: look at the line. No space comes before the colon, and each line ends with CRLF. 'warc salvage' writes
-the records before this one.
+What to do: look at the line. No space comes before the colon, and each line ends with CRLF. 'warc salvage --all' writes
+all good records.
 ",
     ),
     (
         "F4",
         "F4 Missing
 The record at the offset lacks the field. Each record has Content-Length, WARC-Type, WARC-Record-ID and WARC-Date.
-What to do: fix the tool that wrote it. 'warc salvage' writes the records before it.
+What to do: fix the tool that wrote it. 'warc salvage --all' writes all good records.
 ",
     ),
     (
@@ -40,21 +40,21 @@ What to do: fix the tool that wrote it. 'warc salvage' writes the records before
         "F5 Repeated
 The record at the offset has the field twice or more. Content-Length, WARC-Type, WARC-Record-ID and WARC-Date occur
 exactly once.
-What to do: fix the tool that wrote it. 'warc salvage' writes the records before it.
+What to do: fix the tool that wrote it. 'warc salvage --all' writes all good records.
 ",
     ),
     (
         "F6",
         "F6 Length
 The Content-Length of the record at the offset is no number of at most 2^40 in decimal digits.
-What to do: fix the tool that wrote it. 'warc salvage' writes the records before it.
+What to do: fix the tool that wrote it. 'warc salvage --all' writes all good records.
 ",
     ),
     (
         "F7",
         "F7 BadType
 The WARC-Type of the record at the offset is no token: it is empty, or a space or a separator is in it.
-What to do: fix the tool that wrote it. 'warc salvage' writes the records before it.
+What to do: fix the tool that wrote it. 'warc salvage --all' writes all good records.
 ",
     ),
     (
@@ -62,7 +62,7 @@ What to do: fix the tool that wrote it. 'warc salvage' writes the records before
         "F8 Id
 The WARC-Record-ID of the record at the offset holds no id: nothing is in its brackets, or a space, a tab or another
 bracket.
-What to do: fix the tool that wrote it. 'warc salvage' writes the records before it.
+What to do: fix the tool that wrote it. 'warc salvage --all' writes all good records.
 ",
     ),
     (
@@ -70,7 +70,7 @@ What to do: fix the tool that wrote it. 'warc salvage' writes the records before
         "F9 Date
 The WARC-Date of the record at the offset is no date: it has an offset such as +00:00 or no Z, the calendar doesn't
 have the day, or it has another form.
-What to do: write the date in UTC, as 2020-01-01T00:00:00Z. 'warc salvage' writes the records before it.
+What to do: write the date in UTC, as 2020-01-01T00:00:00Z. 'warc salvage --all' writes all good records.
 ",
     ),
     (
@@ -78,7 +78,7 @@ What to do: write the date in UTC, as 2020-01-01T00:00:00Z. 'warc salvage' write
         "F10 End
 The block of a record isn't followed by CRLF CRLF. The offset is where its Content-Length says that the block ends.
 The block was changed, for example by a text mode, or the length is wrong.
-What to do: fetch the file again, without a text mode. 'warc salvage' writes the records before this one.
+What to do: fetch the file again, without a text mode. 'warc salvage --all' writes all good records.
 ",
     ),
     (

@@ -93,9 +93,14 @@ pub enum Command<'a> {
     Fixity {
         archive: &'a str,
     },
-    /// The records before the first fault.
+    /// A line for each run of good records and for each damage.
+    Pieces {
+        archive: &'a str,
+    },
+    /// The records before the first fault, or all good ones.
     Salvage {
         archive: &'a str,
+        all: bool,
     },
     /// What the archive holds, in numbers and dates.
     Summary {
@@ -167,7 +172,8 @@ impl<'a> Command<'a> {
                 position: _,
             } => archive,
             Command::Fixity { archive } => archive,
-            Command::Salvage { archive } => archive,
+            Command::Pieces { archive } => archive,
+            Command::Salvage { archive, all: _ } => archive,
             Command::Summary { archive } => archive,
             Command::Explain { number: _ } => "",
         }
@@ -305,9 +311,9 @@ path '-' is standard input. A compressed archive is read by zwarc:
 
 Exit status: 0 done; 1 'check' or 'fixity' found something, or what was asked
 for isn't there; 2 the archive is refused, with the first fault and its
-offset, and nothing was written (but for 'salvage'); 3 the words are wrong,
-the file doesn't open, or a read, a write or memory failed; 4 'fixity' can't
-check a block.
+offset, and nothing was written (but for 'pieces' and 'salvage'); 3 the words
+are wrong, the file doesn't open, or a read, a write or memory failed;
+4 'fixity' can't check a block.
 
 Example: warc list examples/abc.warc";
 
@@ -494,18 +500,33 @@ can't be checked.
 
 Example: warc fixity examples/abc.warc";
 
+const PIECES_NOTES: &str =
+    "A line for each run of good records has 'records', its offset, its length in
+bytes and how many records it has; a line for each damage has 'damage', its
+offset, its length in bytes and the fault of the record that begins there; with
+a tab between two columns. Damage goes on to the next byte at which a good
+record begins that lies whole in the file. The offset of a fault may lie after
+the damage: for F10 where Content-Length says that the block ends.
+
+Exit status: 0 there is no damage; 2 there is, or the file has more than 2^48
+bytes (F12); 3 a read or memory failed (F13, F14) after the pieces that were
+written, or see 'warc --help'. There is no status 1.
+
+Example: warc pieces examples/damaged.warc";
+
 const SALVAGE_NOTES: &str =
     "The records before the first fault are written byte for byte as the archive
-has them: nothing is skipped and nothing is mended. What is written is an
-archive. Standard error has the fault, and then how much was written:
+has them; with --all also the good records after it, each that lies whole in
+the file. Nothing is mended. What is written is an archive. Standard error has
+the fault, with --all a line for each damage, and then how much was written:
 'warc: salvaged 59 records, 14352 bytes'; of a good archive
 'warc: good 60 records, 15000 bytes'.
 
-Exit status: 0 the archive is good; 2 it isn't, and the records before the
-first fault were written; 3 a read or memory failed (F13, F14), and the
-records before it were written, or see 'warc --help'. There is no status 1.
+Exit status: 0 the archive is good; 2 it isn't, and its good records were
+written; 3 a read or memory failed (F13, F14), and the records before it were
+written, or see 'warc --help'. There is no status 1.
 
-Example: warc salvage examples/damaged.warc > good.warc";
+Example: warc salvage --all examples/damaged.warc > good.warc";
 
 const SUMMARY_NOTES: &str =
     "A line is a name, a tab and a value, in this order: records, bytes, then how
@@ -589,6 +610,11 @@ const EXCEPT: Word = Word {
 const CLOSED: Word = Word {
     name: "closed",
     help: "Writes also what they need; with --except leaves out what needs them",
+};
+
+const ALL: Word = Word {
+    name: "all",
+    help: "Writes the good records after a fault too",
 };
 
 /// What `write` wants, in its order.
@@ -683,7 +709,7 @@ const FIRST_COMMANDS: [Entry; 6] = [
 ];
 
 /// The other commands, in that order. Two tables are cheaper to prove than one.
-const OTHER_COMMANDS: [Entry; 11] = [
+const OTHER_COMMANDS: [Entry; 12] = [
     Entry {
         name: "rewrite",
         about: "Writes the archive in canonical form",
@@ -749,12 +775,20 @@ const OTHER_COMMANDS: [Entry; 11] = [
         flags: &[],
     },
     Entry {
-        name: "salvage",
-        about: "Writes the records before the first fault",
-        notes: SALVAGE_NOTES,
+        name: "pieces",
+        about: "Prints which parts of a damaged archive are whole",
+        notes: PIECES_NOTES,
         words: &[ARCHIVE],
         optional: &[],
         flags: &[],
+    },
+    Entry {
+        name: "salvage",
+        about: "Writes the records before the first fault, or all good ones",
+        notes: SALVAGE_NOTES,
+        words: &[ARCHIVE],
+        optional: &[],
+        flags: &[ALL],
     },
     Entry {
         name: "summary",
@@ -979,7 +1013,11 @@ fn read_command<'a>(name: &str, texts: &ArgMatches<'a>) -> Command<'a>
             position: text_at(texts, "position"),
         },
         "fixity" => Command::Fixity { archive },
-        "salvage" => Command::Salvage { archive },
+        "pieces" => Command::Pieces { archive },
+        "salvage" => Command::Salvage {
+            archive,
+            all: is_given(texts, "all"),
+        },
         "summary" => Command::Summary { archive },
         "explain" => Command::Explain {
             number: text_at(texts, "number"),
