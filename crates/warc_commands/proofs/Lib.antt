@@ -9,3 +9,6 @@ mod WorkedValues
 pub mod CaptureLemmas
 pub mod ChoiceLemmas
 mod ClosedLemmas
+pub mod WalkLemmas
+pub mod PiecesLemmas
+pub mod SalvageAllLemmas

@@ -15,6 +15,7 @@ use Rattle.warc_commands.specs.Program.{CheckEnds, ExtractEnds, ListEnds, MakeEn
 use Rattle.warc_commands.specs.Captures.{CapturesEnds}
 use Rattle.warc_commands.specs.Salvage.{SalvageEnds}
 use Rattle.warc_commands.specs.Named.{bad_line, positions_in}
+use Rattle.warc_commands.specs.Pieces.{PiecesEnd, SalvageAllEnds}
 use Rattle.warc_commands.specs.Selected.{SelectEnds}
 use Rattle.warc_commands.specs.Stored.{ReplayedAs, StoredEnds}
 use Rattle.warc_commands.specs.Summaries.{SummaryEnds}
@@ -44,7 +45,9 @@ Ends (command.Write draft file) list old new status = MakeEnds draft old new sta
 Ends (command.Head archive position) list old new status = PartEnds Head (position_of position.now) old new status
 Ends (command.Block archive position) list old new status = PartEnds Block (position_of position.now) old new status
 Ends (command.Fixity archive) list old new status = FixityEnds old new status
-Ends (command.Salvage archive) list old new status = SalvageEnds old new status
+Ends (command.Pieces archive) list old new status = PiecesEnd old new status
+Ends (command.Salvage archive false) list old new status = SalvageEnds old new status
+Ends (command.Salvage archive true) list old new status = SalvageAllEnds old new status
 Ends (command.Summary archive) list old new status = SummaryEnds old new status
 Ends (command.Explain number) list old new status = ExplainEnds (explained number.now) old new status
 
@@ -67,11 +70,13 @@ IsStatusOf (command.Head archive position) status = (status ≡ 0) ⊎ ((status 
 IsStatusOf (command.Block archive position) status = (status ≡ 0) ⊎ ((status ≡ 1) ⊎ ((status ≡ 2) ⊎ (status ≡ 3)))
 IsStatusOf (command.Fixity archive) status =
     (status ≡ 0) ⊎ ((status ≡ 1) ⊎ ((status ≡ 2) ⊎ ((status ≡ 3) ⊎ (status ≡ 4))))
-IsStatusOf (command.Salvage archive) status = (status ≡ 0) ⊎ ((status ≡ 2) ⊎ (status ≡ 3))
+IsStatusOf (command.Pieces archive) status = (status ≡ 0) ⊎ ((status ≡ 2) ⊎ (status ≡ 3))
+IsStatusOf (command.Salvage archive all) status = (status ≡ 0) ⊎ ((status ≡ 2) ⊎ (status ≡ 3))
 IsStatusOf (command.Summary archive) status = (status ≡ 0) ⊎ ((status ≡ 2) ⊎ (status ≡ 3))
 IsStatusOf (command.Explain number) status = (status ≡ 0) ⊎ (status ≡ 3)
 
--- whether a command writes what is good of an archive that it refuses: `salvage` alone does
+-- whether a command writes of an archive that it refuses: `pieces` and `salvage` alone do
 abbrev pub writes_front : Command → Bool
-writes_front (command.Salvage archive) = true
+writes_front (command.Pieces archive) = true
+writes_front (command.Salvage archive all) = true
 writes_front _ = false

@@ -8,6 +8,7 @@ pub mod Explaining
 pub mod Fixity
 pub mod Named
 pub mod Parts
+pub mod Pieces
 pub mod Program
 pub mod Reads
 pub mod Running
@@ -16,3 +17,4 @@ pub mod Selected
 pub mod Stored
 pub mod Summaries
 pub mod Uris
+pub mod Walking

@@ -11,14 +11,17 @@ mod fixity;
 mod lists;
 mod making;
 mod parts;
+mod pieces;
 mod program;
 mod running;
 mod salvage;
+mod salvaging;
 mod selecting;
 mod splitting;
 mod stored;
 mod summary;
 mod uris;
+mod walking;
 
 pub use program::{perform, refuse};
 pub use running::{RunSource, System, run};

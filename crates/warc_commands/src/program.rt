@@ -17,7 +17,9 @@ use crate::extracting::{AsOf, extract};
 use crate::fixity::fixity;
 use crate::making::write;
 use crate::parts::give;
+use crate::pieces::pieces;
 use crate::salvage::salvage;
+use crate::salvaging::salvage_all;
 use crate::selecting::{Wanted, select};
 use crate::splitting::split;
 use crate::stored::stored;
@@ -37,7 +39,7 @@ pub(crate) const DONE: u8 = 0;
 pub(crate) const FOUND: u8 = 1;
 
 /// The exit status where the archive was refused.
-const REFUSED: u8 = 2;
+pub(crate) const REFUSED: u8 = 2;
 
 /// The exit status where a read, a write or a growth of the memory failed.
 pub(crate) const FAILED: u8 = 3;
@@ -77,7 +79,7 @@ where
     // What it asks of the source.
     ensures reads { CommandReads command.now (S.seen source) (S.seen result.1) }
 
-    // Nothing is written where the archive is refused, whatever the source holds, but by `salvage`.
+    // Nothing is written where the archive is refused, whatever the source holds, but by `pieces` and `salvage`.
     ensures refused { writes_front command.now ≡ false → result.0 ≡ 2 → ((W.seen out.new).tells ≡
         (W.seen out.old).tells) × ((W.seen out.new).faults ≡ (W.seen out.old).faults) }
     ensures answers { IsStatusOf command.now result.0 }
@@ -151,7 +153,15 @@ where
             position,
         } => give(alloc, Part::Block, position, source, out, err),
         Command::Fixity { archive: _ } => fixity(alloc, source, out, err),
-        Command::Salvage { archive: _ } => salvage(alloc, source, out, err),
+        Command::Pieces { archive: _ } => pieces(alloc, source, out, err),
+        Command::Salvage {
+            archive: _,
+            all: false,
+        } => salvage(alloc, source, out, err),
+        Command::Salvage {
+            archive: _,
+            all: true,
+        } => salvage_all(alloc, source, out, err),
         Command::Summary { archive: _ } => summary(alloc, source, out, err),
         Command::Explain { number } => explain(number, source, out, err),
     }

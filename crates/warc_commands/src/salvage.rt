@@ -13,7 +13,7 @@ use warc::open_front;
 use warc_frame::{Fault, Sink, Source};
 
 /// The line of how many records and bytes went out.
-fn line_of_amount(word: &str, records: usize, bytes: u64) -> ArrayString<LINE>
+fn line_of_amount(word: &str, records: u64, bytes: u64) -> ArrayString<LINE>
     requires { length word.now ≤ 8 }
     ensures { result.bytes ≡ amount_line word.now records bytes }
 {
@@ -31,7 +31,7 @@ fn line_of_amount(word: &str, records: usize, bytes: u64) -> ArrayString<LINE>
 }
 
 /// Reports how many records and bytes went out.
-pub(crate) fn tell_line<E: Sink>(word: &str, records: usize, bytes: u64, err: &mut E)
+pub(crate) fn tell_line<E: Sink>(word: &str, records: u64, bytes: u64, err: &mut E)
     requires { length word.now ≤ 8 }
     ensures { Tells (amount_line word.now records bytes) (E.seen err.old) (E.seen err.new) }
 {
@@ -44,7 +44,7 @@ fn tell_salvaged<E: Sink>(fault: Fault, records: usize, bytes: u64, err: &mut E)
     ensures status { result ≡ status_of_kind fault.kind }
 {
     let status = tell_refusal(fault, err);
-    tell_line("salvaged", records, bytes, err);
+    tell_line("salvaged", records as u64, bytes, err);
     status
 }
 
@@ -56,7 +56,7 @@ fn tell_amount<E: Sink>(found: Option<Fault>, records: usize, bytes: u64, err: &
 {
     match found {
         None => {
-            tell_line("good", records, bytes, err);
+            tell_line("good", records as u64, bytes, err);
             DONE
         }
         Some(fault) => tell_salvaged(fault, records, bytes, err),

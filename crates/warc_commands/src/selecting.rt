@@ -123,7 +123,7 @@ where
     let size = archive.selected_len(positions);
     match archive.select(positions, out) {
         Ok(()) => {
-            tell_line("selected", positions.len(), size, err);
+            tell_line("selected", positions.len() as u64, size, err);
             DONE
         }
         Err(fault) => tell_cut(fault, err),

@@ -1,0 +1,182 @@
+//! The command that prints the pieces of a damaged archive.
+ghost use Rattle.std.specs.Prelude.{◌≡◌, List, None};
+ghost use Rattle.warc_frame.specs.Effects.{Puts};
+ghost use Rattle.warc_pieces.specs.declared.piece.Piece.{Piece as Given};
+ghost use Rattle.warc_pieces.specs.declared.piece.Piece.TheVariants.{Damage as GivenDamage, Records as GivenRecords};
+ghost use Rattle.warc_commands.specs.Devices.{devices};
+ghost use Rattle.warc_commands.specs.Pieces.{PiecesEnd, TellsEach, has_damage, piece_line, pieces_status, stop_lines};
+ghost use Rattle.warc_commands.specs.Reads.{AsksNear};
+ghost use Rattle.warc_commands.specs.Walking.{PutsPieces, SendsPieces};
+
+use crate::program::{DONE, REFUSED, tell_cut, tell_refusal};
+use crate::walking::{Found, Step, Tally, next_step};
+use itoa::Buffer;
+use std::alloc::Allocator;
+use warc_frame::{Fault, OutBuffer, OutFault, SendFault, Sink, Source, put_all};
+use warc_pieces::{Piece, Pieces};
+
+/// Adds the line of a run of good records to the output.
+fn put_run<W: Sink>(
+    offset: u64,
+    len: u64,
+    count: u64,
+    buffer: &mut OutBuffer,
+    out: &mut W,
+) -> Result<(), SendFault>
+    ensures { Puts (W.seen out.old) (W.seen out.new) buffer.old buffer.new result
+        (piece_line (GivenRecords offset len count)) }
+{
+    let (mut first, mut second, mut third) = (Buffer::new(), Buffer::new(), Buffer::new());
+    put_all(
+        &[
+            b"records\t",
+            first.format(offset).as_bytes(),
+            b"\t",
+            second.format(len).as_bytes(),
+            b"\t",
+            third.format(count).as_bytes(),
+            b"\n",
+        ],
+        buffer,
+        out,
+    )
+}
+
+/// Adds the line of a damage to the output.
+fn put_damage<W: Sink>(
+    offset: u64,
+    len: u64,
+    fault: Fault,
+    buffer: &mut OutBuffer,
+    out: &mut W,
+) -> Result<(), SendFault>
+    ensures { Puts (W.seen out.old) (W.seen out.new) buffer.old buffer.new result
+        (piece_line (GivenDamage offset len fault)) }
+{
+    let (name, field) = fault.kind.parts();
+    let (mut first, mut second, mut third) = (Buffer::new(), Buffer::new(), Buffer::new());
+    put_all(
+        &[
+            b"damage\t",
+            first.format(offset).as_bytes(),
+            b"\t",
+            second.format(len).as_bytes(),
+            b"\t",
+            name.as_bytes(),
+            field.as_bytes(),
+            b" at ",
+            third.format(fault.offset).as_bytes(),
+            b"\n",
+        ],
+        buffer,
+        out,
+    )
+}
+
+/// Adds the line of a piece to the output.
+fn put_piece<W: Sink>(piece: Piece, buffer: &mut OutBuffer, out: &mut W) -> Result<(), SendFault>
+    ensures { Puts (W.seen out.old) (W.seen out.new) buffer.old buffer.new result (piece_line piece) }
+{
+    match piece {
+        Piece::Records { offset, len, count } => put_run(offset, len, count, buffer, out),
+        Piece::Damage { offset, len, fault } => put_damage(offset, len, fault, buffer, out),
+    }
+}
+
+/// Adds a line for each piece to the output.
+fn put_pieces<S: Source, A: Allocator + Copy, W: Sink>(
+    pieces: &mut Pieces<S, A>,
+    buffer: &mut OutBuffer,
+    out: &mut W,
+) -> Result<Found, SendFault>
+    requires { (pieces.old.at ≡ 0) × (pieces.old.failure ≡ None) }
+    ensures { PutsPieces (S.seen pieces.old.source) (S.seen pieces.new.source) (W.seen out.old) (W.seen out.new)
+        buffer.old buffer.new result }
+{
+    let mut tally = Tally::new();
+    'putting: loop {
+        match next_step(pieces, &mut tally) {
+            Step::More(piece) => match put_piece(piece, buffer, out) {
+                Ok(()) => {}
+                Err(fault) => return Err(fault),
+            },
+            Step::End(stop) => return Ok(Found { tally, stop }),
+        }
+    }
+}
+
+/// Writes a line for each piece.
+fn send_pieces<S: Source, A: Allocator + Copy, W: Sink>(
+    pieces: &mut Pieces<S, A>,
+    out: &mut W,
+) -> Result<Found, SendFault>
+    requires { (pieces.old.at ≡ 0) × (pieces.old.failure ≡ None) }
+    ensures { SendsPieces (S.seen pieces.old.source) (S.seen pieces.new.source) (W.seen out.old) (W.seen out.new)
+        result }
+{
+    let mut buffer = OutBuffer::new();
+    let found = match put_pieces(pieces, &mut buffer, out) {
+        Ok(found) => found,
+        Err(fault) => return Err(fault),
+    };
+    match buffer.flush(out) {
+        Ok(()) => Ok(found),
+        Err(fault) => Err(fault),
+    }
+}
+
+/// Reports what stopped reading, if anything did, and answers the exit status.
+fn tell_stop<E: Sink>(found: Found, err: &mut E) -> u8
+    ensures told { TellsEach (stop_lines found.stop) (E.seen err.old) (E.seen err.new) }
+    ensures status { (pieces : List Given) → found.tally.is_damaged ≡ has_damage pieces
+        → result ≡ pieces_status found.stop pieces }
+{
+    if let Some(fault) = found.stop {
+        return tell_refusal(fault, err);
+    }
+    if found.tally.is_damaged {
+        REFUSED
+    } else {
+        DONE
+    }
+}
+
+/// Prints the pieces that a reader gives.
+fn print<S: Source, A: Allocator + Copy, W: Sink, E: Sink>(
+    pieces: &mut Pieces<S, A>,
+    out: &mut W,
+    err: &mut E,
+) -> u8
+    requires { (pieces.old.at ≡ 0) × (pieces.old.failure ≡ None) }
+    ensures ends { PiecesEnd (devices (S.seen pieces.old.source) (W.seen out.old) (E.seen err.old)) (devices
+        (S.seen pieces.new.source) (W.seen out.new) (E.seen err.new)) result }
+    ensures kept { (S.seen pieces.new.source).holds ≡ (S.seen pieces.old.source).holds }
+    ensures reads { AsksNear (S.seen pieces.old.source) (S.seen pieces.new.source) }
+{
+    match send_pieces(pieces, out) {
+        Ok(found) => tell_stop(found, err),
+        Err(fault) => tell_cut(OutFault::Write(fault.sent), err),
+    }
+}
+
+/// Prints a line for each piece.
+pub(crate) fn pieces<A, S, W, E>(alloc: A, source: S, out: &mut W, err: &mut E) -> (u8, S)
+where
+    A: Allocator + Copy,
+    S: Source + Drop,
+    W: Sink,
+    E: Sink,
+    ensures ends { PiecesEnd (devices (S.seen source) (W.seen out.old) (E.seen err.old)) (devices
+        (S.seen result.1) (W.seen out.new) (E.seen err.new)) result.0 }
+
+    // The source still holds what it held.
+    ensures kept { (S.seen result.1).holds ≡ (S.seen source).holds }
+    ensures reads { AsksNear (S.seen source) (S.seen result.1) }
+{
+    let mut pieces = match Pieces::new(alloc, source) {
+        Ok(pieces) => pieces,
+        Err((fault, source)) => return (tell_refusal(fault, err), source),
+    };
+    let status = print(&mut pieces, out, err);
+    (status, pieces.into_source())
+}
