@@ -6,7 +6,7 @@ ghost use Rattle.warc_arguments.specs.CommandLine.{asked_of};
 use crate::files::Failure;
 use crate::shown::is_escaped;
 use std::{env, fmt, io};
-use warc_arguments::{Request, parse};
+use warc_arguments::{Command, Request, parse};
 
 /// The exit status where the archive was refused, and where a run failed.
 const REFUSED: u8 = 2;
@@ -42,18 +42,19 @@ pub struct Ended {
     pub reason: Option<Failure>,
 }
 
-/// Writes a line for people on standard error, if there is more to say: how a compressed archive is read, or the path
-/// and the system's reason where a file didn't open or a read failed.
+/// Writes a line for people on standard error, if there is more to say: how a compressed archive is read, how to see
+/// what of a damaged file is whole, or the path and the system's reason where a file didn't open or a read failed.
 pub fn hint(
     rt: &HostRuntime,
     words: &[String],
     request: &Request<'_>,
     ended: Ended,
 ) -> io::Result<()> {
-    if ended.status == REFUSED
-        && let Some(packing) = ended.packing
-    {
-        return hint_packing(rt, words, packing);
+    if ended.status == REFUSED {
+        return match ended.packing {
+            Some(packing) => hint_packing(rt, words, packing),
+            None => hint_pieces(rt, &request.command),
+        };
     }
     if ended.status == FAILED
         && let Some(failure) = ended.reason
@@ -63,6 +64,20 @@ pub fn hint(
         return eprintln!(rt; "{path}: {error}");
     }
     Ok(())
+}
+
+/// Writes how to see what of a refused file is whole, unless that is what was asked for, or it has no path.
+fn hint_pieces(rt: &HostRuntime, command: &Command<'_>) -> io::Result<()> {
+    if let Command::Pieces { archive: _ } = command {
+        return Ok(());
+    }
+    match command.path() {
+        "-" | "/dev/stdin" => Ok(()),
+        path => {
+            let path = Quoted(path);
+            eprintln!(rt; "to see what is whole: warc pieces {path}")
+        }
+    }
 }
 
 /// The path of what failed.
