@@ -7,7 +7,10 @@ use std::alloc::{AllocError, Global};
 use warc_commands::Command;
 
 /// The command that salvages.
-pub(crate) const SALVAGE: Command<'static> = Command::Salvage { archive: "a.warc" };
+pub(crate) const SALVAGE: Command<'static> = Command::Salvage {
+    archive: "a.warc",
+    all: false,
+};
 
 /// Whether what is salvaged of some bytes are the good records that they begin with, by a plain reading.
 fn is_salvaged(alloc: Global, bytes: &[u8]) -> Result<bool, AllocError> {

@@ -72,7 +72,8 @@ fn content_type_of<'a>(words: &'a [String], case: &'a Case<'_>) -> &'a str {
 /// How few words a command has, itself among them, and how many; nothing where it is no command.
 fn counts_of(command: &str, gives: bool) -> Option<(usize, usize)> {
     match command {
-        "list" | "check" | "rewrite" | "convert" | "fixity" | "salvage" | "summary" => Some((1, 1)),
+        "list" | "check" | "rewrite" | "convert" | "fixity" | "pieces" | "summary" => Some((1, 1)),
+        "salvage" => Some((1, 2)),
         "extract" | "split" | "head" | "block" | "explain" => Some((2, 2)),
         "body" => Some((2, 3)),
         "select" => Some((1, 3)),
@@ -95,6 +96,7 @@ fn ends_in_option(words: &[String]) -> bool {
         ("replay", 4) => matches!(word(words, 3), "--uri-hex" | "--stored"),
         ("captures", 3) => word(words, 2) == "--uri-hex",
         ("body", 3) => word(words, 2) == "--stored",
+        ("salvage", 2) => word(words, 1) == "--all",
         ("select", 2) => matches!(word(words, 1), "--except" | "--closed"),
         ("select", 3) => word(words, 1) == "--except" && word(words, 2) == "--closed",
         _ => true,
@@ -172,7 +174,11 @@ pub(crate) fn command_of<'a>(words: &'a [String], case: &'a Case<'_>) -> Option<
             position: word(words, 1),
         },
         "fixity" => Command::Fixity { archive },
-        "salvage" => Command::Salvage { archive },
+        "pieces" => Command::Pieces { archive },
+        "salvage" => Command::Salvage {
+            archive,
+            all: word(words, 1) == "--all",
+        },
         "summary" => Command::Summary { archive },
         "explain" => Command::Explain {
             number: word(words, 1),
