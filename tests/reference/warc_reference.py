@@ -302,13 +302,13 @@ def read_record(data: bytes, start: int, position: int) -> Record:
 
 
 class Archive:
-    """The records before the first fault, the fault or None, and how many bytes these records take."""
+    """The records from an offset to the first fault, the fault or None, and the offset where these records end."""
 
-    def __init__(self, data: bytes) -> None:
+    def __init__(self, data: bytes, start: int = 0) -> None:
         self.data = data
         self.records: List[Record] = []
         self.fault: Optional[Fault] = None
-        self.end = 0
+        self.end = start
         try:
             self.read_all()
         except Fault as fault:
@@ -319,6 +319,41 @@ class Archive:
             record = read_record(self.data, self.end, len(self.records))
             self.records.append(record)
             self.end += len(record.head) + len(record.block) + 4
+
+
+class Piece(NamedTuple):
+    """Good records in a row, or damage: where it begins and ends, its records, and the fault of damage."""
+
+    start: int
+    end: int
+    records: List[Record]
+    fault: Optional[Fault]
+
+
+def next_good(data: bytes, start: int) -> int:
+    """The least offset from one on at which a good record lies whole, or the end of the bytes."""
+    for offset in range(start, len(data)):
+        if data.startswith(VERSIONS, offset):
+            try:
+                read_record(data, offset, 0)
+                return offset
+            except Fault:
+                pass
+    return len(data)
+
+
+def pieces_of(data: bytes) -> List[Piece]:
+    pieces: List[Piece] = []
+    start = 0
+    while start < len(data):
+        run = Archive(data, start)
+        if run.records:
+            pieces.append(Piece(start, run.end, run.records, None))
+        start = run.end
+        if run.fault is not None:
+            start = next_good(data, run.end + 1)
+            pieces.append(Piece(run.end, start, [], run.fault))
+    return pieces
 
 
 # Findings
@@ -815,6 +850,27 @@ def salvage_command(archive: Archive) -> Answer:
     return saved, fault_line(archive.fault) + ("warc: salvaged " + counts).encode(), 2
 
 
+def columns_of(piece: Piece) -> Tuple[str, str, str, str]:
+    """The columns of a piece: its name, offset and length, and how many records it has, or its fault."""
+    last = str(len(piece.records)) if piece.fault is None else fault_text(piece.fault)
+    return "records" if piece.fault is None else "damage", str(piece.start), str(piece.end - piece.start), last
+
+
+def pieces_command(data: bytes) -> Answer:
+    pieces = pieces_of(data)
+    lines = ["\t".join(columns_of(piece)) + "\n" for piece in pieces]
+    return "".join(lines).encode(), b"", 2 if any(piece.fault for piece in pieces) else 0
+
+
+def salvage_all_command(data: bytes) -> Answer:
+    pieces = pieces_of(data)
+    saved = b"".join(data[piece.start : piece.end] for piece in pieces if piece.fault is None)
+    lines = ["warc: %s\n" % " ".join(columns_of(piece)) for piece in pieces if piece.fault is not None]
+    counts = "%d records, %d bytes\n" % (sum(len(piece.records) for piece in pieces), len(saved))
+    last = "warc: %s %s" % ("salvaged" if lines else "good", counts)
+    return saved, ("".join(lines) + last).encode(), 2 if lines else 0
+
+
 COMMANDS: Dict[str, Callable[..., Answer]] = {
     "list": list_command,
     "check": check_command,
@@ -831,8 +887,12 @@ COMMANDS: Dict[str, Callable[..., Answer]] = {
 }
 
 
+def fault_text(fault: Fault) -> str:
+    return "%s at %d" % (fault.name, fault.offset)
+
+
 def fault_line(fault: Fault) -> bytes:
-    return ("warc: %s at %d\n" % (fault.name, fault.offset)).encode()
+    return ("warc: %s\n" % fault_text(fault)).encode()
 
 
 def is_hex(word: bytes) -> bool:
@@ -855,8 +915,10 @@ def run_on(archive: Archive, command: str, arguments: Sequence[bytes]) -> Answer
     line = bad_argument(command, arguments)
     if line is not None:
         return b"", line, 3
+    if command == "pieces":
+        return pieces_command(archive.data)
     if command == "salvage":
-        return salvage_command(archive)
+        return salvage_all_command(archive.data) if b"--all" in arguments else salvage_command(archive)
     if archive.fault is not None:
         return b"", fault_line(archive.fault), 2
     try:
