@@ -70,7 +70,8 @@ CALLERS = tuple(path for path in scripts("tests/callers") if path != GENERATED)
 SYSTEM = (
     "tests/reference/warc_reference.py",
     "tests/callers/archives.py",
-    *(f"tests/stress/{name}.py" for name in ("differential", "generate", "memory", "selections", "system", "terminal")),
+    *(f"tests/stress/{name}.py" for name in ("differential", "generate", "memory", "pieces", "selections")),
+    *(f"tests/stress/{name}.py" for name in ("system", "terminal")),
 )
 PAGE_SCRIPTS = tuple(sorted(path[len(TOP) + 1 :] for path in glob.glob(f"{TOP}/page/*.js")))
 PAGE_PYTHON = scripts("tests/page")

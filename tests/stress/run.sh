@@ -18,6 +18,7 @@ bash tools/need.sh strace:strace valgrind:valgrind parallel:parallel /usr/sbin/s
 python=$(command -v /usr/bin/python3 || command -v python3)
 python3 tests/stress/differential.py bin/warc "$count" "$seed" || status=1
 python3 tests/stress/selections.py bin/warc $((count / 10)) "$seed" || status=1
+python3 tests/stress/pieces.py bin/warc $((count / 10)) "$seed" || status=1
 python3 tests/stress/system.py bin/warc || status=1
 python3 tests/stress/memory.py bin/warc || status=1
 python3 tests/stress/terminal.py bin/warc || status=1
