@@ -239,8 +239,9 @@ function factsOf(it) {
   const [chosen, given] = [it.chosen, it.given].map(placeOf), coding = it.coding && `, ${it.coding}`;
   const from = given === chosen ? '' : `; the body is that of ${given}`;
   const facts = `${dateOf(it.instant)}, ${chosen}${from}. Status ${it.status ?? '–'}, ${it.type}${coding}`;
-  return make(
-      'div', {className: 'sub'}, plainly(facts), it.joined > 1 ? ` (${it.joined} files were joined for it)` : '');
+  const joined = it.joined > 1 ? ` (${it.joined} files were joined for it)` : '';
+  const damaged = it.damaged ? '. It is from good records of a damaged file' : '';
+  return make('div', {className: 'sub'}, plainly(facts), joined, damaged);
 }
 
 /**

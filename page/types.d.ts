@@ -97,6 +97,7 @@ interface ServedAnswer extends Omit<Answer, "chosen" | "given"> {
   chosen?: any;
   given?: any;
   joined?: number;
+  damaged?: number;
   coding?: string;
   location?: string | null;
   stored?: Uint8Array;

@@ -4,15 +4,15 @@ from __future__ import annotations
 import dataclasses
 from typing import Any, Iterator, List, Optional, Sequence, Tuple
 
-from .catalogue import Catalogue, Known
+from .catalogue import ABOUT_ROWS, Catalogue, Known, mark_of
 from .program import instant_of
 from .states import READ, as_list
 from .texts import Stored, Trouble, decoded, escaped, say, stored_path
 
 MOST_NAMED = 20
 CAPTURES = (
-    "SELECT captures.file, position, instant, kind, given, status, media, length, reason, path, state, read_on"
-    " FROM captures JOIN files USING (file) LEFT JOIN readings USING (file) WHERE state <> 'gone' AND "
+    "SELECT captures.file, position, instant, kind, given, status, media, length, reason, path, state, read_on, %s"
+    " FROM captures JOIN files USING (file) LEFT JOIN readings USING (file) WHERE state <> 'gone' AND " % ABOUT_ROWS
 )
 OF_TARGET = "FROM captures JOIN files USING (file) WHERE state <> 'gone' AND target = ?"
 LATEST = "(SELECT instant %s AND instant <= ? ORDER BY instant DESC LIMIT 1)" % OF_TARGET
@@ -20,7 +20,8 @@ LATEST = "(SELECT instant %s AND instant <= ? ORDER BY instant DESC LIMIT 1)" % 
 
 @dataclasses.dataclass(frozen=True)
 class Capture:
-    """A line of `captures`, with the file that it is in, the file's state and when it was read last."""
+    """A line of `captures`, with the file that it is in, the file's state and when it was read, how many of its bytes
+    are damaged, and whether it was read so since it changed."""
 
     file: int
     position: int
@@ -34,10 +35,12 @@ class Capture:
     path: Stored
     state: str
     read_on: Optional[str]
+    damaged: int = 0
+    is_fresh: bool = True
 
     def mark(self) -> Optional[str]:
-        """When the file was read, if it couldn't be read since."""
-        return None if self.state in READ else "read on %s" % self.read_on
+        """Whether the file is damaged, and when it was read, if it couldn't be read since."""
+        return mark_of(self.damaged, self.is_fresh, self.read_on)
 
 
 @dataclasses.dataclass(frozen=True)
@@ -120,8 +123,9 @@ def targets_from(catalogue: Catalogue, front: Stored, most: int) -> List[Tuple[S
 def may_have(catalogue: Catalogue, target: Stored) -> List[Known]:
     """The files that may have a target, and whose captures of it aren't known or aren't those of its bytes now."""
     has_it = "EXISTS (SELECT 1 FROM captures WHERE captures.file = files.file AND target = ?)"
-    # The file has the size and the time of its last good reading, and the target isn't among what was read.
+    # The file has the size and the time of its last good reading, and the target isn't among what was read, all of it.
     is_same = "(readings.size, readings.modified) IS (files.size, files.modified) AND state IN ('failed', 'no-room')"
+    is_same += " AND coalesce(damaged, 0) = 0"
     condition = "state NOT IN (%s) AND (%s OR (state <> 'gone' AND NOT (%s))) ORDER BY path" % (
         as_list(READ),
         has_it,

@@ -14,7 +14,7 @@ from .disk import Stamp, is_on_local_disk
 from .states import READ, as_list
 from .texts import Stored, Trouble, say, shown, stored_path
 
-VERSION = 2
+VERSION = 3
 MANY_FILES = 100
 CACHE_KIB = 1_000_000
 # How long a question waits for the end of a transaction, and a run for a reader before it says that it waits.
@@ -33,10 +33,12 @@ TABLES = {
     "files": "file BIGINT PRIMARY KEY, path TEXT UNIQUE, size BIGINT, modified BIGINT, state TEXT, detail TEXT,"
     " records BIGINT, run BIGINT, changed BIGINT, inode BIGINT, sha256 TEXT",
     "readings": "file BIGINT PRIMARY KEY, run BIGINT, read_on TEXT, size BIGINT, modified BIGINT, changed BIGINT,"
-    " inode BIGINT, records BIGINT, good BIGINT, unchecked BIGINT, bad BIGINT, no_bytes BIGINT",
+    " inode BIGINT, records BIGINT, good BIGINT, unchecked BIGINT, bad BIGINT, no_bytes BIGINT, bytes BIGINT,"
+    " damaged BIGINT",
     "checks": "run BIGINT, file BIGINT, size BIGINT, modified BIGINT, state TEXT, detail TEXT, host TEXT,"
     " seconds DOUBLE PRECISION, list_status BIGINT, fixity_status BIGINT, check_status BIGINT,"
-    " summary_status BIGINT, captures_status BIGINT, sha256 TEXT, PRIMARY KEY (run, file)",
+    " summary_status BIGINT, captures_status BIGINT, sha256 TEXT, good_records BIGINT, good_bytes BIGINT,"
+    " damages BIGINT, damaged BIGINT, PRIMARY KEY (run, file)",
     "counts": "run BIGINT, file BIGINT, name TEXT, value TEXT, PRIMARY KEY (run, file, name)",
     "changes": "run BIGINT, file BIGINT, change TEXT, state_before TEXT, state_after TEXT, path_before TEXT,"
     " PRIMARY KEY (run, file)",
@@ -66,10 +68,20 @@ TO_VERSION_2 = (
     "ALTER TABLE files ADD COLUMN inode BIGINT",
     *("ALTER TABLE %s ADD COLUMN sha256 TEXT" % table for table in ("files", "checks")),
     "ALTER TABLE changes ADD COLUMN path_before TEXT",
-    "CREATE TABLE readings (%s)" % TABLES["readings"],
+    "CREATE TABLE readings (file BIGINT PRIMARY KEY, run BIGINT, read_on TEXT, size BIGINT, modified BIGINT,"
+    " changed BIGINT, inode BIGINT, records BIGINT, good BIGINT, unchecked BIGINT, bad BIGINT, no_bytes BIGINT)",
     "INSERT INTO readings (file, run, read_on, size, modified, records)"
     " SELECT file, run, began, size, modified, records"
     " FROM files JOIN runs USING (run) WHERE state IN (%s)" % as_list(READ),
+)
+# From one of version 2, which knew nothing of the good records of a damaged file: it is read once more.
+TO_VERSION_3 = (
+    *("ALTER TABLE readings ADD COLUMN %s BIGINT" % name for name in ("bytes", "damaged")),
+    *(
+        "ALTER TABLE checks ADD COLUMN %s BIGINT" % name
+        for name in ("good_records", "good_bytes", "damages", "damaged")
+    ),
+    "UPDATE files SET changed = NULL WHERE state = 'refused'",
 )
 
 
@@ -85,7 +97,8 @@ class Run:
 
 @dataclasses.dataclass(frozen=True)
 class Known:
-    """What the catalogue knows of a file: its state, and when its rows were read, from which bytes."""
+    """What the catalogue knows of a file: its state, and when its rows were read, from which bytes, of which so many
+    are damaged. The rows of a damaged file are those of its good records, which have so many bytes."""
 
     file: int
     path: Stored
@@ -95,22 +108,35 @@ class Known:
     read_on: Optional[str]
     stamp: Optional[Stamp]
     records: int
+    good_bytes: Optional[int]
+    damaged: int
+    is_fresh: bool
 
-    def is_stale(self) -> bool:
-        """Whether its rows are those of an earlier reading, since the last one failed."""
-        return self.state not in READ
+    def mark(self) -> Optional[str]:
+        """What is said of answers from it."""
+        return mark_of(self.damaged, self.is_fresh, self.read_on)
 
 
+# Whether the rows of a file are those of its last reading, and how many of the bytes that were read are damaged.
+ABOUT_ROWS = "coalesce(damaged, 0), state IN (%s) OR (state = 'refused' AND readings.run IS files.run)" % as_list(READ)
 KNOWN = (
     "SELECT files.file, path, state, detail, readings.run, read_on, readings.size, readings.modified, readings.changed,"
-    " readings.inode, readings.records FROM files LEFT JOIN readings USING (file) WHERE "
+    " readings.inode, readings.records, bytes, %s FROM files LEFT JOIN readings USING (file) WHERE " % ABOUT_ROWS
 )
+
+
+def mark_of(damaged: int, is_fresh: bool, read_on: Optional[str]) -> Optional[str]:
+    """The mark of what comes from a damaged file, or from an earlier reading of one that couldn't be read since."""
+    words = ["damaged"] if damaged else []
+    return ", ".join(words if is_fresh else [*words, "read on %s" % read_on]) or None
 
 
 def known_file(row: Sequence[Any]) -> Known:
     """A file as a row of KNOWN has it."""
     stamp = None if None in row[6:10] else Stamp(*row[6:10])
-    return Known(row[0], row[1], row[2], row[3] or "", row[4], row[5], stamp, row[10] or 0)
+    return Known(
+        row[0], row[1], row[2], row[3] or "", row[4], row[5], stamp, row[10] or 0, row[11], row[12], bool(row[13])
+    )
 
 
 def is_busy(error: sqlite3.OperationalError) -> bool:
@@ -177,10 +203,11 @@ class Catalogue:
 
     def bring_up_to_date(self) -> None:
         """Changes the tables of an older catalogue."""
-        is_old = self.one("SELECT count(*) FROM sqlite_master WHERE name = 'files'")[0]
-        if is_old and self.one("PRAGMA user_version")[0] < VERSION:
-            for statement in TO_VERSION_2:
-                self.base.execute(statement)
+        is_there = self.one("SELECT count(*) FROM sqlite_master WHERE name = 'files'")[0]
+        version = self.one("PRAGMA user_version")[0] if is_there else VERSION
+        steps = [*(TO_VERSION_2 if version < 2 else ()), *(TO_VERSION_3 if version < 3 else ())]
+        for statement in steps:
+            self.base.execute(statement)
 
     def make_indexes(self) -> None:
         with self.transaction():

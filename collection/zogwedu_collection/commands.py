@@ -4,7 +4,7 @@ from __future__ import annotations
 import argparse
 import os
 import sys
-from typing import Sequence, Tuple
+from typing import Sequence
 
 from .captures import Request, chosen_captures, warn_of_unknown
 from .catalogue import Catalogue
@@ -17,7 +17,7 @@ from .program import usable_program
 from .replay import Answer, Replayer, settled, write_body
 from .report import write_report
 from .runs import Asked, Machines, do_run, load, make_plan
-from .texts import Trouble, counted, escaped, say, shown
+from .texts import Trouble, counted, say, shown
 
 Options = argparse.Namespace
 
@@ -94,14 +94,9 @@ def replay_command(options: Options) -> int:
 def print_answer(first: Answer, undone: str, others: Sequence[Answer]) -> None:
     """Says what was written, which codings were undone, of which reading, from which files, and which others agree."""
     lines = [first.chosen() + " " + first.given(), undone, first.joined()]
-    lines += ["%s: %s" % (mark, shown_file) for mark, shown_file in marks(first)]
+    lines += first.marks()
     lines += ["agrees: " + answer.described() for answer in others]
     print("\n".join(filter(None, lines)), file=sys.stderr)
-
-
-def marks(answer: Answer) -> Sequence[Tuple[str, str]]:
-    """The files of an answer that couldn't be read since, with the time of their last reading."""
-    return [("read on %s" % file.read_on, escaped(file.path)) for file in answer.files if file.is_stale()]
 
 
 def report_command(options: Options) -> int:

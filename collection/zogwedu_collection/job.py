@@ -12,9 +12,11 @@ import subprocess
 import time
 from typing import Dict, IO, Iterator, List, Optional, Set, Tuple
 
+from .damaged import Pieces, TooSlow, counted_pieces, good_records, patience_for
 from .disk import Stamp, open_regular, open_stamp, reason_of, stamp_of, temporary_folder
 from .program import Settings, said
-from .texts import counted, last_line
+from .states import READ
+from .texts import counted
 from .unpack import PIECE, Damaged, pieces_of, unpacked
 
 COMMANDS = ("list", "fixity", "check", "summary", "captures")
@@ -37,6 +39,13 @@ class Outcome:
     statuses: Dict[str, Optional[int]] = dataclasses.field(default_factory=dict)
     sha256: Optional[str] = None
     no_bytes: int = 0
+    pieces: Optional[Pieces] = None  # of a refused file, where they are known
+
+    def has_rows(self) -> bool:
+        """Whether the commands wrote what is there of a file, or of the good records of a damaged one."""
+        return self.state in READ or (
+            self.state == "refused" and self.pieces is not None and self.pieces.good_records > 0
+        )
 
     def write(self, folder: str) -> None:
         with open(os.path.join(folder, "outcome"), "w", encoding="ascii") as out:
@@ -47,9 +56,10 @@ def read_outcome(folder: str) -> Outcome:
     """The outcome that a job wrote. What isn't one is a ValueError, a KeyError or a TypeError."""
     with open(os.path.join(folder, "outcome"), encoding="ascii") as file:
         values = json.load(file)
-    stamp = values.pop("stamp")
+    stamp, pieces = values.pop("stamp"), values.pop("pieces", None)
     outcome = Outcome(**values)
     outcome.stamp = None if stamp is None else Stamp(**stamp)
+    outcome.pieces = None if pieces is None else Pieces(**pieces)
     if not isinstance(outcome.path, str) or not isinstance(outcome.statuses, dict):
         raise ValueError("no outcome")
     return outcome
@@ -107,6 +117,12 @@ def lines_of(folder: str, command: str) -> Iterator[bytes]:
                 yield line[:-1]
 
 
+def summary_of(folder: str) -> Dict[str, str]:
+    """The lines of `summary`: values by their names."""
+    pairs = (line.decode("utf-8", "replace").split("\t", 1) for line in lines_of(folder, "summary"))
+    return {name: value for name, value in pairs}
+
+
 class Job:
     """The commands over one file, with what they wrote in a folder."""
 
@@ -144,6 +160,51 @@ class Job:
             return "gunzip", str(damage)
 
     def judge(self, source: Source) -> Tuple[str, str]:
+        """Runs the commands, and over the good records where the file is damaged."""
+        state, detail = self.run_commands(source)
+        if state != "refused":
+            return state, detail
+        statuses = dict(self.outcome.statuses)
+        try:
+            return self.judge_damaged(source, detail)
+        except TooSlow as error:
+            return state, "%s; its good records aren't known: %s" % (detail, error)
+        finally:
+            self.outcome.statuses = statuses
+
+    def judge_damaged(self, source: Source, fault: str) -> Tuple[str, str]:
+        """Counts the pieces of a damaged file, and runs the commands over a copy of its good records."""
+        where = temporary_folder(self.settings.temporary)
+        if source.seekable is None:
+            return "no-room", "%s; no room to unpack it in %s" % (fault, where)
+        pieces = counted_pieces(self.settings.warc, source.seekable)
+        detail = "%s; %s" % (fault, pieces.told())
+        if not pieces.damages:
+            return "failed", detail + ", so it changed, or its disk fails"
+        if pieces.good_records:
+            seconds = patience_for(source.seekable)
+            copy = unpacked(good_records(self.settings.warc, source.seekable, seconds), where)
+            if copy is None:
+                return "no-room", "%s; no room to copy its good records to %s" % (detail, where)
+            with copy:
+                state, words = self.judge_copy(Source(copy, self.settings.temporary), pieces)
+            if state != "refused":
+                return state, words
+            detail += words
+        self.outcome.pieces = pieces
+        return "refused", detail
+
+    def judge_copy(self, copy: Source, pieces: Pieces) -> Tuple[str, str]:
+        """Runs the commands over a copy of the good records of a file, which has what was counted."""
+        state, words = self.run_commands(copy)
+        if state not in READ:
+            return "failed", "its good records: " + words
+        found = summary_of(self.folder)
+        if (int(found["records"]), int(found["bytes"])) != (pieces.good_records, pieces.good_bytes):
+            return "failed", "its good records aren't those that were counted: it changed, or its disk fails"
+        return "refused", words and "; of the good records: " + words
+
+    def run_commands(self, source: Source) -> Tuple[str, str]:
         """Runs the commands, up to one that fails. A pipe isn't read for the captures, which need any offset."""
         for command in COMMANDS:
             if command == "captures" and source.seekable is None:
@@ -152,16 +213,11 @@ class Job:
                 status, message = source.run([self.settings.warc, command, "-"], out)
             self.outcome.statuses[command] = status
             if status == 2:
-                return "refused", "%s; %s" % (message, self.salvaged(source))
+                return "refused", message
             if status not in DONE[command] or (command == "captures" and status and message != NO_CAPTURES):
                 why = "ended by signal %d" % -status if status < 0 else message or "status %d" % status
                 return "failed", "%s: %s" % (command, why)
         return self.verdict(source)
-
-    def salvaged(self, source: Source) -> str:
-        """How much of a refused archive can be read, in the program's words."""
-        with open(os.devnull, "wb") as nowhere:
-            return last_line(source.run([self.settings.warc, "salvage", "-"], nowhere)[1])
 
     def verdict(self, source: Source) -> Tuple[str, str]:
         """The state of a file that could be read, and why it isn't better."""

@@ -5,7 +5,7 @@ import collections
 import dataclasses
 import functools
 import urllib.parse
-from typing import Counter, Dict, Iterator, List, NamedTuple, Optional, Tuple
+from typing import Counter, Iterator, List, NamedTuple, Optional, Tuple
 
 from .job import lines_of
 from .texts import Stored, decoded
@@ -128,12 +128,6 @@ def finding_rows(file: int, folder: str) -> Iterator[FindingRow]:
     for place, line in enumerate(lines_of(folder, "check")):
         position, finding, *field = line.split(b" ", 2)
         yield FindingRow(file, place, number(position), decoded(finding), decoded(field[0]) if field else None)
-
-
-def summary_of(folder: str) -> Dict[str, str]:
-    """The lines of `summary`: values by their names."""
-    pairs = (line.decode("utf-8", "replace").split("\t", 1) for line in lines_of(folder, "summary"))
-    return {name: value for name, value in pairs}
 
 
 def host_of(target: str) -> str:

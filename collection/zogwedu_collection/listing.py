@@ -4,12 +4,12 @@ from __future__ import annotations
 import dataclasses
 import json
 import sys
-from typing import Any, Dict, Iterator, List, Optional, Union
+from typing import Any, Dict, Iterator, List, Optional, Tuple, Union
 
 from .captures import Capture
 from .catalogue import Catalogue
 from .states import STATES
-from .texts import Stored, escaped, path_bytes, real_path
+from .texts import Stored, counted, escaped, path_bytes, real_path
 
 NO_BYTES = "revisits with the digest of no bytes, as wget writes them; they aren't counted as bad"
 LOOK = "SELECT state, path, detail, read_on FROM files LEFT JOIN readings USING (file) WHERE state <> 'good'"
@@ -45,12 +45,25 @@ def no_bytes(catalogue: Catalogue) -> int:
     return int(catalogue.one(query)[0])
 
 
+def damaged(catalogue: Catalogue) -> Tuple[int, int, int]:
+    """Of the refused files: how many good records they have, how many bytes these have, and how many are damaged."""
+    query = (
+        "SELECT coalesce(sum(good_records), 0), coalesce(sum(good_bytes), 0), coalesce(sum(damaged), 0)"
+        " FROM checks JOIN files USING (file, run) WHERE files.state = 'refused'"
+    )
+    row = catalogue.one(query)
+    return row[0], row[1], row[2]
+
+
 def status_text(catalogue: Catalogue) -> Iterator[str]:
     """How many files there are in each state, and a line for each that needs a look."""
-    states, empty = catalogue.states(), no_bytes(catalogue)
+    states, empty, (records, good, bad) = catalogue.states(), no_bytes(catalogue), damaged(catalogue)
     yield from ("%s\t%d\t%s\n" % (state, states[state], about) for state, about in STATES.items() if state in states)
     if empty:
         yield "no-bytes\t%d\t%s\n" % (empty, NO_BYTES)
+    if bad:
+        about = "bytes of the refused files", counted(records, "good record"), counted(good, "byte")
+        yield "damaged\t%d\t%s; beside them %s, %s\n" % (bad, *about)
     yield from ("%s\t%s\t%s\n" % (it.state, escaped(it.path), escaped(it.detail)) for it in looks(catalogue))
 
 
@@ -66,7 +79,8 @@ def status_json(catalogue: Catalogue) -> str:
     files = [dict(dataclasses.asdict(it), path=real_path(it.path)) for it in looks(catalogue)]
     last = catalogue.last_run()
     about = {"run": last.number if last else None, "states": catalogue.states(), "no_bytes": no_bytes(catalogue)}
-    return json.dumps(dict(about, files=files), indent=1) + "\n"
+    of_damaged = dict(zip(("good_records", "good_bytes", "damaged"), damaged(catalogue)))
+    return json.dumps(dict(about, **of_damaged, files=files), indent=1) + "\n"
 
 
 def all_good(catalogue: Catalogue) -> bool:
@@ -104,5 +118,5 @@ def capture_line(it: Capture, form: str) -> Union[str, bytes]:
 def capture_values(it: Capture) -> Dict[str, Any]:
     """A capture as JSON has it."""
     values = {name: escaped(value) if isinstance(value, bytes) else value for name, value in vars(it).items()}
-    del values["file"]
+    del values["file"], values["is_fresh"]
     return dict(values, path=real_path(it.path))

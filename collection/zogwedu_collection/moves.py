@@ -31,7 +31,8 @@ def same_files(catalogue: Catalogue, run: int) -> Dict[int, List[int]]:
         " JOIN readings AS last ON last.file = new.file"
         " JOIN readings AS earlier ON earlier.size = last.size AND earlier.records = last.records"
         " JOIN files AS old ON old.file = earlier.file WHERE changes.run = ? AND change = 'new'"
-        " AND new.state IN (%s) AND old.state = 'gone' AND last.records > 0 ORDER BY new.file" % as_list(READ),
+        " AND new.state IN (%s) AND old.state = 'gone' AND last.records > 0 AND coalesce(earlier.damaged, 0) = 0"
+        " ORDER BY new.file" % as_list(READ),
         (run,),
     )
     found: Dict[int, List[int]] = collections.defaultdict(list)

@@ -12,10 +12,11 @@ import re
 import shutil
 import subprocess
 import tempfile
-from typing import Callable, Deque, Dict, IO, Iterable, Iterator, List, Optional, Sequence, Set, Tuple
+from typing import Callable, Deque, Dict, Generator, IO, Iterable, Iterator, List, Optional, Sequence, Set, Tuple
 
 from .captures import Capture, captures_where
 from .catalogue import Catalogue, Known
+from .damaged import good_records
 from .disk import Stamp, open_regular, open_stamp, reason_of, stamp_of, temporary_folder
 from .program import instant_of, said
 from .texts import Trouble, escaped, say, real_path
@@ -55,6 +56,14 @@ class Answer:
 
     def joined(self) -> str:
         return "joined " + " ".join(escaped(file.path) for file in self.files) if len(self.files) > 1 else ""
+
+    def damaged(self) -> int:
+        """How many of its files are damaged."""
+        return sum(file.damaged > 0 for file in self.files)
+
+    def marks(self) -> List[str]:
+        """A line for each of its files that is damaged, or couldn't be read since."""
+        return ["%s: %s" % (file.mark(), escaped(file.path)) for file in self.files if file.mark()]
 
     def described(self) -> str:
         """A line about the answer."""
@@ -107,10 +116,12 @@ def check_path(known: Known) -> None:
 
 
 class Files:
-    """Opens the files of captures, and joins them. Each must be the file that was read, before and afterwards."""
+    """Opens the files of captures, and joins them. Each must be the file that was read, before and afterwards. Of a
+    damaged file the good records are given, as the program copies them."""
 
-    def __init__(self, temporary: Optional[str], taken: Callable[[int], None] = lambda _count: None) -> None:
+    def __init__(self, warc: str, temporary: Optional[str], taken: Callable[[int], None] = lambda _count: None) -> None:
         """Before bytes are written to a temporary file, `taken` hears how many."""
+        self.warc = warc
         self.temporary = temporary_folder(temporary)
         self.taken = taken
 
@@ -130,24 +141,55 @@ class Files:
 
     @contextlib.contextmanager
     def joined(self, files: Sequence[Known]) -> Iterator[IO[bytes]]:
-        """The bytes of files, unpacked, one after another. A lone file that isn't compressed is given as it is."""
+        """The bytes of files, unpacked, one after another. A lone file that is neither compressed nor damaged is given
+        as it is."""
         if len(files) == 1:
             with self.alone(files[0]) as file:
                 yield file
             return
         with tempfile.TemporaryFile(dir=self.temporary, buffering=0) as joined:
             for known in files:
-                with self.opened(known) as file:
-                    self.write_pieces(joined, pieces_of(file) or whole_pieces(file))
+                with self.opened(known) as file, self.pieces_in(known, file) as pieces:
+                    self.write_pieces(joined, pieces or whole_pieces(file))
             yield joined
 
     @contextlib.contextmanager
     def alone(self, known: Known) -> Iterator[IO[bytes]]:
-        """The bytes of a file, unpacked, or the file itself where it isn't compressed."""
-        with self.opened(known) as file, tempfile.TemporaryFile(dir=self.temporary, buffering=0) as out:
-            pieces = pieces_of(file)
-            self.write_pieces(out, pieces or ())
-            yield file if pieces is None else out
+        """The bytes of a file, unpacked, and of a damaged one the good records; or the file itself."""
+        with self.opened(known) as file, self.pieces_in(known, file) as pieces:
+            if pieces is None:
+                yield file
+                return
+            with tempfile.TemporaryFile(dir=self.temporary, buffering=0) as out:
+                self.write_pieces(out, pieces)
+                yield out
+
+    @contextlib.contextmanager
+    def pieces_in(self, known: Known, file: IO[bytes]) -> Iterator[Optional[Iterator[bytes]]]:
+        """What is given of an open file, in pieces, or None where that is the file itself."""
+        pieces = pieces_of(file)
+        if not known.damaged:
+            yield pieces
+            return
+        with contextlib.ExitStack() as stack:
+            if pieces is not None:
+                # The program reads at any offset, so a compressed file is unpacked first.
+                file = stack.enter_context(tempfile.TemporaryFile(dir=self.temporary, buffering=0))
+                self.write_pieces(file, pieces)
+            yield stack.enter_context(contextlib.closing(self.good_records(known, file)))
+
+    def good_records(self, known: Known, file: IO[bytes]) -> Generator[bytes, None, None]:
+        """The good records of a damaged file, in pieces. They have as many bytes as when it was read: positions would
+        mean other records if another version of the program found others."""
+        count = 0
+        with contextlib.closing(good_records(self.warc, file)) as pieces:
+            for piece in pieces:
+                count += len(piece)
+                yield piece
+        if count != known.good_bytes:
+            raise Trouble(
+                "%s has other good records than run %s found: run again" % (escaped(known.path), known.read_run)
+            )
 
     def write_pieces(self, out: IO[bytes], pieces: Iterable[bytes]) -> None:
         for piece in pieces:
@@ -166,7 +208,7 @@ class Replayer:
     def __init__(self, catalogue: Catalogue, warc: str, temporary: Optional[str], is_stored: bool = False) -> None:
         self.catalogue = catalogue
         self.warc = warc
-        self.files = Files(temporary)
+        self.files = Files(warc, temporary)
         self.temporary = temporary_folder(temporary)
         self.options = ["--stored"] if is_stored else []
         self.asked: Dict[Tuple[int, Optional[int]], List[Capture]] = {}

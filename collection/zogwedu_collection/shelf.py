@@ -44,8 +44,11 @@ class Shelf:
     """Archives that are kept open, each of one file or of several that are joined. What wasn't used for longest goes
     first."""
 
-    def __init__(self, package: Any, temporary: Optional[str], most_archives: int, most_unpacked: int) -> None:
+    def __init__(
+        self, package: Any, warc: str, temporary: Optional[str], most_archives: int, most_unpacked: int
+    ) -> None:
         self.package = package
+        self.warc = warc
         self.temporary = temporary
         self.most_archives = most_archives
         self.most_unpacked = most_unpacked
@@ -102,7 +105,7 @@ class Shelf:
     def open(self, key: Key, held: Held, files: Sequence[Known]) -> None:
         """Opens an archive that has its place on the shelf. Where that fails it loses the place."""
         try:
-            with Files(self.temporary, lambda count: self.reserve(held, count)).joined(files) as source:
+            with Files(self.warc, self.temporary, lambda count: self.reserve(held, count)).joined(files) as source:
                 if os.fstat(source.fileno()).st_size:
                     held.data = mmap.mmap(source.fileno(), 0, access=mmap.ACCESS_READ)
                 held.archive = self.package.Archive(held.data)

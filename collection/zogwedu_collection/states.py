@@ -15,7 +15,7 @@ STATES = {
     "unread": "not read yet",
     "gone": "isn't there any more",
 }
-# The rows of such a reading replace those of the one before.
+# The rows of such a reading replace those of the one before. So do those of the good records of a refused file.
 READ = ("good", "findings", "unchecked", "bad")
 TRIED_AGAIN = ("no-room", "failed", "changing", "unread", "gone")
 

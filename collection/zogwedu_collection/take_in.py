@@ -11,9 +11,9 @@ from typing import Any, List, Optional, Sequence, Tuple
 
 from .catalogue import OF_A_FILE, Catalogue
 from .disk import Stamp
-from .job import COMMANDS, Outcome, read_outcome
+from .job import COMMANDS, Outcome, read_outcome, summary_of
 from .jobs import listed_jobs
-from .lines import Sums, capture_rows, digest_rows, finding_rows, record_rows, summary_of
+from .lines import Sums, capture_rows, digest_rows, finding_rows, record_rows
 from .moves import settle_moves
 from .states import READ
 from .texts import decoded, now, say, shown, stored_path
@@ -178,16 +178,18 @@ def load_job(catalogue: Catalogue, run: int, folder: str) -> int:
     stamp, file = outcome.stamp, before.file
     statuses = [outcome.statuses.get(command) for command in COMMANDS]
     size_and_time = (None, None) if stamp is None else (stamp.size, stamp.modified)
+    pieces = (None,) * 4 if outcome.pieces is None else dataclasses.astuple(outcome.pieces)
     catalogue.base.execute(
         "INSERT OR REPLACE INTO checks (run, file, size, modified, state, detail, host, seconds, list_status,"
-        " fixity_status, check_status, summary_status, captures_status, sha256)"
-        " VALUES (?, ?, ?, ?, ?, ?, ?, ?, ?, ?, ?, ?, ?, ?)",
+        " fixity_status, check_status, summary_status, captures_status, sha256, good_records, good_bytes, damages,"
+        " damaged) VALUES (?, ?, ?, ?, ?, ?, ?, ?, ?, ?, ?, ?, ?, ?, ?, ?, ?, ?)",
         (run, file, *size_and_time, outcome.state, outcome.detail, outcome.host, outcome.seconds, *statuses)
-        + (outcome.sha256,),
+        + (outcome.sha256, *pieces),
     )
     catalogue.base.execute("DELETE FROM counts WHERE run = ? AND file = ?", (run, file))
     rows = 0
-    if stamp is not None and (outcome.state in READ or (outcome.state == "no-room" and not before.has_reading)):
+    is_partly_read = outcome.state == "no-room" and outcome.statuses.get("summary") == 0
+    if stamp is not None and (outcome.has_rows() or (is_partly_read and not before.has_reading)):
         rows = load_rows(catalogue, run, file, folder, outcome, stamp)
     note_state(catalogue, run, before, outcome)
     note_change(catalogue, run, file, outcome)
@@ -259,8 +261,9 @@ def load_rows(catalogue: Catalogue, run: int, file: int, folder: str, outcome: O
         raise ValueError("%s records, captures and digests are there, and summary has %s" % (seen, whole))
     load_sums(catalogue, file, sums)
     put("INSERT INTO counts VALUES (?, ?, ?, ?)", ((run, file, name, value) for name, value in summary.items()))
-    counts = good, unchecked, bad - outcome.no_bytes, outcome.no_bytes
-    put_reading(catalogue, run, file, stamp, (whole[0], *counts) if outcome.state in READ else None)
+    damaged = 0 if outcome.pieces is None else outcome.pieces.damaged
+    counts = good, unchecked, bad - outcome.no_bytes, outcome.no_bytes, int(summary["bytes"]), damaged
+    put_reading(catalogue, run, file, stamp, (whole[0], *counts) if outcome.has_rows() else None)
     return whole[0]
 
 
@@ -282,6 +285,6 @@ def put_reading(catalogue: Catalogue, run: int, file: int, stamp: Stamp, counts:
         catalogue.base.execute("UPDATE files SET records = ? WHERE file = ?", (counts[0], file))
         catalogue.base.execute(
             "INSERT INTO readings (file, run, read_on, size, modified, changed, inode, records, good, unchecked, bad,"
-            " no_bytes) VALUES (?, ?, ?, ?, ?, ?, ?, ?, ?, ?, ?, ?)",
+            " no_bytes, bytes, damaged) VALUES (?, ?, ?, ?, ?, ?, ?, ?, ?, ?, ?, ?, ?, ?)",
             (file, run, now(), stamp.size, stamp.modified, stamp.changed, stamp.inode, *counts),
         )

@@ -146,7 +146,7 @@ class Application:
     def __init__(self, folder: str, warc: Optional[str], temporary: Optional[str], limits: Limits) -> None:
         package = package_for("the server", NAMES)
         self.warc = usable_program(warc)
-        self.shelf = Shelf(package, temporary, limits.archives, limits.unpacked)
+        self.shelf = Shelf(package, self.warc, temporary, limits.archives, limits.unpacked)
         self.desks = Desks(folder, limits.requests)
         with self.desks.one():
             pass
@@ -298,6 +298,7 @@ class Application:
             own = [links, vary, ("Memento-Datetime", http_date(chosen))]
             answer = given(lambda: self.reader(catalogue).answer(captures), links)
             refuse_without_body(answer, links)
+            own += [("X-Archived-File", "damaged")] if answer.damaged() else []
         return self.sent(answer, lambda content: [*own, *memento_head(content, paths, chosen)], None, links)
 
     # The reading room
@@ -416,6 +417,7 @@ def answer_head(answer: Lent, content: Content) -> Headers:
         "chosen": [escaped(answer.capture.path), answer.capture.position],
         "given": [given_path, answer.position],
         "joined": len(answer.files),
+        "damaged": answer.damaged(),
         "reason": answer.reason,
         "status": content.status,
         "type": content.media,

@@ -539,7 +539,8 @@ def hostile_tables(trial: Trial) -> None:
     put(folder + "/a.warc", data + kind)
     put(os.path.join(folder, os.fsdecode(b"odd \xff\n\t\\\"'.warc")), data[:-4])
     trial.run("c", "run", folder)
-    trial.judge(trial.count("c", "captures") == len(targets), "the captures", trial.states("c"))
+    # The last record of the second file is cut.
+    trial.judge(trial.count("c", "captures") == 2 * len(targets) - 1, "the captures", trial.states("c"))
     done = trial.run("c", "export", trial.path("tables"))
     trial.judge(done.returncode == 0, "the export", done.stderr)
     with database(trial.path("server"), binaries[-1]) as words:
@@ -651,7 +652,7 @@ def odd_names(trial: Trial) -> None:
         put(os.fsdecode(path), page(1) + b"x")
     done = trial.run("c", "run", os.fsdecode(folder))
     lines = done.stdout.decode("utf-8", "replace").splitlines()
-    trial.judge(len(lines) == 1 + len(paths), "a line for each file", lines)
+    trial.judge(len(lines) == 2 + len(paths), "a line for each file", lines)
     text = (done.stdout + done.stderr).decode("utf-8", "replace")
     unsafe = [character for character in text if not character.isprintable() and character not in "\n\t"]
     trial.judge(not unsafe, "characters that can't be seen", unsafe)
@@ -831,6 +832,199 @@ def agreeing_files(trial: Trial) -> None:
     trial.judge((done.returncode, done.stdout) == (0, b"abc") and b"\nagrees: " in done.stderr, "a copy", done.stderr)
 
 
+# Damaged files
+
+DAMAGE = b"what a disk left of a record\0\r\n\r\n"
+AFTER = URI + b"after"
+
+
+def damaged_archive() -> bytes:
+    """Three good records, with damage between the first two and at the end; the last one states a wrong digest."""
+    last = record("resource", 3, DATE, URI + b"last", b"last", block_digest="sha1:" + "A" * 32)
+    return page(1) + DAMAGE + page(2, b"after the damage", AFTER) + last + page(4, target=URI + b"cut")[:-9]
+
+
+def good_records(trial: Trial, path: str) -> bytes:
+    """The good records of a file, as the program writes them."""
+    return subprocess.run([trial.warc, "salvage", "--all", path], capture_output=True, check=False).stdout
+
+
+def damaged_files(trial: Trial) -> None:
+    """The good records of a damaged file are found and replayed, and each answer is marked. Their positions are those
+    that the program gives them."""
+    plain = put(trial.path("archives", "plain\n\x1b[31m.warc"), damaged_archive())
+    put(trial.path("archives", "member.warc.gz"), gzip.compress(damaged_archive().replace(URI, URI + b"gz/")))
+    frame = packed("zstd", damaged_archive().replace(URI, URI + b"zst/"))
+    put(trial.path("archives", "frame.warc.zst"), frame)
+    done = trial.run("c", "run", trial.path("archives"))
+    trial.judge(done.returncode == 1 and b"refused\t3\t" in done.stdout, "the states", done.stdout + done.stderr)
+    rows = trial.ask("c", "SELECT good_records, good_bytes, damages, damaged, list_status FROM checks")
+    saved = good_records(trial, plain)
+    lost = len(damaged_archive()) - len(saved)
+    trial.judge((3, len(saved), 2, lost, 2) in rows and len(rows) == 3, "the numbers", rows)
+    words = "3 good records, %d bytes; 2 damages, %d bytes" % (len(saved), lost)
+    trial.judge(words in trial.detail("c") and "digest" in trial.detail("c"), "the words", trial.detail("c"))
+    bad = sum(int(str(row[3])) for row in rows)
+    is_right = b"damaged\t%d\t" % bad in done.stdout and b" 9 good records, " in done.stdout
+    trial.judge(is_right, "status", done.stdout)
+    about = json.loads(trial.run("c", "status", "--json").stdout)
+    trial.judge((about.get("good_records"), about.get("damaged")) == (9, bad), "status --json", about)
+    for way in (b"", b"gz/", b"zst/"):
+        judge_damaged(trial, (URI + way).decode())
+    position = trial.ask("c", "SELECT position FROM captures WHERE target = ?", AFTER.decode())[0][0]
+    put(trial.path("saved.warc"), saved)
+    words_of_body = [trial.warc, "body", trial.path("saved.warc"), str(position)]
+    body = subprocess.run(words_of_body, capture_output=True, check=False).stdout
+    trial.judge(body == b"after the damage", "its position", body)
+
+
+def judge_damaged(trial: Trial, uri: str) -> None:
+    """What is found and replayed of a damaged file."""
+    done = trial.run("c", "find", uri + "after")
+    trial.judge(done.stdout.endswith(b"\tdamaged\n") and done.returncode == 0, "find", done.stdout + done.stderr)
+    trial.judge(b"may have it" in done.stderr and b"\x1b" not in done.stdout + done.stderr, "its file", done.stderr)
+    about = json.loads(trial.run("c", "find", "--json", uri + "after").stdout or b"{}")
+    trial.judge(about.get("damaged", 0) > 0, "find --json", about)
+    done = trial.run("c", "replay", uri + "after", "9999")
+    is_right = (done.returncode, done.stdout) == (0, b"after the damage") and b"\ndamaged: /" in done.stderr
+    trial.judge(is_right and b"\x1b" not in done.stderr, "replay", done.stdout + done.stderr)
+    done = trial.run("c", "replay", uri + "last", "9999")
+    trial.judge((done.returncode, done.stdout) == (1, b"") and b"P8" in done.stderr, "a bad digest", done.stderr)
+    done = trial.run("c", "replay", uri + "cut", "9999")
+    trial.judge((done.returncode, done.stdout) == (1, b"") and b"P1" in done.stderr, "what is damaged", done.stderr)
+
+
+def joined_damaged_files(trial: Trial) -> None:
+    """A revisit leads to a good record of a damaged file, and one in a damaged file to another file."""
+    named = {"WARC_Profile": REVISIT, "content_type": "application/http;msgtype=response"}
+    ids = ["<urn:uuid:00000000-0000-4000-8000-%012d>" % number for number in (2, 8)]
+    first = record("revisit", 7, "2021-01-01T00:00:00Z", AFTER, HEAD, WARC_Refers_To=ids[0], **named)
+    put(trial.path("archives", "revisit.warc"), first + page(8, b"elsewhere", URI + b"8"))
+    second = record("revisit", 9, "2021-01-01T00:00:00Z", URI + b"8", HEAD, WARC_Refers_To=ids[1], **named)
+    damaged = put(trial.path("archives", "damaged.warc.gz"), gzip.compress(damaged_archive() + DAMAGE + second))
+    trial.run("c", "run", trial.path("archives"))
+    for target, body in ((AFTER, b"after the damage"), (URI + b"8", b"elsewhere")):
+        done = trial.run("c", "replay", target.decode(), "9999")
+        is_right = (done.returncode, done.stdout) == (0, body) and b"\njoined /" in done.stderr
+        trial.judge(is_right, "replay of %s" % target.decode(), done.stderr)
+        trial.judge(done.stderr.endswith(b"\ndamaged: %s\n" % damaged.encode()), "its mark", done.stderr)
+
+
+def later_damage(trial: Trial) -> None:
+    """A file that is damaged later has the rows of its good records, and without any those of its last good reading;
+    where it can't be read any more, the marks say both."""
+    path = put(trial.path("archives", "a.warc"), page(1) + page(2, b"after the damage", AFTER))
+    trial.run("c", "run", trial.path("archives"))
+    put(path, DAMAGE + page(2, b"after the damage", AFTER))
+    trial.run("c", "run")
+    trial.judge(trial.count("c", "captures") == trial.count("c", "records") == 1, "its rows")
+    done = trial.run("c", "find", URI.decode())
+    trial.judge(done.returncode == 1 and b"may have it" in done.stderr, "what was lost", done.stderr)
+    os.chmod(path, 0)
+    trial.run("c", "run", before=LESS)
+    done = trial.run("c", "find", AFTER.decode())
+    trial.judge(b"\tdamaged, read on 2" in done.stdout, "no permission", done.stdout)
+    os.chmod(path, 0o644)
+    put(path, DAMAGE * 9)
+    done = trial.run("c", "run")
+    is_right = trial.states("c") == {"a.warc": "refused"} and "0 good records, 0 bytes; 1 damage" in trial.detail("c")
+    trial.judge(is_right, "no good record", done.stdout)
+    done = trial.run("c", "find", AFTER.decode())
+    trial.judge(b"\tdamaged, read on 2" in done.stdout, "rows of before", done.stdout)
+    done = trial.run("c", "replay", AFTER.decode(), "9999")
+    trial.judge((done.returncode, done.stdout) == (3, b"") and b"changed since" in done.stderr, "replay", done.stderr)
+    put(path, page(2, b"after the damage", AFTER))
+    done = trial.run("c", "run")
+    found = trial.run("c", "find", AFTER.decode()).stdout
+    trial.judge(done.returncode == 0 and found.endswith(b"\t-\n"), "a good copy", done.stdout + found)
+    trial.judge(b"damaged" not in done.stdout, "its status", done.stdout)
+
+
+def damage_without_room(trial: Trial) -> None:
+    """Where there is no room for the good records of a damaged file, its captures aren't known, and it is read again.
+    What has no room when it is replayed gives nothing."""
+    block = bytes(range(256)) * 800
+    put(trial.path("archives", "a.warc"), DAMAGE + page(1, block))
+    put(trial.path("archives", "b.warc.gz"), gzip.compress(DAMAGE + page(2, block, AFTER)))
+    with small_disk(trial.path("disk"), "64k") as disk:
+        done = trial.run("c", "run", "--temporary", disk, trial.path("archives"))
+    is_right = trial.states("c") == {"a.warc": "no-room", "b.warc.gz": "no-room"} and "F1 Version" in trial.detail("c")
+    trial.judge(is_right and done.returncode == 1, "the states", done.stdout + done.stderr)
+    done = trial.run("c", "find", URI.decode())
+    trial.judge(done.returncode == 1 and done.stderr.count(b"may have it") == 2, "find", done.stderr)
+    done = trial.run("c", "run")
+    trial.judge(to_read(done) == 2 and b"refused\t2" in done.stdout, "with room", done.stdout + done.stderr)
+    for target in (URI, AFTER):
+        with small_disk(trial.path("disk"), "64k") as disk:
+            done = trial.run("c", "replay", "--temporary", disk, target.decode(), "9999")
+        is_right = (done.returncode, done.stdout) == (3, b"") and b"No space left" in done.stderr
+        trial.judge(is_right, "a replay without room", done.stderr)
+        done = trial.run("c", "replay", target.decode(), "9999")
+        trial.judge(done.stdout == block, "a replay with room", done.stderr)
+
+
+def changed_damaged_file(trial: Trial) -> None:
+    """A damaged file that changes while it is read, or while it is replayed, gives nothing; nor does a program that
+    fails, or that finds other records than before."""
+    path = put(trial.path("archives", "a.warc"), damaged_archive())
+    more = put(trial.path("more"), page(5))
+    text = '[ "$1 $2" = "salvage --all" ] && {\n%s\n}\nexec %s "$@"\n'
+    ways = {
+        "changing": "cat %s >> %s" % (more, path),
+        "killed": "kill -9 $$",
+        "fails": "echo 'warc: F13 Read at 5' >&2; exit 3",
+        "fewer": "exec cat %s" % put(trial.path("data", "fewer"), page(1)),
+        "other": "exec cat %s" % put(trial.path("data", "other"), page(1) * 3),
+        "refused": "head -c 99 %s; exit 2" % more,
+    }
+    for name, words in ways.items():
+        ways[name] = put_script(trial.path("warc-" + name), text % (words, trial.warc))
+        done = trial.run(name, "run", "--warc", ways[name], trial.path("archives"))
+        state = "changing" if name == "changing" else "failed"
+        trial.judge(trial.states(name) == {"a.warc": state}, name, done.stdout + done.stderr)
+        trial.judge(trial.count(name, "records") == trial.count(name, "readings") == 0, "its rows: " + name)
+        put(path, damaged_archive())
+    trial.run("c", "run", trial.path("archives"))
+    for name in ("killed", "fails", "fewer", "refused", "changing"):
+        done = trial.run("c", "replay", "--warc", ways[name], AFTER.decode(), "9999")
+        trial.judge((done.returncode, done.stdout) == (3, b""), "a replay: " + name, done.stdout + done.stderr)
+
+
+def many_damages(trial: Trial) -> None:
+    """Of thousands of damages the program says a line each. Neither run nor replay waits for one who reads them."""
+    pages = (b"x" + page(number, target=URI + b"%d" % number) for number in range(5000))
+    put(trial.path("archives", "a.warc"), b"".join(pages))
+    done = trial.run("c", "run", trial.path("archives"), seconds=300)
+    trial.judge(
+        b"5000 good records, " in done.stdout and b"5000 damages, 5000 bytes" in done.stdout, "run", done.stdout
+    )
+    done = trial.run("c", "replay", URI.decode() + "4321", "9999", seconds=300)
+    trial.judge((done.returncode, done.stdout) == (0, b"abc"), "replay", done.stderr[-500:])
+
+
+def slow_pieces(trial: Trial) -> None:
+    """A look for good records that takes too long is ended. The file stays refused, and others are read."""
+    put(trial.path("archives", "a.warc"), damaged_archive())
+    for name, command in (("c", "pieces -"), ("d", "salvage --all")):
+        text = '[ "$1 $2" = "%s" ] && exec sleep 300\nexec %s "$@"\n' % (command, trial.warc)
+        slow = put_script(trial.path("warc " + command), text)
+        done = trial.run(name, "run", "--warc", slow, trial.path("archives"), seconds=120)
+        is_right = trial.states(name) == {"a.warc": "refused"} and "took more than 60 s" in trial.detail(name)
+        trial.judge(is_right and trial.count(name, "records") == 0, command, done.stdout + done.stderr)
+
+
+def unknown_pieces(trial: Trial) -> None:
+    """A program that gives no list of pieces isn't believed."""
+    put(trial.path("archives", "a.warc"), damaged_archive())
+    lists = (b"records\t0\t9", b"records\t0\t9\t1", b"records\t0\tx\t1\n", b"gaps\t0\t9\t1\n", b"\xff\n", b"")
+    for number, data in enumerate(lists):
+        text = '[ "$1" = pieces ] && exec cat %s\nexec %s "$@"\n'
+        listing = put(trial.path("list %d" % number), data)
+        other = put_script(trial.path("warc%d" % number), text % ("'%s'" % listing, trial.warc))
+        done = trial.run("c%d" % number, "run", "--warc", other, trial.path("archives"))
+        trial.judge(trial.states("c%d" % number) == {"a.warc": "failed"}, data, done.stdout)
+
+
 # A night that can be green
 
 
@@ -911,6 +1105,32 @@ def rot(trial: Trial) -> None:
             trial.judge((done.returncode, done.stdout) == (3, b""), "a replay of rotten bytes", done.stderr)
 
 
+WITHOUT_PIECES = "".join(
+    "ALTER TABLE checks DROP COLUMN %s;" % name for name in ("good_records", "good_bytes", "damages", "damaged")
+)
+
+
+def catalogue_without_pieces(trial: Trial) -> None:
+    """A catalogue that knows nothing of good records of damaged files goes on, and these files alone are read."""
+    put(trial.path("archives", "a.warc"), page())
+    put(trial.path("archives", "b.warc"), damaged_archive())
+    trial.run("c", "run", trial.path("archives"))
+    with contextlib.closing(trial.base("c")) as base:
+        base.executescript(
+            "ALTER TABLE readings DROP COLUMN bytes; ALTER TABLE readings DROP COLUMN damaged; PRAGMA user_version = 2;"
+            "DELETE FROM readings WHERE file IN (SELECT file FROM files WHERE state = 'refused');" + WITHOUT_PIECES
+        )
+    done = trial.run("c", "find", AFTER.decode())
+    trial.judge(done.returncode == 3 and b"version" in done.stderr, "a question before a run", done.stderr)
+    done = trial.run("c", "run")
+    trial.judge(done.returncode == 1 and to_read(done) == 1, "a run", done.stdout + done.stderr)
+    done = trial.run("c", "replay", AFTER.decode(), "9999")
+    trial.judge(done.stdout == b"after the damage", "a replay", done.stderr)
+    done = trial.run("c", "run")
+    trial.judge(done.returncode == 1 and to_read(done) == 0, "another run", done.stdout + done.stderr)
+    trial.judge(trial.run("c", "export", trial.path("tables")).returncode == 0, "an export")
+
+
 def older_catalogue(trial: Trial) -> None:
     """A catalogue of version 0.2.0 goes on: its runs and its rows are kept."""
     put(trial.path("archives", "a.warc"), page())
@@ -924,6 +1144,7 @@ def older_catalogue(trial: Trial) -> None:
             "ALTER TABLE files DROP COLUMN inode; ALTER TABLE files DROP COLUMN sha256;"
             "ALTER TABLE checks DROP COLUMN sha256; ALTER TABLE changes DROP COLUMN path_before;"
             "ALTER TABLE checks ADD COLUMN gunzip_status BIGINT; DROP TABLE readings; PRAGMA user_version = 0;"
+            + WITHOUT_PIECES
         )
     done = trial.run("c", "find", URI.decode())
     trial.judge(done.returncode == 3 and b"version" in done.stderr, "a question before a run", done.stderr)
@@ -960,6 +1181,8 @@ PARTS: List[Callable[[Trial], None]] = [
         odd_names,
     ),
     *(stored_bodies, decoded_bodies, agreeing_files),
+    *(damaged_files, joined_damaged_files, later_damage, damage_without_room, changed_damaged_file, many_damages),
+    *(slow_pieces, unknown_pieces, catalogue_without_pieces),
     *(odd_settings, many_users, old_runs, revisits_of_wget, moves, named_files, rot, older_catalogue),
 ]
 

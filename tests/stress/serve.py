@@ -219,6 +219,7 @@ ALLOWED = (
     *("date", "link", "vary", "memento-datetime", "content-type", "content-length", "content-encoding", "location"),
     *("content-security-policy", "x-content-type-options", "cross-origin-resource-policy", "referrer-policy"),
     *("cache-control", "x-archived-status", "content-disposition", "accept-ranges", "retry-after", "allow"),
+    "x-archived-file",
 )
 
 
@@ -273,7 +274,19 @@ def judge_target(trial: Trial, client: Client, target: str, instants: List[str])
 
 
 def judge_of_damaged(trial: Trial, server: Served) -> None:
-    """A target that a damaged file may have is said to be perhaps there."""
+    """A good record of a damaged file is served and marked, and a target that it may have is said to be perhaps
+    there."""
+    query = (
+        "SELECT DISTINCT target, instant, state FROM captures JOIN files USING (file) WHERE reason IS NULL"
+        " AND state IN ('good', 'refused') ORDER BY state DESC"
+    )
+    rows = [(os.fsdecode(target), str(at), state) for target, at, state in trial.ask("c", query)]  # type: ignore
+    states = {row[2] for row in rows}
+    trial.judge(states == {"good", "refused"}, "captures of good and damaged files", states)
+    for target, instant, state in [*rows[:1], *rows[-1:]]:
+        reply = server.client.ask("/memento/%s/%s" % (digits(instant), in_path(target)))
+        mark = "damaged" if state == "refused" else None
+        trial.judge(reply.get("X-Archived-File") == mark, "the mark of %s" % target, reply)
     reply = server.client.ask("/timegate/http://nowhere.example/")
     is_right = reply.status == 404 and b"P1 NoCapture" in reply.body and b"three.warc (refused" in reply.body
     trial.judge(is_right, "what a damaged file may have", reply)
