@@ -97,8 +97,8 @@ class Run:
 
 @dataclasses.dataclass(frozen=True)
 class Known:
-    """What the catalogue knows of a file: its state, and when its rows were read, from which bytes, of which so many
-    are damaged. The rows of a damaged file are those of its good records, which have so many bytes."""
+    """What the catalogue knows of a file: its state, when its rows were read, from which bytes, how many of these are
+    damaged, and how many bytes its good records have. The rows of a damaged file are those of its good records."""
 
     file: int
     path: Stored

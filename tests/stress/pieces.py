@@ -181,7 +181,7 @@ def cover(pieces: Sequence[Piece], size: int) -> bool:
 
 
 def moved(piece: Piece, more: int) -> Piece:
-    """A piece that is so many bytes later."""
+    """The same piece, a number of bytes later."""
     fault = re.sub(rb"[0-9]+\Z", lambda it: b"%d" % (int(it[0]) + more), piece.last)
     return piece._replace(start=piece.start + more, last=piece.last if piece.name == b"records" else fault)
 

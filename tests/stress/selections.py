@@ -141,7 +141,7 @@ def are_right(flags: Sequence[str], named: Sequence[int], kept: Sequence[int]) -
 
 
 def told_of(flags: Sequence[str], named: int, count: int, kept: int, size: int) -> bytes:
-    """The line of a closed selection that keeps so many records of so many."""
+    """The line of a closed selection, which has how many records were kept."""
     if "--except" in flags:
         return b"warc: selected %d records, %d bytes, %d left out besides\n" % (kept, size, count - named - kept)
     return b"warc: selected %d records, %d bytes, %d of them needed\n" % (kept, size, kept - named)
