@@ -3,10 +3,10 @@
 
 Usage: pieces.py PROGRAM FOLDER
 
-The files are a crawl of 0.5 GB, the same with ten of its blocks a byte too short, 1 GB of zero bytes, and 1 MB of heads
-of some 60,000 bytes each, all of whose lines hold a version line. They are made in FOLDER once and kept. What the
-program writes is checked: each record but the ten. Then each runs three times, all by turns, and the least processor
-time counts. Prints a table in Markdown.
+The files are a crawl of 0.5 GB, the same with ten of its blocks a byte too short, 1 GB of zero bytes, and files of 1 MB
+of heads of some 60,000 bytes each, all of whose lines hold a version line; what comes after these lines is wrong in
+another way in each file. They are made anew in FOLDER, and stay there. What the program writes is checked: each record
+but the ten. Then each runs three times, all by turns, and the least processor time counts. Prints a table in Markdown.
 """
 from __future__ import annotations
 
@@ -27,6 +27,14 @@ HEADERS = (
 HTTP = b"HTTP/1.1 200 OK\r\nContent-Type: text/html\r\n\r\n"
 DAMAGES = 10
 LINE = b"X:WARC/1.1\r\n"
+FIELDS = b"WARC-Type: resource\r\nWARC-Record-ID: <urn:x>\r\nWARC-Date: 2020\r\nContent-Length: 9\r\n"
+PACKED = {
+    "packed": (b"", "1 MB of heads full of version lines"),
+    "unclosed": (FIELDS, "the same, with good fields after them and no block"),
+    "undated": (FIELDS.replace(b"2020", b"x"), "the same, with a date that can't be read"),
+    "torn": (FIELDS + b"x\r\n", "the same, with a line that is no field"),
+    "twice": (FIELDS + FIELDS, "the same, with each field twice"),
+}
 
 
 def record(number: int, pool: bytes, chance: random.Random) -> bytes:
@@ -54,9 +62,10 @@ def make_others(folder: str) -> None:
     """Makes the zeros, and the heads that are full of version lines."""
     with open(f"{folder}/zeros", "wb") as zeros:
         zeros.truncate(1 << 30)
-    head = b"WARC/1.1\r\n" + LINE * 5000 + b"\r\n"
-    with open(f"{folder}/packed", "wb") as packed:
-        packed.write((head * 20)[: 1 << 20])
+    for name, (fields, _) in PACKED.items():
+        head = b"WARC/1.1\r\n" + LINE * 5000 + fields + b"\r\n"
+        with open(f"{folder}/{name}", "wb") as packed:
+            packed.write((head * 20)[: 1 << 20])
 
 
 def main() -> None:
@@ -74,7 +83,7 @@ def main() -> None:
         ("the crawl", "crawl.warc"),
         ("it with ten damages", "damaged.warc"),
         ("1 GB of zeros", "zeros"),
-        ("1 MB of heads full of version lines", "packed"),
+        *((what, name) for name, (_, what) in PACKED.items()),
     ):
         commands[f"`pieces` of {what}"] = [program, "pieces", f"{folder}/{name}"]
     turns = [[run(words, (0, 2)).processor for words in commands.values()] for _ in range(RUNS)]

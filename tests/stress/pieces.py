@@ -135,6 +135,33 @@ def pack_heads(chance: random.Random, data: bytes) -> bytes:
     return data[:start] + line * chance.choice((1, 2, 3, 50)) + data[start:]
 
 
+def spoil_packed_head(chance: random.Random, data: bytes) -> bytes:
+    """A head has version lines among its fields, which are in any order, and something is wrong with it."""
+    places = borders(data)[:-1]
+    if not places:
+        return data
+    place = chance.choice(places)
+    end = data.index(b"\r\n\r\n", place)
+    first, *lines = data[place:end].split(b"\r\n")
+    chance.shuffle(lines)
+    line = lines[chance.randrange(len(lines))] if lines else b""
+    number = chance.randrange(8)
+    if number == 0 and lines:
+        lines.remove(line)
+    elif number == 1:
+        lines = [it.split(b":")[0] + b": ." if it == line else it for it in lines]
+    elif number == 2:
+        lines.insert(chance.randrange(len(lines) + 1), line)
+    elif number == 3:
+        lines.insert(chance.randrange(len(lines) + 1), chance.choice((b"no field", b" a", b":", b"A\0: b")))
+    elif number == 4:
+        end -= 1
+    for _ in range(chance.choice((1, 3, 30))):
+        version = chance.choice((b"", b" ", b"\r\n ")) + chance.choice(warc_reference.VERSIONS)[:-2]
+        lines.insert(chance.randrange(len(lines) + 1), b"A:" + version)
+    return data[:place] + b"\r\n".join([first, *lines]) + data[end:]
+
+
 def lengthen_head(chance: random.Random, data: bytes) -> bytes:
     """A head has 65,536 bytes, or a few more or less, or much more."""
     place = chance.choice(borders(data))
@@ -150,7 +177,7 @@ def join_more(chance: random.Random, data: bytes) -> bytes:
     return data + generate.good_archive(chance)
 
 
-LONG = (pack_heads, lengthen_head)
+LONG = (pack_heads, spoil_packed_head, spoil_packed_head, lengthen_head)
 MIDDLE = (flip_bits, cut_out, put_in, zero_middle, part_records, part_records, begin_again, put_in_block, join_more)
 DAMAGE = (*MIDDLE, *MIDDLE, *LONG, *generate.DAMAGE)
 

@@ -28,7 +28,7 @@ at_end kind offset t = Unit {0}
 abbrev EndsWell : List ℕ → Fault → Type 0
 EndsWell t f = at_end f.kind f.offset t
 
-then_err : {A B : Type 0} (P : Fault → Type 0) (r : Result A Fault) (f : A → Result B Fault) → IfErr r P → ((x : A) → IfErr (f x) P) → IfErr (r >>= f) P
+pub then_err : {A B : Type 0} (P : Fault → Type 0) (r : Result A Fault) (f : A → Result B Fault) → IfErr r P → ((x : A) → IfErr (f x) P) → IfErr (r >>= f) P
 then_err P (Ok x) f first second = second x
 then_err P (Err e) f first second = first
 
@@ -36,7 +36,7 @@ needs_err : {A : Type 0} (P : Fault → Type 0) (o : Option A) (f : Fault) → P
 needs_err P None f is = is
 needs_err P (Some x) f is = tt
 
-refuses_err : (P : Fault → Type 0) (test : Bool) (f : Fault) → P f → IfErr (refuses test f) P
+pub refuses_err : (P : Fault → Type 0) (test : Bool) (f : Fault) → P f → IfErr (refuses test f) P
 refuses_err P true f is = is
 refuses_err P false f is = tt
 
@@ -48,7 +48,7 @@ fields_err t (Err at) = tt
 abbrev IsOther : List ℕ → FaultKind → Type 0
 IsOther t kind = at_end kind 0 t
 
-if_err : {A E : Type 0} (P : E → Type 0) (test : Bool) (x y : Result A E) → IfErr x P → IfErr y P → IfErr (if test then x else y) P
+pub if_err : {A E : Type 0} (P : E → Type 0) (test : Bool) (x y : Result A E) → IfErr x P → IfErr y P → IfErr (if test then x else y) P
 if_err P true x y first second = first
 if_err P false x y first second = second
 

@@ -2,6 +2,7 @@ pub mod CloseLemmas
 pub mod CutLemmas
 pub mod ExistLemmas
 pub mod HalvingLemmas
+pub mod InsideLemmas
 pub mod LawLemmas
 pub mod MergeLemmas
 pub mod PieceLemmas
@@ -11,5 +12,9 @@ pub mod RecordLemmas
 pub mod RunLemmas
 pub mod SalvageLemmas
 pub mod SearchLemmas
+pub mod SharedLemmas
+pub mod SkipLemmas
+pub mod SuffixLemmas
 pub mod UniqueLemmas
 pub mod WindowLemmas
+pub mod WithinLemmas

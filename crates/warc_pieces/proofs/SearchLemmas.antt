@@ -1,11 +1,12 @@
 -- Searches for the next good record, by version lines.
-use Rattle.std.proofs.Common.{◌≡◌, ◌≢◌, ℕ, zero, suc, ◌+◌, ◌-◌, ◌*◌, ◌<◌, ◌≤◌, max, Bool, true, false, if◌then◌else◌, List, [], ◌∷◌, ◌++◌, length, take, drop, append_assoc, Some, None, Result, Ok, refl, sym, ap, subst, ◌∙◌, arith, inl, inr, ◌⊎◌, ⊎_elim, length-append}
+use Rattle.std.proofs.Common.{◌≡◌, ◌≢◌, ℕ, zero, suc, ◌+◌, ◌-◌, ◌*◌, ◌<◌, ◌≤◌, max, Bool, true, false, if◌then◌else◌, List, [], ◌∷◌, ◌++◌, length, take, drop, append_assoc, Some, None, Result, Ok, Err, refl, sym, ap, subst, ◌∙◌, arith, inl, inr, ◌⊎◌, ⊎_elim, length-append}
 use Rattle.std.proofs.Math.Seq.{take-append_seam}
 use Rattle.std.proofs.lemmas.Bool.{cases_Bool, cases_lt, cond-true, cond-false}
 use Rattle.std.proofs.lemmas.List.{drop-drop, drop-take, drop_all, length-drop, length-take, take-append-drop, take-take}
 use Rattle.memchr.specs.Find.{FindsNeedle, NoneBefore, OccursAt, occurs_at}
 use Rattle.memchr.proofs.lemmas.MatchLemmas.{OccursAt-part, OccursAt-from_part, OccursAt-true, occurs_at-true}
 use Rattle.warc_field.specs.Lines.{crlf}
+use Rattle.warc_frame.specs.Reading.{record_of}
 use Rattle.warc_frame.specs.Seen.{IfHeld, SeenSource}
 use Rattle.warc_frame.specs.VersionLine.{version_line}
 use Rattle.warc_frame.specs.declared.fault.Fault.{Fault}
@@ -13,13 +14,16 @@ use Rattle.warc_frame.specs.declared.fault.FaultKind.{FaultKind}
 use Rattle.warc_frame.specs.declared.fault.FaultKind.TheVariants.{Memory, Read}
 use Rattle.warc_frame.specs.declared.version.Version.{Version}
 use Rattle.warc_frame.specs.declared.version.Version.TheVariants.{V1_0, V1_1}
+use Rattle.warc_record.specs.Heads.{head_fault}
 use Rattle.warc_reading.specs.Fronts.{BeginsWithNone}
 use Rattle.warc_pieces.specs.Judging.{IsFaultAt, IsUnreadAt, FindsRecord, MissesBy}
 use Rattle.warc_pieces.specs.Pieces.{near}
+use Rattle.warc_pieces.specs.Skip.{NoneWithin}
 use Rattle.warc_pieces.specs.Search.{IsNextRecord, IsSearchStopped, NoLine, line_start, lines_in}
 use Rattle.warc_pieces.specs.Window.{ReadsBy, Shown, Shows, failures_after, own_reads, reached}
 use Rattle.warc_pieces.specs.Reads.{goes_on_by, reads_beside}
 use Rattle.warc_pieces.proofs.ReadsLemmas.{reads_as, reads_none, reads_then}
+use Rattle.warc_pieces.proofs.RecordLemmas.{shown_front, shown_within}
 use Rattle.warc_pieces.proofs.RunLemmas.{begins_with_none, begins_with_one, part_is}
 
 -- ---- version lines and good records
@@ -286,25 +290,35 @@ fault_there Read at bytes f not_read not_memory miss = absurd (not_read refl)
 fault_there Memory at bytes f not_read not_memory miss = absurd (not_memory refl)
 fault_there kind at bytes f not_read not_memory miss = miss
 
--- none lies at the next version line
-pub search_goes_on : (bytes : List ℕ) (from at tries line : ℕ) (f : Fault) (w now : Shown) → from ≤ at → ComesTo bytes from at tries w
+-- none lies at an offset, at the version line or after it
+none_from : (bytes : List ℕ) (line q : ℕ) (g : Fault) → record_of head_fault (drop line (near bytes)) ≡ Err g → line ≤ q → (0 < q - line → BeginsWithNone (drop (q - line) (drop line (near bytes)))) → BeginsWithNone (drop q (near bytes))
+none_from bytes line q g is most after =
+    let P : ℕ → Type 0 = λ k. BeginsWithNone (drop k (near bytes)) in
+    ⊎_elim
+    (λ (here : q < line + 1). subst P (let e : line ≡ q = omega (arith, most, here) in e) (begins_with_none (drop line (near bytes)) g is))
+    (λ (later : line + 1 ≤ q).
+    let there : drop (q - line) (drop line (near bytes)) ≡ drop q (near bytes) =
+    drop-drop (q - line) line (near bytes) ∙ ap (λ k. drop k (near bytes)) (let e : line + (q - line) ≡ q = omega (arith, most) in e) in
+    subst BeginsWithNone there (after (omega (arith, later))))
+    (cases_lt q (line + 1))
+
+-- none lies at the next version line, nor before an offset after it
+pub search_goes_on : (bytes : List ℕ) (from at tries line next : ℕ) (f : Fault) (w now : Shown) → from ≤ at → ComesTo bytes from at tries w
     → NoneBefore (OccursAt (near bytes) line_start) at (length (near bytes)) line → OccursAt (near bytes) line_start line → f.kind ≢ Read → f.kind ≢ Memory → MissesBy f.kind line bytes f → Shows bytes now
-    → ComesTo bytes from (line + 1) (tries + 1) now
-search_goes_on bytes from at tries line f w now low comes first occurs not_read not_memory miss shows =
+    → line < next → next ≤ length (near bytes) → NoneWithin (drop line (near bytes)) (next - line) → ComesTo bytes from next (tries + 1) now
+search_goes_on bytes from at tries line next f w now low comes first occurs not_read not_memory miss shows goes within none_there =
     let (g, is, same) = fault_there f.kind line bytes f not_read not_memory miss in
     let past = lines_past (near bytes) from at line low first.low occurs in
+    let rise = lines_rise (drop from (near bytes)) (line + 1 - from) (next - from) (omega (arith, goes)) in
     let few = comes.few in
     record {
       shows = shows;
-      within = omega (arith, first.high);
+      within = within;
       none = λ q after before. ⊎_elim
           (λ (less : q < line). none_to bytes from at line comes.none first.before q after less)
-          (λ (most : line ≤ q).
-          let here : q ≡ line = omega (arith, most, before) in
-          let P : ℕ → Type 0 = λ k. BeginsWithNone (drop k (near bytes)) in
-          subst P (sym here) (begins_with_none (drop line (near bytes)) g is))
+          (λ (most : line ≤ q). none_from bytes line q g is most (λ some. none_there (q - line) some (omega (arith, before, most))))
           (cases_lt q line);
-      few = omega (arith, few, past);
+      few = omega (arith, few, past, rise);
     }
 
 -- a text without a good record at an offset has none there in what is read of it
@@ -406,3 +420,23 @@ tries_both n found x y start w mid now s0 s1 s2 s3 first second third same =
     let all : ℕ = (own_reads + 1) * n in
     reads_as (all + 1 + own_reads) ((own_reads + 1) * (n + 1)) x y start now s0 s3 (omega arith) same
     (reads_then (all + 1) own_reads (Ok found) x start mid now s0 s2 s3 refl (reads_then all 1 (Ok tt) (Ok found) start w mid s0 s1 s2 refl first second) third)
+
+-- what is skipped after a version line, by what is shown from there on
+pub skipped : (bytes : List ℕ) (line n : ℕ) (shown : List ℕ) (kind : FaultKind) (place : ℕ) (f : Fault) (now : Shown) → now.begin ≤ line → line ≤ length (near bytes) → Shows bytes now
+    → shown ≡ drop (line - now.begin) now.bytes → f.kind ≢ Read → f.kind ≢ Memory → MissesBy f.kind line bytes f → f.kind ≡ kind → place ≡ f.offset - line
+    → ((more : List ℕ) (g : Fault) → record_of head_fault (shown ++ more) ≡ Err g → g.kind ≡ kind → g.offset ≡ place → NoneWithin (shown ++ more) n)
+    → NoneWithin (drop line (near bytes)) n
+skipped bytes line n shown kind place f now begin there shows is not_read not_memory miss kind_is place_is none =
+    let (g, bad, same) = fault_there f.kind line bytes f not_read not_memory miss in
+    let seen = drop (line - now.begin) now.bytes in
+    let more = drop (length seen) (drop line (near bytes)) in
+    let whole : drop line (near bytes) ≡ shown ++ more = shown_front bytes line now begin there shows ∙ ap (λ x. x ++ more) (sym is) in
+    let of_kind : g.kind ≡ kind = sym (ap (λ (x : Fault). x.kind) same) ∙ kind_is in
+    let of_place : g.offset ≡ place = omega (arith, place_is, ap (λ (x : Fault). x.offset) same) in
+    let P : List ℕ → Type 0 = λ t. NoneWithin t n in
+    subst P (sym whole) (none more g (ap (record_of head_fault) (sym whole) ∙ bad) of_kind of_place)
+
+pub skipped_within : (bytes : List ℕ) (line n : ℕ) (shown : List ℕ) (now : Shown) → now.begin ≤ line → line < length (near bytes) → Shows bytes now → shown ≡ drop (line - now.begin) now.bytes → n ≤ max 1 (length shown) → line + n ≤ length (near bytes)
+skipped_within bytes line n shown now begin there shows is few =
+    let fits = shown_within bytes line now begin (omega (arith, there)) shows in
+    omega (arith, fits, ap length is, few, there)

@@ -6,4 +6,5 @@ pub mod Reader
 pub mod Reads
 pub mod Run
 pub mod Search
+pub mod Skip
 pub mod Window

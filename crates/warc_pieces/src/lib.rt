@@ -8,6 +8,7 @@ mod pieces;
 mod record;
 mod run;
 mod search;
+mod skip;
 mod window;
 
 pub use piece::Piece;

@@ -9,8 +9,9 @@ ghost use Rattle.warc_pieces.specs.Search.{FindsLine, FindsNext, search_end, lin
 ghost use Rattle.warc_pieces.specs.Window.{ReadsBy, Shows, own_reads, reached};
 
 use crate::record::record_len;
+use crate::skip::skip;
 use crate::window::Window;
-use memchr::memmem;
+use memchr::arch::all::twoway::Finder;
 use std::alloc::Allocator;
 use warc_frame::{Fault, FaultKind, Source};
 
@@ -21,7 +22,7 @@ const LINE_START: &[u8] = b"WARC/1.";
 fn find_line(bytes: &[u8]) -> Option<usize>
     ensures { FindsNeedle bytes.now line_start 0 result }
 {
-    memmem::find(bytes, LINE_START)
+    Finder::new(LINE_START).find(bytes, LINE_START)
 }
 
 /// The offset of the next version line from an offset on, or none if the bytes end before one begins.
@@ -65,7 +66,7 @@ pub(crate) fn is_failure(fault: &Fault) -> bool
 }
 
 /// The least offset from `from` on at which a good record lies whole, or the end of the bytes. Only version lines are
-/// judged.
+/// judged, and of those within one head as few as tell of all.
 pub(crate) fn next_record<S: Source, A: Allocator + Copy>(
     alloc: A,
     source: &mut S,
@@ -94,7 +95,8 @@ pub(crate) fn next_record<S: Source, A: Allocator + Copy>(
                 if is_failure(&fault) {
                     return Err(fault);
                 }
-                at = line + 1;
+                let place = fault.offset.saturating_sub(line);
+                at = line + skip(window.shown(line), fault.kind, place);
             }
         }
     }

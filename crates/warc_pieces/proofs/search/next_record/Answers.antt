@@ -1,10 +1,12 @@
-use Rattle.std.proofs.Common.{ℕ, ◌+◌, ◌*◌, ◌<◌, ◌≤◌, Option, IfSome, Ok, Err, refl, subst, ◌∙◌, arith}
+use Rattle.std.proofs.Common.{◌≡◌, ℕ, ◌+◌, ◌-◌, ◌*◌, ◌<◌, ◌≤◌, drop, Option, IfSome, Ok, Err, refl, sym, subst, ◌∙◌, arith}
 use Rattle.std.proofs.lemmas.Result.{err_from_is_err_and}
 use Rattle.warc_frame.specs.Record.{max_archive}
 use Rattle.warc_pieces.specs.Search.{FindsLine}
+use Rattle.warc_pieces.specs.Pieces.{near}
+use Rattle.warc_pieces.specs.Skip.{NoneWithin}
 use Rattle.warc_pieces.specs.Window.{Shows}
 use Rattle.warc_pieces.proofs.ReadsLemmas.{no_fault_by}
-use Rattle.warc_pieces.proofs.SearchLemmas.{failed_from, few_tries, search_ends, search_fails, search_finds, search_goes_on, search_stops, tries_both, tries_end}
+use Rattle.warc_pieces.proofs.SearchLemmas.{failed_from, few_tries, search_ends, search_fails, search_finds, search_goes_on, search_stops, skipped, skipped_within, tries_both, tries_end}
 use Rattle.warc_pieces.proofs.search.next_record.Goals as goal
 
 pub returns-in_err-line-clause-reads : goal.returns-in_err-line-clause-reads
@@ -90,7 +92,7 @@ judging-preserved g c =
     let limit = subst L c.in-Some.is c.in_ok-line.ensures.limit in
     record {
       low = omega (arith, i.low, limit.0);
-      limit = omega (arith, limit.1);
+      limit = omega (arith, limit.1, c.skip.ensures.within, c.shown.ensures.limit (omega (arith, limit.1)));
       begin = omega (arith, c.in-Err.ensures.begin);
       tries = record {
         count = t.count + 1;
@@ -101,7 +103,14 @@ judging-preserved g c =
             let line = subst F c.in-Some.is (c.in_ok-line.ensures.finds bytes (t.reads.kept ∙ held) comes.shows comes.within) in
             let kept = c.in_ok-line.ensures.reads.kept ∙ t.reads.kept ∙ held in
             let one = c.in-Err.ensures.judges bytes kept line.0 (omega (arith, line.1.0.high)) in
-            search_goes_on bytes c.args.from c.judging.at t.count c.in-Some.line c.in-Err.fault c.judging.window c.record_len.new.window i.low comes line.1.0 line.1.1 found.0 found.1 one.1 one.0;
+            let at = c.in-Some.line in
+            let none = skipped bytes at c.skip.result c.shown.result.now c.in-Err.fault.kind c.saturating_sub-place.result c.in-Err.fault c.record_len.new.window c.in-Err.ensures.begin (omega (arith, line.1.0.high)) one.0
+            c.shown.ensures.shown found.0 found.1 one.1 refl c.saturating_sub-place.ensures c.skip.ensures.none in
+            let far = skipped_within bytes at c.skip.result c.shown.result.now c.record_len.new.window c.in-Err.ensures.begin line.1.0.high one.0 c.shown.ensures.shown c.skip.ensures.within in
+            let same : at + c.skip.result - at ≡ c.skip.result = omega arith in
+            let P : ℕ → Type 0 = λ n. NoneWithin (drop at (near bytes)) n in
+            search_goes_on bytes c.args.from c.judging.at t.count at (at + c.skip.result) c.in-Err.fault c.judging.window c.record_len.new.window i.low comes line.1.0 line.1.1 found.0 found.1 one.1 one.0
+            (omega (arith, c.skip.ensures.some)) far (subst P (sym same) none);
       };
     }
 
