@@ -1,5 +1,5 @@
 -- What a reader of pieces has given, and where it stands.
-use Rattle.std.proofs.Common.{Bool, false, IfSome, min, ◌≡◌, ◌≢◌, ℕ, zero, suc, ⊎_elim, ◌+◌, ◌-◌, ◌<◌, ◌≤◌, ◌⊎◌, inl, inr, List, [], ◌∷◌, ◌++◌, length, length-append, take, drop, Option, None, Some, Result, Ok, Err, refl, sym, ap, subst, ◌∙◌, arith}
+use Rattle.std.proofs.Common.{Bool, false, IfSome, min, ◌≡◌, ◌≢◌, ℕ, zero, suc, ⊎_elim, ◌+◌, ◌-◌, ◌*◌, ◌<◌, ◌≤◌, ◌⊎◌, inl, inr, List, [], ◌∷◌, ◌++◌, length, length-append, take, drop, Option, None, Some, Result, Ok, Err, refl, sym, ap, subst, ◌∙◌, arith}
 use Rattle.std.proofs.lemmas.List.{drop-drop, length-drop, length-take, take_all}
 use Rattle.std.proofs.Math.Seq.{drop-append_seam}
 use Rattle.std.proofs.lemmas.Bool.{cases_lt}
@@ -13,9 +13,9 @@ use Rattle.warc_frame.specs.declared.fault.FaultKind.TheVariants as kinds
 use Rattle.warc_record.specs.Heads.{head_fault}
 use Rattle.warc_reading.specs.Fronts.{BeginsWithNone, reach_by}
 use Rattle.warc_pieces.specs.Pieces.{AreFirst, BeginsWithOne, IsDamage, IsPiece, IsRun, near}
-use Rattle.warc_pieces.specs.Reader.{Advances, GoesBy, GivesMore, GivesOf, AreGiven, IsPieceAt, IsStoppedBy, StandsBefore, StopsBy, faults_after_stop}
+use Rattle.warc_pieces.specs.Reader.{Advances, ReadsFew, lines_between, GoesBy, GivesMore, GivesOf, AreGiven, IsPieceAt, IsStoppedBy, StandsBefore, StopsBy, faults_after_stop}
 use Rattle.warc_pieces.specs.Run.{RunEndsBy, IsRead, answer_of}
-use Rattle.warc_pieces.specs.Search.{IsNextRecord}
+use Rattle.warc_pieces.specs.Search.{IsNextRecord, lines_in}
 use Rattle.warc_pieces.specs.Window.{ReadsBy, Shown, Shows, failures_after}
 use Rattle.warc_pieces.specs.declared.piece.Piece.{Piece}
 use Rattle.warc_pieces.specs.declared.piece.Piece.TheVariants.{Records, Damage}
@@ -379,3 +379,42 @@ found_piece bytes at count len f failure p none is some run =
     let P : Piece → Type 0 = λ q. IsPieceAt bytes at (at + len) None q in
     let Q : Option Fault → Type 0 = λ o. IsPieceAt bytes at (at + len) o p in
     subst Q (sym none) (subst P (sym is) (run_to_end bytes at count len (Some f) some run))
+
+-- ---- how often it was read
+
+module _ (bytes : List ℕ) (at was now : ℕ) (old new : SeenSource) where
+  pub damage_few : (next tries : ℕ) (fault : Fault) → new.reads + was ≤ old.reads + now + 54 * tries → tries ≤ lines_in (drop (at + 1) (near bytes)) (next - (at + 1)) + 1 → at < next
+      → ReadsFew bytes at (Ok (Some (Damage at (next - at) fault))) 1 was now old new
+  damage_few next tries fault bound few later =
+      let same : at + (next - at) ≡ next = omega (arith, later) in
+      let P : ℕ → Type 0 = λ end. new.reads + was ≤ old.reads + now + 54 * (lines_between bytes at end + 1) in
+      subst P (sym same) (omega (arith, bound, few))
+
+  pub failure_few : (tries : ℕ) (f : Fault) → new.reads + was ≤ old.reads + now + 54 * tries → tries ≤ lines_in (drop (at + 1) (near bytes)) (f.offset - (at + 1)) + 1
+      → ReadsFew bytes at (Err f) 1 was now old new
+  failure_few tries f bound few = omega (arith, bound, few)
+
+  pub run_few : (offset count len : ℕ) (piece : Piece) → new.reads + was ≤ old.reads + now + 54 * (count + 1) → piece ≡ Records offset len count → ReadsFew bytes at (Ok (Some piece)) 2 was now old new
+  run_few offset count len piece bound is =
+      let P : Piece → Type 0 = λ p. ReadsFew bytes at (Ok (Some p)) 2 was now old new in
+      subst P (sym is) (omega (arith, bound))
+
+  pub end_few : (offset count len : ℕ) (piece : Option Piece) → new.reads + was ≤ old.reads + now + 54 * (count + 1) → (piece ≡ None → count ≡ 0) → IfSome piece (λ p. (p ≡ Records offset len count) × (0 < count))
+      → ReadsFew bytes at (Ok piece) 2 was now old new
+  end_few offset count len None bound none some = let zero : count ≡ 0 = none refl in omega (arith, bound, zero)
+  end_few offset count len (Some piece) bound none some = run_few offset count len piece bound some.0
+
+-- an answer about the same place, after a run of no records was looked for
+pub few_after : (bytes : List ℕ) (at there count was mid now : ℕ) (answer : Result (Option Piece) Fault) (old between new : SeenSource) → between.reads + was ≤ old.reads + mid + 54 * (count + 1) → count ≡ 0 → there ≡ at
+    → ReadsFew bytes there answer 1 mid now between new → ReadsFew bytes at answer 2 was now old new
+few_after bytes at there count was mid now answer old between new first none same then =
+    let P : ℕ → Type 0 = λ k. ReadsFew bytes k answer 1 mid now between new in
+    let here = subst P same then in
+    omega (arith, first, none, here)
+
+-- a failure that was found where a run was looked for
+pub failed_few : (bytes : List ℕ) (at count was now : ℕ) (f : Fault) (old new : SeenSource) → new.reads + was ≤ old.reads + now + 54 * (count + 1) → count ≡ 0 → ReadsFew bytes at (Err f) 2 was now old new
+failed_few bytes at count was now f old new bound none = omega (arith, bound, none)
+
+pub fewer : (bytes : List ℕ) (at was now : ℕ) (answer : Result (Option Piece) Fault) (old new : SeenSource) → ReadsFew bytes at answer 1 was now old new → ReadsFew bytes at answer 2 was now old new
+fewer bytes at was now answer old new few = omega (arith, few)

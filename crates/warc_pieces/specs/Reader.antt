@@ -1,5 +1,5 @@
 -- Reading the pieces of a source one after another.
-use Rattle.std.specs.Prelude.{◌≡◌, ◌≢◌, ℕ, ◌+◌, ◌<◌, ◌≤◌, ◌⊎◌, List, [], ◌∷◌, ◌++◌, length, take, drop, Bool, true, false, Option, None, Some, Result, Ok, Err}
+use Rattle.std.specs.Prelude.{◌≡◌, ◌≢◌, ℕ, ◌+◌, ◌-◌, ◌*◌, ◌<◌, ◌≤◌, ◌⊎◌, List, [], ◌∷◌, ◌++◌, length, take, drop, Bool, true, false, Option, None, Some, Result, Ok, Err}
 use Rattle.warc_frame.specs.Faults.{ReadsAs}
 use Rattle.warc_frame.specs.Record.{max_archive}
 use Rattle.warc_frame.specs.Seen.{AsksOnly, SeenSource}
@@ -10,16 +10,19 @@ use Rattle.warc_record.specs.Heads.{head_fault}
 use Rattle.warc_reading.specs.Fronts.{reach_of}
 use Rattle.warc_pieces.specs.Laws.{count_in, offset_of}
 use Rattle.warc_pieces.specs.Pieces.{AreFirst, ArePieces, IsPiece, piece_len, near}
-use Rattle.warc_pieces.specs.Window.{Shown, Shows, faults_by}
+use Rattle.warc_pieces.specs.Search.{lines_in}
+use Rattle.warc_pieces.specs.Window.{Shown, Shows, faults_by, own_reads}
 use Rattle.warc_pieces.specs.declared.piece.Piece.{Piece}
 use Rattle.warc_pieces.specs.declared.pieces.Walk.{Walk}
 use Rattle.warc_pieces.specs.declared.piece.Piece.TheVariants.{Records, Damage}
 
--- a source, the offset at which its next piece begins, and why it can't be read on, if it can't
+-- a source, the offset at which its next piece begins, why it can't be read on, if it can't, and the offset up to which
+-- it was read in order
 pub record Reader (S : Type 0) : Type 0 where
   pub source : S
   pub at : ℕ
   pub failure : Option Fault
+  pub reached : ℕ
 
 -- this is the fault of what begins at an offset, where damage was found there
 abbrev pub IsDamagedAt : ℕ → List ℕ → Option Fault → Type 0
@@ -98,6 +101,23 @@ pub record Advances (old new : SeenSource) (at after : ℕ) (failure : Option Fa
   pub near : AsksOnly (λ q. q ≤ max_archive) old new
   pub goes : GoesBy at after failure answer
   pub limit : after ≤ max_archive
+
+-- at how many offsets after the first one of damage, and before another one, a version line begins
+abbrev pub lines_between : List ℕ → ℕ → ℕ → ℕ
+lines_between bytes at end = lines_in (drop (at + 1) (near bytes)) (end - (at + 1))
+
+-- how many records an answer is about, and how many version lines of damage
+abbrev pub judged_for : List ℕ → ℕ → Result (Option Piece) Fault → ℕ
+judged_for bytes at (Ok (Some (Records offset len count))) = count
+judged_for bytes at (Ok (Some (Damage offset len fault))) = lines_between bytes at (at + len)
+judged_for bytes at (Ok None) = 0
+judged_for bytes at (Err f) = lines_between bytes at f.offset
+
+-- How often a reader reads for an answer: at most once for each byte by which it reads on in order, and besides that
+-- `own_reads + 1` times for each record and version line, and for `more` more of these.
+abbrev pub ReadsFew : List ℕ → ℕ → Result (Option Piece) Fault → ℕ → ℕ → ℕ → SeenSource → SeenSource → Type 0
+ReadsFew bytes at answer more was now old new =
+    new.reads + was ≤ old.reads + now + (own_reads + 1) * (judged_for bytes at answer + more)
 
 -- The pieces before a failure: those that end before it, and then the run of good records before it, if there is one.
 pub record AreBefore (bytes : List ℕ) (f : Fault) (pieces : List Piece) : Type 0 where

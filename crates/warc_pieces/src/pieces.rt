@@ -9,7 +9,8 @@ ghost use Rattle.warc_frame.specs.declared.fault.Fault.{Fault as FaultOf};
 ghost use Rattle.warc_frame.specs.declared.fault.FaultKind.TheVariants.{Memory};
 ghost use Rattle.warc_record.specs.Heads.{head_fault};
 ghost use Rattle.warc_pieces.specs.Pieces.{near};
-ghost use Rattle.warc_pieces.specs.Reader.{Advances, GivesMore, GivesOf, AreGiven, MayGoOn, StandsAt};
+ghost use Rattle.warc_pieces.specs.Reader.{Advances, GivesMore, GivesOf, AreGiven, MayGoOn, ReadsFew, StandsAt};
+ghost use Rattle.warc_pieces.specs.Window.{reached};
 ghost use Rattle.warc_pieces.specs.declared.piece.Piece.{Piece as Given};
 ghost use Rattle.warc_pieces.specs.declared.piece.Piece.TheVariants.{Records};
 
@@ -48,6 +49,10 @@ fn next_damage<S: Source, A: Allocator + Copy>(
         StandsAt bytes walk.new × GivesOf bytes walk.old.at walk.new.at walk.new.failure result) }
     ensures advances { Advances (S.seen source.old) (S.seen source.new) walk.old.at walk.new.at walk.new.failure
         result }
+    ensures few { IfHeld (S.seen source.old).holds (λ bytes. StandsAt bytes walk.old →
+        ReadsAs head_fault walk.old.at (drop walk.old.at (near bytes)) [] (Some fault) →
+        ReadsFew bytes walk.old.at result 1 (reached walk.old.window) (reached walk.new.window) (S.seen source.old)
+        (S.seen source.new)) }
 {
     let offset = walk.at;
     match next_record(alloc, source, &mut walk.window, offset + 1) {
@@ -92,6 +97,9 @@ fn next_run<S: Source, A: Allocator + Copy>(
         StandsAt bytes walk.new × GivesOf bytes walk.old.at walk.new.at walk.new.failure result) }
     ensures advances { Advances (S.seen source.old) (S.seen source.new) walk.old.at walk.new.at walk.new.failure
         result }
+    ensures few { IfHeld (S.seen source.old).holds (λ bytes. StandsAt bytes walk.old →
+        ReadsFew bytes walk.old.at result 2 (reached walk.old.window) (reached walk.new.window) (S.seen source.old)
+        (S.seen source.new)) }
 {
     let offset = walk.at;
     let Run { count, len, end } = read_run(alloc, source, &mut walk.window, offset);
@@ -125,6 +133,9 @@ fn end<S: Source, A: Allocator>(source: &mut S, walk: &mut Walk<A>) -> Result<Op
         StandsAt bytes walk.new × GivesOf bytes walk.old.at walk.new.at walk.new.failure result) }
     ensures advances { Advances (S.seen source.old) (S.seen source.new) walk.old.at walk.new.at walk.new.failure
         result }
+    ensures few { IfHeld (S.seen source.old).holds (λ bytes. StandsAt bytes walk.old →
+        ReadsFew bytes walk.old.at result 2 (reached walk.old.window) (reached walk.new.window) (S.seen source.old)
+        (S.seen source.new)) }
 {
     let mut byte = [0];
     let kind = match source.read_at(MAX_ARCHIVE, &mut byte) {
@@ -152,6 +163,9 @@ fn step<S: Source, A: Allocator + Copy>(
         GivesOf bytes walk.old.at walk.new.at walk.new.failure result) }
     ensures advances { walk.old.failure ≡ None → Advances (S.seen source.old) (S.seen source.new) walk.old.at
         walk.new.at walk.new.failure result }
+    ensures few { walk.old.failure ≡ None → IfHeld (S.seen source.old).holds (λ bytes. StandsAt bytes walk.old →
+        ReadsFew bytes walk.old.at result 2 (reached walk.old.window) (reached walk.new.window) (S.seen source.old)
+        (S.seen source.new)) }
     ensures failed { (f : FaultOf) → walk.old.failure ≡ Some f → (result ≡ Err f) × (walk.new ≡ walk.old)
         × (source.new ≡ source.old) }
 {
@@ -179,6 +193,7 @@ pub struct Pieces<S: Source, A: Allocator = Global> {
 impl<S: Source, A: Allocator> Model for Pieces<S, A> {
     ghost use Rattle.warc_frame.specs.Seen.{IfHeld};
     ghost use Rattle.warc_pieces.specs.Reader.{MayGoOn, Reader, StandsAt};
+    ghost use Rattle.warc_pieces.specs.Window.{reached};
 
     ghost Value = { Reader S };
 
@@ -186,6 +201,7 @@ impl<S: Source, A: Allocator> Model for Pieces<S, A> {
       source = p.source;
       at = p.walk.at;
       failure = p.walk.failure;
+      reached = reached p.walk.window;
     } };
 
     ghost invariant = { λ p. MayGoOn p.walk × IfHeld (S.seen p.source).holds (λ bytes. StandsAt bytes p.walk) };
@@ -195,7 +211,12 @@ impl<S: Source, A: Allocator + Copy> Pieces<S, A> {
     /// The pieces of a source, from its beginning on. It takes memory for a buffer of 262,144 bytes, and reads nothing;
     /// without memory the source comes back with F14.
     pub fn new(alloc: A, source: S) -> Result<Pieces<S, A>, (Fault, S)>
-        ensures begins { IfOk result (λ p. p ≡ record { source = source; at = 0; failure = None }) }
+        ensures begins { IfOk result (λ p. p ≡ record {
+          source = source;
+          at = 0;
+          failure = None;
+          reached = 0;
+        }) }
         ensures refused { IfErr result (λ e. (e.0 ≡ fault Memory 0) × (e.1 ≡ source)) }
     {
         let Ok(window) = Window::new(alloc) else {
@@ -225,6 +246,8 @@ impl<S: Source, A: Allocator + Copy> Pieces<S, A> {
             → GivesMore bytes self.new.at self.new.failure pieces result) }
         ensures advances { self.old.failure ≡ None → Advances (S.seen self.old.source) (S.seen self.new.source)
             self.old.at self.new.at self.new.failure result }
+        ensures few { self.old.failure ≡ None → IfHeld (S.seen self.old.source).holds (λ bytes. ReadsFew bytes
+            self.old.at result 2 self.old.reached self.new.reached (S.seen self.old.source) (S.seen self.new.source)) }
         ensures failed { (f : FaultOf) → self.old.failure ≡ Some f → (result ≡ Err f) × (self.new ≡ self.old) }
     {
         step(self.alloc, &mut self.source, &mut self.walk)
@@ -245,7 +268,8 @@ impl<S: Source, A: Allocator + Copy> Pieces<S, A> {
             (W.seen out.new) buffer.old buffer.new result }
         ensures device { IfErr result IsOfDevice }
         ensures reads { ReadsRange offset len (S.seen self.old.source) (S.seen self.new.source) }
-        ensures same { (self.new.at ≡ self.old.at) × (self.new.failure ≡ self.old.failure) }
+        ensures same { (self.new.at ≡ self.old.at) × (self.new.failure ≡ self.old.failure)
+            × (self.new.reached ≡ self.old.reached) }
     {
         put_range(&mut self.source, offset, len, scratch, buffer, out)
     }

@@ -1,7 +1,8 @@
 use Rattle.std.proofs.Common.{◌≡◌, ℕ, ◌+◌, ◌∙◌, subst, arith, Ok, Some}
 use Rattle.warc_pieces.specs.Reader.{GivesOf}
 use Rattle.warc_pieces.specs.Run.{answer_of}
-use Rattle.warc_pieces.proofs.ReaderLemmas.{advances_by, end_given, failed_end, failure_given, failure_piece, found_given, found_piece, goes_by, goes_some, quiet_end, quiet_found}
+use Rattle.warc_pieces.specs.Window.{reached}
+use Rattle.warc_pieces.proofs.ReaderLemmas.{advances_by, end_few, end_given, few_after, run_few, failed_end, failure_given, failure_piece, found_given, found_piece, goes_by, goes_some, quiet_end, quiet_found}
 use Rattle.warc_pieces.proofs.pieces.next_run.Goals as goal
 
 pub returns-in_default-clause-gives : goal.returns-in_default-clause-gives
@@ -76,3 +77,38 @@ returns-in-None-piece-clause-gives g c = λ bytes held stands.
     let (then, gives) = c.next_damage.ensures.gives bytes (c.read_run-count.ensures.reads.kept ∙ held) now now.found in
     let P : ℕ → Type 0 = λ n. GivesOf bytes n c.next_damage.new.walk.at c.next_damage.new.walk.failure c.next_damage.result in
     (then, subst P here gives)
+
+pub returns-in_default-clause-few : goal.returns-in_default-clause-few
+returns-in_default-clause-few g c = λ bytes held stands.
+    let run = c.read_run-count.result in
+    let at = c.args.walk.now.at in
+    end_few bytes at (reached c.args.walk.now.window) (reached c.read_run-count.new.window) (g.S.Source.seen c.args.source.now) (g.S.Source.seen c.read_run-count.new.source) at run.count run.len
+    c.run_piece-piece.result c.read_run-count.ensures.reads.bound c.run_piece-piece.ensures.none c.run_piece-piece.ensures.some
+
+pub returns-in-Some-piece-clause-few : goal.returns-in-Some-piece-clause-few
+returns-in-Some-piece-clause-few g c = λ bytes held stands.
+    let run = c.read_run-count.result in
+    let at = c.args.walk.now.at in
+    run_few bytes at (reached c.args.walk.now.window) (reached c.read_run-count.new.window) (g.S.Source.seen c.args.source.now) (g.S.Source.seen c.read_run-count.new.source) at run.count run.len
+    c.in-Some-piece.piece c.read_run-count.ensures.reads.bound c.in-Some-piece.ensures.some.0
+
+pub returns-in-Some-piece-2-clause-few : goal.returns-in-Some-piece-2-clause-few
+returns-in-Some-piece-2-clause-few g c = λ bytes held stands.
+    let run = c.read_run-count.result in
+    let at = c.args.walk.now.at in
+    run_few bytes at (reached c.args.walk.now.window) (reached c.read_run-count.new.window) (g.S.Source.seen c.args.source.now) (g.S.Source.seen c.read_run-count.new.source) at run.count run.len
+    c.in-Some-piece-2.piece c.read_run-count.ensures.reads.bound c.in-Some-piece-2.ensures.some.0
+
+pub returns-in-None-piece-clause-few : goal.returns-in-None-piece-clause-few
+returns-in-None-piece-clause-few g c = λ bytes held stands.
+    let run = c.read_run-count.result in
+    let at = c.args.walk.now.at in
+    let (shows, read) = c.read_run-count.ensures.run bytes held stands.shows stands.within in
+    let kind = c.is_failure.ensures.found c.if-is_failure.false in
+    let (now, is) = found_given bytes at run.count run.len run.end c.args.walk.now.failure c.in-Some.fault c.read_run-count.new.window c.in-Some.is c.requires.sound
+    kind.0 kind.1 shows stands.within read in
+    let none = c.run_piece-piece.ensures.none c.in-None-piece.is in
+    let here : at + run.len ≡ at = omega (arith, c.read_run-count.ensures.none none) in
+    few_after bytes at (at + run.len) run.count (reached c.args.walk.now.window) (reached c.read_run-count.new.window) (reached c.next_damage.new.walk.window) c.next_damage.result
+    (g.S.Source.seen c.args.source.now) (g.S.Source.seen c.read_run-count.new.source) (g.S.Source.seen c.next_damage.new.source) c.read_run-count.ensures.reads.bound none here
+    (c.next_damage.ensures.few bytes (c.read_run-count.ensures.reads.kept ∙ held) now now.found)

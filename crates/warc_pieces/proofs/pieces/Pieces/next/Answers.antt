@@ -1,5 +1,6 @@
-use Rattle.std.proofs.Common.{◌≡◌, List, Some, sym, ap, subst, ◌∙◌}
-use Rattle.warc_pieces.specs.Reader.{GivesMore, AreGiven, Reader}
+use Rattle.std.proofs.Common.{◌≡◌, List, None, Some, sym, ap, subst, ◌∙◌}
+use Rattle.warc_pieces.specs.Reader.{GivesMore, AreGiven, Reader, ReadsFew}
+use Rattle.warc_pieces.specs.Window.{reached}
 use Rattle.warc_pieces.specs.declared.piece.Piece.{Piece}
 use Rattle.warc_pieces.specs.declared.pieces.Walk.{Walk}
 use Rattle.warc_pieces.proofs.ReaderLemmas.{next_gives}
@@ -25,3 +26,9 @@ returns-clause-gives g c = λ bytes.
     let again = c.step.ensures.failed f is in
     (again.0, ap (λ (w : Walk g.row.A.Denot). w.at) again.1))
     stands.stopped given)
+
+pub returns-clause-few : goal.returns-clause-few
+returns-clause-few g c = λ none bytes.
+    let P : Reader g.row.S.Denot → Type 0 = λ was. was.failure ≡ None → (g.S.Source.seen was.source).holds ≡ Some bytes
+    → ReadsFew bytes was.at c.step.result 2 was.reached (reached c.step.new.walk.window) (g.S.Source.seen was.source) (g.S.Source.seen c.step.new.source) in
+    subst P c.self.view_is (λ sound held. c.step.ensures.few sound bytes held (c.self.invariant.1 bytes held)) none
