@@ -1,0 +1,6 @@
+pub mod BitLemmas
+pub mod SymbolLemmas
+pub mod ReadLemmas
+pub mod TextLemmas
+pub mod WritesLemmas
+pub mod StatedLemmas

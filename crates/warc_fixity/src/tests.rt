@@ -1,0 +1,374 @@
+use crate::{Judge, stated_verdict};
+use warc_value::Verdict;
+
+// Values that state the digest of "abc", by Python's hashlib and base64.
+const ABC: [&str; 34] = [
+    "md5:900150983cd24fb0d6963f7d28e17f72",
+    "MD5:900150983CD24FB0D6963F7D28E17F72",
+    "mD5:900150983cD24FB0D6963f7D28E17F72",
+    "md5:SAAVBGB42JH3BVUWH56SRYL7OI",
+    "md5:sAAvBGb42jH3bVUwH56SRyL7oI",
+    "MD5:saavbgb42jh3bvuwh56sryl7oi======",
+    "md5:SAAVBGB42JH3BVUWH56SRYL7OI======",
+    "sha1:a9993e364706816aba3e25717850c26c9cd0d89d",
+    "SHA1:A9993E364706816ABA3E25717850C26C9CD0D89D",
+    "sHA-1:a9993E364706816aBA3E25717850C26C9cD0d89d",
+    "sha1:VGMT4NSHA2AWVOR6EVYXQUGCNSONBWE5",
+    "sha-1:vGMt4NsHA2AWvOR6EVyXQuGCnSOnBWe5",
+    "SHA-1:vgmt4nsha2awvor6evyxqugcnsonbwe5",
+    "sha256:ba7816bf8f01cfea414140de5dae2223b00361a396177a9cb410ff61f20015ad",
+    "SHA256:BA7816BF8F01CFEA414140DE5DAE2223B00361A396177A9CB410FF61F20015AD",
+    "sHA-256:bA7816bF8f01cFEa414140DE5DAe2223B00361A396177a9Cb410FF61F20015Ad",
+    "sha256:XJ4BNP4PAHH6UQKBIDPF3LRCEOYAGYNDSYLXVHFUCD7WD4QACWWQ",
+    "sha-256:xJ4bNP4PAhH6uQKbIDpF3lRCeOYaGYnDSyLXvHFuCD7WD4QAcWWq",
+    "SHA-256:xj4bnp4pahh6uqkbidpf3lrceoyagyndsylxvhfucd7wd4qacwwq====",
+    "sha256:XJ4BNP4PAHH6UQKBIDPF3LRCEOYAGYNDSYLXVHFUCD7WD4QACWWQ====",
+    "sha384:cb00753f45a35e8bb5a03d699ac65007272c32ab0eded1631a8b605a43ff5bed8086072ba1e7cc2358b\
+aeca134c825a7",
+    "SHA384:CB00753F45A35E8BB5A03D699AC65007272C32AB0EDED1631A8B605A43FF5BED8086072BA1E7CC2358B\
+AECA134C825A7",
+    "sHA-384:cB00753F45A35E8bB5a03d699AC65007272C32Ab0EdED1631A8b605A43FF5BEd8086072Ba1E7CC2358\
+BAeCA134c825A7",
+    "sha384:ZMAHKP2FUNPIXNNAHVUZVRSQA4TSYMVLB3PNCYY2RNQFUQ77LPWYBBQHFOQ6PTBDLC5OZIJUZAS2O",
+    "sha-384:zMAhKP2FUnPIxNNaHVuZVrSQa4TsYMvLB3PNcYY2RNqFUq77lPWyBBqHFoQ6pTBdLC5OZiJUzAS2O",
+    "SHA-384:zmahkp2funpixnnahvuzvrsqa4tsymvlb3pncyy2rnqfuq77lpwybbqhfoq6ptbdlc5ozijuzas2o===",
+    "sha384:ZMAHKP2FUNPIXNNAHVUZVRSQA4TSYMVLB3PNCYY2RNQFUQ77LPWYBBQHFOQ6PTBDLC5OZIJUZAS2O===",
+    "sha512:ddaf35a193617abacc417349ae20413112e6fa4e89a97ea20a9eeee64b55d39a2192992a274fc1a836b\
+a3c23a3feebbd454d4423643ce80e2a9ac94fa54ca49f",
+    "SHA512:DDAF35A193617ABACC417349AE20413112E6FA4E89A97EA20A9EEEE64B55D39A2192992A274FC1A836B\
+A3C23A3FEEBBD454D4423643CE80E2A9AC94FA54CA49F",
+    "sHA-512:dDAf35a193617ABaCC417349aE20413112E6fA4e89a97eA20A9eEEe64b55d39a2192992A274fC1a836\
+BA3C23A3fEEbBD454d4423643Ce80e2A9AC94Fa54cA49F",
+    "sha512:3WXTLIMTMF5LVTCBONE24ICBGEJON6SORGUX5IQKT3XOMS2V2ONCDEUZFITU7QNIG25DYI5D73V32RKNIQR\
+WIPHIBYVJVSKPUVGKJHY",
+    "sha-512:3WXtLImTMf5LvTCbONe24iCBgEJoN6sORgUX5IQkT3xOMs2V2ONcDEuZFiTU7QNiG25DYi5D73V32RkNIq\
+RWiPHiBYvJVsKPuVGkJHy",
+    "SHA-512:3wxtlimtmf5lvtcbone24icbgejon6sorgux5iqkt3xoms2v2oncdeuzfitu7qnig25dyi5d73v32rkniq\
+rwiphibyvjvskpuvgkjhy=",
+    "sha512:3WXTLIMTMF5LVTCBONE24ICBGEJON6SORGUX5IQKT3XOMS2V2ONCDEUZFITU7QNIG25DYI5D73V32RKNIQR\
+WIPHIBYVJVSKPUVGKJHY=",
+];
+
+// Values, each with the length of the front of the bytes 0, 1, 2 and so on whose digest it states, by the same.
+const COUNTED: [(&str, usize); 60] = [
+    ("md5:2QOYZWMPACZAJ2MABGMOZ6CCPY======", 0),
+    ("sha1:da39a3ee5e6b4b0d3255bfef95601890afd80709", 0),
+    (
+        "sha256:4OYMIQUY7QOBJGX36TEJS35ZEQT24QPEMSNZGTFESWMRW6CSXBKQ====",
+        0,
+    ),
+    (
+        "sha384:38b060a751ac96384cd9327eb1b1e36a21fdb71114be07434c0cc7bf63f6e1da274edebfe76f65fbd51\
+ad2f14898b95b",
+        0,
+    ),
+    (
+        "sha512:Z6B6CNL6564L34KUFBINM3MAA7LCBZAFBNLRLXED6SUSDU3M5HHEPUGRHROYL4VQ76BRRUUHP3WC6Y5ZGG6\
+UOQL2QGSTQMT27ET5UPQ=",
+        0,
+    ),
+    ("md5:93b885adfe0da089cdf634904fd59f71", 1),
+    ("sha1:LOUTZHNQZ74T6UVVEHLUEDSD63W2E6CP", 1),
+    (
+        "sha256:6e340b9cffb37a989ca544e6bb780a2c78901d3fb33738768511a30617afa01d",
+        1,
+    ),
+    (
+        "sha384:X3ACDNHTNDRQNEJU4AJMFNBQOCB5HKN52IDOETS7BWDOCPLGGZSVSM7MFNATIZMWNAL2TQQIUELRO",
+        1,
+    ),
+    (
+        "sha512:b8244d028981d693af7b456af8efa4cad63d282e19ff14942c246e50d9351d22704a802a71c3580b637\
+0de4ceb293c324a8423342557d4e5c38438f0e36910ee",
+        1,
+    ),
+    ("md5:NEJO4ZP76LM7TTRFBDG57C6NUA", 55),
+    ("sha1:8ae2d46729cfe68ff927af5eec9c7d1b66d65ac2", 55),
+    (
+        "sha256:IY7LFDTS7AXAVFWAUTGFG2IMK4JICEY7M4VKEKPA2RNOLG2ZRNMQ",
+        55,
+    ),
+    (
+        "sha384:dcedb6b590edb4efa849c801e6b6490657a5c1e64f69269f5f63c9267f6223de24cea7aaa6b267d9bce\
+cc15147b6c875",
+        55,
+    ),
+    (
+        "sha512:NBLGI7ZGTQXOHWASR4FSKQTWLHMIAZA66NBTADOTZVDHSFUPLDLFE762OC2OXSCU4IDF4FZLPVMMCU3JSLA\
+ICBMZEWN2QSRLIDDFIFA",
+        55,
+    ),
+    ("md5:51fdd1acda72405dfdfa03fcb85896d7", 56),
+    ("sha1:MNXC5RUY3LEQGSMOMSF5F45PMQOTZCGL", 56),
+    (
+        "sha256:da2ae4d6b36748f2a318f23e7ab1dfdf45acdc9d049bd80e59de82a60895f562",
+        56,
+    ),
+    (
+        "sha384:POITFVMXXCDTVVK3XQYPDDWT6LE7GQHH3ZU7WV3UAVWHDIDNTPBLCQJX5HQ4NC3LMRP62KFRRASJ2===",
+        56,
+    ),
+    (
+        "sha512:8b12b2f6fe400a51d29656e2b8c42a1bbfe6fcf3e425da430db05d1a2dda14790dee20fa8b22d8762af\
+ffe4988a5c98a4430d22a17e41e23d90fa61ab75671a9",
+        56,
+    ),
+    ("md5:JCTCSURBSAXI4CJY65Z2OGC6OI======", 63),
+    ("sha1:6d942da0c4392b123528f2905c713a3ce28364bd", 63),
+    (
+        "sha256:FGXSNBX5KM3UUNVQQRTJJTBUEF36IKGRMR2RL4DYPBGWTTNZ4SEA====",
+        63,
+    ),
+    (
+        "sha384:dd66b519f51a925814407a449c60b34c553d7652d41783ee903a810a4c9f833b8181c91c7f12283eacd\
+6a5f8a2639ddf",
+        63,
+    ),
+    (
+        "sha512:TXE4KWMOKXOEFFKWSUZAQOLYRY2T6HL7NOTU352MQCUKKL2GHQDJP5L7NCBV2FAY6THJWZJQZV432D2MN57\
+BHSJ75MJBRQFWLQWAKYI=",
+        63,
+    ),
+    ("md5:b2d3f56bc197fd985d5965079b5e7148", 64),
+    ("sha1:YYJY2UKP7IQTLP6OB3ILR6WGKZUZC7WH", 64),
+    (
+        "sha256:fdeab9acf3710362bd2658cdc9a29e8f9c757fcf9811603a8c447cd1d9151108",
+        64,
+    ),
+    (
+        "sha384:T4WJ5NYRNM6XUS5IJJ2KJVHP7CS67T2UW3L3MYTJHQ4FO6IUY45CCR3G6CQXKM43WCEVVBRYET6AU",
+        64,
+    ),
+    (
+        "sha512:ee4320ebaf3fdb4f2c832b137200c08e235e0fa7bbd0eb1740c7063ba8a0d151da77e003398e1714a95\
+5d475b05e3e950b639503b452ec185de4229bc4873949",
+        64,
+    ),
+    ("md5:J6WTVN6YKRUFD3A3WY7KPZXVVA", 111),
+    ("sha1:bc544e24573d592290fdaff8ecf3f7f2b00cd483", 111),
+    (
+        "sha256:MB4A5FCRXXCDZ5CTB76JLS5QYTVSJWXCYOPVL4ZU2Z46A5WAQBSQ",
+        111,
+    ),
+    (
+        "sha384:f5f9fe110d809d34029de262a01b208356caec6e054c7f926b2591f6c9780579d4b59f5578c6f531a84\
+f158a33660cef",
+        111,
+    ),
+    (
+        "sha512:UGQRCRE3DGGZWH2TROWX6P6BAIVTUWY2L2IKBPEGBXUFCJ2GZPBRLGPGZA2N4ORSGUZHV4FVD72XX55M6GL\
+UU4YBJWODSU4BF3OHZDI",
+        111,
+    ),
+    ("md5:d1fec2ac3715e791ca5f489f300381b3", 112),
+    ("sha1:4THBILIJVBFIMRJTRXLFGXF7VL4ABUZA", 112),
+    (
+        "sha256:09373f127d34e61dbbaa8bc4499c87074f2ddb10e1b465f506d7d70a15011979",
+        112,
+    ),
+    (
+        "sha384:GO5AQDWAZSZXRZHJL7WTWJWCHKQ2FACHNYAHKGPOI73AZWOFZCTF2YTSLGU2UL6THSQG2PAU5ZKUQ===",
+        112,
+    ),
+    (
+        "sha512:c5fbd731d19d2ae1180f001be72c2c1aaba1d7b094b3748880e24593b8e117a750e11c1bd867cc2f96d\
+ace8c8b74abd2d5c4f236be444e77d30d1916174070b9",
+        112,
+    ),
+    ("md5:DR3SEUMJTJ77AB2ABOEI22ZAII======", 119),
+    ("sha1:41c89d06001bab4ab78736b44efe7ce18ce6ae08", 119),
+    (
+        "sha256:3IMHS7WXYOTXP4EEP5BJOJFC3DGVCOHG5UUJLQ72DJWTTUMPP3DA====",
+        119,
+    ),
+    (
+        "sha384:0c8d3031d85cefa23a09e13ce03623f0e648a030e43700c82aa1c8aa7e3ea9cecef3029a23815ad940c\
+c39adb7747d2f",
+        119,
+    ),
+    (
+        "sha512:IPSJOJ44FTUALEB2GO2UW5DOVEWWA734JADZQ3EETAR3QEEXVEEZWWEWVR6MM3PTVE7NZCURW3ZZOHLMP5L\
+IRWXWGVZXOYF5BAHCPMY=",
+        119,
+    ),
+    ("md5:b7ba1efc6022e9ed272f00b8831e26e6", 120),
+    ("sha1:2PN5MU55QWL3OR2TEG3AUNUJCJ4ONICK", 120),
+    (
+        "sha256:f52b23db1fbb6ded89ef42a23ce0c8922c45f25c50b568a93bf1c075420bbb7c",
+        120,
+    ),
+    (
+        "sha384:AV322YEQWKRZ76Q4JISUG346SWEJBRK2LMR47DHOQGK2LGCDC3MB23HQWWIWYCWYWH2RF6ZZQJWG2",
+        120,
+    ),
+    (
+        "sha512:9636708964c5ff6600510319e07bf3fcfcb1f4058fec278efb677964ba1e140c1632505452f802e99bc\
+f09da3d456dc3868d149a0788a730e49d239ce7415145",
+        120,
+    ),
+    ("md5:QQBLEHT3Y6IGJE524DNMAF7R7E", 127),
+    ("sha1:89d7312a903f65cd2b3e34a975e55dbea9033353", 127),
+    (
+        "sha256:SLFA7JTFD3RPS64IJNZENJLC7JYSKD7N57S6X4TQ2MOFI276VF3A",
+        127,
+    ),
+    (
+        "sha384:d5fcfe2fcf6b3ef375ede37c8123d9b78065fecc1d55197e2f7721e6e9a93d0ba4d7fd15f9b96dea274\
+4df24141ba2ef",
+        127,
+    ),
+    (
+        "sha512:5K4JM5H6VI2OE6XL537TYCSNOADQXODS2XU7DBWPDW555ZIXW3RVOJGWFH7QEWS3A4MF5EI23J7DZCWPQMF\
+KBZHXC5332LKE6UCPP4A",
+        127,
+    ),
+    ("md5:37eff01866ba3f538421b30b7cbefcac", 128),
+    ("sha1:4ZBUXRAB7GDAHV7NUUCHSDEYYZZYLVJV", 128),
+    (
+        "sha256:471fb943aa23c511f6f72f8d1652d9c880cfa392ad80503120547703e56a2be5",
+        128,
+    ),
+    (
+        "sha384:ZIRYK5ZTDEJEKNARDI3NAWA7YPYAQFPJA4BUXEGP7HB2QYPBE2TUDVO7Z73FUQL3NVZJNBR2YDWBO===",
+        128,
+    ),
+    (
+        "sha512:1dffd5e3adb71d45d2245939665521ae001a317a03720a45732ba1900ca3b8351fc5c9b4ca513eba6f8\
+0bc7b1d1fdad4abd13491cb824d61b08d8c0e1561b3f7",
+        128,
+    ),
+];
+
+// Values that state no digest.
+const UNSTATED: [&str; 57] = [
+    "",
+    ":",
+    "md5",
+    "md5:",
+    "sha1",
+    "sha1:",
+    "900150983cd24fb0d6963f7d28e17f72",
+    ":900150983cd24fb0d6963f7d28e17f72",
+    "md5900150983cd24fb0d6963f7d28e17f72",
+    "md-5:900150983cd24fb0d6963f7d28e17f72",
+    "md5 :900150983cd24fb0d6963f7d28e17f72",
+    "md5: 900150983cd24fb0d6963f7d28e17f72",
+    "md5:900150983cd24fb0d6963f7d28e17f72 ",
+    "sh-a1:a9993e364706816aba3e25717850c26c9cd0d89d",
+    "sha1-:a9993e364706816aba3e25717850c26c9cd0d89d",
+    "sha--1:a9993e364706816aba3e25717850c26c9cd0d89d",
+    "-sha1:a9993e364706816aba3e25717850c26c9cd0d89d",
+    "sha:a9993e364706816aba3e25717850c26c9cd0d89d",
+    "sha2:ba7816bf8f01cfea414140de5dae2223b00361a396177a9cb410ff61f20015ad",
+    "sha224:23097d223405d8228642a477bda255b32aadbce4bda0b3f7e36c9da7",
+    "sha1:a9993e364706816aba3e25717850c26c9cd0d89",
+    "sha1:a9993e364706816aba3e25717850c26c9cd0d89d0",
+    "sha1:a9993e364706816aba3e25717850c26c9cd0d8",
+    "sha1::a9993e364706816aba3e25717850c26c9cd0d89d",
+    "sha1:sha1:a9993e364706816aba3e25717850c26c9cd0d89d",
+    "sha1:a9993e364706816aba3e25717850c26c9cd0d89d:",
+    "sha256:a9993e364706816aba3e25717850c26c9cd0d89d",
+    "md5:a9993e364706816aba3e25717850c26c9cd0d89d",
+    "sha1:900150983cd24fb0d6963f7d28e17f72",
+    "sha512:cb00753f45a35e8bb5a03d699ac65007272c32ab0eded1631a8b605a43ff5bed8086072ba1e7cc2358b\
+aeca134c825a7",
+    "sha384:ddaf35a193617abacc417349ae20413112e6fa4e89a97ea20a9eeee64b55d39a2192992a274fc1a836b\
+a3c23a3feebbd454d4423643ce80e2a9ac94fa54ca49f",
+    "sha1:a9993e364706816aba3e25717850c26c9cd0d89g",
+    "sha1:VGMT4NSHA2AWVOR6EVYXQUGCNSONBWE1",
+    "sha1:VGMT4NSHA2AWVOR6EVYXQUGCNSONBWE8",
+    "sha1:VGMT4NSHA2AWVOR6EVYXQUGCNSONBWE=",
+    "sha1:VGMT4NSHA2AWVOR6EVYXQUGCNSONBWE5=",
+    "sha1:VGMT4NSHA2AWVOR6EVYXQUGCNSONBWE5========",
+    "sha1:VGMT4NSHA2AWVOR6EVYXQUGCNSONBWE",
+    "sha1:VGMT4NSHA2AWVOR6EVYXQUGCNSONBWE5A",
+    "md5:SAAVBGB42JH3BVUWH56SRYL7OJ",
+    "md5:SAAVBGB42JH3BVUWH56SRYL7OJ======",
+    "md5:SAAVBGB42JH3BVUWH56SRYL7OI===",
+    "md5:SAAVBGB42JH3BVUWH56SRYL7OI=====",
+    "md5:SAAVBGB42JH3BVUWH56SRYL7OI=======",
+    "md5:SAAVBGB42JH3BVUWH56SRYL7OI=====A",
+    "md5:SAAVBGB42JH3BVUWH56SRYL7OIA",
+    "md5:SAAVBGB42JH3BVUWH56SRYL7OI      ",
+    "sha256:XJ4BNP4PAHH6UQKBIDPF3LRCEOYAGYNDSYLXVHFUCD7WD4QACWWR",
+    "sha256:XJ4BNP4PAHH6UQKBIDPF3LRCEOYAGYNDSYLXVHFUCD7WD4QACWWQ==",
+    "sha256:XJ4BNP4PAHH6UQKBIDPF3LRCEOYAGYNDSYLXVHFUCD7WD4QACWWQ=====",
+    "sha384:ZMAHKP2FUNPIXNNAHVUZVRSQA4TSYMVLB3PNCYY2RNQFUQ77LPWYBBQHFOQ6PTBDLC5OZIJUZAS2P",
+    "sha384:ZMAHKP2FUNPIXNNAHVUZVRSQA4TSYMVLB3PNCYY2RNQFUQ77LPWYBBQHFOQ6PTBDLC5OZIJUZAS2O==",
+    "sha384:ZMAHKP2FUNPIXNNAHVUZVRSQA4TSYMVLB3PNCYY2RNQFUQ77LPWYBBQHFOQ6PTBDLC5OZIJUZAS2O====",
+    "sha512:3WXTLIMTMF5LVTCBONE24ICBGEJON6SORGUX5IQKT3XOMS2V2ONCDEUZFITU7QNIG25DYI5D73V32RKNIQR\
+WIPHIBYVJVSKPUVGKJHZ",
+    "sha512:3WXTLIMTMF5LVTCBONE24ICBGEJON6SORGUX5IQKT3XOMS2V2ONCDEUZFITU7QNIG25DYI5D73V32RKNIQR\
+WIPHIBYVJVSKPUVGKJHY==",
+    "sha1=a9993e364706816aba3e25717850c26c9cd0d89d",
+    "ä:900150983cd24fb0d6963f7d28e17f72",
+];
+
+const MOST: usize = 128;
+
+// The bytes 0, 1, 2 and so on.
+fn counted_bytes() -> [u8; MOST] {
+    let mut bytes = [0; MOST];
+    for i in 0..MOST {
+        bytes[i] = i as u8;
+    }
+    bytes
+}
+
+// The verdict on a block whose pieces are of one length.
+fn verdict_by_pieces(value: &[u8], block: &[u8], len: usize) -> Verdict {
+    let mut judge = Judge::new(value);
+    for piece in block.chunks(len.max(1)) {
+        judge.update(piece);
+    }
+    judge.verdict()
+}
+
+// The verdict on a block, if all ways to ask for it agree.
+fn verdict_of(value: &str, block: &[u8]) -> Option<Verdict> {
+    let value = value.as_bytes();
+    let verdict = stated_verdict(value, block);
+    let agree = Judge::new(value).is_checked() == (verdict != Verdict::Unchecked)
+        && verdict_by_pieces(value, block, 1) == verdict
+        && verdict_by_pieces(value, block, 55) == verdict
+        && verdict_by_pieces(value, block, 64) == verdict;
+    agree.then_some(verdict)
+}
+
+#[test]
+fn digests_of_abc(rt: HostRuntime) {
+    for value in ABC {
+        assert_eq!(rt; verdict_of(value, b"abc"), Some(Verdict::Good), "{value}");
+        assert_eq!(rt; verdict_of(value, b"abd"), Some(Verdict::Bad), "{value}");
+    }
+}
+
+#[test]
+fn digests_of_blocks(rt: HostRuntime) {
+    let bytes = counted_bytes();
+    for (value, len) in COUNTED {
+        let len = len.min(MOST);
+        let other = if len == 0 { 1 } else { len - 1 };
+        assert_eq!(rt;
+            verdict_of(value, &bytes[..len]),
+            Some(Verdict::Good),
+            "{value}"
+        );
+        assert_eq!(rt;
+            verdict_of(value, &bytes[..other]),
+            Some(Verdict::Bad),
+            "{value}"
+        );
+    }
+}
+
+#[test]
+fn values_without_a_digest(rt: HostRuntime) {
+    for value in UNSTATED {
+        assert_eq!(rt;
+            verdict_of(value, b"abc"),
+            Some(Verdict::Unchecked),
+            "{value}"
+        );
+    }
+}
